@@ -1,0 +1,9 @@
+pub mod AnswerLaws
+pub mod Carryless
+pub mod Codes
+pub mod Residues
+pub mod Parts
+pub mod RequestLaws
+pub mod Rules
+pub mod Whole
+pub mod WriteLaws

@@ -1,0 +1,86 @@
+-- What follows where a rule doesn't apply, and where it's the first one that does.
+use Rattle.std.proofs.Common.{◌≡◌, ℕ, ◌-◌, ◌<◌, ◌≤◌, Bool, true, false, not, eqb, Option, Some, None, List, [], ◌∷◌, ◌++◌, length, length-append, take, get_or, refl, sym, ◌∙◌, ap, arith}
+use Rattle.std.proofs.lemmas.Bool.{eq-eqb, ne_eqb, eqb-true, not-false, or_parts, or_from, not_from_true, le-ltb, ltb-false}
+use Rattle.std.proofs.lemmas.List.{take-append-le, get_or-append_right, take_all}
+use Rattle.std.specs.Option.{option_or}
+use Rattle.pm_frame.specs.declared.fault.FrameFault.{FrameFault}
+use Rattle.pm_frame.specs.declared.fault.FrameFault.TheVariants.{NotOurs, Short, Long, WrongPec}
+use Rattle.pm_frame.specs.Fault.{rule, address_fault, opening_fault, length_fault, pec_fault}
+use Rattle.pm_frame.specs.Pec.{pec_of}
+
+pub or_none : {X : Type 0} (a b : Option X) → option_or a b ≡ None → (a ≡ None) × (b ≡ None)
+or_none None b h = (refl, h)
+or_none (Some x) b h = cc
+
+pub none_or : {X : Type 0} (a b : Option X) → a ≡ None → b ≡ None → option_or a b ≡ None
+none_or a b h k = ap (λ o. option_or o b) h ∙ k
+
+pub rule_none : (applies : Bool) (fault : FrameFault) → rule applies fault ≡ None → applies ≡ false
+rule_none false fault h = refl
+rule_none true fault h = cc
+
+pub none_rule : (applies : Bool) (fault : FrameFault) → applies ≡ false → rule applies fault ≡ None
+none_rule applies fault h = ap (λ b. rule b fault) h
+
+pub eqb-same : (n : ℕ) → eqb n n ≡ true
+eqb-same n = eq-eqb n n refl
+
+pub eqb-below : (m n : ℕ) → m < n → eqb n m ≡ false
+eqb-below m n h = ne_eqb n m (λ e. omega arith)
+
+-- the address byte is the wanted one
+pub address_fault-none : (wanted : ℕ) (bytes : List ℕ) → address_fault wanted (wanted ∷ bytes) ≡ None
+unfolding address_fault
+address_fault-none wanted bytes =
+    none_rule _ NotOurs (or_from _ _ (eqb-below 0 (length (wanted ∷ bytes)) (omega arith)) (not_from_true _ (eqb-same wanted)))
+
+pub address_fault-found : (wanted : ℕ) (bytes : List ℕ) → address_fault wanted bytes ≡ None → (rest : List ℕ) × (bytes ≡ wanted ∷ rest)
+unfolding address_fault
+address_fault-found wanted [] h = cc
+address_fault-found wanted (byte ∷ rest) h =
+    (rest, ap (λ x. x ∷ rest) (eqb-true byte wanted (not-false _ (or_parts _ _ (rule_none _ NotOurs h)).1)))
+
+pub opening_fault-none : (wanted second : ℕ) (bytes : List ℕ) → opening_fault wanted (wanted ∷ second ∷ bytes) ≡ None
+unfolding opening_fault
+opening_fault-none wanted second bytes =
+    none_or _ _ (address_fault-none wanted (second ∷ bytes)) (none_rule _ (Short 1) (eqb-below 1 (length (wanted ∷ second ∷ bytes)) (omega arith)))
+
+pub opening_fault-found : (wanted : ℕ) (bytes : List ℕ) → opening_fault wanted bytes ≡ None → (second : ℕ) × (rest : List ℕ) × (bytes ≡ wanted ∷ second ∷ rest)
+unfolding opening_fault
+opening_fault-found wanted bytes h = go bytes (or_none _ _ h) where
+  go : (bytes : List ℕ) → (address_fault wanted bytes ≡ None) × (rule (eqb (length bytes) 1) (Short 1) ≡ None) → (second : ℕ) × (rest : List ℕ) × (bytes ≡ wanted ∷ second ∷ rest)
+  go [] e = let found = address_fault-found wanted [] e.0 in cc (found.1)
+  go (byte ∷ []) e = cc (e.1)
+  go (byte ∷ second ∷ rest) e = let found = address_fault-found wanted (byte ∷ second ∷ rest) e.0 in (second, rest, cc (found.1))
+
+-- there are as many bytes as wanted
+pub length_fault-none : (wanted : ℕ) (bytes : List ℕ) → length bytes ≡ wanted → length_fault wanted bytes ≡ None
+unfolding length_fault
+length_fault-none wanted bytes h =
+    none_or _ _ (none_rule _ (Short (length bytes)) (le-ltb (length bytes) wanted (omega arith)))
+    (none_or _ _ (none_rule _ (Long wanted) (le-ltb wanted (length bytes) (omega arith))) refl)
+
+pub length_fault-found : (wanted : ℕ) (bytes : List ℕ) → length_fault wanted bytes ≡ None → length bytes ≡ wanted
+unfolding length_fault
+length_fault-found wanted bytes h =
+    let both = or_none _ _ h in
+    let above : wanted ≤ length bytes = ltb-false _ _ (rule_none _ (Short (length bytes)) both.0) in
+    let below : length bytes ≤ wanted = ltb-false _ _ (rule_none _ (Long wanted) (or_none _ _ both.1).0) in
+    omega arith
+
+-- what the rule on the PEC says where the last byte is seen
+pub pec_fault-last : (before front : List ℕ) (last : ℕ) → pec_fault before (front ++ last ∷ []) ≡ rule (not (eqb last (pec_of (before ++ front)))) (WrongPec (length front))
+unfolding pec_fault
+pec_fault-last before front last =
+    let place : length (front ++ last ∷ []) - 1 ≡ length front = rw length-append (omega arith) in
+    let start : length front - length front ≡ 0 = omega arith in
+    let at_last : get_or (front ++ last ∷ []) (length front) 0 ≡ last = get_or-append_right front (last ∷ []) (length front) (length front) 0 refl (omega arith) ∙ ap (λ n. get_or (last ∷ []) n 0) start in
+    let before_last : take (length front) (front ++ last ∷ []) ≡ front = take-append-le (length front) front (last ∷ []) (omega arith) ∙ take_all (length front) front (omega arith) in
+    rw (place, at_last, before_last) refl
+
+pub pec_fault-none : (before front : List ℕ) → pec_fault before (front ++ pec_of (before ++ front) ∷ []) ≡ None
+pec_fault-none before front = pec_fault-last before front _ ∙ none_rule _ (WrongPec (length front)) (not_from_true _ (eqb-same (pec_of (before ++ front))))
+
+pub pec_fault-found : (before front : List ℕ) (last : ℕ) → pec_fault before (front ++ last ∷ []) ≡ None → last ≡ pec_of (before ++ front)
+pec_fault-found before front last h =
+    eqb-true _ _ (not-false _ (rule_none _ (WrongPec (length front)) (sym (pec_fault-last before front last) ∙ h)))

@@ -1,0 +1,4 @@
+pub mod Fault
+pub mod Layout
+pub mod Pec
+pub mod View

@@ -1,0 +1,69 @@
+use thiserror::Error;
+
+/// What is wrong with a frame, and where: a place is the number of a byte, the first being 0, or
+/// the count of bytes there are. Each reading call says which fault comes first. The faults, their
+/// order and their places are this project's own choice; the layouts are those of SMBus and of
+/// PMBus 1.3 Part II.
+#[derive(Clone, Copy, Debug, PartialEq, Eq, Error)]
+pub enum FrameFault {
+    /// F1: no byte, or the first one isn't the address with its direction bit.
+    #[error("a frame for another device")]
+    NotOurs,
+    /// F2: the bytes end before the frame does, after this many.
+    #[error("a frame cut short after {0} bytes")]
+    Short(usize),
+    /// F3: bytes follow the end of the frame, from this place on.
+    #[error("a byte too many at place {0}")]
+    Long(usize),
+    /// F4: the count at this place isn't the one that the code asks for, or is too small for a page
+    /// and a code.
+    #[error("a wrong count at place {0}")]
+    WrongCount(usize),
+    /// F5: the last byte, at this place, isn't the packet error code (PEC) of those before it; an
+    /// answer's covers the request too.
+    #[error("a wrong packet error code at place {0}")]
+    WrongPec(usize),
+    /// F6: the code at this place isn't in the command table.
+    #[error("an unknown code at place {0}")]
+    UnknownCode(usize),
+    /// F7: the code at this place is in the table, but isn't written, or isn't read.
+    #[error("a code of the other direction at place {0}")]
+    WrongDirection(usize),
+    /// F8: the code at this place is one that PAGE_PLUS doesn't carry: 00h, 05h, 06h or 30h.
+    #[error("a code at place {0} that isn't carried")]
+    Nested(usize),
+}
+
+#[cfg(test)]
+mod tests {
+    use super::*;
+    use std::alloc::AllocError;
+
+    #[test]
+    fn each_fault_has_its_message_with_its_place(rt: HostRuntime) -> Result<(), AllocError> {
+        let rows = [
+            (FrameFault::NotOurs, "a frame for another device"),
+            (FrameFault::Short(7), "a frame cut short after 7 bytes"),
+            (FrameFault::Long(8), "a byte too many at place 8"),
+            (FrameFault::WrongCount(2), "a wrong count at place 2"),
+            (
+                FrameFault::WrongPec(7),
+                "a wrong packet error code at place 7",
+            ),
+            (FrameFault::UnknownCode(1), "an unknown code at place 1"),
+            (
+                FrameFault::WrongDirection(4),
+                "a code of the other direction at place 4",
+            ),
+            (
+                FrameFault::Nested(4),
+                "a code at place 4 that isn't carried",
+            ),
+        ];
+        for (fault, wanted) in rows {
+            let message = format!(in rt.alloc(); "{fault}")?;
+            assert_eq!(rt; message.as_str(), wanted);
+        }
+        Ok(())
+    }
+}

@@ -1,0 +1,58 @@
+//! The laws between the layouts and the faults, over the definitions alone: each is the contract of
+//! a function with an empty body. They hold of lists of any length, and of addresses and messages
+//! of any size.
+
+ghost use Rattle.std.specs.Prelude.{◌≡◌, ℕ, List, [], ◌++◌, None, true};
+ghost use Rattle.pm_frame.specs.declared.message.Message.{Message};
+ghost use Rattle.pm_frame.specs.Layout.{AreBytes, IsWrite, IsRequest, IsAnswer, is_read_message, fits_layout};
+ghost use Rattle.pm_frame.specs.View.{message_in};
+ghost use Rattle.pm_frame.specs.Fault.{write_fault, request_fault, answer_fault};
+
+/// Bytes have no fault as a write exactly where they have the layout of some message that writes,
+/// which is the one read by their places; they are then no other message, and no strict front of
+/// them is a write to the same address.
+pub fn writes_are_exact()
+    ensures faultless { (addr : ℕ) (bytes : List ℕ) → AreBytes bytes →
+        write_fault addr bytes ≡ None → (message : Message) × IsWrite addr message bytes }
+    ensures spelled { (addr : ℕ) (message : Message) (bytes : List ℕ) →
+        IsWrite addr message bytes → write_fault addr bytes ≡ None }
+    ensures places { (addr : ℕ) (message : Message) (bytes : List ℕ) →
+        IsWrite addr message bytes → message_in bytes ≡ message }
+    ensures one { (addr : ℕ) (message other : Message) (bytes : List ℕ) →
+        IsWrite addr message bytes → IsWrite addr other bytes → message ≡ other }
+    ensures front { (addr : ℕ) (message other : Message) (front rest : List ℕ) →
+        IsWrite addr message front → IsWrite addr other (front ++ rest) → rest ≡ [] }
+{}
+
+/// Bytes have no fault as a request exactly where they have the layout of some message that reads,
+/// which is the one read by their places; they are then no other message, and no strict front of
+/// them is a request to the same address.
+pub fn requests_are_exact()
+    ensures faultless { (addr : ℕ) (bytes : List ℕ) →
+        request_fault addr bytes ≡ None → (message : Message) × IsRequest addr message bytes }
+    ensures spelled { (addr : ℕ) (message : Message) (bytes : List ℕ) →
+        IsRequest addr message bytes → request_fault addr bytes ≡ None }
+    ensures places { (addr : ℕ) (message : Message) (bytes : List ℕ) →
+        IsRequest addr message bytes → message_in bytes ≡ message }
+    ensures one { (addr : ℕ) (message other : Message) (bytes : List ℕ) →
+        IsRequest addr message bytes → IsRequest addr other bytes → message ≡ other }
+    ensures front { (addr : ℕ) (message other : Message) (front rest : List ℕ) →
+        IsRequest addr message front → IsRequest addr other (front ++ rest) → rest ≡ [] }
+{}
+
+/// What came back for a read that fits has no fault exactly where it has the layout of an answer
+/// with some payload; it then has no other payload, and no strict front of it is an answer to that
+/// request.
+pub fn answers_are_exact()
+    ensures faultless { (addr : ℕ) (request : Message) (bytes : List ℕ) →
+        is_read_message request ≡ true → fits_layout request ≡ true →
+        answer_fault addr request bytes ≡ None →
+        (payload : List ℕ) × IsAnswer addr request payload bytes }
+    ensures spelled { (addr : ℕ) (request : Message) (payload bytes : List ℕ) →
+        IsAnswer addr request payload bytes → answer_fault addr request bytes ≡ None }
+    ensures one { (addr : ℕ) (request : Message) (payload other bytes : List ℕ) →
+        IsAnswer addr request payload bytes → IsAnswer addr request other bytes → payload ≡ other }
+    ensures front { (addr : ℕ) (request : Message) (payload other front rest : List ℕ) →
+        IsAnswer addr request payload front →
+        IsAnswer addr request other (front ++ rest) → rest ≡ [] }
+{}

@@ -1,0 +1,35 @@
+//! The packets of SMBus and PMBus 1.3 Part II, with packet error code (PEC): seven layouts, read
+//! and written.
+//!
+//! A `Message` is what a packet says. `write_part` gives the bytes that the host sends for it,
+//! `answer` those that the device answers. `read_write`, `read_request` and `read_answer` read
+//! bytes of any number, and take exactly the layouts: what they refuse has the fault that comes
+//! first, with its place. A `FrameView` borrows the bytes that were read.
+//!
+//! It keeps no state, knows no setting and takes no memory. What a write does is the converter's
+//! affair.
+#![tactic(auto)]
+
+mod check;
+mod code;
+mod fault;
+mod laws;
+mod message;
+mod packet_error_code;
+mod reading;
+#[cfg(test)]
+mod tests;
+mod view;
+mod writing;
+
+use arrayvec::ArrayVec;
+pub use fault::FrameFault;
+pub use laws::{answers_are_exact, requests_are_exact, writes_are_exact};
+pub use message::{Message, Payload};
+pub use packet_error_code::pec;
+pub use reading::{read_answer, read_request, read_write};
+pub use view::FrameView;
+pub use writing::{answer, fits, write_part};
+
+/// The bytes of a frame that is sent, at most 16.
+pub type Frame = ArrayVec<u8, 16>;

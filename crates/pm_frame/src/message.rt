@@ -1,0 +1,150 @@
+ghost use Rattle.std.specs.Prelude.{◌≡◌, ◌≤◌, if◌then◌else◌, length};
+
+use crate::code::payload_length;
+
+/// What a write carries beside its code.
+#[derive(Clone, Copy, Debug, PartialEq, Eq)]
+pub enum Payload {
+    /// No byte.
+    Empty,
+    /// One byte.
+    Byte(u8),
+    /// Two bytes, which go over the bus low byte first.
+    Word(u16),
+}
+
+/// What a packet says, whatever its bytes: one variant for each of the seven layouts of SMBus and
+/// PMBus 1.3 Part II that this project has. `aw` is twice the address, `ar` one more; RS is the
+/// repeated start, which is no byte.
+///
+/// `code` is the command code, in PAGE_PLUS the one that is carried, and in COEFFICIENTS the one
+/// that is asked about. `page` is any byte; whether the device has that output isn't asked here.
+/// `byte`, `word` and `payload` are what is written.
+#[derive(Clone, Copy, Debug, PartialEq, Eq)]
+pub enum Message {
+    /// SMBus send byte: a code alone.
+    ///
+    /// | aw | code | PEC |
+    /// |----|------|-----|
+    /// | B0 | 03   | 46  |
+    SendByte {
+        code: u8,
+    },
+    /// SMBus write byte.
+    ///
+    /// | aw | code | byte | PEC |
+    /// |----|------|------|-----|
+    /// | B0 | 10   | 80   | 34  |
+    WriteByte {
+        code: u8,
+        byte: u8,
+    },
+    /// SMBus write word.
+    ///
+    /// | aw | code | low | high | PEC |
+    /// |----|------|-----|------|-----|
+    /// | B0 | 21   | CD  | 34   | 38  |
+    WriteWord {
+        code: u8,
+        word: u16,
+    },
+    /// PAGE_PLUS_WRITE, a block write: the carried code acts on the output that the page names.
+    ///
+    /// | aw | 05 | count | page | code | payload | PEC |
+    /// |----|----|-------|------|------|---------|-----|
+    /// | B0 | 05 | 04    | 00   | 21   | CD 34   | 5A  |
+    PagePlusWrite {
+        page: u8,
+        code: u8,
+        payload: Payload,
+    },
+    /// SMBus read byte or read word.
+    ///
+    /// | aw | code | RS | ar | payload | PEC |
+    /// |----|------|----|----|---------|-----|
+    /// | B0 | 20   |    | B1 | 14      | ED  |
+    ReadCommand {
+        code: u8,
+    },
+    /// PAGE_PLUS_READ, a block process call: the carried code is read at the output that the page
+    /// names.
+    ///
+    /// | aw | 06 | 02 | page | code | RS | ar | count | payload | PEC |
+    /// |----|----|----|------|------|----|----|-------|---------|-----|
+    /// | B0 | 06 | 02 | 00   | 21   |    | B1 | 02    | CD 34   | B9  |
+    PagePlusRead {
+        page: u8,
+        code: u8,
+    },
+    /// COEFFICIENTS, a block process call: the coefficients of a code, for values written (side
+    /// 00h) or read (01h).
+    ///
+    /// | aw | 30 | 02 | code | side | RS | ar | 05 | m, b, R        | PEC |
+    /// |----|----|----|------|------|----|----|----|----------------|-----|
+    /// | B0 | 30 | 02 | 21   | 00   |    | B1 | 05 | 01 00 00 00 03 | 6B  |
+    ReadCoefficients {
+        code: u8,
+        side: u8,
+    },
+}
+
+impl Payload {
+    ghost use Rattle.pm_frame.specs.Layout.{payload_bytes};
+
+    /// How many bytes it has.
+    pub(crate) fn len(self) -> usize
+        ensures { result ≡ length (payload_bytes self) }
+    {
+        match self {
+            Payload::Empty => 0,
+            Payload::Byte(_) => 1,
+            Payload::Word(_) => 2,
+        }
+    }
+}
+
+impl Message {
+    ghost use Rattle.pm_frame.specs.Layout.{is_read_message, has_count, answer_length};
+
+    /// A read, and not a write.
+    pub(crate) fn is_read(&self) -> bool
+        ensures { result ≡ is_read_message self.now }
+    {
+        matches!(
+            self,
+            Message::ReadCommand { .. }
+                | Message::PagePlusRead { .. }
+                | Message::ReadCoefficients { .. }
+        )
+    }
+
+    /// A count stands before the payload of its answer.
+    pub(crate) fn has_count(&self) -> bool
+        ensures { result ≡ has_count self.now }
+    {
+        matches!(
+            self,
+            Message::PagePlusRead { .. } | Message::ReadCoefficients { .. }
+        )
+    }
+
+    /// Where the payload begins in its answer.
+    pub(crate) fn payload_place(&self) -> usize
+        ensures { result ≡ (if has_count self.now then 2 else 1) }
+    {
+        if self.has_count() { 2 } else { 1 }
+    }
+
+    /// How many bytes of payload its answer has; 0 for a write.
+    pub(crate) fn answer_length(&self) -> usize
+        ensures length { result ≡ answer_length self.now }
+        ensures short { result ≤ 5 }
+    {
+        match *self {
+            Message::ReadCommand { code } => payload_length(code),
+            Message::PagePlusRead { page: _, code } => payload_length(code),
+            Message::ReadCoefficients { .. } => 5,
+            _ => 0,
+        }
+    }
+}

@@ -1,0 +1,122 @@
+ghost use Rattle.std.specs.Prelude.{◌≡◌};
+ghost use Rattle.pm_frame.specs.View.{message_in, IsWhole, message_page, message_code, message_payload, payload_in, plain_write as spec_plain_write};
+
+use crate::check::{CARRIED, CODE, PAGE_PLACE};
+use crate::code::{COEFFICIENTS, PAGE_PLUS_READ, PAGE_PLUS_WRITE};
+use crate::message::{Message, Payload};
+use std::marker::Model;
+
+/// The bytes of a packet that was read without a fault, borrowed from the caller: a write, or the
+/// request of a read. A clause sees it as the message that the bytes are.
+#[derive(Debug, Drop)]
+pub struct FrameView<'a> {
+    bytes: &'a [u8],
+}
+
+impl<'a> Model for FrameView<'a> {
+    ghost use Rattle.pm_frame.specs.declared.message.Message.{Message};
+    ghost use Rattle.pm_frame.specs.View.{message_in, IsWhole};
+
+    ghost Value = { Message };
+
+    ghost view = { λ v. message_in v.bytes.now };
+
+    ghost invariant = { λ v. IsWhole v.bytes.now };
+}
+
+impl<'a> FrameView<'a> {
+    // A view of bytes that are as many as a packet has.
+    pub(crate) fn new(bytes: &'a [u8]) -> FrameView<'a>
+        requires { IsWhole bytes.now }
+        ensures { result ≡ message_in bytes.entry.now }
+    {
+        FrameView { bytes }
+    }
+}
+
+impl FrameView<'_> {
+    /// The page that PAGE_PLUS_WRITE or PAGE_PLUS_READ names; `None` for every other packet.
+    #[tactic(auto, unfolding(crate::specs::View::message_in))]
+    pub fn page(&self) -> Option<u8>
+        ensures { result ≡ message_page self.now }
+    {
+        match self.bytes[CODE] {
+            PAGE_PLUS_WRITE | PAGE_PLUS_READ => Some(self.bytes[PAGE_PLACE]),
+            _ => None,
+        }
+    }
+
+    /// The code that is meant: the one that PAGE_PLUS carries, otherwise the packet's own. It is
+    /// 30h where coefficients are read; the code that they are asked of is in the message.
+    #[tactic(auto, unfolding(crate::specs::View::message_in))]
+    pub fn code(&self) -> u8
+        ensures { result ≡ message_code self.now }
+    {
+        match self.bytes[CODE] {
+            PAGE_PLUS_WRITE | PAGE_PLUS_READ => self.bytes[CARRIED],
+            code => code,
+        }
+    }
+
+    /// The payload of a write, 0 to 2 bytes, a word low byte first; no byte for a request, but the
+    /// code and the side where coefficients are read.
+    #[tactic(auto, unfolding(crate::specs::View::message_in))]
+    pub fn payload(&self) -> &[u8]
+        ensures { result.now ≡ message_payload self.now }
+    {
+        let length = self.bytes.len();
+        match self.bytes[CODE] {
+            PAGE_PLUS_WRITE => &self.bytes[CARRIED + 1..length - 1],
+            PAGE_PLUS_READ => &[],
+            COEFFICIENTS => &self.bytes[PAGE_PLACE..],
+            _ if length == 2 => &[],
+            _ => &self.bytes[CODE + 1..length - 1],
+        }
+    }
+
+    /// The whole meaning of the packet.
+    #[tactic(auto, unfolding(crate::specs::View::message_in))]
+    pub fn message(&self) -> Message
+        ensures { result ≡ self.now }
+    {
+        match self.bytes[CODE] {
+            PAGE_PLUS_WRITE => Message::PagePlusWrite {
+                page: self.bytes[PAGE_PLACE],
+                code: self.bytes[CARRIED],
+                payload: payload_of(&self.bytes[CARRIED + 1..self.bytes.len() - 1]),
+            },
+            PAGE_PLUS_READ => Message::PagePlusRead {
+                page: self.bytes[PAGE_PLACE],
+                code: self.bytes[CARRIED],
+            },
+            COEFFICIENTS => Message::ReadCoefficients {
+                code: self.bytes[PAGE_PLACE],
+                side: self.bytes[CARRIED],
+            },
+            code if self.bytes.len() == 2 => Message::ReadCommand { code },
+            code => plain_write(code, &self.bytes[CODE + 1..self.bytes.len() - 1]),
+        }
+    }
+}
+
+// The payload that these bytes are.
+fn payload_of(bytes: &[u8]) -> Payload
+    ensures { result ≡ payload_in bytes.now }
+{
+    match bytes {
+        [] => Payload::Empty,
+        [byte] => Payload::Byte(*byte),
+        [low, high, ..] => Payload::Word(u16::from_le_bytes([*low, *high])),
+    }
+}
+
+// The plain packet that writes these bytes.
+fn plain_write(code: u8, payload: &[u8]) -> Message
+    ensures { result ≡ spec_plain_write code (payload_in payload.now) }
+{
+    match payload_of(payload) {
+        Payload::Empty => Message::SendByte { code },
+        Payload::Byte(byte) => Message::WriteByte { code, byte },
+        Payload::Word(word) => Message::WriteWord { code, word },
+    }
+}

@@ -1,0 +1,5 @@
+pub mod Rounding
+pub mod SlopePlaces
+pub mod Spaced
+pub mod Spellings
+pub mod UnsignedPlaces

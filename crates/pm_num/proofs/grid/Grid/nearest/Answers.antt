@@ -1,0 +1,32 @@
+use Rattle.std.proofs.Common.{◌*◌, ◌<◌, pos, arith}
+use Rattle.std.specs.Int.{w128}
+use Rattle.std.proofs.Common.{to_z, of_z}
+use Rattle.std.proofs.lemmas.Int.{ints}
+use Rattle.pm_num.specs.Steps.{IsRounded}
+use Rattle.pm_num.proofs.Rounding.{rounded_at}
+use Rattle.pm_num.proofs.Spaced.{moved_num, nearest_on_grid, lowest_on_grid, above_on_grid, below_on_grid}
+use Rattle.pm_num.proofs.grid.Grid.nearest.Goals as goal
+
+place : (c : goal.After-rounded) → IsRounded (moved_num c.args.self.now c.args.x.now) (pos (c.args.self.now.step * c.args.x.now.den)) (to_z w128 (of_z w128 c.rounded.result))
+place c =
+    let g = c.args.self.now in
+    let x = c.args.x.now in
+    rounded_at (moved_num g x) (pos (g.step * x.den)) c.rounded.result _ _ _ c.rounded.ensures
+    (omega (arith, ints)) (omega (arith, ints)) (omega (arith, ints))
+
+den_above : (c : goal.After-rounded) → 0 < c.args.self.now.den
+den_above c = omega (arith, ints, c.moved.ensures.sizes)
+
+spacing_above : (c : goal.After-rounded) → 0 < c.args.self.now.step * c.args.x.now.den
+spacing_above c = omega (arith, ints, c.spacing.ensures.positive)
+
+pub returns : goal.returns
+returns c =
+    let g = c.args.self.now in
+    let x = c.args.x.now in
+    record {
+      nearest = nearest_on_grid g x _ (den_above c) (place c);
+      lowest = lowest_on_grid g x _ (den_above c) (place c);
+      above = above_on_grid g x _ (spacing_above c) (place c);
+      below = below_on_grid g x _ (spacing_above c) (place c);
+    }

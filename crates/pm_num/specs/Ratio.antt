@@ -1,0 +1,33 @@
+use Rattle.std.specs.Prelude.{◌≡◌, ℕ, ◌^◌, ℤ, pos, neg_ℤ, ◌*ℤ◌, ◌<ℤ◌, ◌≤ℤ◌}
+
+-- A fraction as a pair of whole numbers, as it stands and not reduced.
+pub record Ratio : Type 0 where
+  pub num : ℤ
+  pub den : ℕ
+
+-- The three ways in which two fractions compare, by cross products.
+abbrev pub AtMost : Ratio → Ratio → Type 0
+AtMost p q = (p.num *ℤ pos q.den) ≤ℤ (q.num *ℤ pos p.den)
+
+abbrev pub LessThan : Ratio → Ratio → Type 0
+LessThan p q = (p.num *ℤ pos q.den) <ℤ (q.num *ℤ pos p.den)
+
+abbrev pub SameValue : Ratio → Ratio → Type 0
+SameValue p q = p.num *ℤ pos q.den ≡ q.num *ℤ pos p.den
+
+-- x lies between the two, which count as between.
+pub record IsBetween (least greatest x : Ratio) : Type 0 where
+  pub from_least : AtMost least x
+  pub to_greatest : AtMost x greatest
+
+-- The numerators and denominators that this project takes: den from 1 to 2^55, num at most 2^55 in
+-- size.
+pub record InBounds (num den : ℤ) : Type 0 where
+  pub den_above : pos 1 ≤ℤ den
+  pub den_below : den ≤ℤ pos (2 ^ 55)
+  pub num_above : neg_ℤ (pos (2 ^ 55)) ≤ℤ num
+  pub num_below : num ≤ℤ pos (2 ^ 55)
+
+-- k millionths.
+abbrev pub micros : ℤ → Ratio
+micros k = record { num = k; den = 10 ^ 6 }

@@ -1,0 +1,83 @@
+//! Any of the three formats.
+
+use crate::direct::Direct;
+use crate::fault::NumFault;
+use crate::format::NumFormat;
+use crate::frac::Frac;
+use crate::linear11::Linear11;
+use crate::ulinear16::Ulinear16;
+
+/// One of the three numeric formats, chosen at run time.
+#[derive(Clone, Copy, Debug)]
+pub enum AnyFormat {
+    /// LINEAR11, whose exponent stands in the word.
+    Linear11,
+    /// ULINEAR16 with its exponent.
+    Ulinear16(Ulinear16),
+    /// DIRECT with its coefficients.
+    Direct(Direct),
+}
+
+impl NumFormat for AnyFormat {
+    ghost use Rattle.pm_num.specs.AnyFormat.{any_value, any_rank, any_lowest, any_highest};
+    ghost use Rattle.pm_num.specs.Laws.OneWord.{same_from_nearest, one_from_nearest};
+    ghost use Rattle.pm_num.specs.Laws.Any.{any-has_den, any-within, any-least_met, any-greatest_met, any-one_word};
+
+    ghost value = { any_value };
+
+    ghost rank = { any_rank };
+
+    ghost lowest = { any_lowest };
+
+    ghost highest = { any_highest };
+
+    ghost has_den = { any-has_den };
+
+    ghost within = { any-within };
+
+    ghost least_met = { any-least_met };
+
+    ghost greatest_met = { any-greatest_met };
+
+    ghost same = { λ f u w h nearest.
+        same_from_nearest (any_value f) (any_rank f) u w (any-has_den f u h) h nearest };
+
+    ghost none_nearer = { λ f x u w h nearest. nearest.nearest u h };
+
+    ghost tie = { λ f x u w h nearest near. nearest.lowest u h near };
+
+    ghost one = { λ f x u w h k.
+        one_from_nearest (any_value f) (any_rank f) (any-one_word f) x u w h k };
+
+    fn least(&self) -> Frac {
+        match self {
+            AnyFormat::Linear11 => Linear11.least(),
+            AnyFormat::Ulinear16(format) => format.least(),
+            AnyFormat::Direct(format) => format.least(),
+        }
+    }
+
+    fn greatest(&self) -> Frac {
+        match self {
+            AnyFormat::Linear11 => Linear11.greatest(),
+            AnyFormat::Ulinear16(format) => format.greatest(),
+            AnyFormat::Direct(format) => format.greatest(),
+        }
+    }
+
+    fn value_of(&self, word: u16) -> Frac {
+        match self {
+            AnyFormat::Linear11 => Linear11.value_of(word),
+            AnyFormat::Ulinear16(format) => format.value_of(word),
+            AnyFormat::Direct(format) => format.value_of(word),
+        }
+    }
+
+    fn nearest(&self, x: Frac) -> Result<u16, NumFault> {
+        match self {
+            AnyFormat::Linear11 => Linear11.nearest(x),
+            AnyFormat::Ulinear16(format) => format.nearest(x),
+            AnyFormat::Direct(format) => format.nearest(x),
+        }
+    }
+}

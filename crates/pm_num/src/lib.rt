@@ -1,0 +1,32 @@
+//! The numeric formats of PMBus 1.3 Part II: LINEAR11, ULINEAR16 and DIRECT.
+//!
+//! [`NumFormat::value_of`] gives the exact fraction that a word stands for, and
+//! [`NumFormat::nearest`] the word whose value is nearest to a fraction. Fractions are pairs of
+//! whole numbers, [`Frac`], which are compared by cross products and never rounded. No call takes
+//! memory.
+//!
+//! IEEE half precision, VID and relative VOUT_MODE are not here.
+#![tactic(auto)]
+
+mod any_format;
+mod direct;
+mod fault;
+mod format;
+mod frac;
+mod grid;
+mod linear11;
+mod power;
+#[cfg(test)]
+mod search;
+#[cfg(test)]
+mod tests;
+mod ulinear16;
+mod whole;
+
+pub use any_format::AnyFormat;
+pub use direct::Direct;
+pub use fault::NumFault;
+pub use format::{NumFormat, canonical};
+pub use frac::{Frac, micro};
+pub use linear11::Linear11;
+pub use ulinear16::Ulinear16;

@@ -1,0 +1,73 @@
+//! Powers of 2 and of 10 as fractions of whole numbers, `upper / lower`.
+
+ghost use Rattle.std.specs.Prelude.{◌≡◌, ◌^◌, ◌≤◌, pos, ◌<ℤ◌, ◌≤ℤ◌};
+ghost use Rattle.pm_num.specs.Value.{upper, lower};
+ghost use Rattle.pm_num.specs.Formats.{IsExponent, IsDecimal};
+
+/// `2^n`.
+pub fn power_of_two(n: u32) -> i128
+    requires { n ≤ 31 }
+    ensures value { result ≡ pos (2 ^ n) }
+    ensures positive { pos 0 <ℤ result }
+    ensures small { result ≤ℤ pos (2 ^ 31) }
+{
+    1 << n
+}
+
+/// The numerator of `2^n`.
+pub fn upper_of_two(n: i8) -> i128
+    requires { IsExponent n }
+    ensures value { result ≡ pos (upper 2 n) }
+    ensures positive { pos 0 <ℤ result }
+    ensures small { result ≤ℤ pos (2 ^ 15) }
+{
+    if n < 0 { 1 } else { 1 << n }
+}
+
+/// The denominator of `2^n`.
+pub fn lower_of_two(n: i8) -> i128
+    requires { IsExponent n }
+    ensures value { result ≡ pos (lower 2 n) }
+    ensures positive { pos 0 <ℤ result }
+    ensures small { result ≤ℤ pos (2 ^ 16) }
+{
+    if n < 0 { 1 << -n } else { 1 }
+}
+
+/// The numerator of `10^r`.
+pub fn upper_of_ten(r: i8) -> i128
+    requires { IsDecimal r }
+    ensures value { result ≡ pos (upper 10 r) }
+    ensures positive { pos 0 <ℤ result }
+    ensures small { result ≤ℤ pos (10 ^ 12) }
+{
+    if r < 0 {
+        1
+    } else {
+        power_of_ten(r.unsigned_abs())
+    }
+}
+
+/// The denominator of `10^r`.
+pub fn lower_of_ten(r: i8) -> i128
+    requires { IsDecimal r }
+    ensures value { result ≡ pos (lower 10 r) }
+    ensures positive { pos 0 <ℤ result }
+    ensures small { result ≤ℤ pos (10 ^ 12) }
+{
+    if r < 0 {
+        power_of_ten(r.unsigned_abs())
+    } else {
+        1
+    }
+}
+
+/// `10^n`.
+fn power_of_ten(n: u8) -> i128
+    requires { n ≤ 12 }
+    ensures value { result ≡ pos (10 ^ n) }
+    ensures positive { pos 0 <ℤ result }
+    ensures small { result ≤ℤ pos (10 ^ 12) }
+{
+    10i128.pow(u32::from(n))
+}

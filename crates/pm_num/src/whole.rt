@@ -1,0 +1,33 @@
+//! Quotients of whole numbers.
+
+ghost use Rattle.std.specs.Prelude.{◌≡◌, ◌*◌, ◌^◌, ◌<◌, ◌≤◌, pos, ◌*ℤ◌, ◌<ℤ◌, unsigned_abs};
+ghost use Rattle.pm_num.specs.Steps.{IsFloor, IsRounded};
+
+/// The greatest whole number that is not above `a / d`.
+pub fn floor(a: i128, d: i128) -> i128
+    requires positive { pos 0 <ℤ d }
+    ensures { IsFloor a d result }
+{
+    a.div_euclid(d)
+}
+
+/// The whole number nearest to `a / d`; of two that are equally near, the lower.
+pub fn rounded(a: i128, d: i128) -> i128
+    requires positive { pos 0 <ℤ d }
+    requires small { unsigned_abs a < 2 ^ 120 }
+    requires divisor_small { unsigned_abs d < 2 ^ 120 }
+    ensures { IsRounded a d result }
+{
+    floor(2 * a + d - 1, 2 * d)
+}
+
+/// The product of two numbers of at most 2^55 in size.
+pub fn product(a: i128, b: i128) -> i128
+    requires left { unsigned_abs a ≤ 2 ^ 55 }
+    requires right { unsigned_abs b ≤ 2 ^ 55 }
+    ensures value { result ≡ a *ℤ b }
+    ensures size { unsigned_abs result ≡ unsigned_abs a * unsigned_abs b }
+    ensures small { unsigned_abs result ≤ 2 ^ 110 }
+{
+    a * b
+}

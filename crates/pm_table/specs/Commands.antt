@@ -1,0 +1,78 @@
+-- The command table of PMBus 1.3 Part II, as far as this project's converter has it. Codes and
+-- lengths are the standard's; read, write and scope are this project's own choice. Every other
+-- question on a code asks `line_of`.
+use Rattle.std.specs.Prelude.{ℕ, Bool, true, false, List, Option, Some, None, if◌then◌else◌, ◌==◌, is_some, codes}
+use Rattle.std.specs.Option.{option_map_or}
+use Rattle.pm_table.specs.declared.commands.Info.{Info}
+
+-- what the table says of a code
+pub record Line : Type 0 where
+  -- the name as the standard prints it
+  pub name : List ℕ
+  -- the bytes of the payload, 0 for a block
+  pub length : ℕ
+  -- it acts on one output, and not on the whole device
+  pub paged : Bool
+  -- it is answered when read
+  pub reads : Bool
+  -- it is taken when written
+  pub writes : Bool
+
+-- a line of the code's own type, seen as a line of the table
+abbrev pub line_seen : Info → Line
+line_seen i = record { name = i.name.now; length = i.length; paged = i.paged; reads = i.reads; writes = i.writes }
+
+-- read and written
+abbrev pub setting : List ℕ → ℕ → Bool → Line
+setting name length paged = record { name = name; length = length; paged = paged; reads = true; writes = true }
+
+-- only read
+abbrev pub reading : List ℕ → ℕ → Bool → Line
+reading name length paged = record { name = name; length = length; paged = paged; reads = true; writes = false }
+
+-- only written
+abbrev pub action : List ℕ → ℕ → Bool → Line
+action name length paged = record { name = name; length = length; paged = paged; reads = false; writes = true }
+
+-- The table. `false` is the scope of the device, `true` that of an output.
+unfoldable pub line_of : ℕ → Option Line
+line_of code =
+    if code == 0x00 then Some (setting (codes "PAGE") 1 false)
+    else (if code == 0x01 then Some (setting (codes "OPERATION") 1 true)
+    else (if code == 0x03 then Some (action (codes "CLEAR_FAULTS") 0 true)
+    else (if code == 0x05 then Some (action (codes "PAGE_PLUS_WRITE") 0 false)
+    else (if code == 0x06 then Some (reading (codes "PAGE_PLUS_READ") 0 false)
+    else (if code == 0x10 then Some (setting (codes "WRITE_PROTECT") 1 false)
+    else (if code == 0x19 then Some (reading (codes "CAPABILITY") 1 false)
+    else (if code == 0x20 then Some (reading (codes "VOUT_MODE") 1 true)
+    else (if code == 0x21 then Some (setting (codes "VOUT_COMMAND") 2 true)
+    else (if code == 0x24 then Some (setting (codes "VOUT_MAX") 2 true)
+    else (if code == 0x25 then Some (setting (codes "VOUT_MARGIN_HIGH") 2 true)
+    else (if code == 0x26 then Some (setting (codes "VOUT_MARGIN_LOW") 2 true)
+    else (if code == 0x30 then Some (reading (codes "COEFFICIENTS") 0 false)
+    else (if code == 0x78 then Some (reading (codes "STATUS_BYTE") 1 true)
+    else (if code == 0x79 then Some (reading (codes "STATUS_WORD") 2 true)
+    else (if code == 0x7A then Some (reading (codes "STATUS_VOUT") 1 true)
+    else (if code == 0x7E then Some (reading (codes "STATUS_CML") 1 false)
+    else (if code == 0x88 then Some (reading (codes "READ_VIN") 2 false)
+    else (if code == 0x8B then Some (reading (codes "READ_VOUT") 2 true)
+    else (if code == 0x8C then Some (reading (codes "READ_IOUT") 2 true)
+    else (if code == 0x8D then Some (reading (codes "READ_TEMPERATURE_1") 2 false)
+    else (if code == 0x98 then Some (reading (codes "PMBUS_REVISION") 1 false)
+    else None)))))))))))))))))))))
+
+-- the code stands in the table
+abbrev pub is_known : ℕ → Bool
+is_known code = is_some (line_of code)
+
+-- it is answered when read
+abbrev pub is_read : ℕ → Bool
+is_read code = option_map_or (λ l. l.reads) (line_of code) false
+
+-- it is taken when written
+abbrev pub is_written : ℕ → Bool
+is_written code = option_map_or (λ l. l.writes) (line_of code) false
+
+-- the bytes of its payload, 0 for a block and for a code that isn't in the table
+abbrev pub payload_length : ℕ → ℕ
+payload_length code = option_map_or (λ l. l.length) (line_of code) 0

@@ -1,0 +1,62 @@
+ghost use Rattle.std.specs.Prelude.{◌≡◌};
+
+/// The coefficients of the DIRECT format: a word Y is (m * X + b) * 10^R for a value of X volts
+/// (PMBus 1.3 Part II, COEFFICIENTS).
+#[derive(Clone, Copy, Debug, PartialEq, Eq)]
+pub struct Coefficients {
+    /// The slope.
+    pub m: i16,
+    /// The offset.
+    pub b: i16,
+    /// The exponent of ten, R.
+    pub r: i8,
+}
+
+impl Coefficients {
+    ghost use Rattle.pm_table.specs.Coefficients.{coefficients_of, coefficient_bytes};
+
+    /// Reads the five bytes that COEFFICIENTS answers: m low, m high, b low, b high, R, in two's
+    /// complement.
+    pub fn read(bytes: [u8; 5]) -> Coefficients
+        ensures { result ≡ coefficients_of bytes }
+    {
+        let [m_low, m_high, b_low, b_high, r] = bytes;
+        Coefficients {
+            m: i16::from_le_bytes([m_low, m_high]),
+            b: i16::from_le_bytes([b_low, b_high]),
+            r: i8::from_le_bytes([r]),
+        }
+    }
+
+    /// The five bytes that COEFFICIENTS answers; `read` gives the same coefficients again.
+    pub fn bytes(&self) -> [u8; 5]
+        ensures bytes { result ≡ coefficient_bytes self.now }
+        ensures again { coefficients_of result ≡ self.now }
+    {
+        let [m_low, m_high] = self.m.to_le_bytes();
+        let [b_low, b_high] = self.b.to_le_bytes();
+        let [r] = self.r.to_le_bytes();
+        [m_low, m_high, b_low, b_high, r]
+    }
+}
+
+#[cfg(test)]
+mod tests {
+    use super::*;
+
+    #[test]
+    fn the_five_bytes_are_the_three_numbers_both_ways(rt: HostRuntime) {
+        let rows = [
+            ([0x01, 0x00, 0x00, 0x00, 0x03], (1, 0, 3)),
+            ([0xFF, 0xFF, 0x05, 0x00, 0x03], (-1, 5, 3)),
+            ([0x00, 0x80, 0xFF, 0x7F, 0x80], (-32768, 32767, -128)),
+            ([0xFF, 0x7F, 0x00, 0x80, 0x7F], (32767, -32768, 127)),
+            ([0x34, 0x12, 0xCC, 0xED, 0xF4], (0x1234, -0x1234, -12)),
+        ];
+        for (bytes, (m, b, r)) in rows {
+            let coefficients = Coefficients { m, b, r };
+            assert_eq!(rt; Coefficients::read(bytes), coefficients);
+            assert_eq!(rt; coefficients.bytes(), bytes);
+        }
+    }
+}

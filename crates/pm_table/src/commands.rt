@@ -1,0 +1,101 @@
+ghost use Rattle.std.specs.Prelude.{◌≡◌, ◌≤◌, ℕ, IfSome};
+ghost use Rattle.std.specs.Option.{option_map};
+ghost use Rattle.pm_table.specs.Commands.{line_of, payload_length, line_seen, setting as spec_setting, reading as spec_reading, action as spec_action};
+
+/// A command code of PMBus, any of the 256 bytes.
+#[derive(Clone, Copy, Debug, PartialEq, Eq)]
+pub struct Code(pub u8);
+
+/// The line of the command table for one code.
+#[derive(Clone, Copy, Debug, PartialEq, Eq)]
+pub struct Info {
+    /// The name as the standard prints it, as `VOUT_COMMAND`.
+    pub name: &'static str,
+    /// The bytes of its payload, 0 to 2; 0 for a block code too (PAGE_PLUS_WRITE, PAGE_PLUS_READ,
+    /// COEFFICIENTS).
+    pub length: u8,
+    /// Whether it acts on one output, which a page names, and not on the whole device.
+    /// PAGE_PLUS_WRITE and PAGE_PLUS_READ, which only carry another code, don't.
+    pub paged: bool,
+    /// Whether the converter answers a read of it.
+    pub reads: bool,
+    /// Whether the converter takes a write of it; a send byte is a write of no bytes.
+    pub writes: bool,
+}
+
+/// The line of a code that stands in the command table of PMBus 1.3 Part II, as far as this
+/// converter has it; `None` for every other code. Codes and lengths are the standard's; read, write
+/// and scope are this converter's own choice.
+#[tactic(auto, unfolding(crate::specs::Commands::line_of))]
+pub fn known(code: Code) -> Option<Info>
+    ensures line { option_map line_seen result ≡ line_of code.0 }
+    ensures short { IfSome result (λ line. line.length ≤ 2) }
+{
+    match code.0 {
+        0x00 => Some(setting("PAGE", 1, false)),
+        0x01 => Some(setting("OPERATION", 1, true)),
+        0x03 => Some(action("CLEAR_FAULTS", 0, true)),
+        0x05 => Some(action("PAGE_PLUS_WRITE", 0, false)),
+        0x06 => Some(reading("PAGE_PLUS_READ", 0, false)),
+        0x10 => Some(setting("WRITE_PROTECT", 1, false)),
+        0x19 => Some(reading("CAPABILITY", 1, false)),
+        0x20 => Some(reading("VOUT_MODE", 1, true)),
+        0x21 => Some(setting("VOUT_COMMAND", 2, true)),
+        0x24 => Some(setting("VOUT_MAX", 2, true)),
+        0x25 => Some(setting("VOUT_MARGIN_HIGH", 2, true)),
+        0x26 => Some(setting("VOUT_MARGIN_LOW", 2, true)),
+        0x30 => Some(reading("COEFFICIENTS", 0, false)),
+        0x78 => Some(reading("STATUS_BYTE", 1, true)),
+        0x79 => Some(reading("STATUS_WORD", 2, true)),
+        0x7A => Some(reading("STATUS_VOUT", 1, true)),
+        0x7E => Some(reading("STATUS_CML", 1, false)),
+        0x88 => Some(reading("READ_VIN", 2, false)),
+        0x8B => Some(reading("READ_VOUT", 2, true)),
+        0x8C => Some(reading("READ_IOUT", 2, true)),
+        0x8D => Some(reading("READ_TEMPERATURE_1", 2, false)),
+        0x98 => Some(reading("PMBUS_REVISION", 1, false)),
+        _ => None,
+    }
+}
+
+// A code that is read and written.
+fn setting(name: &'static str, length: u8, paged: bool) -> Info
+    ensures { line_seen result ≡ spec_setting name.entry.now length paged }
+{
+    Info {
+        name,
+        length,
+        paged,
+        reads: true,
+        writes: true,
+    }
+}
+
+// A code that is only read.
+fn reading(name: &'static str, length: u8, paged: bool) -> Info
+    ensures { line_seen result ≡ spec_reading name.entry.now length paged }
+{
+    Info {
+        writes: false,
+        ..setting(name, length, paged)
+    }
+}
+
+// A code that is only written.
+fn action(name: &'static str, length: u8, paged: bool) -> Info
+    ensures { line_seen result ≡ spec_action name.entry.now length paged }
+{
+    Info {
+        reads: false,
+        ..setting(name, length, paged)
+    }
+}
+
+/// No payload in the command table is longer than two bytes: a law of the definitions, of codes of
+/// any size.
+pub fn payloads_are_short()
+    ensures { (code : ℕ) → payload_length code ≤ 2 }
+{}
+
+#[cfg(test)]
+mod tests;

@@ -1,0 +1,11 @@
+pub mod AskedLemmas
+pub mod GivenOptions
+pub mod LineLemmas
+pub mod OneText
+pub mod Origin
+pub mod OutcomeLemmas
+pub mod PartLemmas
+pub mod RangeLemmas
+pub mod ReadingLemmas
+pub mod RefusalLemmas
+pub mod WordLemmas

@@ -1,0 +1,109 @@
+-- The text that is written of an input, by the frame that the input asks for.
+use Rattle.std.proofs.Common.{◌≡◌, ℕ, ◌<◌, ◌≤◌, true, false, List, [], ◌∷◌, ◌++◌, length, length-append, append-nil, Option, Some, None, IfSome, Result, Ok, Err, refl, sym, ap, ◌∙◌, arith, ltb, subst, IfErr, ◌⊎◌, inl, inr}
+use Rattle.std.proofs.lemmas.Bool.Decides.{nat_tests}
+use Rattle.std.specs.Io.KnownBytes.{Consumes}
+use Rattle.pm_tool.specs.declared.fault.TextFault.{TextFault}
+use Rattle.pm_tool.specs.declared.fault.TextFault.TheVariants.{Syntax, BadHex, TooLong, Read, Write, Memory}
+use Rattle.pm_tool.specs.declared.reading.TheConstants.{MAX_TEXT}
+use Rattle.pm_tool.specs.Streams.{IsWholeText}
+use Rattle.pm_tool.specs.Faults.{IsOfReading}
+use Rattle.pm_tool.specs.declared.heard.Heard.{Heard}
+use Rattle.pm_tool.specs.Lines.{lines_of}
+use Rattle.pm_tool.specs.Asked.{frame_asked}
+use Rattle.pm_tool.specs.Hearing.{heard_text}
+use Rattle.pm_tool.specs.Base.{base}
+use Rattle.pm_tool.specs.Reply.{reply_of}
+use Rattle.pm_tool.specs.declared.heard.Ending.TheVariants.{Stop}
+use Rattle.pm_tool.specs.Outcome.{held_after, command_words, printed_text, text_of_asked, outcome_of, outcome_of_text, IsSettled}
+use Rattle.pm_tool.proofs.LineLemmas.{unskipped-nil}
+use Rattle.pm_tool.proofs.AskedLemmas.{asked-none}
+
+-- an input with a frame has bytes
+pub asked-some : (input frame : List ℕ) → frame_asked input ≡ Ok frame → 0 < length input
+asked-some [] frame right = let none = asked-none [] (length (lines_of [])) (unskipped-nil 1) refl in absurd (cc)
+asked-some (x ∷ xs) frame right = omega arith
+
+pub printed-fault : (input : List ℕ) (fault : TextFault) → frame_asked input ≡ Err fault → printed_text input ≡ Err fault
+unfolding printed_text
+printed-fault input fault wrong = ap text_of_asked wrong
+
+pub printed-text : (input frame : List ℕ) (reply : Heard) (words text : List ℕ) → frame_asked input ≡ Ok frame
+    → reply ≡ reply_of base frame Stop → words ≡ command_words (held_after frame) → text ≡ heard_text reply words → printed_text input ≡ Ok text
+unfolding printed_text
+printed-text input frame reply words text right answered left written =
+    ap text_of_asked right ∙ ap (λ r. Ok (heard_text r (command_words (held_after frame)))) (sym answered)
+    ∙ ap (λ w. Ok (heard_text reply w)) (sym left) ∙ ap Ok (sym written)
+
+-- an input that is too long
+outcome-long : (input : List ℕ) → MAX_TEXT < length input → outcome_of input ≡ Err TooLong
+unfolding outcome_of
+outcome-long input long = let over : ltb MAX_TEXT (length input) ≡ true = grind (arith, nat_tests) in rw over refl
+
+-- one that isn't
+outcome-short : (input : List ℕ) → length input ≤ MAX_TEXT → outcome_of input ≡ outcome_of_text (printed_text input)
+unfolding outcome_of
+outcome-short input short = let within : ltb MAX_TEXT (length input) ≡ false = grind (arith, nat_tests) in rw within refl
+
+-- what a reader gave at its front
+pub same-long : (old new : Option (List ℕ)) (front : List ℕ) → MAX_TEXT < length front → Consumes old new front
+    → IfSome old (λ input. Err TooLong ≡ outcome_of input)
+same-long None new front long given = tt
+same-long (Some input) None front long given = absurd given
+same-long (Some input) (Some rest) front long given =
+    sym (outcome-long input (omega (arith, ap length given, length-append front rest)))
+
+-- what a reader gave as a whole
+pub same-whole : (old new : Option (List ℕ)) (text : List ℕ) → IsWholeText old new text
+    → IfSome old (λ input. outcome_of_text (printed_text text) ≡ outcome_of input)
+same-whole None new text whole = tt
+same-whole (Some input) None text whole = absurd whole.given
+same-whole (Some input) (Some rest) text whole =
+    let same : input ≡ text = whole.given ∙ ap (λ r. text ++ r) whole.ended ∙ append-nil text in
+    sym (outcome-short text whole.short) ∙ ap outcome_of (sym same)
+
+-- an answer that follows from what was read
+same-by : (old : Option (List ℕ)) (r s : Result (Unit {0}) TextFault) → (IsSettled r → r ≡ s)
+    → IfSome old (λ input. s ≡ outcome_of input) → IfSome old (λ input. IsSettled r → r ≡ outcome_of input)
+same-by None r s follows same = tt
+same-by (Some input) r s follows same = λ settled. follows settled ∙ same
+
+-- an answer that the streams or the memory decided
+unsettled : (old : Option (List ℕ)) (r : Result (Unit {0}) TextFault) → (IsSettled r → ⊥)
+    → IfSome old (λ input. IsSettled r → r ≡ outcome_of input)
+unsettled None r open' = tt
+unsettled (Some input) r open' = λ settled. absurd (open' settled)
+
+-- what a refused reading comes to
+pub same-read : (old new : Option (List ℕ)) (fault : TextFault) → IsOfReading fault
+    → (fault ≡ TooLong → (front : List ℕ) × (MAX_TEXT < length front) × Consumes old new front)
+    → IfSome old (λ input. IsSettled (Err fault) → Err fault ≡ outcome_of input)
+same-read old new (Syntax line) of long = absurd of
+same-read old new (BadHex line) of long = absurd of
+same-read old new TooLong of long =
+    let (front, over, given) = long refl in
+    same-by old (Err TooLong) (Err TooLong) (λ settled. refl) (same-long old new front over given)
+same-read old new Read of long = unsettled old (Err Read) (λ settled. settled)
+same-read old new Write of long = absurd of
+same-read old new Memory of long = unsettled old (Err Memory) (λ settled. settled)
+
+-- what a text that was read whole, as it was handed on, and then refused comes to
+pub same-refused : (old new : Option (List ℕ)) (text handed : List ℕ) (fault : TextFault) → IsWholeText old new text
+    → handed ≡ text → (fault ≡ Memory) ⊎ (printed_text handed ≡ Err fault)
+    → IfSome old (λ input. IsSettled (Err fault) → Err fault ≡ outcome_of input)
+same-refused old new text handed fault whole same (inl memory) =
+    let P : TextFault → Type 0 = λ f. IfSome old (λ input. IsSettled (Err f) → Err f ≡ outcome_of input) in
+    subst P (sym memory) (unsettled old (Err Memory) (λ settled. settled))
+same-refused old new text handed fault whole same (inr wrong) =
+    let right : printed_text text ≡ Err fault = ap printed_text (sym same) ∙ wrong in
+    same-by old (Err fault) (outcome_of_text (printed_text text)) (λ settled. sym (ap outcome_of_text right)) (same-whole old new text whole)
+
+-- what a text that was read whole, as it was handed on, and then written comes to
+pub same-written : (old new : Option (List ℕ)) (text handed out : List ℕ) (r : Result (Unit {0}) TextFault) → IsWholeText old new text
+    → handed ≡ text → printed_text handed ≡ Ok out → IfErr r (λ fault. fault ≡ Write)
+    → IfSome old (λ input. IsSettled r → r ≡ outcome_of input)
+same-written old new text handed out (Ok done) whole same right failed =
+    let right' : printed_text text ≡ Ok out = ap printed_text (sym same) ∙ right in
+    same-by old (Ok done) (outcome_of_text (printed_text text)) (λ settled. sym (ap outcome_of_text right')) (same-whole old new text whole)
+same-written old new text handed out (Err fault) whole same right failed =
+    let P : TextFault → Type 0 = λ f. IfSome old (λ input. IsSettled (Err f) → Err f ≡ outcome_of input) in
+    subst P (sym failed) (unsettled old (Err Write) (λ settled. settled))

@@ -1,0 +1,75 @@
+use Rattle.std.proofs.Common.{◌≡◌, ◌∙◌, ap, refl, sym, subst, [], ◌∷◌, List, Result, Ok, Err, IfOk, IsErrAnd, IsSomeAnd, Option, Some, codes, ⊎_elim, map, unwrap_or}
+use Rattle.clap.specs.Words.{FailsBy, HasKind, Kinds, Row, Text, fault_of, subcommand_of}
+use Rattle.clap.specs.Walk.{texts}
+use Rattle.clap.specs.declared.error.Error.{Error}
+use Rattle.clap.specs.declared.error.kind.ErrorKind.{ErrorKind}
+use Rattle.clap.specs.declared.error.kind.ErrorKind.TheVariants.{DisplayHelp, MissingSubcommand}
+use Rattle.clap.proofs.OnLiterals.{clap_on_literals}
+use Rattle.pm_tool.specs.declared.commandline.choice.Chosen.{Chosen}
+use Rattle.pm_tool.specs.declared.commandline.choice.Chosen.TheVariants.{Hear, Number}
+use Rattle.pm_tool.specs.Commandline.{Asks, Given, HasValuesOf, UnlessMemory, number_words, pmb}
+use Rattle.pm_tool.proofs.GivenOptions.{first_text, number_met, number_passes, row}
+use Rattle.pm_tool.proofs.commandline.chosen.Goals as goal
+
+-- where the parser meets a subcommand and finds no fault, what is chosen is that subcommand, unless memory ran out
+met : (r : Result Chosen Error) (words : List Text) (name : Text) (rows : List Row) (P : Chosen → Type 0) → IfOk r (λ chosen. IsSomeAnd (subcommand_of pmb words) (λ met. Asks met.0 met.1 chosen))
+    → FailsBy (fault_of pmb words) r → subcommand_of pmb words ≡ Some (name, rows) → fault_of pmb words ≡ [] → ((chosen : Chosen) → Asks name rows chosen → P chosen) → UnlessMemory r P
+met (Ok chosen) words name rows P named kinds found none gives = gives chosen (subst (λ (o : Option (Text × List Row)). IsSomeAnd o (λ met. Asks met.0 met.1 chosen)) found named)
+met (Err e) words name rows P named kinds found none gives = ⊎_elim (λ memory. memory) (λ other. absurd other) (subst (λ (k : Kinds). HasKind k e) none kinds)
+
+-- where the parser finds a fault, the call refuses
+refused : (r : Result Chosen Error) (words : List Text) (kind : ErrorKind) (kinds : Kinds) → FailsBy (fault_of pmb words) r → fault_of pmb words ≡ kind ∷ kinds → IsErrAnd r (HasKind (kind ∷ kinds))
+refused (Ok chosen) words kind kinds fails is = let e : kind ∷ kinds ≡ [] = sym is ∙ fails in absurd (cc)
+refused (Err e) words kind kinds fails is = subst (λ (k : Kinds). HasKind k e) is fails
+
+-- ---- what the parser makes of the words of the laws
+
+hear_met : (program : Text) → subcommand_of pmb (program ∷ codes "hear" ∷ []) ≡ Some (codes "hear", [])
+unfolding clap_on_literals
+hear_met program = refl
+
+hear_passes : (program : Text) → fault_of pmb (program ∷ codes "hear" ∷ []) ≡ []
+unfolding clap_on_literals
+hear_passes program = refl
+
+hear_chosen : (rows : List Row) (chosen : Chosen) → Asks (codes "hear") rows chosen → chosen ≡ Hear
+hear_chosen rows Hear asks = refl
+hear_chosen rows (Number format word micro) asks = let e : codes "hear" ≡ codes "number" = asks.0 in absurd (cc)
+
+given_chosen : (given : List Given) (chosen : Chosen) → Asks (codes "number") (map row given) chosen → HasValuesOf given chosen
+given_chosen given Hear asks = let e : codes "number" ≡ codes "hear" = asks in absurd (cc)
+given_chosen given (Number format word micro) asks = (
+  asks.1 ∙ ap (λ o. unwrap_or o []) (first_text (codes "format") given),
+  asks.2 ∙ first_text (codes "word") given,
+  asks.3 ∙ first_text (codes "micro") given,
+)
+
+help_fault : (program : Text) → fault_of pmb (program ∷ codes "--help" ∷ []) ≡ DisplayHelp ∷ []
+unfolding clap_on_literals
+help_fault program = refl
+
+missing_fault : (program : Text) → fault_of pmb (program ∷ []) ≡ MissingSubcommand ∷ []
+unfolding clap_on_literals
+missing_fault program = refl
+
+pub returns-clause-hear : goal.returns-clause-hear
+returns-clause-hear c = λ program e.
+    met c.parsed.result (program ∷ codes "hear" ∷ []) (codes "hear") [] (λ chosen. chosen ≡ Hear)
+    (subst (λ (t : List Text). IfOk c.parsed.result (λ chosen. IsSomeAnd (subcommand_of pmb t) (λ met. Asks met.0 met.1 chosen))) e c.parsed.ensures.named)
+    (subst (λ (t : List Text). FailsBy (fault_of pmb t) c.parsed.result) e c.parsed.ensures.kinds)
+    (hear_met program) (hear_passes program) (hear_chosen [])
+
+pub returns-clause-number : goal.returns-clause-number
+returns-clause-number c = λ program given once e.
+    met c.parsed.result (number_words program given) (codes "number") (map row given) (HasValuesOf given)
+    (subst (λ (t : List Text). IfOk c.parsed.result (λ chosen. IsSomeAnd (subcommand_of pmb t) (λ met. Asks met.0 met.1 chosen))) e c.parsed.ensures.named)
+    (subst (λ (t : List Text). FailsBy (fault_of pmb t) c.parsed.result) e c.parsed.ensures.kinds)
+    (number_met program given once) (number_passes program given once) (given_chosen given)
+
+pub returns-clause-help : goal.returns-clause-help
+returns-clause-help c = λ program e.
+    refused c.parsed.result (texts c.args.words.now) DisplayHelp [] c.parsed.ensures.kinds (ap (fault_of pmb) e ∙ help_fault program)
+
+pub returns-clause-missing : goal.returns-clause-missing
+returns-clause-missing c = λ program e.
+    refused c.parsed.result (texts c.args.words.now) MissingSubcommand [] c.parsed.ensures.kinds (ap (fault_of pmb) e ∙ missing_fault program)

@@ -1,0 +1,109 @@
+-- The command line of `pmb`: the commands as the parser reads them, and what words choose.
+use Rattle.std.specs.Prelude.{◌≡◌, ◌⊎◌, ◌++◌, ◌∷◌, [], ℕ, List, Bool, true, not, ◌&&◌}
+use Rattle.std.specs.Prelude.{Option, Some, Result, MatchResult, codes, find, map, option_map}
+use Rattle.std.specs.Prelude.{unwrap_or}
+use Rattle.std.specs.List.{list_any}
+use Rattle.std.specs.Str.{bytes_eq}
+use Rattle.clap.specs.Words.{App, Row, Rule, Text, first_of, kind_of, new_app, new_rule, with_rule}
+use Rattle.clap.specs.Words.{with_subcommand}
+use Rattle.clap.specs.declared.builder.action.ArgAction.TheVariants.{Set}
+use Rattle.clap.specs.declared.error.Error.{Error}
+use Rattle.clap.specs.declared.error.kind.ErrorKind.{ErrorKind}
+use Rattle.clap.specs.declared.error.kind.ErrorKind.TheVariants.{DisplayHelp, OutOfMemory}
+use Rattle.pm_tool.specs.declared.commandline.choice.Chosen.{Chosen}
+use Rattle.pm_tool.specs.declared.commandline.choice.Chosen.TheVariants.{Hear, Number}
+
+-- ---- the commands, as the builder's calls make them
+
+-- `--NAME=VALUE`: an option with one value, for which help has a name
+abbrev pub option_rule : Text → Rule
+option_rule name = record (new_rule name) { long = Some name; action = Some Set; value_names = 1 }
+
+abbrev pub hear_app : App
+hear_app = new_app (codes "hear")
+
+abbrev pub number_app : App
+number_app = with_rule (with_rule (with_rule (new_app (codes "number"))
+    (option_rule (codes "format"))) (option_rule (codes "word"))) (option_rule (codes "micro"))
+
+-- a subcommand is required, and there is none called `help`
+abbrev pub with_required_subcommand : App → App
+with_required_subcommand app = record app {
+  top = record app.top { disable_help_subcommand = true; subcommand_required = true };
+}
+
+-- the whole command line
+abbrev pub pmb : App
+pmb = with_subcommand (with_subcommand (with_required_subcommand (new_app (codes "pmb")))
+    hear_app.top) number_app.top
+
+-- the names of the subcommands
+abbrev pub IsCommandName : Text → Type 0
+IsCommandName name = (name ≡ codes "hear") ⊎ (name ≡ codes "number")
+
+-- ---- what is chosen, by the subcommand's name and what was found for its options
+
+abbrev pub Asks : Text → List Row → Chosen → Type 0
+Asks name rows Hear = name ≡ codes "hear"
+Asks name rows (Number format word micro) = (name ≡ codes "number")
+    × (format.now ≡ unwrap_or (first_of (codes "format") rows) [])
+    × (option_map (λ s. s.now) word ≡ first_of (codes "word") rows)
+    × (option_map (λ s. s.now) micro ≡ first_of (codes "micro") rows)
+
+-- the call gave a value of which P holds, or memory ran out
+abbrev pub UnlessMemory : {T : Type 0} → Result T Error → (T → Type 0) → Type 0
+UnlessMemory result P = MatchResult result P (λ error. kind_of error ≡ OutOfMemory)
+
+-- ---- the same in plain words, for `number`
+
+-- the options of `number`
+pub data NumberOption : Type 0 where
+  format_option : NumberOption
+  word_option : NumberOption
+  micro_option : NumberOption
+
+abbrev pub option_name : NumberOption → Text
+option_name format_option = codes "format"
+option_name word_option = codes "word"
+option_name micro_option = codes "micro"
+
+-- one use of an option, with its text
+pub record Given : Type 0 where
+  pub option : NumberOption
+  pub text : Text
+
+-- the use is one of the option with this name
+abbrev pub is_named : Text → Given → Bool
+is_named name one = bytes_eq (option_name one.option) name
+
+-- `--NAME=TEXT`
+abbrev pub option_word : Given → Text
+option_word one = codes "--" ++ option_name one.option ++ codes "=" ++ one.text
+
+-- the words `PROGRAM number --NAME=TEXT ..`
+abbrev pub number_words : Text → List Given → List Text
+number_words program given = program ∷ codes "number" ∷ map option_word given
+
+-- no option is used twice
+abbrev pub is_once : List Given → Bool
+is_once [] = true
+is_once (one ∷ rest) = not (list_any (is_named (option_name one.option)) rest) && is_once rest
+
+-- the text of an option, where it is used
+abbrev pub text_of : NumberOption → List Given → Option Text
+text_of option given = option_map (λ one. one.text) (find (is_named (option_name option)) given)
+
+-- `number` is chosen, with the texts that were given for its options
+abbrev pub HasValuesOf : List Given → Chosen → Type 0
+HasValuesOf given Hear = ⊥
+HasValuesOf given (Number format word micro) =
+    (format.now ≡ unwrap_or (text_of format_option given) [])
+    × (option_map (λ s. s.now) word ≡ text_of word_option given)
+    × (option_map (λ s. s.now) micro ≡ text_of micro_option given)
+
+-- ---- the status that goes with a refusal of the command line
+
+abbrev pub status_by : ErrorKind → ℕ
+status_by OutOfMemory = 1
+status_by DisplayHelp = 0
+status_by _ = 2

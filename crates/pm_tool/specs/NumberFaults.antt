@@ -1,0 +1,31 @@
+-- The refusals of `number`, as the program prints them: `pmb: bad word`, `pmb: N1 ZeroSlope`. This
+-- project's own choice.
+use Rattle.std.specs.Prelude.{ℕ, List, codes}
+use Rattle.pm_num.specs.declared.fault.NumFault.TheVariants.{ZeroSlope, ExponentRange, BelowLeast}
+use Rattle.pm_num.specs.declared.fault.NumFault.TheVariants.{AboveGreatest, TooLarge}
+use Rattle.pm_tool.specs.Faults.{fault_words}
+use Rattle.pm_tool.specs.declared.numbers.fault.NumberFault.{NumberFault}
+use Rattle.pm_tool.specs.declared.numbers.fault.NumberFault.TheVariants.{OneOf, Format, Word}
+use Rattle.pm_tool.specs.declared.numbers.fault.NumberFault.TheVariants.{Micro, Num, Text}
+
+-- what is said of a refusal
+abbrev pub refusal_words : NumberFault → List ℕ
+refusal_words OneOf = codes "give one of --word and --micro"
+refusal_words Format = codes "bad format"
+refusal_words Word = codes "bad word"
+refusal_words Micro = codes "bad micro"
+refusal_words (Num ZeroSlope) = codes "N1 ZeroSlope"
+refusal_words (Num ExponentRange) = codes "N2 ExponentRange"
+refusal_words (Num BelowLeast) = codes "N3 BelowLeast"
+refusal_words (Num AboveGreatest) = codes "N4 AboveGreatest"
+refusal_words (Num TooLarge) = codes "N5 TooLarge"
+refusal_words (Text fault) = fault_words fault
+
+-- the status with which the program ends: 2 for a fault of the command line
+abbrev pub refusal_status : NumberFault → ℕ
+refusal_status OneOf = 2
+refusal_status Format = 2
+refusal_status Word = 2
+refusal_status Micro = 2
+refusal_status (Num fault) = 1
+refusal_status (Text fault) = 1

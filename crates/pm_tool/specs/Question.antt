@@ -1,0 +1,83 @@
+-- What `number` is asked, as its texts give it. This project's own choice.
+use Rattle.std.specs.Prelude.{ℕ, ℤ, pos, negsuc, ◌==◌, ◌&&◌, if◌then◌else◌, int_le, ⊤}
+use Rattle.std.specs.Prelude.{List, [], ◌∷◌, Option, Some, None, Result, Ok, Err, codes, option_map}
+use Rattle.std.specs.Prelude.{option_and_then}
+use Rattle.std.specs.Borrow.{Bor}
+use Rattle.std.specs.Str.{bytes_eq}
+use Rattle.pm_num.specs.Formats.{IsExponent}
+use Rattle.pm_tool.specs.Digits.{signed_of, word_of}
+use Rattle.pm_tool.specs.declared.numbers.question.FormatText.{FormatText}
+use Rattle.pm_tool.specs.declared.numbers.question.FormatText.TheVariants.{Linear11, Ulinear16}
+use Rattle.pm_tool.specs.declared.numbers.question.FormatText.TheVariants.{Direct}
+use Rattle.pm_tool.specs.declared.numbers.question.Asked.{Asked}
+use Rattle.pm_tool.specs.declared.numbers.question.Asked.TheVariants.{Word, Nearest}
+use Rattle.pm_tool.specs.declared.numbers.question.Question.{Question}
+use Rattle.pm_tool.specs.declared.numbers.fault.NumberFault.{NumberFault}
+use Rattle.pm_tool.specs.declared.numbers.fault.NumberFault.TheVariants as fault
+
+abbrev pub Text : Type 0
+Text = List ℕ
+
+-- ---- the format
+
+-- one more character before the first part
+abbrev pub before_parts : ℕ → List Text → List Text
+before_parts c [] = (c ∷ []) ∷ []
+before_parts c (part ∷ others) = (c ∷ part) ∷ others
+
+-- the parts of a text between its colons, of which there is one more than there are colons (58)
+abbrev pub parts : Text → List Text
+parts [] = [] ∷ []
+parts (c ∷ cs) = if c == 58 then [] ∷ parts cs else before_parts c (parts cs)
+
+-- ULINEAR16, where the exponent is -16 to 15
+abbrev pub exponent_format : ℤ → Option FormatText
+exponent_format n =
+    if int_le (negsuc 15) n && int_le n (pos 15) then Some (Ulinear16 n) else None
+
+abbrev pub direct_format : Option ℤ → Option ℤ → Option ℤ → Option FormatText
+direct_format (Some m) (Some b) (Some r) = Some (Direct m b r)
+direct_format _ _ _ = None
+
+-- `linear11`, `ulinear16:N` with N in 8 bits, `direct:M:B:R` with M and B in 16 bits and R in 8
+abbrev pub format_by : List Text → Option FormatText
+format_by (name ∷ []) = if bytes_eq name (codes "linear11") then Some Linear11 else None
+format_by (name ∷ n ∷ []) = if bytes_eq name (codes "ulinear16")
+    then option_and_then exponent_format (signed_of 8 n) else None
+format_by (name ∷ m ∷ b ∷ r ∷ []) = if bytes_eq name (codes "direct")
+    then direct_format (signed_of 16 m) (signed_of 16 b) (signed_of 8 r) else None
+format_by _ = None
+
+abbrev pub format_of : Text → Option FormatText
+format_of text = format_by (parts text)
+
+-- the exponent of ULINEAR16 is -16 to 15
+abbrev pub HasExponent : FormatText → Type 0
+HasExponent Linear11 = ⊤
+HasExponent (Ulinear16 n) = IsExponent n
+HasExponent (Direct m b r) = ⊤
+
+-- ---- what is asked
+
+-- the text of an option that may be absent
+abbrev pub text_at : Option (Bor Text) → Option Text
+text_at = option_map (λ s. s.now)
+
+-- a value, or the fault that stands for its absence
+abbrev pub or_fault : {T : Type 0} → Option T → NumberFault → Result T NumberFault
+or_fault (Some x) fault = Ok x
+or_fault None fault = Err fault
+
+abbrev pub asked_of : Option FormatText → Result Asked NumberFault → Result Question NumberFault
+asked_of None asked = Err fault.Format
+asked_of (Some format) (Err f) = Err f
+asked_of (Some format) (Ok asked) = Ok (record { format = format; asked = asked })
+
+-- the question of three texts, of which just one of the word and the millionths is there, or the
+-- first fault: OneOf, then Format, then Word or Micro
+abbrev pub question : Text → Option Text → Option Text → Result Question NumberFault
+question format (Some word) None =
+    asked_of (format_of format) (or_fault (option_map (λ w. Word w) (word_of word)) fault.Word)
+question format None (Some micro) = asked_of (format_of format)
+    (or_fault (option_map (λ k. Nearest k) (signed_of 64 micro)) fault.Micro)
+question format _ _ = Err fault.OneOf

@@ -1,0 +1,92 @@
+//! What the words of a command line choose, by the rules of `clap`.
+//!
+//! One level of subcommands, of which one is required: `hear`, and `number` with its three options.
+//! The options are optional for the parser, since which of them belong together is for `number` to
+//! judge.
+ghost use Rattle.std.specs.Prelude.{◌≡◌, ◌∷◌, [], ℕ, List, codes, true};
+ghost use Rattle.std.specs.Prelude.{IfErr, IfOk, IsErrAnd, IsSomeAnd};
+ghost use Rattle.clap.specs.Walk.{texts};
+ghost use Rattle.clap.specs.Words.{FailsBy, HasKind, fault_of, found_of, kind_of, rows_of};
+ghost use Rattle.clap.specs.Words.{subcommand_of, takes};
+ghost use Rattle.pm_tool.specs.Commandline.{Asks, Given, HasValuesOf, IsCommandName};
+ghost use Rattle.pm_tool.specs.Commandline.{UnlessMemory, is_once, number_words, pmb, status_by};
+
+mod choice;
+mod commands;
+#[cfg(test)]
+mod tests;
+
+pub use choice::Chosen;
+use clap::error::ErrorKind;
+use clap::{ArgMatches, Error};
+use commands::pmb_command;
+use std::alloc::Global;
+
+/// Which subcommand the words name, with its options' texts. The first word is the program's name.
+///
+/// # Errors
+///
+/// Whatever `clap` refuses, with its text for the user: help that was asked for
+/// (`ErrorKind::DisplayHelp`), no subcommand, a word that is neither a subcommand nor an option of
+/// it, an option with no value or given twice; and want of memory (`ErrorKind::OutOfMemory`).
+pub fn chosen<'a>(alloc: Global, words: &'a [&'a str]) -> Result<Chosen<'a>, Error>
+    // What is chosen is what the parser's walk over the words found.
+    ensures named { IfOk result (λ chosen.
+        IsSomeAnd (subcommand_of pmb (texts words.entry.now)) (λ met. Asks met.0 met.1 chosen)) }
+    // There is an answer only where the parser finds no fault, and a refusal is one that it names.
+    ensures kinds { FailsBy (fault_of pmb (texts words.entry.now)) result }
+    ensures passes { IfErr result (λ error. takes pmb (texts words.entry.now) ≡ true
+        → kind_of error ≡ ErrorKind.OutOfMemory) }
+
+    // The same in plain words, for any name of the program.
+    ensures hear { (program : List ℕ) → texts words.entry.now ≡ program ∷ codes "hear" ∷ []
+        → UnlessMemory result (λ chosen. chosen ≡ Chosen.Hear) }
+    ensures number { (program : List ℕ) (given : List Given) → is_once given ≡ true
+        → texts words.entry.now ≡ number_words program given
+        → UnlessMemory result (HasValuesOf given) }
+    ensures help { (program : List ℕ) → texts words.entry.now ≡ program ∷ codes "--help" ∷ []
+        → IsErrAnd result (HasKind (ErrorKind.DisplayHelp ∷ [])) }
+    ensures missing { (program : List ℕ) → texts words.entry.now ≡ program ∷ []
+        → IsErrAnd result (HasKind (ErrorKind.MissingSubcommand ∷ [])) }
+{
+    parsed(alloc, words)
+}
+
+/// The status with which the program ends where the command line gave no choice: 1 for want of
+/// memory, 0 for help that was asked for, 2 otherwise.
+pub fn status_of(error: &Error) -> u8
+    ensures { result ≡ status_by (kind_of error.now) }
+{
+    match error.kind() {
+        ErrorKind::OutOfMemory => 1,
+        ErrorKind::DisplayHelp => 0,
+        _ => 2,
+    }
+}
+
+fn parsed<'a>(alloc: Global, words: &'a [&'a str]) -> Result<Chosen<'a>, Error>
+    ensures named { IfOk result (λ chosen.
+        IsSomeAnd (subcommand_of pmb (texts words.entry.now)) (λ met. Asks met.0 met.1 chosen)) }
+    ensures kinds { FailsBy (fault_of pmb (texts words.entry.now)) result }
+    ensures passes { IfErr result (λ error. takes pmb (texts words.entry.now) ≡ true
+        → kind_of error ≡ ErrorKind.OutOfMemory) }
+{
+    let matches = pmb_command(alloc)?.try_get_matches_from(words)?;
+    let (name, found) = matches.subcommand().unwrap();
+    Ok(choice_of(name, found))
+}
+
+fn choice_of<'a>(name: &str, found: &ArgMatches<'a>) -> Chosen<'a>
+    requires { IsCommandName name.now }
+    ensures { Asks name.now (rows_of (found_of found.now)) result }
+{
+    match name {
+        "hear" => Chosen::Hear,
+        "number" => Chosen::Number {
+            format: found.get_str("format").unwrap_or(""),
+            word: found.get_str("word"),
+            micro: found.get_str("micro"),
+        },
+        _ => unreachable!(),
+    }
+}

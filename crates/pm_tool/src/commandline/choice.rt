@@ -1,0 +1,17 @@
+//! What a command line can choose.
+
+/// The subcommand that was named, with the texts of its options as they were written.
+#[derive(Clone, Copy, Debug, PartialEq, Eq)]
+pub enum Chosen<'a> {
+    /// `hear`: the converter of the base configuration hears the frames of standard input.
+    Hear,
+    /// `number`: one word of a number format, as an exact value.
+    Number {
+        /// The text of `--format`, empty where the option is absent.
+        format: &'a str,
+        /// The text of `--word`.
+        word: Option<&'a str>,
+        /// The text of `--micro`.
+        micro: Option<&'a str>,
+    },
+}
