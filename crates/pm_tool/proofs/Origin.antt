@@ -1,6 +1,6 @@
 -- Where the words of a converter come from, over its whole past.
-use Rattle.std.proofs.Common.{◌≡◌, ◌≢◌, ◌⊎◌, inl, inr, ℕ, ◌<◌, ◌≤◌, Bool, true, false, cond, eqb, ltb, Option, Some, None, is_none, List, [], ◌∷◌, length, map, get_or, set, refl, sym, ◌∙◌, ap, subst, arith}
-use Rattle.std.proofs.lemmas.Bool.{cases_eq, cond-true, cond-false, eqb-true, eq-eqb, ne_eqb}
+use Rattle.std.proofs.Common.{◌≡◌, ◌≢◌, ◌⊎◌, inl, inr, ℕ, ◌<◌, ◌≤◌, Bool, true, false, cond, eqb, ltb, Option, Some, None, is_none, List, [], ◌∷◌, length, map, get_or, set, refl, sym, ◌∙◌, ap, ap₂, subst, arith}
+use Rattle.std.proofs.lemmas.Bool.{cases_eq, cond-true, cond-false, eqb-true, eq-eqb, lt-ltb, ne_eqb}
 use Rattle.std.proofs.lemmas.List.{get_or-set_same, get_or-set_other, length-set, length-map}
 use Rattle.std.proofs.lemmas.List.Elements.{Contains-append_right}
 use Rattle.std.proofs.lemmas.List.FromFn.{length-map-range_with_len, get_or-map-range_with_len, fill_by_all}
@@ -13,11 +13,13 @@ use Rattle.pm_frame.specs.declared.message.Payload.TheVariants.{Empty, Byte, Wor
 use Rattle.pm_frame.specs.Layout.{AreBytes, IsWrite}
 use Rattle.pm_frame.specs.Fault.{write_fault}
 use Rattle.pm_frame.specs.View.{message_in}
-use Rattle.pm_frame.proofs.WriteLaws.{write_fault-found, message_in-write}
+use Rattle.pm_frame.proofs.WriteLaws.{write_fault-found, write_fault-spelled, message_in-write}
 use Rattle.pm_tool.specs.declared.config.Config.{Config}
 use Rattle.pm_tool.specs.declared.heard.Ending.{Ending}
 use Rattle.pm_tool.specs.declared.heard.Ending.TheVariants.{Stop, Restart}
-use Rattle.pm_tool.specs.Reply.{Order, order_in}
+use Rattle.pm_tool.specs.declared.heard.DeviceFault.TheVariants.{BadPage}
+use Rattle.pm_tool.specs.declared.heard.Heard.TheVariants.{Taken, Refused}
+use Rattle.pm_tool.specs.Reply.{Order, order_in, reply_of, reply_to_order, reply_to_write}
 use Rattle.pm_tool.specs.Effect.{Event, Hearing, Restarted, Summary, start_words, start_of, allowed, order_taken, words_after, next, word_of}
 use Rattle.pm_tool.specs.History.{word_after, start_word, word_in, now, AreHeard, WasCarried}
 
@@ -92,10 +94,48 @@ order_taken-is config bytes Stop order b h = (refl, whole (write_fault config.ad
   whole None e h =
       subst (λ m. IsWrite config.addr m bytes) (order_in-is (message_in bytes) order (in_bounds (order_in (message_in bytes)) h)) (write_fault-found config.addr bytes b e)
 
+-- a hearing whose order is taken is answered so
+order_taken-replied : (config : Config) (bytes : List ℕ) (ending : Ending) (order : Order) → order_taken config bytes ending ≡ Some order → reply_of config bytes ending ≡ Taken
+unfolding order_taken reply_of
+order_taken-replied config bytes Restart order h = cc
+order_taken-replied config bytes Stop order h = whole (write_fault config.addr bytes) (message_in bytes) h where
+  in_range : (found : Order) (b : Bool) → cond b (Some found) None ≡ Some order → cond b Taken (Refused BadPage) ≡ Taken
+  in_range found true h = refl
+  in_range found false h = cc
+
+  by_order : (found : Option Order) → allowed config.count found ≡ Some order → reply_to_order config.count found ≡ Taken
+  by_order None h = cc
+  by_order (Some found) h = in_range found (ltb found.output config.count) h
+
+  whole : (fault : Option FrameFault) (message : Message) → cond (is_none fault) (allowed config.count (order_in message)) None ≡ Some order → reply_to_write config.count fault message ≡ Taken
+  whole (Some fault) message h = cc
+  whole None message h = by_order (order_in message) h
+
+-- a hearing that isn't answered so changes nothing
+pub next-refused : (s : Summary) (bytes : List ℕ) (ending : Ending) → reply_of s.config bytes ending ≢ Taken → next s (Hearing bytes ending) ≡ s
+next-refused s bytes ending refused = go (order_taken s.config bytes ending) refl where
+  go : (order : Option Order) → order_taken s.config bytes ending ≡ order → record { config = s.config; words = words_after s.words order } ≡ s
+  go None e = refl
+  go (Some order) e = absurd (refused (order_taken-replied s.config bytes ending order e))
+
+-- a frame for an output that is there sets its word
+pub next-taken : (s : Summary) (bytes : List ℕ) (output word : ℕ) → IsWrite s.config.addr (PagePlusWrite output 0x21 (Word word)) bytes → output < s.config.count → (reply_of s.config bytes Stop ≡ Taken) × (next s (Hearing bytes Stop) ≡ record { config = s.config; words = set s.words output word })
+unfolding order_taken
+next-taken s bytes output word h there =
+    let order : Order = record { output = output; word = word } in
+    let none = write_fault-spelled s.config.addr (PagePlusWrite output 0x21 (Word word)) bytes h in
+    let message = message_in-write s.config.addr (PagePlusWrite output 0x21 (Word word)) bytes h in
+    let below = lt-ltb output s.config.count there in
+    let is_taken : order_taken s.config bytes Stop ≡ Some order =
+    ap₂ (λ fault m. cond (is_none fault) (allowed s.config.count (order_in m)) None) none message ∙ cond-true _ _ _ below in (
+      order_taken-replied s.config bytes Stop order is_taken,
+      ap (λ o. record { config = s.config; words = words_after s.words o }) is_taken,
+    )
+
 -- a frame of the past is one of a longer past
 carried-more : (config : Config) (past : List Event) (event : Event) (output word : ℕ) → WasCarried config past output word → WasCarried config (event ∷ past) output word
 carried-more config past event output word h =
-    record { bytes = h.bytes; heard = Contains-append_right (event ∷ []) past (Hearing h.bytes Stop) h.heard; carried = h.carried }
+    record { bytes = h.bytes; heard = Contains-append_right (event ∷ []) past (Hearing h.bytes Stop) h.heard; carried = h.carried; taken = h.taken }
 
 -- a word is the start word, or one that was carried for its output
 HasOrigin : Config → List Event → ℕ → ℕ → Type 0
@@ -115,6 +155,7 @@ HasOrigin-hearing config past bytes ending output before b h = go (order_taken c
         bytes = bytes;
         heard = (0, omega arith, ap (λ x. Hearing bytes x) found.0);
         carried = subst (λ o. IsWrite config.addr (PagePlusWrite o 0x21 (Word order.word)) bytes) same found.1;
+        taken = subst (λ x. reply_of config bytes x ≡ Taken) found.0 (order_taken-replied config bytes ending order e);
       }
 
   by_output : (order : Order) → order_taken config bytes ending ≡ Some order → (t : Bool) → eqb order.output output ≡ t → (cond t order.word before ≡ start_word config output) ⊎ WasCarried config (Hearing bytes ending ∷ past) output (cond t order.word before)

@@ -1,14 +1,15 @@
 -- A converter's past, newest event first, and what it holds after it: each output's word is that of
 -- the newest order that was taken for this very output since the last restart, otherwise its start
 -- word.
-use Rattle.std.specs.Prelude.{ℕ, List, [], ◌∷◌, Option, Some, None, if◌then◌else◌, ◌==◌, map, slice_index, Contains}
+use Rattle.std.specs.Prelude.{◌≡◌, ℕ, List, [], ◌∷◌, Option, Some, None, if◌then◌else◌, ◌==◌, map, slice_index, Contains}
 use Rattle.std.specs.List.{range_with_len}
 use Rattle.pm_frame.specs.declared.message.Message.TheVariants.{PagePlusWrite}
 use Rattle.pm_frame.specs.declared.message.Payload.TheVariants.{Word}
 use Rattle.pm_frame.specs.Layout.{AreBytes, IsWrite}
 use Rattle.pm_tool.specs.declared.config.Config.{Config}
 use Rattle.pm_tool.specs.declared.heard.Ending.TheVariants.{Stop}
-use Rattle.pm_tool.specs.Reply.{Order}
+use Rattle.pm_tool.specs.declared.heard.Heard.TheVariants.{Taken}
+use Rattle.pm_tool.specs.Reply.{Order, reply_of}
 use Rattle.pm_tool.specs.Effect.{Event, Hearing, Restarted, Summary, start_words, order_taken}
 
 -- the order's word where it's for this output, otherwise the word from before
@@ -36,8 +37,9 @@ AreHeard [] = Unit {0}
 AreHeard (Restarted ∷ past) = AreHeard past
 AreHeard (Hearing bytes ending ∷ past) = AreBytes bytes × AreHeard past
 
--- a frame of the past carried this word of VOUT_COMMAND for this output
+-- a frame of the past that was taken carried this word of VOUT_COMMAND for this output
 pub record WasCarried (config : Config) (past : List Event) (output word : ℕ) : Type 0 where
   pub bytes : List ℕ
   pub heard : Contains past (Hearing bytes Stop)
   pub carried : IsWrite config.addr (PagePlusWrite output 0x21 (Word word)) bytes
+  pub taken : reply_of config bytes Stop ≡ Taken
