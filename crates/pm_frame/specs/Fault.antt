@@ -26,7 +26,8 @@ address_fault wanted bytes = rule (length bytes == 0 || not (slice_index bytes 0
 
 -- the same, and F2 where nothing follows it
 unfoldable pub opening_fault : ℕ → List ℕ → Option FrameFault
-opening_fault wanted bytes = option_or (address_fault wanted bytes) (rule (length bytes == 1) (Short 1))
+opening_fault wanted bytes =
+    option_or (address_fault wanted bytes) (rule (length bytes == 1) (Short 1))
 
 -- F2 or F3 for another number of bytes than this
 unfoldable pub length_fault : ℕ → List ℕ → Option FrameFault
@@ -43,7 +44,8 @@ carried_count_fault bytes =
     let code = slice_index bytes 4 in
     first (
     rule (nat_lt count 2) (WrongCount 2) ∷
-    rule (is_carried code && is_written code && not (count == payload_length code + 2)) (WrongCount 2) ∷
+    rule (is_carried code && is_written code && not (count == payload_length code + 2))
+        (WrongCount 2) ∷
     [])
 
 -- F2, F3 or F4 for another number of bytes than the code of a write asks for, or than its count
@@ -53,7 +55,8 @@ size_fault bytes =
     let code = slice_index bytes 1 in
     if is_plain_write code then length_fault (payload_length code + 3) bytes
     else (if length bytes == 2 then Some (Short 2)
-    else (if code == 0x05 then option_or (length_fault (slice_index bytes 2 + 4) bytes) (carried_count_fault bytes)
+    else (if code == 0x05
+    then option_or (length_fault (slice_index bytes 2 + 4) bytes) (carried_count_fault bytes)
     else None))
 
 -- F5 where the last byte isn't the PEC of what came before
@@ -88,7 +91,8 @@ write_fault addr bytes = first (
     opening_fault (write_address addr) bytes ∷
     size_fault bytes ∷
     pec_fault [] bytes ∷
-    (if slice_index bytes 1 == 0x05 then carried_fault is_written bytes else plain_fault is_written bytes) ∷
+    (if slice_index bytes 1 == 0x05 then carried_fault is_written bytes
+    else plain_fault is_written bytes) ∷
     [])
 
 -- what is wrong with the five bytes of a read whose request has a count

@@ -31,7 +31,8 @@ sent addr (SendByte code) = write_address addr ∷ code ∷ []
 sent addr (WriteByte code byte) = write_address addr ∷ code ∷ payload_bytes (Byte byte)
 sent addr (WriteWord code word) = write_address addr ∷ code ∷ payload_bytes (Word word)
 sent addr (PagePlusWrite page code payload) =
-    write_address addr ∷ 0x05 ∷ (2 + length (payload_bytes payload)) ∷ page ∷ code ∷ payload_bytes payload
+    write_address addr ∷ 0x05 ∷ (2 + length (payload_bytes payload)) ∷ page ∷ code
+    ∷ payload_bytes payload
 sent addr (ReadCommand code) = write_address addr ∷ code ∷ []
 sent addr (PagePlusRead page code) = write_address addr ∷ 0x06 ∷ 0x02 ∷ page ∷ code ∷ []
 sent addr (ReadCoefficients code side) = write_address addr ∷ 0x30 ∷ 0x02 ∷ code ∷ side ∷ []
@@ -68,7 +69,8 @@ has_count (PagePlusWrite page code payload) = false
 -- what the device sends before the PEC
 abbrev pub answered : ℕ → Message → List ℕ → List ℕ
 answered addr request payload =
-    if has_count request then read_address addr ∷ length payload ∷ payload else read_address addr ∷ payload
+    if has_count request then read_address addr ∷ length payload ∷ payload
+    else read_address addr ∷ payload
 
 -- PAGE_PLUS carries every code but PAGE, PAGE_PLUS_WRITE, PAGE_PLUS_READ and COEFFICIENTS
 abbrev pub is_carried : ℕ → Bool
@@ -113,7 +115,7 @@ pub record IsRequest (addr : ℕ) (message : Message) (bytes : List ℕ) : Type 
   pub spelled : bytes ≡ sent addr message
 
 -- these are the bytes of a read after its repeated start
-pub record IsAnswer (addr : ℕ) (request : Message) (payload : List ℕ) (bytes : List ℕ) : Type 0 where
+pub record IsAnswer (addr : ℕ) (request : Message) (payload bytes : List ℕ) : Type 0 where
   pub reads : is_read_message request ≡ true
   pub fits : fits_layout request ≡ true
   pub counted : length payload ≡ answer_length request

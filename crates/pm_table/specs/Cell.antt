@@ -37,7 +37,8 @@ register_of code =
 
 -- the cell that a command code means at an output
 abbrev pub cell_at : ℕ → ℕ → Option Cell
-cell_at code output = if code == 0x10 then Some Protect else option_map (λ register. Out output register) (register_of code)
+cell_at code output = if code == 0x10 then Some Protect
+    else option_map (λ register. Out output register) (register_of code)
 
 -- The bytes of OPERATION (PMBus 1.3 Part II) that this project takes: immediate off 00......, soft
 -- off 01......, on 1000....; on with margin low 100101.. or 100110.., with margin high 101001.. or

@@ -25,4 +25,5 @@ high_byte z = cast_unsigned w16 z / 256
 
 -- the five bytes of coefficients
 abbrev pub coefficient_bytes : Coefficients → List ℕ
-coefficient_bytes c = low_byte c.m ∷ high_byte c.m ∷ low_byte c.b ∷ high_byte c.b ∷ cast_unsigned w8 c.r ∷ []
+coefficient_bytes c = low_byte c.m ∷ high_byte c.m ∷ low_byte c.b ∷ high_byte c.b
+    ∷ cast_unsigned w8 c.r ∷ []

@@ -20,19 +20,35 @@ pub record Line : Type 0 where
 
 -- a line of the code's own type, seen as a line of the table
 abbrev pub line_seen : Info → Line
-line_seen i = record { name = i.name.now; length = i.length; paged = i.paged; reads = i.reads; writes = i.writes }
+line_seen i = record {
+  name = i.name.now;
+  length = i.length;
+  paged = i.paged;
+  reads = i.reads;
+  writes = i.writes;
+}
+
+-- a line of these parts, in their order
+abbrev pub line : List ℕ → ℕ → Bool → Bool → Bool → Line
+line name length paged reads writes = record {
+  name = name;
+  length = length;
+  paged = paged;
+  reads = reads;
+  writes = writes;
+}
 
 -- read and written
 abbrev pub setting : List ℕ → ℕ → Bool → Line
-setting name length paged = record { name = name; length = length; paged = paged; reads = true; writes = true }
+setting name length paged = line name length paged true true
 
 -- only read
 abbrev pub reading : List ℕ → ℕ → Bool → Line
-reading name length paged = record { name = name; length = length; paged = paged; reads = true; writes = false }
+reading name length paged = line name length paged true false
 
 -- only written
 abbrev pub action : List ℕ → ℕ → Bool → Line
-action name length paged = record { name = name; length = length; paged = paged; reads = false; writes = true }
+action name length paged = line name length paged false true
 
 -- The table. `false` is the scope of the device, `true` that of an output.
 unfoldable pub line_of : ℕ → Option Line

@@ -6,7 +6,14 @@ use Rattle.pm_tool.specs.declared.config.OutputStart.{OutputStart}
 -- each output: VOUT_MODE 14h (ULINEAR16, N = -12), on, 1 V asked for, at most 4 V, margins at
 -- 1.0625 V and 0.9375 V
 abbrev pub base_output : OutputStart
-base_output = record { mode = 0x14; operation = 0x80; command = 0x1000; max = 0x4000; high = 0x1100; low = 0x0F00 }
+base_output = record {
+  mode = 0x14;
+  operation = 0x80;
+  command = 0x1000;
+  max = 0x4000;
+  high = 0x1100;
+  low = 0x0F00;
+}
 
 -- two such outputs at address 58h, no write blocked, and the coefficients m 1, b 0, R 0, which no
 -- output uses

@@ -46,7 +46,8 @@ allowed count order = option_and_then (λ o. if nat_lt o.output count then Some 
 -- is there
 unfoldable pub order_taken : Config → List ℕ → Ending → Option Order
 order_taken config bytes Restart = None
-order_taken config bytes Stop = if is_none (write_fault config.addr bytes) then allowed config.count (order_in (message_in bytes)) else None
+order_taken config bytes Stop = if is_none (write_fault config.addr bytes)
+    then allowed config.count (order_in (message_in bytes)) else None
 
 -- the words after an order, if any
 abbrev pub words_after : List ℕ → Option Order → List ℕ
@@ -55,7 +56,10 @@ words_after words (Some order) = slice_set words order.output order.word
 
 -- what one event makes of a converter
 abbrev pub next : Summary → Event → Summary
-next s (Hearing bytes ending) = record { config = s.config; words = words_after s.words (order_taken s.config bytes ending) }
+next s (Hearing bytes ending) = record {
+  config = s.config;
+  words = words_after s.words (order_taken s.config bytes ending);
+}
 next s Restarted = start_of s.config
 
 -- the word of an output's VOUT_COMMAND

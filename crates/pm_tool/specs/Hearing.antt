@@ -47,7 +47,8 @@ reply_words (Refused fault) = codes "refused " ++ device_fault_words fault
 -- byte first
 abbrev pub output_words : ℕ × ℕ → List ℕ
 output_words output =
-    codes "output " ++ decimal output.0 ++ codes " VOUT_COMMAND " ++ encode_upper (to_be_bytes w16 output.1)
+    codes "output " ++ decimal output.0 ++ codes " VOUT_COMMAND "
+    ++ encode_upper (to_be_bytes w16 output.1)
 
 -- a line, ended by a line feed
 abbrev pub as_line : List ℕ → List ℕ

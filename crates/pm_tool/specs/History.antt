@@ -25,7 +25,8 @@ start_word config output = slice_index (start_words config) output
 abbrev pub word_in : Config → List Event → ℕ → ℕ
 word_in config [] output = start_word config output
 word_in config (Restarted ∷ past) output = start_word config output
-word_in config (Hearing bytes ending ∷ past) output = word_after (order_taken config bytes ending) output (word_in config past output)
+word_in config (Hearing bytes ending ∷ past) output =
+    word_after (order_taken config bytes ending) output (word_in config past output)
 
 -- all that a converter holds after its past
 abbrev pub now : Config → List Event → Summary

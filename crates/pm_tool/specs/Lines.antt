@@ -25,7 +25,8 @@ without_empty_last (piece ∷ next ∷ pieces) = piece ∷ without_empty_last (n
 
 -- a line without one carriage return at its end, where it has one
 abbrev pub without_return : List ℕ → List ℕ
-without_return line = if ends_with nat_eq line carriage_return then take (length line - 1) line else line
+without_return line =
+    if ends_with nat_eq line carriage_return then take (length line - 1) line else line
 
 -- The lines of a text: what stands before, between and after its line feeds. Nothing after the last
 -- line feed is no line, and a carriage return before a line feed, or at the text's end, is no part

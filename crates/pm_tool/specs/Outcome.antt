@@ -40,7 +40,8 @@ outcome_of_text (Err fault) = Err fault
 
 -- what an input alone decides: one that is too long is X3, whatever it holds
 unfoldable pub outcome_of : List ℕ → Result (Unit {0}) TextFault
-outcome_of input = if nat_lt MAX_TEXT (length input) then Err TooLong else outcome_of_text (printed_text input)
+outcome_of input = if nat_lt MAX_TEXT (length input) then Err TooLong
+    else outcome_of_text (printed_text input)
 
 -- the reader, the writer and the memory served
 abbrev pub IsSettled : Result (Unit {0}) TextFault → Type 0

@@ -23,7 +23,8 @@ pub record Order : Type 0 where
 
 -- the order that a message is, if any
 abbrev pub order_in : Message → Option Order
-order_in (PagePlusWrite page code (Word word)) = if code == 0x21 then Some (record { output = page; word = word }) else None
+order_in (PagePlusWrite page code (Word word)) =
+    if code == 0x21 then Some (record { output = page; word = word }) else None
 order_in (PagePlusWrite page code Empty) = None
 order_in (PagePlusWrite page code (Byte byte)) = None
 order_in (SendByte code) = None
@@ -69,5 +70,6 @@ reply_to_request None = Refused UnsupportedCode
 
 -- the reply of a converter of this configuration
 unfoldable pub reply_of : Config → List ℕ → Ending → Heard
-reply_of config bytes Stop = reply_to_write config.count (write_fault config.addr bytes) (message_in bytes)
+reply_of config bytes Stop =
+    reply_to_write config.count (write_fault config.addr bytes) (message_in bytes)
 reply_of config bytes Restart = reply_to_request (request_fault config.addr bytes)

@@ -12,7 +12,8 @@ pub record Held (R : Type 0) : Type 0 where
 -- a strict front of the bytes was written
 abbrev pub AppendsFront : Option (List ℕ) → Option (List ℕ) → List ℕ → Type 0
 AppendsFront old new bytes =
-    (front : List ℕ) × (rest : List ℕ) × (bytes ≡ front ++ rest) × (0 < length rest) × Appends old new front
+    (front : List ℕ) × (rest : List ℕ) × (bytes ≡ front ++ rest) × (0 < length rest)
+    × Appends old new front
 
 -- the reader gave these bytes and has no more, and a text may have as many
 pub record IsWholeText (old new : Option (List ℕ)) (text : List ℕ) : Type 0 where

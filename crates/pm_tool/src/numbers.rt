@@ -1,6 +1,6 @@
 //! One word of a number format, as a line of text.
 ghost use Rattle.std.specs.Prelude.{◌≡◌, ◌≢◌, ◌↔◌, ℕ, List, Err, IfErr, IfOk, IsErrOf, IsFalse, Ok};
-ghost use Rattle.std.specs.Prelude.{IsTrue, OnOk};
+ghost use Rattle.std.specs.Prelude.{IsTrue, OnOk, string_bytes};
 ghost use Rattle.std.specs.Io.KnownBytes.{Appends};
 ghost use Rattle.pm_num.specs.declared.fault.NumFault.{NumFault};
 ghost use Rattle.pm_tool.specs.declared.numbers.fault.NumberFault.{NumberFault};
@@ -68,11 +68,32 @@ pub fn number<W: Write>(
     ensures unwritten { IfErr result (λ fault. fault ≢ NumberFault.Text TextFault.Write
         → writer.new ≡ writer.old) }
 {
-    let question = read_question(format, word, micro)?;
-    let answer = answer_to(question)?;
-    let text = line(alloc, &answer)?;
+    let text = line_asked(alloc, format, word, micro)?;
     writer.put(text.as_str().as_bytes())?;
     Ok(())
+}
+
+/// The line that `number` writes for its three texts, or why it writes none.
+fn line_asked(
+    alloc: Global,
+    format: &str,
+    word: Option<&str>,
+    micro: Option<&str>,
+) -> Result<String, NumberFault>
+    ensures line { IfOk result (λ line. IsNumberText
+        (question format.now (text_at word.entry) (text_at micro.entry)) (string_bytes line)) }
+    ensures command_line { (fault : NumberFault) → IsCommandLineFault fault → IsErrOf result fault
+        ↔ (question format.now (text_at word.entry) (text_at micro.entry) ≡ Err fault) }
+    ensures numbers { (fault : NumFault) → IsErrOf result (NumberFault.Num fault)
+        ↔ RefusesNumber (question format.now (text_at word.entry) (text_at micro.entry)) fault }
+    ensures memory { IsErrOf result (NumberFault.Text TextFault.Memory) → (text : List ℕ)
+        × IsNumberText (question format.now (text_at word.entry) (text_at micro.entry)) text }
+    ensures faults { IfErr result (λ fault.
+        IsOfNumber fault × (fault ≢ NumberFault.Text TextFault.Write)) }
+{
+    let question = read_question(format, word, micro)?;
+    let answer = answer_to(question)?;
+    Ok(line(alloc, &answer)?)
 }
 
 /// What `number` writes is a function of its three texts: of a format that can be, a question has

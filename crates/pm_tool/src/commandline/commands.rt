@@ -1,6 +1,6 @@
 //! The commands as `clap` knows them.
-ghost use Rattle.std.specs.Prelude.{◌≡◌, IfOk, false};
-ghost use Rattle.clap.specs.Words.{app_of, new_app, rule_of};
+ghost use Rattle.std.specs.Prelude.{◌≡◌, IfOk};
+ghost use Rattle.clap.specs.Words.{app_of, with_rule};
 ghost use Rattle.pm_tool.specs.Commandline.{hear_app, number_app, option_rule, pmb};
 
 use clap::{Arg, ArgAction, Command};
@@ -31,27 +31,44 @@ fn hear_command<'a>(alloc: Global) -> Command<'a>
 fn number_command<'a>(alloc: Global) -> Result<Command<'a>, AllocError>
     ensures { IfOk result (λ command. app_of command ≡ number_app) }
 {
-    let format = option_arg(alloc, "format", "F").help(
+    let number = Command::new(alloc, "number").about(
+        "Prints a word of a number format, its exact value and its whole millionths",
+    );
+    let formatted = with_option(
+        number,
+        alloc,
+        ("format", "F"),
         "The format: linear11, ulinear16:N (N from -16 to 15) or direct:M:B:R",
-    );
-    let word = option_arg(alloc, "word", "HHHH").help("The word, as four hexadecimal digits");
-    let micro = option_arg(alloc, "micro", "K").help(
+    )?;
+    let worded = with_option(
+        formatted,
+        alloc,
+        ("word", "HHHH"),
+        "The word, as four hexadecimal digits",
+    )?;
+    with_option(
+        worded,
+        alloc,
+        ("micro", "K"),
         "A value of K millionths, whose nearest word is taken",
-    );
-    Command::new(alloc, "number")
-        .about("Prints a word of a number format, its exact value and its whole millionths")
-        .arg(format)?
-        .arg(word)?
-        .arg(micro)
+    )
 }
 
-/// The option `--NAME=VALUE`, which may be left out. Help calls the value `value_name`.
-fn option_arg<'a>(alloc: Global, name: &'a str, value_name: &'a str) -> Arg<'a>
-    ensures rule { rule_of result ≡ option_rule name.entry.now }
-    ensures local { result.global ≡ false }
+/// The command with one more option `--NAME=VALUE`, which may be left out. `names` are the option's
+/// name and what help calls its value.
+fn with_option<'a>(
+    command: Command<'a>,
+    alloc: Global,
+    names: (&'a str, &'a str),
+    help: &'a str,
+) -> Result<Command<'a>, AllocError>
+    ensures { IfOk result (λ with_it.
+        app_of with_it ≡ with_rule (app_of command.entry) (option_rule names.entry.0.now)) }
 {
-    Arg::new(alloc, name)
-        .long(name)
-        .value_name(value_name)
+    let option = Arg::new(alloc, names.0)
+        .long(names.0)
+        .value_name(names.1)
         .action(ArgAction::Set)
+        .help(help);
+    command.arg(option)
 }

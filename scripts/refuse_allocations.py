@@ -1,0 +1,110 @@
+#!/usr/bin/env python3
+"""Makes each allocation of a run of `pmb` fail in turn, for each run of the table below.
+
+What comes of it must be `pmb: X6 Memory` alone, with status 1 and nothing written, or the very result
+of the run in which no allocation fails, where that one could be done without. Anything else is
+printed, and the status is then 1.
+
+It needs Linux with glibc and a C compiler, and the program: (cd crates/pmb && rt run -- hear < stdin).
+With the toolchain alone `rt try --fail-alloc N -- hear < stdin` in crates/pmb does the same for one
+allocation, the Nth, of one run, and takes some 20 seconds.
+"""
+import os
+import subprocess
+import sys
+import tempfile
+
+ROOT = os.path.dirname(os.path.dirname(os.path.abspath(__file__)))
+PROGRAM = os.path.join(ROOT, "crates/pmb/out/pmb")
+
+# Stands before the C library: counts the allocations, refuses one, and tells how many there were.
+REFUSER = r"""
+#include <errno.h>
+#include <stddef.h>
+#include <stdio.h>
+#include <stdlib.h>
+#include <unistd.h>
+extern void *__libc_malloc(size_t size);
+extern void *__libc_realloc(void *block, size_t size);
+extern void *__libc_calloc(size_t count, size_t size);
+static long made, refused = -1;
+static int is_refused(void) {
+    if (refused < 0) {
+        const char *number = getenv("REFUSED_ALLOCATION");
+        refused = number ? atol(number) : 0;
+    }
+    if (++made != refused) return 0;
+    errno = ENOMEM;
+    return 1;
+}
+void *malloc(size_t size) { return is_refused() ? NULL : __libc_malloc(size); }
+void *realloc(void *block, size_t size) { return is_refused() ? NULL : __libc_realloc(block, size); }
+void *calloc(size_t count, size_t size) { return is_refused() ? NULL : __libc_calloc(count, size); }
+__attribute__((destructor)) static void tell(void) {
+    char line[64];
+    int length = snprintf(line, sizeof line, "allocations %ld\n", made);
+    if (write(2, line, length) != length) _exit(99);
+}
+"""
+
+# The arguments and the standard input of each run.
+RUNS = [
+    (["hear"], b"B0 05 04 00 21 CD 34 5A\n"),
+    (["hear"], b"B0 05 04 01 21 CD 34 5A\n"),
+    (["hear"], b"B0 05 04 02 21 00 10 8E\n"),
+    (["hear"], b"B0 05 03 00 00 01 99\n"),
+    (["hear"], b"B2 05\n"),
+    (["hear"], b"B0 " * 5000),
+    (["hear"], b""),
+    (["hear"], b"# a comment\n\nB0 05\nB0 05\n"),
+    (["hear"], b"ZZ\n"),
+    (["hear"], b"/" * 1_048_577),
+    (["number", "--format=linear11", "--word=87FF"], b""),
+    (["number", "--format=ulinear16:-12", "--micro=3300000"], b""),
+    (["number", "--format=direct:-1:5:-1", "--word=0003"], b""),
+    (["number", "--format=direct:0:5:3", "--word=0001"], b""),
+    (["number", "--format=linear11", "--micro=33521664000001"], b""),
+    (["number", "--format=float", "--micro=1"], b""),
+    (["number"], b""),
+    (["number", "--word=1", "--word=2"], b""),
+    (["number", "--help"], b""),
+    (["--help"], b""),
+    (["listen"], b""),
+    ([], b""),
+]
+
+WANT_OF_MEMORY = (1, b"", b"pmb: X6 Memory\n")
+
+
+def result_of(refuser, arguments, text, refused=0):
+    """The status and what was written on either stream, and how many allocations were made."""
+    environment = {"LD_PRELOAD": refuser, "REFUSED_ALLOCATION": str(refused)}
+    ran = subprocess.run([PROGRAM, *arguments], input=text, capture_output=True, env=environment)
+    told, _, made = ran.stderr.rpartition(b"allocations ")
+    return (ran.returncode, ran.stdout, told), int(made)
+
+
+def main():
+    faults = 0
+    with tempfile.TemporaryDirectory() as folder:
+        source, refuser = f"{folder}/refuser.c", f"{folder}/refuser.so"
+        with open(source, "w", encoding="utf-8") as file:
+            file.write(REFUSER)
+        subprocess.run(["cc", "-O1", "-shared", "-fPIC", source, "-o", refuser], check=True)
+        for arguments, text in RUNS:
+            whole, made = result_of(refuser, arguments, text)
+            wanting = unneeded = 0
+            for refused in range(1, made + 1):
+                found, _ = result_of(refuser, arguments, text, refused)
+                wanting += found == WANT_OF_MEMORY
+                unneeded += found == whole
+                if found not in (WANT_OF_MEMORY, whole):
+                    faults += 1
+                    print(f"allocation {refused} refused: {found}")
+            shown = text[:24].decode() + (" .." if len(text) > 24 else "")
+            print(f"{arguments} {shown!r}: {made} allocations, {wanting} wanted, {unneeded} done without")
+    print("each refusal is X6, or changes nothing" if not faults else f"{faults} faults")
+    return 1 if faults else 0
+
+
+sys.exit(main())
