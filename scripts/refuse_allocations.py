@@ -1,12 +1,12 @@
 #!/usr/bin/env python3
 """Makes each allocation of a run of `pmb` fail in turn, for each run of the table below.
 
-What comes of it must be `pmb: X6 Memory` alone, with status 1 and nothing written, or the very result
-of the run in which no allocation fails, where that one could be done without. Anything else is
-printed, and the status is then 1.
+What comes of it must be `pmb: X6 Memory` alone, with status 1 and nothing written, or the very
+result of the run in which no allocation fails, where that one could be done without. Anything else
+is printed, and the status is then 1.
 
-It needs Linux with glibc and a C compiler, and the program: (cd crates/pmb && rt run -- hear < stdin).
-With the toolchain alone `rt try --fail-alloc N -- hear < stdin` in crates/pmb does the same for one
+It needs the program, (cd crates/pmb && rt run -- hear < stdin), a C compiler and glibc. With the
+toolchain alone `rt try --fail-alloc N -- hear < stdin` in crates/pmb does the same for one
 allocation, the Nth, of one run, and takes some 20 seconds.
 """
 import os

@@ -42,10 +42,10 @@ unfoldable pub carried_count_fault : List ℕ → Option FrameFault
 carried_count_fault bytes =
     let count = slice_index bytes 2 in
     let code = slice_index bytes 4 in
+    let asked = payload_length code + 2 in
     first (
     rule (nat_lt count 2) (WrongCount 2) ∷
-    rule (is_carried code && is_written code && not (count == payload_length code + 2))
-        (WrongCount 2) ∷
+    rule (is_carried code && is_written code && not (count == asked)) (WrongCount 2) ∷
     [])
 
 -- F2, F3 or F4 for another number of bytes than the code of a write asks for, or than its count

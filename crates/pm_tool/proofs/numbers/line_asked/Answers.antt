@@ -1,4 +1,4 @@
-use Rattle.std.proofs.Common.{◌≡◌, refl, subst, Result}
+use Rattle.std.proofs.Common.{refl, subst, Result}
 use Rattle.pm_tool.specs.NumberText.{IsNumberText, line_of}
 use Rattle.pm_tool.specs.declared.numbers.fault.NumberFault.{NumberFault}
 use Rattle.pm_tool.specs.declared.numbers.question.Question.{Question}
