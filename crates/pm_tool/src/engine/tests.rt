@@ -129,11 +129,13 @@ fn prints_the_answer_and_the_words(rt: HostRuntime) {
         ("B2 05 04 00 21 CD 34 5A", "silent\n", none),
     ];
     for (text, answer, words) in rows {
-        let (result, written) = heard(rt.alloc(), text.as_bytes(), 4096);
-        assert_eq!(rt; result, Ok(()), "of {text}");
-        let cut = answer.len().min(written.len());
-        assert_eq!(rt; &written[..cut], answer.as_bytes(), "of {text}");
-        assert_eq!(rt; &written[cut..], words.as_bytes(), "of {text}");
+        for piece in [1, 4096] {
+            let (result, written) = heard(rt.alloc(), text.as_bytes(), piece);
+            assert_eq!(rt; result, Ok(()), "of {text} by {piece}");
+            let cut = answer.len().min(written.len());
+            assert_eq!(rt; &written[..cut], answer.as_bytes(), "of {text} by {piece}");
+            assert_eq!(rt; &written[cut..], words.as_bytes(), "of {text} by {piece}");
+        }
     }
 }
 
