@@ -139,3 +139,6 @@ impl<W: Write> Sink<W> {
         Ok(())
     }
 }
+
+#[cfg(test)]
+mod tests;
