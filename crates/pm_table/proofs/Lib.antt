@@ -1,1 +1,1 @@
-pub mod TableLaws
+mod TableLaws
