@@ -1,2 +1,2 @@
-pub mod TableLaws
-pub mod CellLaws
+mod CellLaws
+mod TableLaws
