@@ -10,7 +10,7 @@ use Rattle.pm_frame.specs.Layout.{IsAnswer, is_read_message, fits_layout, sent, 
 use Rattle.pm_frame.specs.View.{answer_payload}
 use Rattle.pm_frame.specs.Fault.{rule, address_fault, length_fault, pec_fault, whole_answer, answer_fault}
 use Rattle.pm_frame.proofs.Parts.{last_of, take-front}
-use Rattle.pm_frame.proofs.Rules.{or_none, none_or, rule_none, none_rule, address_fault-none, address_fault-found, length_fault-none, length_fault-found, pec_fault-none, pec_fault-found}
+use Rattle.pm_frame.proofs.RuleLemmas.{or_none, none_or, rule_none, none_rule, address_fault-none, address_fault-found, length_fault-none, length_fault-found, pec_fault-none, pec_fault-found}
 use Rattle.pm_frame.proofs.WriteLaws.{empty_of}
 
 -- an answer with its address and count in front

@@ -4,6 +4,6 @@ pub mod Codes
 pub mod Residues
 pub mod Parts
 pub mod RequestLaws
-pub mod Rules
+pub mod RuleLemmas
 pub mod Whole
 pub mod WriteLaws

@@ -4,7 +4,7 @@ use super::*;
 use std::cmp::Ordering;
 use std::process::Abort;
 
-/// Millionths that are within bounds.
+// Millionths that are within bounds.
 fn volts(rt: &impl Abort, millionths: i64) -> Frac {
     micro(millionths).expect(rt, "micro")
 }
@@ -21,7 +21,7 @@ pub fn slope(rt: &impl Abort, m: i16, b: i16, r: i8) -> Direct {
     Direct::new(m, b, r).expect(rt, "coefficients")
 }
 
-/// The numerator and the denominator of a word's value.
+// The numerator and the denominator of a word's value.
 fn parts<F: NumFormat>(format: &F, word: u16) -> (i128, i128) {
     let value = format.value_of(word);
     (value.num(), value.den())

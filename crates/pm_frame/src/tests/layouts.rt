@@ -1,4 +1,4 @@
-use super::*;
+use crate::{Message, Payload, fits};
 
 // The layouts by their codes alone: these fit, whatever byte, word, page and side they have.
 const FITTING: [Message; 23] = [

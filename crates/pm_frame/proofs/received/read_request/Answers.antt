@@ -3,7 +3,7 @@ use Rattle.pm_frame.specs.Fault.{request_fault}
 use Rattle.pm_frame.specs.View.{message_in}
 use Rattle.pm_frame.proofs.RequestLaws.{request_fault-spelled, request_fault-found, message_in-request}
 use Rattle.pm_frame.proofs.Whole.{request-whole}
-use Rattle.pm_frame.proofs.reading.read_request.Goals as goal
+use Rattle.pm_frame.proofs.received.read_request.Goals as goal
 
 pub returns-in_err-requested-clause-accepts : goal.returns-in_err-requested-clause-accepts
 returns-in_err-requested-clause-accepts c = λ message h. let none = request_fault-spelled c.args.addr message c.args.bytes.now h in cc (c.in_err-requested.ensures)

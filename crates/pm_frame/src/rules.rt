@@ -1,25 +1,18 @@
-//! The checks of a packet's bytes, one after another as the faults are ordered. Each one refuses
-//! with its fault and nothing else.
+//! The rules of a packet's bytes, one after another as the faults are ordered. Each one refuses with
+//! its fault and nothing else.
 
-ghost use Rattle.std.specs.Prelude.{◌≡◌, ◌≤◌, ◌+◌, ◌++◌, ℕ, Bool, List, true, length, slice_index, OnOk, IfOk};
+ghost use Rattle.std.specs.Prelude.{◌≡◌, ◌≤◌, ◌+◌, ◌++◌, ℕ, List, true, length, slice_index, OnOk, IfOk};
 ghost use Rattle.std.specs.Result.{result_err};
 ghost use Rattle.pm_table.specs.Address.{IsAddress};
 ghost use Rattle.pm_frame.specs.Pec.{pec_of};
 ghost use Rattle.pm_frame.specs.Fault as fault;
 
 use crate::code::{PAGE_PLUS_WRITE, is_carried, is_plain_write};
+use crate::direction::Direction;
 use crate::fault::FrameFault;
 use crate::packet_error_code::pec_after;
+use crate::places::{CARRIED, CODE, COUNT};
 use pm_table::Code;
-
-/// The place of the code in a packet of the host.
-pub(crate) const CODE: usize = 1;
-/// The place of the count, where the packet has one.
-pub(crate) const COUNT: usize = 2;
-/// The place of the page in PAGE_PLUS, and of the code that is asked about in COEFFICIENTS.
-pub(crate) const PAGE_PLACE: usize = 3;
-/// The place of the carried code in PAGE_PLUS, and of the side in COEFFICIENTS.
-pub(crate) const CARRIED: usize = 4;
 
 /// F1: the first byte is the one that is wanted.
 #[tactic(auto, unfolding(crate::specs::Fault::address_fault))]
@@ -118,13 +111,12 @@ pub(crate) fn error_code(so_far: u8, bytes: &[u8]) -> Result<(), FrameFault>
     Ok(())
 }
 
-/// F8, F6 and F7: PAGE_PLUS carries the code at its place, it stands in the table, and it is of
-/// this direction.
+/// F8, F6 and F7: PAGE_PLUS carries the code at its place, it stands in the table, and it goes this
+/// way.
 #[tactic(auto, unfolding(crate::specs::Fault::carried_fault))]
-pub(crate) fn carried_code(is_allowed: bool, bytes: &[u8]) -> Result<(), FrameFault>
+pub(crate) fn carried_code(direction: Direction, bytes: &[u8]) -> Result<(), FrameFault>
     requires { 5 ≤ length bytes.now }
-    ensures { (allowed : ℕ → Bool) → is_allowed ≡ allowed (slice_index bytes.now 4) →
-        result_err result ≡ fault.carried_fault allowed bytes.now }
+    ensures { result_err result ≡ fault.carried_fault direction bytes.now }
 {
     let code = bytes[CARRIED];
     if !is_carried(code) {
@@ -133,23 +125,23 @@ pub(crate) fn carried_code(is_allowed: bool, bytes: &[u8]) -> Result<(), FrameFa
     if !Code(code).is_known() {
         return Err(FrameFault::UnknownCode(CARRIED));
     }
-    if !is_allowed {
+    if !direction.has(code) {
         return Err(FrameFault::WrongDirection(CARRIED));
     }
     Ok(())
 }
 
-/// F6 and F7: a plain packet's code stands in the table, and is of this direction.
+/// F6 and F7: a plain packet's code stands in the table, and goes this way.
 #[tactic(auto, unfolding(crate::specs::Fault::plain_fault))]
-pub(crate) fn plain_code(is_allowed: bool, code: u8) -> Result<(), FrameFault>
-    ensures { (allowed : ℕ → Bool) (bytes : List ℕ) →
-        code ≡ slice_index bytes 1 → is_allowed ≡ allowed code →
-        result_err result ≡ fault.plain_fault allowed bytes }
+pub(crate) fn plain_code(direction: Direction, bytes: &[u8]) -> Result<(), FrameFault>
+    requires { 2 ≤ length bytes.now }
+    ensures { result_err result ≡ fault.plain_fault direction bytes.now }
 {
+    let code = bytes[CODE];
     if !Code(code).is_known() {
         return Err(FrameFault::UnknownCode(CODE));
     }
-    if !is_allowed {
+    if !direction.has(code) {
         return Err(FrameFault::WrongDirection(CODE));
     }
     Ok(())

@@ -1,3 +1,5 @@
+//! What was received, as a packet or its first fault.
+
 ghost use Rattle.std.specs.Prelude.{◌≡◌, List, ℕ, true, length, slice_index, IfOk, OnOk, IsOkAnd};
 ghost use Rattle.std.specs.Result.{result_err};
 ghost use Rattle.pm_table.specs.Address.{IsAddress};
@@ -6,14 +8,16 @@ ghost use Rattle.pm_frame.specs.Layout.{IsWrite, IsRequest, IsAnswer, fits_layou
 ghost use Rattle.pm_frame.specs.View.{message_in, answer_payload};
 ghost use Rattle.pm_frame.specs.Fault.{write_fault, request_fault, block_request_fault, answer_fault, whole_answer};
 
-use crate::check;
 use crate::code::{COEFFICIENTS, PAGE_PLUS_READ, PAGE_PLUS_WRITE};
+use crate::direction::Direction;
 use crate::fault::FrameFault;
+use crate::layout::{read_address, sent, write_address};
 use crate::message::Message;
 use crate::packet_error_code::pec;
+use crate::places::{ANSWER_COUNT, COUNT};
+use crate::rules;
 use crate::view::FrameView;
-use crate::writing::{read_address, sent, write_address};
-use pm_table::{Code, payloads_are_short};
+use pm_table::payloads_are_short;
 
 /// Reads bytes that a stop ended as a packet that writes to the device of this address. Takes
 /// exactly the layouts of writes, for bytes of any number; `Err` is the first fault:
@@ -44,13 +48,13 @@ fn written(addr: u8, bytes: &[u8]) -> Result<(), FrameFault>
     requires { IsAddress addr }
     ensures { result_err result ≡ write_fault addr bytes.now }
 {
-    let code = check::opening(write_address(addr), bytes)?;
-    check::write_size(code, bytes)?;
-    check::error_code(pec(&[]), bytes)?;
+    let code = rules::opening(write_address(addr), bytes)?;
+    rules::write_size(code, bytes)?;
+    rules::error_code(pec(&[]), bytes)?;
     if code == PAGE_PLUS_WRITE {
-        return check::carried_code(Code(bytes[check::CARRIED]).is_written(), bytes);
+        return rules::carried_code(Direction::Write, bytes);
     }
-    check::plain_code(Code(code).is_written(), code)
+    rules::plain_code(Direction::Write, bytes)
 }
 
 /// Reads bytes that a repeated start ended as the request of a packet that reads from the device of
@@ -81,11 +85,11 @@ fn requested(addr: u8, bytes: &[u8]) -> Result<(), FrameFault>
     requires { IsAddress addr }
     ensures { result_err result ≡ request_fault addr bytes.now }
 {
-    let code = check::opening(write_address(addr), bytes)?;
+    let code = rules::opening(write_address(addr), bytes)?;
     if code == PAGE_PLUS_READ || code == COEFFICIENTS {
         return block_requested(code, bytes);
     }
-    check::plain_code(Code(code).is_read(), code)?;
+    rules::plain_code(Direction::Read, bytes)?;
     if bytes.len() > 2 {
         return Err(FrameFault::Long(2));
     }
@@ -98,12 +102,12 @@ fn block_requested(code: u8, bytes: &[u8]) -> Result<(), FrameFault>
     requires { code ≡ slice_index bytes.now 1 }
     ensures { result_err result ≡ block_request_fault bytes.now }
 {
-    check::length(5, bytes)?;
-    if bytes[check::COUNT] != 2 {
-        return Err(FrameFault::WrongCount(check::COUNT));
+    rules::length(5, bytes)?;
+    if bytes[COUNT] != 2 {
+        return Err(FrameFault::WrongCount(COUNT));
     }
     if code == PAGE_PLUS_READ {
-        check::carried_code(Code(bytes[check::CARRIED]).is_read(), bytes)?;
+        rules::carried_code(Direction::Read, bytes)?;
     }
     Ok(())
 }
@@ -140,18 +144,15 @@ fn answer_checked(addr: u8, request: &Message, got: &[u8]) -> Result<(), FrameFa
     ensures fault { result_err result ≡ answer_fault addr request.now got.now }
     ensures whole { OnOk result (length got.now ≡ whole_answer request.now) }
 {
-    check::address(read_address(addr), got)?;
+    rules::address(read_address(addr), got)?;
     let payload = request.answer_length();
     if request.has_count() {
-        check::length(payload + 3, got)?;
-        if usize::from(got[1]) != payload {
-            return Err(FrameFault::WrongCount(1));
+        rules::length(payload + 3, got)?;
+        if usize::from(got[ANSWER_COUNT]) != payload {
+            return Err(FrameFault::WrongCount(ANSWER_COUNT));
         }
     } else {
-        check::length(payload + 2, got)?;
+        rules::length(payload + 2, got)?;
     }
-    check::error_code(pec(sent(addr, request).as_slice()), got)
+    rules::error_code(pec(sent(addr, request).as_slice()), got)
 }
-
-#[cfg(test)]
-mod tests;

@@ -1,3 +1,5 @@
+//! The layouts as bytes: which messages have one, and what goes out for them.
+
 ghost use Rattle.std.specs.Prelude.{◌≡◌, ◌≤◌, ◌+◌, ◌∷◌, ◌&&◌, ◌==◌, length, true, false};
 ghost use Rattle.arrayvec.specs.ArrayVec.{array_vec_len};
 ghost use Rattle.pm_table.specs.Address.{IsAddress};
@@ -149,7 +151,7 @@ pub(crate) fn read_address(addr: u8) -> u8
     requires { IsAddress addr }
     ensures { result ≡ spec_read_address addr }
 {
-    addr * 2 + 1
+    write_address(addr) + 1
 }
 
 // A frame of these bytes.
@@ -162,6 +164,3 @@ fn frame_of(bytes: &[u8]) -> Frame
     frame.try_extend_from_slice(bytes).unwrap();
     frame
 }
-
-#[cfg(test)]
-mod tests;

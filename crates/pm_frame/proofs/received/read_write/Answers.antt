@@ -4,7 +4,7 @@ use Rattle.pm_frame.specs.Layout.{AreBytes}
 use Rattle.pm_frame.specs.View.{message_in}
 use Rattle.pm_frame.proofs.WriteLaws.{write_fault-spelled, write_fault-found, message_in-write}
 use Rattle.pm_frame.proofs.Whole.{write-whole}
-use Rattle.pm_frame.proofs.reading.read_write.Goals as goal
+use Rattle.pm_frame.proofs.received.read_write.Goals as goal
 
 pub returns-in_err-written-clause-accepts : goal.returns-in_err-written-clause-accepts
 returns-in_err-written-clause-accepts c = λ message h. let none = write_fault-spelled c.args.addr message c.args.bytes.now h in cc (c.in_err-written.ensures)
