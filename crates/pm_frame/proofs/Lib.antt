@@ -1,9 +1,13 @@
-pub mod AnswerLaws
-pub mod Carryless
-pub mod Codes
-pub mod Residues
-pub mod Parts
-pub mod RequestLaws
-pub mod RuleLemmas
-pub mod Whole
+mod AnswerLaws
+mod Burst
+mod Carryless
+mod Codes
+mod FewBits
+mod Fold
+mod Numbers
+mod Parts
+mod RequestLaws
+mod Residues
+mod RuleLemmas
+mod Whole
 pub mod WriteLaws

@@ -12,6 +12,7 @@ use Rattle.pm_frame.specs.declared.message.Message.{Message}
 use Rattle.pm_frame.specs.declared.message.Message.TheVariants.{SendByte, WriteByte, WriteWord, PagePlusWrite, ReadCommand, PagePlusRead, ReadCoefficients}
 use Rattle.pm_frame.specs.declared.message.Payload.{Payload}
 use Rattle.pm_frame.specs.declared.message.Payload.TheVariants.{Empty, Byte, Word}
+use Rattle.pm_frame.specs.Damage.{EndsInPec}
 use Rattle.pm_frame.specs.Pec.{pec_of}
 use Rattle.pm_frame.specs.Layout.{AreBytes, IsWrite, payload_bytes, sent, with_pec, write_address, fits_layout, is_read_message, is_plain_write, is_carried}
 use Rattle.pm_frame.specs.View.{payload_in, plain_write, message_in}
@@ -297,3 +298,11 @@ write-first addr bytes h = go (write_cases addr bytes (faultless addr bytes h)) 
   go : FoundPlain bytes ⊎ FoundCarried bytes → (3 ≤ length bytes) × (is_written (get_or bytes 1 0) ≡ true)
   go (inl f) = (omega (arith, f.whole), (and_parts _ _ f.plain).0)
   go (inr f) = (omega (arith, f.whole), ap is_written f.is_wrapper ∙ wrapper-is_written)
+
+-- a write ends in its PEC
+pub write-ends : (addr : ℕ) (bytes : List ℕ) → write_fault addr bytes ≡ None → EndsInPec bytes
+write-ends addr bytes none =
+    let some : 0 < length bytes = omega (arith, (write-first addr bytes none).0) in
+    let parts = last_of bytes some in
+    let last : parts.1 ≡ pec_of parts.0 = write-last addr parts.1 parts.0 (sym (ap (write_fault addr) parts.2) ∙ none) in
+    record { front = parts.0; is = parts.2 ∙ ap (λ x. parts.0 ++ x ∷ []) last }

@@ -1,3 +1,4 @@
+pub mod Damage
 pub mod Fault
 pub mod Layout
 pub mod Pec

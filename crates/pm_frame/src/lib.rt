@@ -26,7 +26,10 @@ mod view;
 
 use arrayvec::ArrayVec;
 pub use fault::FrameFault;
-pub use laws::{answers_are_exact, damage_is_refused, requests_are_exact, writes_are_exact};
+pub use laws::{
+    answers_are_exact, bursts_are_betrayed, damage_is_refused, few_changes_are_betrayed,
+    requests_are_exact, writes_are_exact,
+};
 pub use layout::{answer, fits, write_part};
 pub use message::{Message, Payload};
 pub use packet_error_code::pec;

@@ -3,7 +3,7 @@
 mod faulty_reads;
 mod faulty_writes;
 mod frames;
-mod framing;
+pub(crate) mod framing;
 mod layouts;
 
 use crate::{FrameFault, answer, fits, read_answer, read_request, read_write, write_part};
