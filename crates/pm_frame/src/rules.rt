@@ -55,8 +55,8 @@ pub(crate) fn length(wanted: usize, bytes: &[u8]) -> Result<(), FrameFault>
     Ok(())
 }
 
-/// F4: the count of a PAGE_PLUS_WRITE is the one that its carried code asks for, where that is
-/// written, and at least 2.
+// F4: the count of a PAGE_PLUS_WRITE is the one that its carried code asks for, where that is
+// written, and at least 2.
 #[tactic(auto, unfolding(crate::specs::Fault::carried_count_fault))]
 fn carried_count(bytes: &[u8]) -> Result<(), FrameFault>
     requires { length bytes.now ≡ slice_index bytes.now 2 + 4 }

@@ -25,7 +25,7 @@ impl<'a> Model for FrameView<'a> {
 }
 
 impl<'a> FrameView<'a> {
-    // A view of bytes that are as many as a packet has.
+    /// A view of bytes that are as many as a packet has.
     pub(crate) fn new(bytes: &'a [u8]) -> FrameView<'a>
         requires { IsWhole bytes.now }
         ensures { result ≡ message_in bytes.entry.now }

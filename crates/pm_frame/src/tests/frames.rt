@@ -38,6 +38,7 @@ pub(crate) struct ReadRow {
     pub(crate) answer: &'static [u8],
 }
 
+/// Packets that write.
 pub(crate) const WRITES: [WriteRow; 17] = [
     WriteRow {
         addr: 0x58,
@@ -230,6 +231,7 @@ pub(crate) const WRITES: [WriteRow; 17] = [
     },
 ];
 
+/// Packets that read.
 pub(crate) const READS: [ReadRow; 11] = [
     ReadRow {
         addr: 0x58,
