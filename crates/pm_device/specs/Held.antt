@@ -12,14 +12,14 @@ use Rattle.pm_device.specs.declared.config.Config.{Config}
 
 -- what the READ codes answer: the voltage and the current of each output, the input voltage and one
 -- temperature (PMBus 1.3 Part II, READ_VOUT, READ_IOUT, READ_VIN and READ_TEMPERATURE_1)
-pub record Readings : Type 0 where
+pub record Measured : Type 0 where
   pub vout : List ℕ
   pub iout : List ℕ
   pub vin : ℕ
   pub temperature : ℕ
 
 -- the readings as they begin
-abbrev pub no_readings : Readings
+abbrev pub no_readings : Measured
 no_readings = record { vout = replicate 8 0; iout = replicate 8 0; vin = 0; temperature = 0 }
 
 -- a READ code of the device, and one of an output
@@ -35,7 +35,7 @@ is_reading count output code =
     is_device_reading code || is_output_reading code && nat_lt output count
 
 -- the word that a READ code answers at an output, 0 for any other code
-abbrev pub reading_at : Readings → ℕ → ℕ → ℕ
+abbrev pub reading_at : Measured → ℕ → ℕ → ℕ
 reading_at readings output code =
     if code == 0x88 then readings.vin
     else (if code == 0x8B then slice_index readings.vout output
@@ -44,7 +44,7 @@ reading_at readings output code =
     else 0)))
 
 -- the readings with another word for one of them
-abbrev pub with_reading : Readings → ℕ → ℕ → ℕ → Readings
+abbrev pub with_reading : Measured → ℕ → ℕ → ℕ → Measured
 with_reading readings output code word =
     if code == 0x88 then record readings { vin = word }
     else (if code == 0x8B then record readings { vout = slice_set readings.vout output word }
@@ -68,7 +68,7 @@ pub record Held : Type 0 where
   pub config : Config
   pub words : Words
   pub page : ℕ
-  pub readings : Readings
+  pub readings : Measured
   pub over : List Bool
   pub faults : CmlFaults
 

@@ -16,7 +16,7 @@ use Rattle.pm_device.specs.declared.heard.Ending.TheVariants.{Stop}
 use Rattle.pm_device.specs.declared.heard.Heard.TheVariants.{Taken}
 use Rattle.pm_device.specs.declared.verdict.Verdict.{Verdict}
 use Rattle.pm_device.specs.declared.verdict.Verdict.TheVariants.{Ignores, Refuses, Takes, Answers}
-use Rattle.pm_device.specs.Held.{Held, Readings, CmlFaults, no_readings, no_faults, is_reading, with_reading}
+use Rattle.pm_device.specs.Held.{Held, Measured, CmlFaults, no_readings, no_faults, is_reading, with_reading}
 use Rattle.pm_device.specs.Start.{start_words}
 use Rattle.pm_device.specs.Verdict.{output_in, written_word}
 use Rattle.pm_device.specs.Effect.{Event, Hearing, Restarted, Reading, Outcome, Heard, Restarts, Measures, outcome_in, words_by, page_by}
@@ -28,14 +28,14 @@ unfoldable pub each_output : (ℕ → Bool) → List Bool
 each_output bit_of = map bit_of (range_with_len 0 8)
 
 -- the readings after what an event came to
-abbrev pub readings_by : Config → Readings → Outcome → Readings
+abbrev pub readings_by : Config → Measured → Outcome → Measured
 readings_by config readings (Measures output code word) =
     if is_reading config.count output code then with_reading readings output code word else readings
 readings_by config readings (Heard verdict) = readings
 readings_by config readings Restarts = readings
 
 -- the readings after a past: a restart keeps them
-abbrev pub readings_in : Config → List Event → Readings
+abbrev pub readings_in : Config → List Event → Measured
 readings_in config [] = no_readings
 readings_in config (Reading output code word ∷ past) =
     readings_by config (readings_in config past) (Measures output code word)

@@ -10,9 +10,13 @@
 #![tactic(auto)]
 
 mod act;
+mod cml_latches;
 mod config;
 mod heard;
+mod readings;
+mod status;
 mod verdict;
 
 pub use config::{Config, ConfigFault, OutputStart};
 pub use heard::{DeviceFault, Ending, Heard};
+pub use status::{StatusByte, StatusCml, StatusVout, StatusWord};
