@@ -1,6 +1,6 @@
 -- How a converter starts, and which configurations are refused. The refusals and their order are
 -- this project's own choice.
-use Rattle.std.specs.Prelude.{◌≡◌, ℕ, ◌+◌, ◌≤◌, ◌<◌, Bool, true, not, ◌||◌, ◌==◌, nat_lt, if◌then◌else◌, List, [], ◌∷◌, map, take, find, slice_index, Option, Some, None}
+use Rattle.std.specs.Prelude.{◌≡◌, ℕ, ◌+◌, ◌≤◌, ◌<◌, Bool, true, false, not, ◌||◌, ◌==◌, nat_lt, if◌then◌else◌, List, [], ◌∷◌, map, take, find, slice_index, Option, Some, None, Result, Ok, Err}
 use Rattle.std.specs.List.{list_any}
 use Rattle.std.specs.Option.{option_map, option_or}
 use Rattle.std.specs.Result.{result_err}
@@ -9,7 +9,9 @@ use Rattle.pm_table.specs.declared.cell.Reg.{Reg}
 use Rattle.pm_table.specs.declared.cell.Reg.TheVariants.{Operation, VoutCommand, VoutMax, MarginHigh, MarginLow}
 use Rattle.pm_table.specs.declared.cell.Cell.{Cell}
 use Rattle.pm_table.specs.declared.cell.Cell.TheVariants.{Out, Protect}
-use Rattle.pm_table.specs.declared.vout_mode.VoutMode.TheVariants.{Direct}
+use Rattle.pm_table.specs.declared.vout_mode.VoutMode.{VoutMode}
+use Rattle.pm_table.specs.declared.vout_mode.VoutMode.TheVariants.{Linear, Direct}
+use Rattle.pm_table.specs.declared.fault.TableFault.{TableFault}
 use Rattle.pm_table.specs.Address.{IsAddress}
 use Rattle.pm_table.specs.Cell.{cell_accepts, register_accepts}
 use Rattle.pm_table.specs.VoutMode.{mode_of}
@@ -29,6 +31,11 @@ register_start VoutMax start = start.max
 register_start MarginHigh start = start.high
 register_start MarginLow start = start.low
 
+-- an output's start words, in the order of its registers
+abbrev pub start_row : OutputStart → List ℕ
+start_row start =
+    start.operation ∷ start.command ∷ start.max ∷ start.high ∷ start.low ∷ []
+
 -- the start word of a cell
 abbrev pub start_word : Config → Cell → ℕ
 start_word config (Out output register) =
@@ -43,9 +50,19 @@ start_words config = words_of (start_word config)
 abbrev pub outputs : Config → List OutputStart
 outputs config = take config.count config.starts
 
+-- the VOUT_MODE byte is that of the DIRECT format, 40h
+abbrev pub is_direct : Result VoutMode TableFault → Bool
+is_direct (Ok Direct) = true
+is_direct (Ok (Linear n)) = false
+is_direct (Err fault) = false
+
 -- some output is DIRECT
 abbrev pub has_direct : Config → Bool
-has_direct config = list_any (λ start. start.mode == 0x40) (outputs config)
+has_direct config = list_any (λ start. is_direct (mode_of start.mode)) (outputs config)
+
+-- a start that stands for an output that isn't there
+abbrev pub no_start : OutputStart
+no_start = record { mode = 0; operation = 0; command = 0; max = 0; high = 0; low = 0 }
 
 -- the registers in their order
 abbrev pub registers : List Reg

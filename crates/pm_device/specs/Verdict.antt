@@ -1,9 +1,9 @@
 -- What a hearing comes to, from the words of the cells and PAGE: silence, the first refusal that
 -- applies, an act that is taken, or a read that is answered. Which refusal stands for which fault,
 -- and their order, are this project's own choice; the acts are those of PMBus 1.3 Part II.
-use Rattle.std.specs.Prelude.{ℕ, Bool, true, false, not, ◌&&◌, ◌||◌, ◌==◌, nat_lt, if◌then◌else◌, List, Option, Some, None, unwrap_or}
+use Rattle.std.specs.Prelude.{◌≡◌, ℕ, ◌<◌, Bool, true, false, not, ◌&&◌, ◌||◌, ◌==◌, nat_lt, if◌then◌else◌, List, Option, Some, None, unwrap_or}
 use Rattle.std.specs.Option.{option_map, option_map_or}
-use Rattle.pm_table.specs.declared.cell.Cell.TheVariants.{Protect}
+use Rattle.pm_table.specs.declared.cell.Cell.TheVariants.{Out, Protect}
 use Rattle.pm_table.specs.Cell.{cell_at, cell_accepts}
 use Rattle.pm_table.specs.Protection.{is_allowed}
 use Rattle.pm_frame.specs.declared.fault.FrameFault.{FrameFault}
@@ -13,8 +13,9 @@ use Rattle.pm_frame.specs.declared.message.Message.TheVariants.{SendByte, WriteB
 use Rattle.pm_frame.specs.declared.message.Payload.{Payload}
 use Rattle.pm_frame.specs.declared.message.Payload.TheVariants.{Empty, Byte, Word}
 use Rattle.pm_frame.specs.Fault.{write_fault, request_fault}
+use Rattle.pm_frame.specs.Layout.{is_read_message, fits_layout}
 use Rattle.pm_frame.specs.View.{message_in, message_page, message_code}
-use Rattle.pm_model.specs.Settings.{Words, word_at}
+use Rattle.pm_model.specs.Settings.{Words, IsCell, word_at}
 use Rattle.pm_device.specs.declared.act.Act.{Act}
 use Rattle.pm_device.specs.declared.act.Act.TheVariants.{Put, Select, ClearFaults, ClearVout, ClearCml}
 use Rattle.pm_device.specs.declared.config.Config.{Config}
@@ -76,20 +77,19 @@ is_accepted (ClearFaults output) = true
 is_accepted (ClearVout output byte) = true
 is_accepted (ClearCml byte) = true
 
--- K4 where there is no such output, K5 where WRITE_PROTECT blocks the code, K3 where the cell doesn't
--- accept the word
-abbrev pub act_verdict : Config → Words → Message → Act → Verdict
-act_verdict config words message act =
-    if names_no_output config.count message || selects_no_output config.count act
-    then Refuses BadPage
-    else (if not (is_allowed (word_at words Protect) (message_code message)) then Refuses Protected
+-- what an act comes to with so many outputs, while WRITE_PROTECT has this value: K4 where there is no
+-- such output, K5 where WRITE_PROTECT blocks the code, K3 where the cell doesn't accept the word
+abbrev pub act_verdict : ℕ → ℕ → Message → Act → Verdict
+act_verdict count protect message act =
+    if names_no_output count message || selects_no_output count act then Refuses BadPage
+    else (if not (is_allowed protect (message_code message)) then Refuses Protected
     else (if not (is_accepted act) then Refuses UnsupportedData
     else Takes act))
 
 -- what a write without a fault comes to; K2 for a code that this converter has no act for
 abbrev pub write_verdict : Config → Words → ℕ → Message → Verdict
 write_verdict config words page message =
-    option_map_or (λ act. act_verdict config words message act)
+    option_map_or (λ act. act_verdict config.count (word_at words Protect) message act)
     (act_in (message_code message) (output_in page message) (written_word message))
     (Refuses UnsupportedCode)
 
@@ -141,3 +141,30 @@ verdict_of config words page bytes Stop = unless_faulty (write_fault config.addr
     (write_verdict config words page (message_in bytes))
 verdict_of config words page bytes Restart = unless_faulty (request_fault config.addr bytes)
     (read_verdict config (message_in bytes))
+
+-- what an act may name at a converter with so many outputs: an output that is there, and a word that
+-- its cell accepts
+abbrev pub CanAct : ℕ → Act → Type 0
+CanAct count (Put cell word) = IsCell count cell × (cell_accepts cell word ≡ true)
+CanAct count (Select page) = page < count
+CanAct count (ClearFaults output) = output < count
+CanAct count (ClearVout output byte) = output < count
+CanAct count (ClearCml byte) = Unit {0}
+
+-- the output that an act names is this one
+abbrev pub ActsOn : ℕ → Act → Type 0
+ActsOn output (Put (Out named register) word) = named ≡ output
+ActsOn output (Put Protect word) = Unit {0}
+ActsOn output (Select page) = Unit {0}
+ActsOn output (ClearFaults named) = named ≡ output
+ActsOn output (ClearVout named byte) = named ≡ output
+ActsOn output (ClearCml byte) = Unit {0}
+
+-- what can be done of what a hearing came to; a request that is answered is one, and fits its layout
+abbrev pub IsFit : ℕ → Verdict → Type 0
+IsFit count Ignores = Unit {0}
+IsFit count (Refuses fault) = Unit {0}
+IsFit count (Takes act) = CanAct count act
+IsFit count (Answers request) =
+    (names_no_output count request ≡ false) × (is_read_message request ≡ true)
+    × (fits_layout request ≡ true)

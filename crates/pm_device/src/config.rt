@@ -1,6 +1,15 @@
+ghost use Rattle.std.specs.Prelude.{◌≡◌, ◌≤◌, length};
+ghost use Rattle.pm_device.specs.Held.{mode_for};
+ghost use Rattle.pm_device.specs.Start.{has_direct, outputs};
+ghost use Rattle.pm_device.specs.Verdict.{answers_coefficients};
+
 use pm_num::NumFault;
-use pm_table::{Cell, Coefficients, TableFault};
+use pm_table::{Cell, Coefficients, TableFault, VoutMode};
 use thiserror::Error;
+
+mod faults;
+
+pub(crate) use faults::config_fault;
 
 /// What a converter's settings are as it starts, for one output. A word is in the output's own
 /// format, which VOUT_MODE gives.
@@ -33,6 +42,35 @@ pub struct Config {
     pub protect: u16,
     /// The coefficients of every output with VOUT_MODE 40h, the same in both directions.
     pub coefficients: Coefficients,
+}
+
+impl Config {
+    /// The starts of the outputs that there are.
+    pub(crate) fn outputs(&self) -> &[OutputStart]
+        requires { self.now.count ≤ 8 }
+        ensures { result.now ≡ outputs self.now }
+    {
+        &self.starts[..usize::from(self.count)]
+    }
+
+    /// Whether some output is DIRECT.
+    pub(crate) fn has_direct(&self) -> bool
+        requires { self.now.count ≤ 8 }
+        ensures { result ≡ has_direct self.now }
+    {
+        self.outputs()
+            .iter()
+            .any(|start| matches!(VoutMode::read(start.mode), Ok(VoutMode::Direct)))
+    }
+
+    /// Whether COEFFICIENTS is answered for a code and a side: the code is that of a voltage, the
+    /// side 00h or 01h, and some output is DIRECT.
+    pub(crate) fn answers(&self, code: u8, side: u8) -> bool
+        requires { self.now.count ≤ 8 }
+        ensures { result ≡ answers_coefficients self.now code side }
+    {
+        matches!(code, 0x21 | 0x24 | 0x25 | 0x26 | 0x8B) && side <= 1 && self.has_direct()
+    }
 }
 
 /// Why no converter is made from a configuration: the first that applies, in the

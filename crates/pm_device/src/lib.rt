@@ -12,6 +12,7 @@
 mod act;
 mod cml_latches;
 mod config;
+mod formats;
 mod heard;
 mod readings;
 mod status;
