@@ -1,9 +1,12 @@
 -- How a converter starts, and which configurations are refused. The refusals and their order are
 -- this project's own choice.
-use Rattle.std.specs.Prelude.{◌≡◌, ℕ, ◌+◌, ◌≤◌, ◌<◌, Bool, true, false, not, ◌||◌, ◌==◌, nat_lt, if◌then◌else◌, List, [], ◌∷◌, map, take, find, slice_index, Option, Some, None, Result, Ok, Err}
+use Rattle.std.specs.Prelude.{◌≡◌, ℕ, ◌+◌, ◌≤◌, ◌<◌, Bool, true, false, not, ◌||◌, ◌==◌, nat_lt, if◌then◌else◌, List, [], ◌∷◌, map, take, find, length, slice_index, slice_index_or, Option, Some, None, Result, Ok, Err}
 use Rattle.std.specs.List.{list_any}
 use Rattle.std.specs.Option.{option_map, option_or}
 use Rattle.std.specs.Result.{result_err}
+use Rattle.pm_num.specs.AnyFormat.{shape_of}
+use Rattle.pm_num.specs.declared.any_format.AnyFormat.{AnyFormat}
+use Rattle.pm_num.specs.declared.any_format.AnyFormat.TheVariants.{Linear11}
 use Rattle.pm_num.specs.declared.fault.NumFault.{NumFault}
 use Rattle.pm_table.specs.declared.cell.Reg.{Reg}
 use Rattle.pm_table.specs.declared.cell.Reg.TheVariants.{Operation, VoutCommand, VoutMax, MarginHigh, MarginLow}
@@ -119,3 +122,13 @@ pub record IsSound (config : Config) : Type 0 where
     cell_accepts cell (start_word config cell) ≡ true
   pub formats : (output : ℕ) → output < config.count →
     shape_made config output ≡ Some (shape_for config output)
+
+-- What a converter keeps true of what it keeps: its formats are those of its configuration, which is
+-- sound, PAGE names an output that is there, and there is a latch for each place for an output.
+pub record IsKept (config : Config) (formats : List AnyFormat) (count page : ℕ) (over : List Bool) : Type 0 where
+  pub sound : IsSound config
+  pub shapes : (output : ℕ) → output < 8 →
+    shape_of (slice_index_or formats output Linear11) ≡ shape_for config output
+  pub counted : count ≡ config.count
+  pub selected : page < config.count
+  pub latches : length over ≡ 8

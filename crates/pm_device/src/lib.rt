@@ -12,12 +12,15 @@
 mod act;
 mod cml_latches;
 mod config;
+mod converter;
 mod formats;
 mod heard;
+mod over;
 mod readings;
 mod status;
 mod verdict;
 
 pub use config::{Config, ConfigFault, OutputStart};
+pub use converter::Converter;
 pub use heard::{DeviceFault, Ending, Heard};
 pub use status::{StatusByte, StatusCml, StatusVout, StatusWord};
