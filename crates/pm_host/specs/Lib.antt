@@ -1,0 +1,5 @@
+pub mod Cells
+pub mod Marks
+pub mod Possible
+pub mod Standing
+pub mod Known
