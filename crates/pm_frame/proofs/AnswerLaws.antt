@@ -7,14 +7,11 @@ use Rattle.pm_frame.specs.declared.fault.FrameFault.TheVariants.{WrongCount}
 use Rattle.pm_frame.specs.declared.message.Message.{Message}
 use Rattle.pm_frame.specs.Pec.{pec_of}
 use Rattle.pm_frame.specs.Layout.{IsAnswer, is_read_message, fits_layout, sent, answered, with_pec, read_address, has_count, answer_length}
-use Rattle.pm_frame.specs.Fault.{address_fault, pec_fault, whole_answer, answer_fault}
+use Rattle.pm_frame.specs.View.{answer_payload}
+use Rattle.pm_frame.specs.Fault.{rule, address_fault, length_fault, pec_fault, whole_answer, answer_fault}
 use Rattle.pm_frame.proofs.Parts.{last_of, take-front}
 use Rattle.pm_frame.proofs.Rules.{or_none, none_or, rule_none, none_rule, address_fault-none, address_fault-found, length_fault-none, length_fault-found, pec_fault-none, pec_fault-found}
 use Rattle.pm_frame.proofs.WriteLaws.{empty_of}
-
--- where the payload of an answer begins
-unfoldable pub payload_place : Message → ℕ
-payload_place request = cond (has_count request) 2 1
 
 -- an answer with its address and count in front
 shaped : Bool → ℕ → List ℕ → List ℕ
@@ -31,8 +28,8 @@ shaped-payload true addr payload last = take-front payload last _ (omega (arith,
 shaped-payload false addr payload last = take-front payload last _ (omega (arith, length-append payload (last ∷ [])))
 
 -- the payload of an answer stands between its first places and its last byte
-pub answer-payload : (addr : ℕ) (request : Message) (payload bytes : List ℕ) → IsAnswer addr request payload bytes → slice_range bytes (payload_place request) (length bytes - 1) ≡ payload
-unfolding payload_place shaped
+pub answer-payload : (addr : ℕ) (request : Message) (payload bytes : List ℕ) → IsAnswer addr request payload bytes → answer_payload request bytes ≡ payload
+unfolding shaped
 answer-payload addr request payload bytes h =
     subst (λ xs. slice_range xs (cond (has_count request) 2 1) (length xs - 1) ≡ payload) (sym h.spelled)
     (shaped-payload (has_count request) addr payload (pec_of (sent addr request ++ answered addr request payload)))
@@ -71,11 +68,11 @@ three_two : {a b : Bool} → a ≡ b → cond a 3 2 ≡ cond {A = ℕ} b 3 2
 three_two e = ap (λ (b : Bool). cond {A = ℕ} b 3 2) e
 
 -- the payload of an answer, read in its place, is again that of the answer
-in_place : (addr : ℕ) (request : Message) (payload bytes : List ℕ) → IsAnswer addr request payload bytes → IsAnswer addr request (slice_range bytes (payload_place request) (length bytes - 1)) bytes
+in_place : (addr : ℕ) (request : Message) (payload bytes : List ℕ) → IsAnswer addr request payload bytes → IsAnswer addr request (answer_payload request bytes) bytes
 in_place addr request payload bytes h = subst (λ xs. IsAnswer addr request xs bytes) (sym (answer-payload addr request payload bytes h)) h
 
 -- bytes with no fault have the layout of an answer, with the payload that stands in its place
-pub answer_fault-found : (addr : ℕ) (request : Message) (bytes : List ℕ) → is_read_message request ≡ true → fits_layout request ≡ true → answer_fault addr request bytes ≡ None → IsAnswer addr request (slice_range bytes (payload_place request) (length bytes - 1)) bytes
+pub answer_fault-found : (addr : ℕ) (request : Message) (bytes : List ℕ) → is_read_message request ≡ true → fits_layout request ≡ true → answer_fault addr request bytes ≡ None → IsAnswer addr request (answer_payload request bytes) bytes
 unfolding answer_fault
 answer_fault-found addr request bytes reads fits h =
     let opened = or_none _ _ h in
@@ -127,4 +124,28 @@ pub answer-front : (addr : ℕ) (request : Message) (first second front rest : L
 answer-front addr request first second front rest h k =
     let short = answer-length addr request first front h in
     let long = answer-length addr request second (front ++ rest) k in
+    empty_of rest (omega (arith, length-append front rest))
+
+-- bytes with no fault are as many as a whole answer has
+pub answer_fault-length : (addr : ℕ) (request : Message) (bytes : List ℕ) → answer_fault addr request bytes ≡ None → length bytes ≡ whole_answer request
+unfolding answer_fault
+answer_fault-length addr request bytes h = length_fault-found _ bytes (or_none _ _ (or_none _ _ h).1).0
+
+answer_fault-pec : (addr : ℕ) (request : Message) (bytes : List ℕ) → answer_fault addr request bytes ≡ None → pec_fault (sent addr request) bytes ≡ None
+unfolding answer_fault
+answer_fault-pec addr request bytes h =
+    let opened = or_none (address_fault (read_address addr) bytes) _ h in
+    let sized = or_none (length_fault (whole_answer request) bytes) _ opened.1 in
+    let counted = or_none (rule (has_count request && not (eqb (get_or bytes 1 0) (answer_length request))) (WrongCount 1)) _ sized.1 in
+    (or_none (pec_fault (sent addr request) bytes) None counted.1).0
+
+-- the last byte of an answer is the PEC of the request and of those before it
+pub answer-last : (addr last : ℕ) (request : Message) (front : List ℕ) → answer_fault addr request (front ++ last ∷ []) ≡ None → last ≡ pec_of (sent addr request ++ front)
+answer-last addr last request front h = pec_fault-found (sent addr request) front last (answer_fault-pec addr request (front ++ last ∷ []) h)
+
+-- a strict front of what has no fault has one
+pub answer_fault-front : (addr : ℕ) (request : Message) (front rest : List ℕ) → answer_fault addr request (front ++ rest) ≡ None → answer_fault addr request front ≡ None → rest ≡ []
+answer_fault-front addr request front rest long short =
+    let whole = answer_fault-length addr request (front ++ rest) long in
+    let cut = answer_fault-length addr request front short in
     empty_of rest (omega (arith, length-append front rest))

@@ -282,3 +282,7 @@ write-front addr front rest h k =
     let same_count = get_or_append_left front rest 0 2 (omega arith) in
     let same : packet_length (get_or (front ++ rest) 1 0) (get_or (front ++ rest) 2 0) ≡ packet_length (get_or front 1 0) (get_or front 2 0) = ap₂ packet_length same_code same_count in
     empty_of rest (omega (arith, length-append front rest))
+
+-- the last byte of a write is the PEC of those before it
+pub write-last : (addr last : ℕ) (front : List ℕ) → write_fault addr (front ++ last ∷ []) ≡ None → last ≡ pec_of front
+write-last addr last front h = pec_fault-found [] front last (faultless addr (front ++ last ∷ []) h).pec

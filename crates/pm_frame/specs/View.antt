@@ -5,7 +5,7 @@ use Rattle.pm_frame.specs.declared.message.Message.{Message}
 use Rattle.pm_frame.specs.declared.message.Message.TheVariants.{SendByte, WriteByte, WriteWord, PagePlusWrite, ReadCommand, PagePlusRead, ReadCoefficients}
 use Rattle.pm_frame.specs.declared.message.Payload.{Payload}
 use Rattle.pm_frame.specs.declared.message.Payload.TheVariants.{Empty, Byte, Word}
-use Rattle.pm_frame.specs.Layout.{AreBytes, payload_bytes}
+use Rattle.pm_frame.specs.Layout.{AreBytes, payload_bytes, has_count}
 
 -- the payload that bytes are, at most two
 abbrev pub payload_in : List ℕ → Payload
@@ -18,6 +18,12 @@ abbrev pub plain_write : ℕ → Payload → Message
 plain_write code Empty = SendByte code
 plain_write code (Byte byte) = WriteByte code byte
 plain_write code (Word word) = WriteWord code word
+
+-- the payload of a whole answer to a request: between the address, or the count where there is one,
+-- and the PEC
+abbrev pub answer_payload : Message → List ℕ → List ℕ
+answer_payload request bytes =
+    slice_range bytes (if has_count request then 2 else 1) (length bytes - 1)
 
 -- the message that bytes are, where they are those of a packet that writes, or of the request of
 -- one that reads

@@ -7,11 +7,10 @@ ghost use Rattle.pm_table.specs.Address.{IsAddress};
 ghost use Rattle.pm_frame.specs.Pec.{pec_of};
 ghost use Rattle.pm_frame.specs.Fault as fault;
 
-use crate::code::{
-    PAGE_PLUS_WRITE, is_carried, is_known, is_plain_write, is_written, payload_length,
-};
+use crate::code::{PAGE_PLUS_WRITE, is_carried, is_plain_write};
 use crate::fault::FrameFault;
 use crate::packet_error_code::pec_after;
+use pm_table::Code;
 
 /// The place of the code in a packet of the host.
 pub(crate) const CODE: usize = 1;
@@ -76,7 +75,7 @@ fn carried_count(bytes: &[u8]) -> Result<(), FrameFault>
         return Err(FrameFault::WrongCount(COUNT));
     }
     let code = bytes[CARRIED];
-    if is_carried(code) && is_written(code) && count != payload_length(code) + 2 {
+    if is_carried(code) && Code(code).is_written() && count != Code(code).payload_length() + 2 {
         return Err(FrameFault::WrongCount(COUNT));
     }
     Ok(())
@@ -92,7 +91,7 @@ pub(crate) fn write_size(code: u8, bytes: &[u8]) -> Result<(), FrameFault>
     ensures six { OnOk result (code ≡ 0x05 → 6 ≤ length bytes.now) }
 {
     if is_plain_write(code) {
-        return length(payload_length(code) + 3, bytes);
+        return length(Code(code).payload_length() + 3, bytes);
     }
     if bytes.len() == 2 {
         return Err(FrameFault::Short(2));
@@ -131,7 +130,7 @@ pub(crate) fn carried_code(is_allowed: bool, bytes: &[u8]) -> Result<(), FrameFa
     if !is_carried(code) {
         return Err(FrameFault::Nested(CARRIED));
     }
-    if !is_known(code) {
+    if !Code(code).is_known() {
         return Err(FrameFault::UnknownCode(CARRIED));
     }
     if !is_allowed {
@@ -147,7 +146,7 @@ pub(crate) fn plain_code(is_allowed: bool, code: u8) -> Result<(), FrameFault>
         code ≡ slice_index bytes 1 → is_allowed ≡ allowed code →
         result_err result ≡ fault.plain_fault allowed bytes }
 {
-    if !is_known(code) {
+    if !Code(code).is_known() {
         return Err(FrameFault::UnknownCode(CODE));
     }
     if !is_allowed {

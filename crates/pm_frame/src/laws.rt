@@ -2,11 +2,12 @@
 //! a function with an empty body. They hold of lists of any length, and of addresses and messages
 //! of any size.
 
-ghost use Rattle.std.specs.Prelude.{◌≡◌, ℕ, List, [], ◌++◌, None, true};
+ghost use Rattle.std.specs.Prelude.{◌≡◌, ◌≢◌, ◌<◌, ℕ, List, [], ◌∷◌, ◌++◌, length, None, true};
 ghost use Rattle.pm_frame.specs.declared.message.Message.{Message};
-ghost use Rattle.pm_frame.specs.Layout.{AreBytes, IsWrite, IsRequest, IsAnswer, is_read_message, fits_layout};
-ghost use Rattle.pm_frame.specs.View.{message_in};
-ghost use Rattle.pm_frame.specs.Fault.{write_fault, request_fault, answer_fault};
+ghost use Rattle.pm_frame.specs.Layout.{AreBytes, IsWrite, IsRequest, IsAnswer, sent, is_read_message, fits_layout};
+ghost use Rattle.pm_frame.specs.View.{message_in, answer_payload};
+ghost use Rattle.pm_frame.specs.Pec.{pec_of};
+ghost use Rattle.pm_frame.specs.Fault.{write_fault, request_fault, answer_fault, whole_answer};
 
 /// Bytes have no fault as a write exactly where they have the layout of some message that writes,
 /// which is the one read by their places; they are then no other message, and no strict front of
@@ -41,7 +42,7 @@ pub fn requests_are_exact()
 {}
 
 /// What came back for a read that fits has no fault exactly where it has the layout of an answer
-/// with some payload; it then has no other payload, and no strict front of it is an answer to that
+/// with some payload, which stands at its place; it then has no other payload, and no strict front of it is an answer to that
 /// request.
 pub fn answers_are_exact()
     ensures faultless { (addr : ℕ) (request : Message) (bytes : List ℕ) →
@@ -50,9 +51,32 @@ pub fn answers_are_exact()
         (payload : List ℕ) × IsAnswer addr request payload bytes }
     ensures spelled { (addr : ℕ) (request : Message) (payload bytes : List ℕ) →
         IsAnswer addr request payload bytes → answer_fault addr request bytes ≡ None }
+    ensures places { (addr : ℕ) (request : Message) (payload bytes : List ℕ) →
+        IsAnswer addr request payload bytes → answer_payload request bytes ≡ payload }
     ensures one { (addr : ℕ) (request : Message) (payload other bytes : List ℕ) →
         IsAnswer addr request payload bytes → IsAnswer addr request other bytes → payload ≡ other }
     ensures front { (addr : ℕ) (request : Message) (payload other front rest : List ℕ) →
         IsAnswer addr request payload front →
         IsAnswer addr request other (front ++ rest) → rest ≡ [] }
+{}
+
+/// What is cut short has a fault, and so has what its last byte betrays: a strict front of a write,
+/// of a request, of an answer; a write whose last byte isn't the PEC of those before it; an answer
+/// that is shorter than a whole one, or whose last byte isn't the PEC of the request's bytes
+/// followed by those before it.
+pub fn damage_is_refused()
+    ensures write_cut { (addr : ℕ) (front rest : List ℕ) →
+        write_fault addr (front ++ rest) ≡ None → rest ≢ [] → write_fault addr front ≢ None }
+    ensures write_betrayed { (addr last : ℕ) (front : List ℕ) →
+        last ≢ pec_of front → write_fault addr (front ++ last ∷ []) ≢ None }
+    ensures request_cut { (addr : ℕ) (front rest : List ℕ) →
+        request_fault addr (front ++ rest) ≡ None → rest ≢ [] → request_fault addr front ≢ None }
+    ensures answer_cut { (addr : ℕ) (request : Message) (front rest : List ℕ) →
+        answer_fault addr request (front ++ rest) ≡ None → rest ≢ [] →
+        answer_fault addr request front ≢ None }
+    ensures answer_short { (addr : ℕ) (request : Message) (bytes : List ℕ) →
+        length bytes < whole_answer request → answer_fault addr request bytes ≢ None }
+    ensures answer_betrayed { (addr last : ℕ) (request : Message) (front : List ℕ) →
+        last ≢ pec_of (sent addr request ++ front) →
+        answer_fault addr request (front ++ last ∷ []) ≢ None }
 {}

@@ -24,7 +24,7 @@ mod writing;
 
 use arrayvec::ArrayVec;
 pub use fault::FrameFault;
-pub use laws::{answers_are_exact, requests_are_exact, writes_are_exact};
+pub use laws::{answers_are_exact, damage_is_refused, requests_are_exact, writes_are_exact};
 pub use message::{Message, Payload};
 pub use packet_error_code::pec;
 pub use reading::{read_answer, read_request, read_write};

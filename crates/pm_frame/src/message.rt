@@ -1,6 +1,6 @@
 ghost use Rattle.std.specs.Prelude.{◌≡◌, ◌≤◌, if◌then◌else◌, length};
 
-use crate::code::payload_length;
+use pm_table::Code;
 
 /// What a write carries beside its code.
 #[derive(Clone, Copy, Debug, PartialEq, Eq)]
@@ -106,8 +106,8 @@ impl Payload {
 impl Message {
     ghost use Rattle.pm_frame.specs.Layout.{is_read_message, has_count, answer_length};
 
-    /// A read, and not a write.
-    pub(crate) fn is_read(&self) -> bool
+    /// Whether it's a read, and not a write: the host sends a request, and the device answers it.
+    pub fn is_read(&self) -> bool
         ensures { result ≡ is_read_message self.now }
     {
         matches!(
@@ -135,14 +135,15 @@ impl Message {
         if self.has_count() { 2 } else { 1 }
     }
 
-    /// How many bytes of payload its answer has; 0 for a write.
-    pub(crate) fn answer_length(&self) -> usize
+    /// How many bytes of payload the answer to it has, 0 to 5: as many as its code has, 5 for
+    /// COEFFICIENTS; 0 for a write, which has no answer.
+    pub fn answer_length(&self) -> usize
         ensures length { result ≡ answer_length self.now }
         ensures short { result ≤ 5 }
     {
         match *self {
-            Message::ReadCommand { code } => payload_length(code),
-            Message::PagePlusRead { page: _, code } => payload_length(code),
+            Message::ReadCommand { code } => Code(code).payload_length(),
+            Message::PagePlusRead { page: _, code } => Code(code).payload_length(),
             Message::ReadCoefficients { .. } => 5,
             _ => 0,
         }

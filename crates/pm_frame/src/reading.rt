@@ -3,16 +3,17 @@ ghost use Rattle.std.specs.Result.{result_err};
 ghost use Rattle.pm_table.specs.Address.{IsAddress};
 ghost use Rattle.pm_frame.specs.declared.message.Message.{Message};
 ghost use Rattle.pm_frame.specs.Layout.{IsWrite, IsRequest, IsAnswer, fits_layout, is_read_message};
-ghost use Rattle.pm_frame.specs.View.{message_in};
+ghost use Rattle.pm_frame.specs.View.{message_in, answer_payload};
 ghost use Rattle.pm_frame.specs.Fault.{write_fault, request_fault, block_request_fault, answer_fault, whole_answer};
 
 use crate::check;
-use crate::code::{COEFFICIENTS, PAGE_PLUS_READ, PAGE_PLUS_WRITE, is_read, is_written};
+use crate::code::{COEFFICIENTS, PAGE_PLUS_READ, PAGE_PLUS_WRITE};
 use crate::fault::FrameFault;
 use crate::message::Message;
 use crate::packet_error_code::pec;
 use crate::view::FrameView;
 use crate::writing::{read_address, sent, write_address};
+use pm_table::Code;
 
 /// Reads bytes that a stop ended as a packet that writes to the device of this address. Takes
 /// exactly the layouts of writes, for bytes of any number; `Err` is the first fault:
@@ -46,9 +47,9 @@ fn written(addr: u8, bytes: &[u8]) -> Result<(), FrameFault>
     check::write_size(code, bytes)?;
     check::error_code(pec(&[]), bytes)?;
     if code == PAGE_PLUS_WRITE {
-        return check::carried_code(is_written(bytes[check::CARRIED]), bytes);
+        return check::carried_code(Code(bytes[check::CARRIED]).is_written(), bytes);
     }
-    check::plain_code(is_written(code), code)
+    check::plain_code(Code(code).is_written(), code)
 }
 
 /// Reads bytes that a repeated start ended as the request of a packet that reads from the device of
@@ -83,7 +84,7 @@ fn requested(addr: u8, bytes: &[u8]) -> Result<(), FrameFault>
     if code == PAGE_PLUS_READ || code == COEFFICIENTS {
         return block_requested(code, bytes);
     }
-    check::plain_code(is_read(code), code)?;
+    check::plain_code(Code(code).is_read(), code)?;
     if bytes.len() > 2 {
         return Err(FrameFault::Long(2));
     }
@@ -101,7 +102,7 @@ fn block_requested(code: u8, bytes: &[u8]) -> Result<(), FrameFault>
         return Err(FrameFault::WrongCount(check::COUNT));
     }
     if code == PAGE_PLUS_READ {
-        check::carried_code(is_read(bytes[check::CARRIED]), bytes)?;
+        check::carried_code(Code(bytes[check::CARRIED]).is_read(), bytes)?;
     }
     Ok(())
 }
@@ -120,6 +121,7 @@ pub fn read_answer<'a>(addr: u8, request: &Message, got: &'a [u8]) -> Result<&'a
     requires read { is_read_message request.now ≡ true }
     requires fits { fits_layout request.now ≡ true }
     ensures payload { IfOk result (λ payload. IsAnswer addr request.now payload.now got.entry.now) }
+    ensures places { IfOk result (λ payload. payload.now ≡ answer_payload request.now got.entry.now) }
     ensures fault { result_err result ≡ answer_fault addr request.now got.entry.now }
     ensures accepts { (payload : List ℕ) → IsAnswer addr request.now payload got.entry.now →
         IsOkAnd result (λ found. found.now ≡ payload) }

@@ -8,7 +8,7 @@ use std::marker::Model;
 
 /// The bytes of a packet that was read without a fault, borrowed from the caller: a write, or the
 /// request of a read. A clause sees it as the message that the bytes are.
-#[derive(Debug, Drop)]
+#[derive(Clone, Debug, Drop)]
 pub struct FrameView<'a> {
     bytes: &'a [u8],
 }

@@ -1,27 +1,52 @@
-use Rattle.std.specs.Prelude.{ℕ}
+use Rattle.std.specs.Prelude.{ℕ, ℤ}
 use Rattle.pm_num.specs.declared.any_format.AnyFormat.{AnyFormat}
 use Rattle.pm_num.specs.declared.any_format.AnyFormat.TheVariants.{Linear11, Ulinear16, Direct}
 use Rattle.pm_num.specs.Ratio.{Ratio}
 use Rattle.pm_num.specs.Value.{linear11_value, ulinear16_value, direct_value, direct_least, direct_greatest}
 use Rattle.pm_num.specs.Nearest.{linear11_rank, one_rank}
 
--- The values, the ranks and the range of a format that is chosen at run time.
+-- What a format is, with no fact on its numbers: LINEAR11, ULINEAR16 with the exponent n, or DIRECT
+-- with the coefficients m, b and r.
+pub data Shape : Type 0 where
+  InLinear11 : Shape
+  InUlinear16 : (n : ℤ) → Shape
+  InDirect : (m b r : ℤ) → Shape
+
+-- The values, the ranks and the range of a shape.
+abbrev pub shape_value : Shape → ℕ → Ratio
+shape_value InLinear11 = linear11_value
+shape_value (InUlinear16 n) = ulinear16_value n
+shape_value (InDirect m b r) = direct_value m b r
+
+abbrev pub shape_rank : Shape → ℕ → ℕ
+shape_rank InLinear11 = linear11_rank
+shape_rank (InUlinear16 n) = one_rank
+shape_rank (InDirect m b r) = one_rank
+
+abbrev pub shape_lowest : Shape → Ratio
+shape_lowest InLinear11 = linear11_value 0x7C00
+shape_lowest (InUlinear16 n) = ulinear16_value n 0
+shape_lowest (InDirect m b r) = direct_value m b r (direct_least m)
+
+abbrev pub shape_highest : Shape → Ratio
+shape_highest InLinear11 = linear11_value 0x7BFF
+shape_highest (InUlinear16 n) = ulinear16_value n 0xFFFF
+shape_highest (InDirect m b r) = direct_value m b r (direct_greatest m)
+
+-- The shape of a format that is chosen at run time, and what it has by that shape.
+abbrev pub shape_of : AnyFormat → Shape
+shape_of Linear11 = InLinear11
+shape_of (Ulinear16 f) = InUlinear16 f.n
+shape_of (Direct f) = InDirect f.m f.b f.r
+
 abbrev pub any_value : AnyFormat → ℕ → Ratio
-any_value Linear11 = linear11_value
-any_value (Ulinear16 f) = ulinear16_value f.n
-any_value (Direct f) = direct_value f.m f.b f.r
+any_value f = shape_value (shape_of f)
 
 abbrev pub any_rank : AnyFormat → ℕ → ℕ
-any_rank Linear11 = linear11_rank
-any_rank (Ulinear16 f) = one_rank
-any_rank (Direct f) = one_rank
+any_rank f = shape_rank (shape_of f)
 
 abbrev pub any_lowest : AnyFormat → Ratio
-any_lowest Linear11 = linear11_value 0x7C00
-any_lowest (Ulinear16 f) = ulinear16_value f.n 0
-any_lowest (Direct f) = direct_value f.m f.b f.r (direct_least f.m)
+any_lowest f = shape_lowest (shape_of f)
 
 abbrev pub any_highest : AnyFormat → Ratio
-any_highest Linear11 = linear11_value 0x7BFF
-any_highest (Ulinear16 f) = ulinear16_value f.n 0xFFFF
-any_highest (Direct f) = direct_value f.m f.b f.r (direct_greatest f.m)
+any_highest f = shape_highest (shape_of f)

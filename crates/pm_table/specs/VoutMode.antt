@@ -2,6 +2,7 @@
 -- VID, 10 DIRECT, 11 IEEE half precision; bits 4:0 are the two's complement exponent for ULINEAR16,
 -- and 0 for DIRECT. This project takes ULINEAR16 and DIRECT.
 use Rattle.std.specs.Prelude.{ℕ, ℤ, pos, ◌-ℤ◌, ◌/◌, ◌%◌, Result, Ok, Err, if◌then◌else◌, ◌==◌, nat_lt}
+use Rattle.pm_num.specs.Formats.{IsExponent}
 use Rattle.pm_table.specs.declared.fault.TableFault.{TableFault}
 use Rattle.pm_table.specs.declared.fault.TableFault.TheVariants.{VidMode, HalfMode, RelativeMode, BadParameter}
 use Rattle.pm_table.specs.declared.vout_mode.VoutMode.{VoutMode}
@@ -20,3 +21,8 @@ mode_of byte =
     else (if byte / 32 == 3 then Err HalfMode
     else (if byte / 32 == 0 then Ok (Linear (exponent_of byte))
     else (if byte % 32 == 0 then Ok Direct else Err BadParameter))))
+
+-- a mode whose exponent, where it has one, is one that five bits hold
+abbrev pub IsMode : VoutMode → Type 0
+IsMode (Linear n) = IsExponent n
+IsMode Direct = Unit {0}

@@ -6,6 +6,49 @@ ghost use Rattle.pm_table.specs.Commands.{line_of, payload_length, line_seen, se
 #[derive(Clone, Copy, Debug, PartialEq, Eq)]
 pub struct Code(pub u8);
 
+impl Code {
+    ghost use Rattle.pm_table.specs.Commands.{is_known, is_read, is_written, payload_length};
+
+    /// Whether the code stands in the command table.
+    pub fn is_known(self) -> bool
+        ensures { result ≡ is_known self.0 }
+    {
+        known(self).is_some()
+    }
+
+    /// Whether the converter answers a read of the code.
+    pub fn is_read(self) -> bool
+        ensures { result ≡ is_read self.0 }
+    {
+        match known(self) {
+            Some(line) => line.reads,
+            None => false,
+        }
+    }
+
+    /// Whether the converter takes a write of the code; a send byte is a write of no bytes.
+    pub fn is_written(self) -> bool
+        ensures { result ≡ is_written self.0 }
+    {
+        match known(self) {
+            Some(line) => line.writes,
+            None => false,
+        }
+    }
+
+    /// The bytes of the code's payload, 0 to 2; 0 for a block code, and for one that isn't in the
+    /// table.
+    pub fn payload_length(self) -> usize
+        ensures length { result ≡ payload_length self.0 }
+        ensures short { result ≤ 2 }
+    {
+        match known(self) {
+            Some(line) => usize::from(line.length),
+            None => 0,
+        }
+    }
+}
+
 /// The line of the command table for one code.
 #[derive(Clone, Copy, Debug, PartialEq, Eq)]
 pub struct Info {
@@ -47,8 +90,8 @@ pub fn known(code: Code) -> Option<Info>
         0x30 => Some(reading("COEFFICIENTS", 0, false)),
         0x78 => Some(reading("STATUS_BYTE", 1, true)),
         0x79 => Some(reading("STATUS_WORD", 2, true)),
-        0x7A => Some(reading("STATUS_VOUT", 1, true)),
-        0x7E => Some(reading("STATUS_CML", 1, false)),
+        0x7A => Some(setting("STATUS_VOUT", 1, true)),
+        0x7E => Some(setting("STATUS_CML", 1, false)),
         0x88 => Some(reading("READ_VIN", 2, false)),
         0x8B => Some(reading("READ_VOUT", 2, true)),
         0x8C => Some(reading("READ_IOUT", 2, true)),

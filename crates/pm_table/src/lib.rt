@@ -1,6 +1,7 @@
 //! The tables of PMBus 1.3 Part II on which both ends of the bus stand: the command codes with
-//! their lengths, the VOUT_MODE byte, the five bytes of COEFFICIENTS, the addresses of SMBus, and
-//! the cells, which are the settings that a power converter keeps for each output.
+//! their lengths, the VOUT_MODE byte and the five bytes of COEFFICIENTS with the format that they
+//! name, the addresses of SMBus, the cells, which are the settings that a power converter keeps for
+//! each output, and the codes that WRITE_PROTECT lets a host write.
 //!
 //! It holds no setting and reads no frame: `pm_frame` reads frames by these tables, and the
 //! converter and the host keep the cells. It takes no memory.
@@ -11,6 +12,8 @@ mod cell;
 mod coefficients;
 mod commands;
 mod fault;
+mod format;
+mod protection;
 mod vout_mode;
 
 pub use address::address_ok;
@@ -18,4 +21,6 @@ pub use cell::{Cell, Reg, cell_of};
 pub use coefficients::Coefficients;
 pub use commands::{Code, Info, known, payloads_are_short};
 pub use fault::TableFault;
+pub use format::format_of;
+pub use protection::is_allowed;
 pub use vout_mode::VoutMode;

@@ -1,5 +1,6 @@
-ghost use Rattle.std.specs.Prelude.{◌≡◌, ◌<◌};
-ghost use Rattle.pm_table.specs.VoutMode.{mode_of, exponent_of};
+ghost use Rattle.std.specs.Prelude.{◌≡◌, ◌<◌, IfOk};
+ghost use Rattle.pm_num.specs.Formats.{IsExponent};
+ghost use Rattle.pm_table.specs.VoutMode.{mode_of, exponent_of, IsMode};
 
 use crate::fault::TableFault;
 
@@ -17,7 +18,8 @@ impl VoutMode {
     /// that applies: C3 where bit 7 is 1, C1 where bits 6:5 are 01, C2 where they are 11, C4 where
     /// they are 10 and bits 4:0 aren't 0.
     pub fn read(byte: u8) -> Result<VoutMode, TableFault>
-        ensures { result ≡ mode_of byte }
+        ensures mode { result ≡ mode_of byte }
+        ensures range { IfOk result IsMode }
     {
         match byte >> 5 {
             0 => Ok(VoutMode::Linear(exponent(byte % 32))),
@@ -33,7 +35,8 @@ impl VoutMode {
 // Five bits as a two's complement number.
 fn exponent(bits: u8) -> i8
     requires { bits < 32 }
-    ensures { result ≡ exponent_of bits }
+    ensures value { result ≡ exponent_of bits }
+    ensures range { IsExponent result }
 {
     if bits < 16 {
         bits as i8

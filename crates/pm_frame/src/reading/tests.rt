@@ -75,7 +75,7 @@ const FAULTY_WRITES: [(&[u8], FrameFault); 41] = [
     (&[0xB0, 0x06, 0x5D], FrameFault::WrongDirection(1)),
     (&[0xB0, 0x30, 0xDF], FrameFault::WrongDirection(1)),
     (&[0xB0, 0x20, 0x14, 0x28], FrameFault::WrongDirection(1)),
-    (&[0xB0, 0x7A, 0x08, 0xF2], FrameFault::WrongDirection(1)),
+    (&[0xB0, 0x79, 0x08, 0xCD], FrameFault::WrongDirection(1)),
     (&[0xB0, 0x99, 0x89], FrameFault::UnknownCode(1)),
     (&[0xB0, 0x15, 0x24], FrameFault::UnknownCode(1)),
     // the carried code
@@ -84,7 +84,7 @@ const FAULTY_WRITES: [(&[u8], FrameFault); 41] = [
         FrameFault::WrongDirection(4),
     ),
     (
-        &[0xB0, 0x05, 0x03, 0x00, 0x7A, 0x08, 0x86],
+        &[0xB0, 0x05, 0x03, 0x00, 0x20, 0x14, 0x5C],
         FrameFault::WrongDirection(4),
     ),
     (

@@ -6,7 +6,7 @@ use crate::{Message, Payload};
 /// of them shows.
 pub(crate) type Write = (Message, &'static [u8], Option<u8>, u8, &'static [u8]);
 
-pub(crate) const WRITES: [Write; 11] = [
+pub(crate) const WRITES: [Write; 13] = [
     (
         Message::SendByte { code: 0x03 },
         &[0xB0, 0x03, 0x46],
@@ -107,6 +107,27 @@ pub(crate) const WRITES: [Write; 11] = [
         Some(1),
         0x01,
         &[0xA8],
+    ),
+    (
+        Message::WriteByte {
+            code: 0x7E,
+            byte: 0x40,
+        },
+        &[0xB0, 0x7E, 0x40, 0x59],
+        None,
+        0x7E,
+        &[0x40],
+    ),
+    (
+        Message::PagePlusWrite {
+            page: 0,
+            code: 0x7A,
+            payload: Payload::Byte(0x08),
+        },
+        &[0xB0, 0x05, 0x03, 0x00, 0x7A, 0x08, 0x86],
+        Some(0),
+        0x7A,
+        &[0x08],
     ),
     (
         Message::PagePlusWrite {

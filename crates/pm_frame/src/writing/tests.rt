@@ -1,7 +1,7 @@
 use super::*;
 
 // The layouts by their codes alone: these fit, whatever byte, word, page and side they have.
-const FITTING: [Message; 21] = [
+const FITTING: [Message; 23] = [
     Message::SendByte { code: 0x03 },
     Message::WriteByte {
         code: 0x00,
@@ -14,6 +14,14 @@ const FITTING: [Message; 21] = [
     Message::WriteByte {
         code: 0x10,
         byte: 0x80,
+    },
+    Message::WriteByte {
+        code: 0x7A,
+        byte: 0x08,
+    },
+    Message::WriteByte {
+        code: 0x7E,
+        byte: 0x40,
     },
     Message::WriteWord {
         code: 0x21,
@@ -130,11 +138,11 @@ const UNFITTING: [Message; 35] = [
         byte: 0,
     },
     Message::WriteByte {
-        code: 0x7A,
+        code: 0x78,
         byte: 0,
     },
     Message::WriteByte {
-        code: 0x7E,
+        code: 0x98,
         byte: 0,
     },
     Message::WriteWord {
@@ -147,7 +155,7 @@ const UNFITTING: [Message; 35] = [
     },
     Message::PagePlusWrite {
         page: 0,
-        code: 0x7A,
+        code: 0x78,
         payload: Payload::Byte(0),
     },
     Message::PagePlusWrite {
