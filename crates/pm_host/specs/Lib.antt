@@ -1,5 +1,11 @@
+pub mod Answers
 pub mod Cells
-pub mod Marks
-pub mod Possible
-pub mod Standing
 pub mod Known
+pub mod Marks
+pub mod Messages
+pub mod Now
+pub mod Possible
+pub mod Refusals
+pub mod Standing
+pub mod Summary
+pub mod Transcript

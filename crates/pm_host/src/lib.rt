@@ -1,10 +1,19 @@
 //! The host core of PMBus 1.3.
 #![tactic(auto)]
 
+mod fault;
 mod knowledge;
+mod laws;
 mod places;
 mod possible;
+mod stage;
 mod standing;
+mod step;
+mod told;
 
+pub use fault::HostFault;
+pub use laws::transcripts_are_followed;
 pub use possible::Possible;
 pub use standing::Standing;
+pub use step::{JobEnd, Step};
+pub use told::Told;
