@@ -173,3 +173,8 @@ next s entry = (turn s entry).after
 
 unfoldable pub step_of : Summary → Entry → Step
 step_of s entry = (turn s entry).step
+
+-- what a call answers, by the end of the job
+abbrev pub step_by : Option JobEnd → Step
+step_by None = Next
+step_by (Some end) = Ended end

@@ -12,7 +12,9 @@ mod step;
 mod told;
 
 pub use fault::HostFault;
-pub use laws::transcripts_are_followed;
+pub use laws::{
+    frames_are_named, jobs_are_bounded, open_orders_are_uncertain, transcripts_are_followed,
+};
 pub use possible::Possible;
 pub use standing::Standing;
 pub use step::{JobEnd, Step};
