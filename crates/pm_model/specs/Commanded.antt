@@ -1,0 +1,48 @@
+-- What an output commands by its settings: OPERATION of PMBus 1.3 Part II names the word that is
+-- selected, and VOUT_MAX cuts its value. Values are compared as fractions and never as words. That
+-- VOUT_COMMAND is selected while an output is off is this project's own choice.
+use Rattle.std.specs.Prelude.{ℕ, ◌/◌, ◌*ℤ◌, Bool, ◌||◌, if◌then◌else◌, ◌==◌, pos, int_lt, List, slice_index_or}
+use Rattle.pm_num.specs.Ratio.{Ratio}
+use Rattle.pm_num.specs.AnyFormat.{any_value}
+use Rattle.pm_num.specs.declared.any_format.AnyFormat.{AnyFormat}
+use Rattle.pm_num.specs.declared.any_format.AnyFormat.TheVariants.{Linear11}
+use Rattle.pm_table.specs.declared.cell.Reg.{Reg}
+use Rattle.pm_table.specs.declared.cell.Reg.TheVariants.{Operation, VoutCommand, VoutMax, MarginHigh, MarginLow}
+use Rattle.pm_table.specs.declared.cell.Cell.TheVariants.{Out}
+use Rattle.pm_model.specs.Settings.{Words, word_at}
+
+-- The register that a byte of OPERATION selects: on with margin low is 100101.. or 100110.., on with
+-- margin high 101001.. or 101010..
+abbrev pub selected_register : ℕ → Reg
+selected_register byte =
+    if byte / 4 == 0b100101 || byte / 4 == 0b100110 then MarginLow
+    else (if byte / 4 == 0b101001 || byte / 4 == 0b101010 then MarginHigh
+    else VoutCommand)
+
+-- the word that an output's OPERATION selects
+unfoldable pub selected : Words → ℕ → ℕ
+selected words output =
+    word_at words (Out output (selected_register (word_at words (Out output Operation))))
+
+-- the first fraction is the greater one
+abbrev pub is_above : Ratio → Ratio → Bool
+is_above p q = int_lt (q.num *ℤ pos p.den) (p.num *ℤ pos q.den)
+
+-- what an output's words stand for
+abbrev pub Scale : Type 0
+Scale = ℕ → Ratio
+
+-- the selected value is greater than that of VOUT_MAX
+unfoldable pub is_cut : Scale → Words → ℕ → Bool
+is_cut value words output =
+    is_above (value (selected words output)) (value (word_at words (Out output VoutMax)))
+
+-- the voltage that an output commands: the selected value, or that of VOUT_MAX where it is cut
+unfoldable pub commanded : Scale → Words → ℕ → Ratio
+commanded value words output =
+    if is_cut value words output then value (word_at words (Out output VoutMax))
+    else value (selected words output)
+
+-- what the words of an output stand for by a list of formats
+abbrev pub scale_at : List AnyFormat → ℕ → Scale
+scale_at formats output = any_value (slice_index_or formats output Linear11)

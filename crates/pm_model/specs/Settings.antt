@@ -1,0 +1,99 @@
+-- The settings of a converter as a map from its cells to words. A crate above speaks of them by
+-- `word_at` and `with_word` alone. Which cells there are is this project's own choice.
+use Rattle.std.specs.Prelude.{◌≡◌, ℕ, ◌+◌, ◌*◌, ◌/◌, ◌%◌, ◌<◌, Bool, true, false, ◌&&◌, if◌then◌else◌, ◌==◌, List, [], ◌∷◌, length, map, slice_index, slice_index_or, slice_set}
+use Rattle.std.specs.List.{range_with_len}
+use Rattle.pm_table.specs.declared.cell.Reg.{Reg}
+use Rattle.pm_table.specs.declared.cell.Reg.TheVariants.{Operation, VoutCommand, VoutMax, MarginHigh, MarginLow}
+use Rattle.pm_table.specs.declared.cell.Cell.{Cell}
+use Rattle.pm_table.specs.declared.cell.Cell.TheVariants.{Out, Protect}
+use Rattle.pm_model.specs.declared.registers.Registers.{Registers}
+
+-- the words of the cells of eight outputs and of the device, in an order of this file's own, which
+-- no clause above it knows
+abbrev pub Words : Type 0
+Words = List ℕ
+
+-- how many outputs there are, and the words of the cells
+pub record Settings : Type 0 where
+  pub count : ℕ
+  pub words : Words
+
+-- the place of a register among those of its output
+abbrev pub register_place : Reg → ℕ
+register_place Operation = 0
+register_place VoutCommand = 1
+register_place VoutMax = 2
+register_place MarginHigh = 3
+register_place MarginLow = 4
+
+-- the place of a cell: five registers for each output, and WRITE_PROTECT behind them
+unfoldable pub place : Cell → ℕ
+place (Out output register) = 5 * output + register_place register
+place Protect = 40
+
+-- the register, and the cell, at a place
+abbrev pub register_at : ℕ → Reg
+register_at k =
+    if k == 0 then Operation
+    else (if k == 1 then VoutCommand
+    else (if k == 2 then VoutMax
+    else (if k == 3 then MarginHigh else MarginLow)))
+
+abbrev pub cell_in : ℕ → Cell
+cell_in k = if k == 40 then Protect else Out (k / 5) (register_at (k % 5))
+
+-- the words that a function gives the cells
+unfoldable pub words_of : (Cell → ℕ) → Words
+words_of word = map (λ k. word (cell_in k)) (range_with_len 0 41)
+
+-- there is a word for each cell
+unfoldable pub AreWords : Words → Type 0
+AreWords words = length words ≡ 41
+
+-- the word of a cell
+unfoldable pub word_at : Words → Cell → ℕ
+word_at words cell = slice_index words (place cell)
+
+-- the words with another one for a cell
+unfoldable pub with_word : Words → Cell → ℕ → Words
+with_word words cell word = slice_set words (place cell) word
+
+-- a cell of a converter with so many outputs
+abbrev pub IsCell : ℕ → Cell → Type 0
+IsCell count (Out output register) = output < count
+IsCell count Protect = Unit {0}
+
+-- an output's registers have the same words in both
+abbrev pub HaveSameRegisters : Words → Words → ℕ → Type 0
+HaveSameRegisters words others output =
+    (register : Reg) → word_at words (Out output register) ≡ word_at others (Out output register)
+
+-- two registers are one
+abbrev pub same_register : Reg → Reg → Bool
+same_register register other = register_place register == register_place other
+
+-- two cells are one
+abbrev pub same_cell : Cell → Cell → Bool
+same_cell (Out output register) (Out other second) =
+    output == other && same_register register second
+same_cell (Out output register) Protect = false
+same_cell Protect (Out output register) = false
+same_cell Protect Protect = true
+
+-- the words of an output's registers, by their places
+abbrev pub register_words : Registers → List ℕ
+register_words row = row.operation ∷ row.command ∷ row.max ∷ row.high ∷ row.low ∷ []
+
+-- registers that mean nothing
+abbrev pub no_registers : Registers
+no_registers = record { operation = 0; command = 0; max = 0; high = 0; low = 0 }
+
+-- The words of eight outputs' registers and of WRITE_PROTECT, place by place. No public clause
+-- speaks of this: it is what the code keeps.
+abbrev pub kept_at : List Registers → ℕ → ℕ → ℕ
+kept_at rows protect k =
+    if k == 40 then protect
+    else slice_index (register_words (slice_index_or rows (k / 5) no_registers)) (k % 5)
+
+unfoldable pub kept_words : List Registers → ℕ → Words
+kept_words rows protect = map (kept_at rows protect) (range_with_len 0 41)

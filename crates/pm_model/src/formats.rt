@@ -1,0 +1,10 @@
+use pm_num::AnyFormat;
+
+/// What the words of each output's voltages stand for: of VOUT_COMMAND, VOUT_MAX and both margins.
+#[derive(Clone, Copy, Debug)]
+pub struct Formats {
+    /// How many outputs there are.
+    pub count: u8,
+    /// The outputs' formats; those from `count` on mean nothing.
+    pub each: [AnyFormat; 8],
+}

@@ -1,0 +1,19 @@
+//! The settings of a power converter as a map of cells: each cell a word, and what the outputs
+//! command by it.
+//!
+//! [`Plain`] is the map of a converter with one to eight outputs, [`Formats`] says what the words of
+//! each output's voltages stand for. [`Plain::commanded`] is the voltage that an output asks for,
+//! cut to its VOUT_MAX.
+//!
+//! It hears no frame and keeps no page, no reading and no status: `pm_device` does. It takes no
+//! memory.
+#![tactic(auto)]
+
+mod formats;
+mod laws;
+mod plain;
+mod registers;
+
+pub use formats::Formats;
+pub use laws::{outputs_stand_alone, settings_are_a_map};
+pub use plain::Plain;

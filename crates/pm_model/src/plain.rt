@@ -1,0 +1,193 @@
+ghost use Rattle.std.specs.Prelude.{◌≡◌, ◌≤◌, ◌<◌, ℕ, [], IsTrue, length, slice_index, slice_index_or};
+ghost use Rattle.pm_table.specs.Cell.{cell_accepts, register_accepts};
+ghost use Rattle.pm_table.specs.declared.cell.Reg.{Reg as Register};
+ghost use Rattle.pm_model.specs.Settings.{word_at, with_word, register_place, register_words, no_registers, AreWords, IsCell};
+ghost use Rattle.pm_model.specs.Commanded.{selected, selected_register as spec_selected_register, is_above as spec_is_above, is_cut, commanded, scale_at};
+
+use crate::formats::Formats;
+use crate::registers::Registers;
+use pm_num::{Frac, NumFormat};
+use pm_table::{Cell, Reg};
+use std::cmp::Ordering;
+use std::marker::Model;
+
+/// The settings of a converter with one to eight outputs: a word for each cell that there is.
+#[derive(Clone, Debug, Drop)]
+pub struct Plain {
+    count: u8,
+    rows: [Registers; 8],
+    protect: u16,
+}
+
+impl Model for Plain {
+    ghost use Rattle.std.specs.Prelude.{◌≡◌, ◌≤◌, length};
+    ghost use Rattle.pm_model.specs.Settings.{Settings, kept_words};
+
+    ghost Value = { Settings };
+
+    ghost view = { λ p. record { count = p.count; words = kept_words p.rows p.protect } };
+
+    ghost invariant = { λ p. (length p.rows ≡ 8) × (1 ≤ p.count) × (p.count ≤ 8) };
+}
+
+// The rows of eight outputs.
+fn rows_of(words: [[u16; 5]; 8]) -> [Registers; 8]
+    ensures rows { length result ≡ 8 }
+    ensures words { (output : ℕ) → output < 8 →
+        register_words (slice_index_or result output no_registers)
+        ≡ slice_index_or words output [] }
+{
+    let [a, b, c, d, e, f, g, h] = words;
+    [
+        Registers::new(a),
+        Registers::new(b),
+        Registers::new(c),
+        Registers::new(d),
+        Registers::new(e),
+        Registers::new(f),
+        Registers::new(g),
+        Registers::new(h),
+    ]
+}
+
+impl Plain {
+    /// The settings with these words: for each output its registers in the order of `Reg`, and
+    /// WRITE_PROTECT. Asks a count of 1 to 8 and that each cell accepts its word. What stands for
+    /// outputs from `count` on means nothing.
+    pub fn new(count: u8, words: [[u16; 5]; 8], protect: u16) -> Plain
+        requires some { 1 ≤ count }
+        requires few { count ≤ 8 }
+        requires registers { (output : ℕ) (register : Register) → output < count →
+            IsTrue (register_accepts register
+            (slice_index (slice_index_or words output []) (register_place register))) }
+        requires protection { IsTrue (cell_accepts Cell.Protect protect) }
+        ensures count { result.count ≡ count }
+        ensures registers { (output : ℕ) (register : Register) → output < 8 →
+            word_at result.words (Cell.Out output register)
+            ≡ slice_index (slice_index_or words output []) (register_place register) }
+        ensures protection { word_at result.words Cell.Protect ≡ protect }
+        ensures words { AreWords result.words }
+    {
+        Plain {
+            count,
+            rows: rows_of(words),
+            protect,
+        }
+    }
+
+    /// How many outputs there are, 1 to 8.
+    pub fn count(&self) -> u8
+        ensures count { result ≡ self.now.count }
+        ensures some { 1 ≤ result }
+        ensures few { result ≤ 8 }
+        ensures words { AreWords self.now.words }
+    {
+        self.count
+    }
+
+    /// The word of a cell that there is.
+    pub fn get(&self, cell: Cell) -> u16
+        requires { IsCell self.now.count cell }
+        ensures { result ≡ word_at self.now.words cell }
+    {
+        match cell {
+            Cell::Out(output, register) => self.rows[usize::from(output)].get(register),
+            Cell::Protect => self.protect,
+        }
+    }
+
+    /// The settings with another word for a cell that there is. Asks that the cell accepts it.
+    pub fn with(&self, cell: Cell, word: u16) -> Plain
+        requires cell { IsCell self.now.count cell }
+        requires accepted { IsTrue (cell_accepts cell word) }
+        ensures { result
+            ≡ record { count = self.now.count; words = with_word self.now.words cell word } }
+    {
+        let mut changed = Plain { ..*self };
+        match cell {
+            Cell::Out(output, register) => {
+                let row = usize::from(output);
+                changed.rows[row] = changed.rows[row].with(register, word);
+            }
+            Cell::Protect => changed.protect = word,
+        }
+        changed
+    }
+
+    /// The voltage that an output which is there commands: the value of the word that OPERATION
+    /// selects, VOUT_COMMAND or a margin, or the value of VOUT_MAX where that is less. Volts; an
+    /// output that is off keeps it.
+    #[tactic(auto, unfolding(crate::specs::Commanded::commanded))]
+    pub fn commanded(&self, formats: &Formats, output: u8) -> Frac
+        requires { output < self.now.count }
+        ensures { result ≡ commanded (scale_at formats.now.each output) self.now.words output }
+    {
+        if self.is_cut(formats, output) {
+            self.greatest(formats, output)
+        } else {
+            self.selected(formats, output)
+        }
+    }
+
+    /// Whether the value of the word that OPERATION selects is greater than that of VOUT_MAX.
+    #[tactic(auto, unfolding(crate::specs::Commanded::is_cut))]
+    pub fn is_cut(&self, formats: &Formats, output: u8) -> bool
+        requires { output < self.now.count }
+        ensures { result ≡ is_cut (scale_at formats.now.each output) self.now.words output }
+    {
+        is_above(
+            &self.selected(formats, output),
+            &self.greatest(formats, output),
+        )
+    }
+
+    // The value of the word that the output's OPERATION selects.
+    #[tactic(auto, unfolding(crate::specs::Commanded::selected))]
+    fn selected(&self, formats: &Formats, output: u8) -> Frac
+        requires { output < self.now.count }
+        ensures { result
+            ≡ scale_at formats.now.each output (selected self.now.words output) }
+    {
+        let operation = self.get(Cell::Out(output, Reg::Operation));
+        self.value(formats, output, selected_register(operation))
+    }
+
+    // The value of the output's VOUT_MAX.
+    fn greatest(&self, formats: &Formats, output: u8) -> Frac
+        requires { output < self.now.count }
+        ensures { result
+            ≡ scale_at formats.now.each output
+            (word_at self.now.words (Cell.Out output Register.VoutMax)) }
+    {
+        self.value(formats, output, Reg::VoutMax)
+    }
+
+    // The value of an output's register.
+    fn value(&self, formats: &Formats, output: u8, register: Reg) -> Frac
+        requires { output < self.now.count }
+        ensures { result
+            ≡ scale_at formats.now.each output
+            (word_at self.now.words (Cell.Out output register)) }
+    {
+        let _count = self.count();
+        formats.each[usize::from(output)].value_of(self.get(Cell::Out(output, register)))
+    }
+}
+
+// The register that a byte of OPERATION selects.
+fn selected_register(operation: u16) -> Reg
+    ensures { result ≡ spec_selected_register operation }
+{
+    match operation / 4 {
+        0b100101 | 0b100110 => Reg::MarginLow,
+        0b101001 | 0b101010 => Reg::MarginHigh,
+        _ => Reg::VoutCommand,
+    }
+}
+
+// Whether the first fraction is the greater one.
+fn is_above(p: &Frac, q: &Frac) -> bool
+    ensures { result ≡ spec_is_above p.now q.now }
+{
+    p.cmp_value(q) == Ordering::Greater
+}
