@@ -1,19 +1,13 @@
 -- What came back for a host's own request: it is good where it has the layout of an answer to this
 -- request, which its packet error code covers too (PMBus 1.3 Part II, over SMBus).
-use Rattle.std.specs.Prelude.{ℕ, ◌+◌, ◌*◌, if◌then◌else◌, List, [], ◌∷◌, take, drop, slice_index, Option, Some, None, is_none, option_map}
+use Rattle.std.specs.Prelude.{ℕ, ◌+◌, ◌*◌, if◌then◌else◌, List, [], ◌∷◌, Option, Some, None, is_none, option_map}
 use Rattle.pm_table.specs.declared.cell.Cell.{Cell}
 use Rattle.pm_table.specs.declared.coefficients.Coefficients.{Coefficients}
 use Rattle.pm_table.specs.Coefficients.{coefficients_of}
 use Rattle.pm_frame.specs.declared.message.Message.{Message}
-use Rattle.pm_frame.specs.Layout.{answer_length, has_count}
 use Rattle.pm_frame.specs.Fault.{answer_fault}
+use Rattle.pm_frame.specs.View.{answer_payload}
 use Rattle.pm_host.specs.Messages.{cell_read, mode_read, coefficients_read}
-
--- the payload of an answer: as many bytes as the request asks for, behind the address and the count,
--- where there is one
-abbrev pub answer_payload : Message → List ℕ → List ℕ
-answer_payload request bytes =
-    take (answer_length request) (drop (if has_count request then 2 else 1) bytes)
 
 -- the payload of a good answer
 unfoldable pub good_payload : ℕ → Message → List ℕ → Option (List ℕ)

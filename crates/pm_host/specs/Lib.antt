@@ -10,4 +10,5 @@ pub mod Refusals
 pub mod Sound
 pub mod Standing
 pub mod Summary
+pub mod Told
 pub mod Transcript

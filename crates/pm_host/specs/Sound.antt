@@ -10,6 +10,15 @@ use Rattle.pm_host.specs.Possible.{is_possible}
 use Rattle.pm_host.specs.Refusals.{IsSetup}
 use Rattle.pm_host.specs.Summary.{Summary, possible_at, standing_at}
 
+-- the cell of a write accepts its word
+abbrev pub HasWord : Stage → Type 0
+HasWord (Writes cell word pass) = cell_accepts cell word ≡ true
+HasWord (Reads cell word pass) = Unit {0}
+HasWord (Checks cell tries) = Unit {0}
+HasWord (AsksMode output tries) = Unit {0}
+HasWord (AsksCoefficients output tries) = Unit {0}
+HasWord (Clears output tries) = Unit {0}
+
 -- an order is open: its cell is there and accepts its word, which is one that the cell may hold; no
 -- word of the cell is confirmed, and a pass is left
 pub record IsOrdering (s : Summary) (cell : Cell) (word pass : ℕ) : Type 0 where

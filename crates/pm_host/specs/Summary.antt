@@ -79,9 +79,13 @@ goes_on s stage = record { after = record s { stage = Some stage }; step = Next 
 abbrev pub ends : Summary → JobEnd → Turn
 ends s end = record { after = record s { stage = None }; step = Ended end }
 
--- nothing happens
-abbrev pub stays : Summary → Turn
-stays s = record { after = s; step = Next }
+-- nothing happens to the job at this stage, or to none
+abbrev pub stays : Summary → Option Stage → Turn
+stays s stage = record { after = record s { stage = stage }; step = Next }
+
+-- the stage is over: the job goes on at another, or ends
+abbrev pub idle : Summary → Summary
+idle s = record s { stage = None }
 
 -- one more mark
 abbrev pub marked : Summary → Mark → Summary
@@ -147,7 +151,7 @@ abbrev pub finished : Summary → Option Stage → Bool → Turn
 finished s (Some (Writes cell word pass)) acked = goes_on s (Reads cell word pass)
 finished s (Some (Clears output tries)) acked =
     if acked then ends s Done else another s tries (Clears output (tries + 1))
-finished s _ acked = stays s
+finished s stage acked = stays s stage
 
 -- bytes came back for a request
 abbrev pub answered : Summary → Option Stage → List ℕ → Turn
@@ -159,13 +163,13 @@ answered s (Some (AsksMode output tries)) bytes =
     mode_answered s output tries (good_mode s.setup.addr output bytes)
 answered s (Some (AsksCoefficients output tries)) bytes =
     coefficients_answered s output tries (good_coefficients s.setup.addr bytes)
-answered s _ bytes = stays s
+answered s stage bytes = stays s stage
 
 abbrev pub turn : Summary → Entry → Turn
 turn s (Accepted job) = begins s job
-turn s (Finished acked) = finished s s.stage acked
-turn s (Got bytes) = answered s s.stage bytes
-turn s Restarted = stays (start s.setup)
+turn s (Finished acked) = finished (idle s) s.stage acked
+turn s (Got bytes) = answered (idle s) s.stage bytes
+turn s Restarted = record { after = start s.setup; step = Next }
 
 -- the summary after one more entry, and what the call that brings it answers
 unfoldable pub next : Summary → Entry → Summary

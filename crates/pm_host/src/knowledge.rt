@@ -82,7 +82,9 @@ impl Knowledge {
         requires few { outputs ≤ 8 }
         requires there { IsCell outputs cell }
         requires room { has_room word (known_possible self.old cell) ≡ true }
-        ensures { self.new ≡ known_after self.old (Put cell word) }
+        ensures after { self.new ≡ known_after self.old (Put cell word) }
+        ensures listed { is_possible word (known_possible self.new cell) ≡ true }
+        ensures unknown { known_standing self.new cell ≡ Standing.Unknown }
     {
         let place = place(outputs, cell);
         self.possible[place].join(word);
@@ -93,7 +95,8 @@ impl Knowledge {
     pub(crate) fn good(&mut self, outputs: u8, cell: Cell, word: u16)
         requires few { outputs ≤ 8 }
         requires there { IsCell outputs cell }
-        ensures { self.new ≡ known_after self.old (Good cell word) }
+        ensures after { self.new ≡ known_after self.old (Good cell word) }
+        ensures alone { known_possible self.new cell ≡ only word }
     {
         let place = place(outputs, cell);
         if !self.possible[place].allows(word) {

@@ -1,9 +1,13 @@
 //! The host core of PMBus 1.3.
 #![tactic(auto)]
 
+mod answers;
 mod fault;
+mod formats;
+mod host;
 mod knowledge;
 mod laws;
+mod messages;
 mod places;
 mod possible;
 mod stage;
@@ -12,6 +16,7 @@ mod step;
 mod told;
 
 pub use fault::HostFault;
+pub use host::Host;
 pub use laws::{
     frames_are_named, jobs_are_bounded, open_orders_are_uncertain, transcripts_are_followed,
 };

@@ -46,7 +46,8 @@ impl Possible {
     /// Joins this word.
     pub(crate) fn join(&mut self, word: u16)
         requires { spec_has_room word self.old ≡ true }
-        ensures { self.new ≡ joined self.old word }
+        ensures joined { self.new ≡ joined self.old word }
+        ensures listed { is_possible word self.new ≡ true }
     {
         match self {
             Possible::Any => {}
