@@ -21,7 +21,7 @@ use Rattle.pm_host.specs.Marks.{Mark, Put, Good, Restart, marks, puts, goods, pu
 use Rattle.pm_host.specs.Now.{now, stage_of, AreTold}
 use Rattle.pm_host.specs.Possible.{has_room}
 use Rattle.pm_host.specs.Refusals.{IsSetup, may_come, order_fault, cell_fault, output_fault, is_busy, rule, first}
-use Rattle.pm_host.specs.Summary.{Summary, Turn, turn, idle, start, step_by, begins, finished, answered, no_formats, possible_at}
+use Rattle.pm_host.specs.Summary.{Summary, Turn, turn, idle, start, step_by, begins, finished, answered, no_formats, possible_at, format_at}
 use Rattle.pm_host.specs.Transcript.{Setup, Job, Order, Check, Learn, Clear, Entry, Accepted, Finished, Got, Restarted, last_job, told_since, end_of, open_job, found, found_for, format_of_output}
 use Rattle.pm_host.proofs.KnownLaws.{IsMark, known_now-nil, known_now-next}
 use Rattle.pm_host.proofs.Turns.{end_by, open_by, stage_by, puts_by, goods_by, known_more, formats_set, formats_more, got_turn, finished_turn, accepted_turn, WritesBy, WritesBy-from, ReadsBy-from, accepted_follows, finished_follows, got_follows}
@@ -213,3 +213,12 @@ turn-now setup es (Got bytes) made there h =
             (goods_by-marks setup (last_job es) (told_since es) bytes made.few_outputs there (is_none (end_by setup (last_job es) (told_since es)))))))
 turn-now setup es Restarted made there h =
     same_turn setup None _ _ _ _ Next refl (sym (known_now-next (marks setup es) Restart tt))
+
+-- no entry
+pub now-nil : (setup : Setup) → IsSetup setup → now setup [] ≡ start setup
+unfolding now stage_of end_of open_job no_formats
+now-nil setup made = ap (λ (k : Known). record { setup = setup; stage = None; formats = no_formats; known = k }) known_now-nil
+
+pub now-format : (setup : Setup) (es : List Entry) (o : ℕ) → o < 8 → format_at (now setup es) o ≡ format_of_output setup es o
+unfolding now
+now-format setup es o below = get_or-map-range_with_len (format_of_output setup es) 0 8 o o None below (omega arith)

@@ -36,7 +36,7 @@ joined-from w (Some ws) =
     ap (λ xs. Words (record { items = once xs })) (reverse-append (w ∷ []) ws)
     ∙ listed_step w (reverse ws) (is_listed w (reverse ws)) (is_listed-once w (reverse ws)) refl (once-push w (reverse ws))
 
-possible_of-put_same : (ms : List Mark) (c : Cell) (w : ℕ) → possible_of (Put c w ∷ ms) c ≡ joined (possible_of ms c) w
+pub possible_of-put_same : (ms : List Mark) (c : Cell) (w : ℕ) → possible_of (Put c w ∷ ms) c ≡ joined (possible_of ms c) w
 unfolding possible_of
 possible_of-put_same ms c w = rw (same_cell_itself c) (joined-from w (words_since ms c))
 

@@ -3,5 +3,7 @@ pub mod CellLemmas
 pub mod Follows
 pub mod FrameLemmas
 pub mod KnownLaws
+pub mod Left
 pub mod Once
+pub mod OpenJobs
 pub mod Turns

@@ -163,13 +163,13 @@ ReadsBy-from setup (Some (Clear o)) told h =
     absurd (false≢true (reads_open (Clear o) (λ j. job_stage setup j told) (is_none (clear_end setup told)) h).1)
 
 -- turns of writes and reads
-turn_after_write : (n : ℕ) → eqb (n % 2) 0 ≡ true → (eqb (suc n % 2) 0 ≡ false) × (suc n / 2 ≡ n / 2)
+pub turn_after_write : (n : ℕ) → eqb (n % 2) 0 ≡ true → (eqb (suc n % 2) 0 ≡ false) × (suc n / 2 ≡ n / 2)
 turn_after_write n h =
     let even : n % 2 ≡ 0 = eqb-true (n % 2) 0 h in
     let odd : suc n % 2 ≡ 0 → ⊥ = λ e. omega arith in
     (ne_eqb (suc n % 2) 0 odd, omega arith)
 
-turn_after_read : (n p : ℕ) → eqb (n % 2) 0 ≡ false → (eqb (suc n % 2) 0 ≡ true) × ((suc n / 2 ≡ n / 2 + 1) × (eqb (n / 2 + 1) p ≡ eqb (suc n) (2 * p)))
+pub turn_after_read : (n p : ℕ) → eqb (n % 2) 0 ≡ false → (eqb (suc n % 2) 0 ≡ true) × ((suc n / 2 ≡ n / 2 + 1) × (eqb (n / 2 + 1) p ≡ eqb (suc n) (2 * p)))
 turn_after_read n p h =
     let odd : n % 2 ≡ 0 → ⊥ = eqb-false (n % 2) 0 h in
     let even : suc n % 2 ≡ 0 = omega arith in
