@@ -1,10 +1,9 @@
 -- The frame that a text asks for, by its lines that are not skipped.
-use Rattle.std.proofs.Common.{◌≡◌, ℕ, ◌+◌, ◌<◌, List, [], ◌∷◌, length, Ok, Err, sym, ap, ◌∙◌, arith}
-use Rattle.pm_tool.specs.declared.fault.TextFault.{TextFault}
-use Rattle.pm_tool.specs.declared.fault.TextFault.TheVariants.{Syntax}
-use Rattle.pm_tool.specs.Lines.{Numbered, lines_of, unskipped_from}
+use Rattle.std.proofs.Common.{◌≡◌, ℕ, ◌+◌, ◌<◌, List, [], ◌∷◌, length, Ok, Err, refl, sym, ap, ◌∙◌, arith}
+use Rattle.pm_text.specs.declared.fault.TextFault.{TextFault}
+use Rattle.pm_text.specs.declared.fault.TextFault.TheVariants.{Syntax}
+use Rattle.pm_text.specs.Lines.{Numbered, lines_of, unskipped_from}
 use Rattle.pm_tool.specs.Asked.{frame_asked, frame_in, frame_among, first_fault}
-use Rattle.pm_tool.proofs.LineLemmas.{unskipped-nil, lines-nil}
 
 -- each line is skipped
 pub asked-none : (text : List ℕ) (count : ℕ) → unskipped_from 1 text ≡ [] → count ≡ length (lines_of text) → frame_asked text ≡ Err (Syntax (count + 1))
@@ -33,15 +32,12 @@ unfolding frame_asked
 asked-second text line second more frame unskipped right =
     ap (frame_among (length (lines_of text))) unskipped ∙ ap (λ r. Err (first_fault r (Syntax second.0))) right
 
+-- a text of no bytes has no lines
+pub unskipped-nil : (first : ℕ) → unskipped_from first [] ≡ []
+unfolding unskipped_from lines_of
+unskipped-nil first = refl
+
 -- a line that is not skipped has bytes
 pub unskipped-some : (first : ℕ) (text : List ℕ) (line : Numbered) (more : List Numbered) → unskipped_from first text ≡ line ∷ more → 0 < length text
 unskipped-some first [] line more unskipped = let none = unskipped-nil first in absurd (cc)
 unskipped-some first (x ∷ xs) line more unskipped = omega arith
-
--- each line was counted, from the text's start to its end
-pub all-counted : (number first : ℕ) (rest whole text : List ℕ) → number + length (lines_of rest) ≡ first + length (lines_of whole)
-    → rest ≡ [] → first ≡ 0 → whole ≡ text → number ≡ length (lines_of text)
-all-counted number first rest whole text counted end zero same =
-    let none : length (lines_of rest) ≡ 0 = ap (λ r. length (lines_of r)) end ∙ ap length lines-nil in
-    let all : length (lines_of whole) ≡ length (lines_of text) = ap (λ r. length (lines_of r)) same in
-    omega (arith, counted, none, all, zero)

@@ -1,6 +1,5 @@
 pub mod AskedLemmas
 pub mod GivenOptions
-pub mod LineLemmas
 pub mod OneText
 pub mod Origin
 pub mod OutcomeLemmas

@@ -2,21 +2,20 @@
 use Rattle.std.proofs.Common.{◌≡◌, ℕ, ◌<◌, ◌≤◌, true, false, List, [], ◌∷◌, ◌++◌, length, length-append, append-nil, Option, Some, None, IfSome, Result, Ok, Err, refl, sym, ap, ◌∙◌, arith, ltb, subst, IfErr, ◌⊎◌, inl, inr}
 use Rattle.std.proofs.lemmas.Bool.Decides.{nat_tests}
 use Rattle.std.specs.Io.KnownBytes.{Consumes}
-use Rattle.pm_tool.specs.declared.fault.TextFault.{TextFault}
-use Rattle.pm_tool.specs.declared.fault.TextFault.TheVariants.{Syntax, BadHex, TooLong, Read, Write, Memory}
-use Rattle.pm_tool.specs.declared.reading.TheConstants.{MAX_TEXT}
-use Rattle.pm_tool.specs.Streams.{IsWholeText}
-use Rattle.pm_tool.specs.Faults.{IsOfReading}
+use Rattle.pm_text.specs.declared.fault.TextFault.{TextFault}
+use Rattle.pm_text.specs.declared.fault.TextFault.TheVariants.{Syntax, BadHex, TooLong, Read, Write, Memory}
+use Rattle.pm_text.specs.declared.text.TheConstants.{MAX_TEXT}
+use Rattle.pm_text.specs.Streams.{IsWholeText}
+use Rattle.pm_text.specs.Faults.{IsOfReading}
 use Rattle.pm_tool.specs.declared.heard.Heard.{Heard}
-use Rattle.pm_tool.specs.Lines.{lines_of}
+use Rattle.pm_text.specs.Lines.{lines_of}
 use Rattle.pm_tool.specs.Asked.{frame_asked}
 use Rattle.pm_tool.specs.Hearing.{heard_text}
 use Rattle.pm_tool.specs.Base.{base}
 use Rattle.pm_tool.specs.Reply.{reply_of}
 use Rattle.pm_tool.specs.declared.heard.Ending.TheVariants.{Stop}
 use Rattle.pm_tool.specs.Outcome.{held_after, command_words, printed_text, text_of_asked, outcome_of, outcome_of_text, IsSettled}
-use Rattle.pm_tool.proofs.LineLemmas.{unskipped-nil}
-use Rattle.pm_tool.proofs.AskedLemmas.{asked-none}
+use Rattle.pm_tool.proofs.AskedLemmas.{asked-none, unskipped-nil}
 
 -- an input with a frame has bytes
 pub asked-some : (input frame : List ℕ) → frame_asked input ≡ Ok frame → 0 < length input

@@ -1,23 +1,11 @@
 -- The one frame that a text asks a converter to hear, or the first fault of the text. This
 -- project's own choice.
-use Rattle.std.specs.Prelude.{ℕ, ◌+◌, Bool, false, ◌||◌, List, [], ◌∷◌, ◌++◌, length, Option, Some, None, Result, Ok, Err, ok_or, if◌then◌else◌, ◌==◌, bytes_eq, codes}
+use Rattle.std.specs.Prelude.{ℕ, ◌+◌, Bool, false, ◌||◌, List, [], ◌∷◌, length, Result, Ok, Err, ok_or, if◌then◌else◌, ◌==◌, bytes_eq, codes}
 use Rattle.std.specs.List.{list_any}
-use Rattle.hex.specs.Hex.{decode_of}
-use Rattle.hex.specs.declared.error.FromHexError.{FromHexError}
-use Rattle.pm_tool.specs.declared.fault.TextFault.{TextFault}
-use Rattle.pm_tool.specs.declared.fault.TextFault.TheVariants.{Syntax, BadHex}
-use Rattle.pm_tool.specs.Lines.{Numbered, lines_of, unskipped_from, words_of}
-
--- the bytes of a word, and then those of the words behind it, where both are hexadecimal
-abbrev pub joined_bytes : Result (List ℕ) FromHexError → Option (List ℕ) → Option (List ℕ)
-joined_bytes (Ok front) (Some rest) = Some (front ++ rest)
-joined_bytes (Ok front) None = None
-joined_bytes (Err fault) rest = None
-
--- the bytes of the words one after another, where each word is an even number of hexadecimal digits
-abbrev pub bytes_of : List (List ℕ) → Option (List ℕ)
-bytes_of [] = Some []
-bytes_of (word ∷ words) = joined_bytes (decode_of word) (bytes_of words)
+use Rattle.pm_text.specs.Bytes.{bytes_of}
+use Rattle.pm_text.specs.declared.fault.TextFault.{TextFault}
+use Rattle.pm_text.specs.declared.fault.TextFault.TheVariants.{Syntax, BadHex}
+use Rattle.pm_text.specs.Lines.{Numbered, lines_of, unskipped_from, words_of}
 
 -- the line holds a `/`, as only the line of a read does
 abbrev pub has_slash : List ℕ → Bool

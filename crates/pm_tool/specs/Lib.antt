@@ -3,13 +3,10 @@ pub mod Base
 pub mod Commandline
 pub mod Digits
 pub mod Effect
-pub mod Faults
 pub mod Hearing
 pub mod History
-pub mod Lines
 pub mod NumberFaults
 pub mod NumberText
 pub mod Outcome
 pub mod Question
 pub mod Reply
-pub mod Streams

@@ -1,10 +1,10 @@
 -- What the hearing of a text comes to. This project's own choice.
 use Rattle.std.specs.Prelude.{ℕ, List, map, length, Result, Ok, Err, if◌then◌else◌, nat_lt, ⊤}
 use Rattle.std.specs.List.{range_with_len}
-use Rattle.pm_tool.specs.declared.fault.TextFault.{TextFault}
-use Rattle.pm_tool.specs.declared.fault.TextFault.TheVariants.{Syntax, BadHex, TooLong, Read, Write, Memory}
+use Rattle.pm_text.specs.declared.fault.TextFault.{TextFault}
+use Rattle.pm_text.specs.declared.fault.TextFault.TheVariants.{Syntax, BadHex, TooLong, Read, Write, Memory}
 use Rattle.pm_tool.specs.declared.heard.Ending.TheVariants.{Stop}
-use Rattle.pm_tool.specs.declared.reading.TheConstants.{MAX_TEXT}
+use Rattle.pm_text.specs.declared.text.TheConstants.{MAX_TEXT}
 use Rattle.pm_tool.specs.Asked.{frame_asked}
 use Rattle.pm_tool.specs.Base.{base}
 use Rattle.pm_tool.specs.Effect.{Summary, Hearing, next, start_of, word_of}

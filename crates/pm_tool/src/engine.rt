@@ -1,9 +1,9 @@
 ghost use Rattle.std.specs.Prelude.{◌≡◌, ◌≢◌, ◌⊎◌, ◌<◌, ◌≤◌, ◌^◌, ◌+◌, ◌↔◌, ℕ, List, length, string_bytes};
 ghost use Rattle.std.specs.Prelude.{IfOk, IfErr, OnOk, IsErrOf, IfSome, IsTrue, IsFalse};
 ghost use Rattle.std.specs.Io.KnownBytes.{Consumes, Appends};
-ghost use Rattle.pm_tool.specs.Faults.{IsOfText};
-ghost use Rattle.pm_tool.specs.Streams.{IsWholeText, AppendsFront};
-ghost use Rattle.pm_tool.specs.declared.reading.TheConstants.{MAX_TEXT};
+ghost use Rattle.pm_text.specs.Faults.{IsOfText};
+ghost use Rattle.pm_text.specs.Streams.{IsWholeText, AppendsFront};
+ghost use Rattle.pm_text.specs.declared.text.TheConstants.{MAX_TEXT};
 ghost use Rattle.pm_tool.specs.Outcome.{printed_text, outcome_of, IsSettled, held_after, command_words};
 ghost use Rattle.pm_tool.specs.Base.{base};
 ghost use Rattle.pm_tool.specs.Reply.{reply_of};
@@ -11,12 +11,10 @@ ghost use Rattle.pm_tool.specs.Reply.{reply_of};
 use crate::asking::frame_of;
 use crate::base::base_config;
 use crate::converter::Converter;
-use crate::fault::TextFault;
 use crate::heard::{Ending, Heard};
 use crate::hearing::render;
-use crate::reading::read_all;
-use crate::streams::{Sink, Source};
 use pm_table::{Cell, Reg};
+use pm_text::{Sink, Source, TextFault, read_text};
 use std::alloc::Global;
 use std::io::{Read, Write};
 
@@ -75,7 +73,7 @@ pub fn hear<R: Read, W: Write>(
     ensures same { IfSome (R.remaining reader.old.inner)
         (λ input. IsSettled result → result ≡ outcome_of input) }
 {
-    let input = read_all(alloc, reader)?;
+    let input = read_text(alloc, reader)?;
     let text = text_of(alloc, &input)?;
     writer.put(text.as_bytes())
 }

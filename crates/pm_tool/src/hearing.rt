@@ -3,9 +3,9 @@ ghost use Rattle.hex.specs.Hex.{encode_upper};
 ghost use Rattle.pm_tool.specs.Hearing.{frame_fault_words, device_fault_words, spaced_bytes, reply_words};
 ghost use Rattle.pm_tool.specs.Hearing.{output_words, as_line, heard_text};
 
-use crate::fault::TextFault;
 use crate::heard::{DeviceFault, Heard};
 use pm_frame::FrameFault;
+use pm_text::TextFault;
 use std::alloc::{AllocError, Global};
 
 /// The text of a converter's answer and of each output's word of VOUT_COMMAND, from output 0 on: a

@@ -2,9 +2,8 @@
 ghost use Rattle.std.specs.Prelude.{◌≤◌};
 
 use super::{NumberFault, number};
-use crate::fault::TextFault;
-use crate::streams::Sink;
 use pm_num::NumFault;
+use pm_text::{Sink, TextFault};
 use std::alloc::Global;
 use std::io;
 use std::io::Write;

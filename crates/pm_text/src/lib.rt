@@ -1,0 +1,26 @@
+//! What reads and writes texts, over any reader and any writer: a reader and a writer that are used
+//! until they fail, a whole text of at most 1 MiB, its lines that are not skipped, the words of a
+//! line, the bytes that words write in hexadecimal, and the faults of a text.
+//!
+//! What a text means is not here. A line or a word borrows the text that it stands in, and nothing
+//! takes memory for a word.
+#![tactic(auto)]
+
+mod bytes;
+mod cut;
+mod fault;
+mod line;
+mod lines;
+mod sink;
+mod source;
+mod text;
+mod words;
+
+pub use bytes::push_bytes;
+pub use fault::TextFault;
+pub use line::Line;
+pub use lines::Lines;
+pub use sink::Sink;
+pub use source::Source;
+pub use text::{MAX_TEXT, read_text};
+pub use words::Words;
