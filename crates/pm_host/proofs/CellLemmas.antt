@@ -8,24 +8,25 @@ use Rattle.pm_table.specs.declared.cell.Reg.{Reg}
 use Rattle.pm_table.specs.declared.cell.Reg.TheVariants.{Operation, VoutCommand, VoutMax, MarginHigh, MarginLow}
 use Rattle.pm_table.specs.declared.cell.Cell.{Cell}
 use Rattle.pm_table.specs.declared.cell.Cell.TheVariants.{Out, Protect}
-use Rattle.pm_host.specs.Cells.{IsCell, register_place, register_at, same_register, same_cell, place_of, cell_in, places, protect_place, table}
+use Rattle.pm_table.specs.Cell.{IsCell, register_number, same_register, same_cell}
+use Rattle.pm_host.specs.Cells.{register_at, place_of, cell_in, places, protect_place, table}
 
-register_place_below : (r : Reg) → register_place r < 5
-register_place_below Operation = omega arith
-register_place_below VoutCommand = omega arith
-register_place_below VoutMax = omega arith
-register_place_below MarginHigh = omega arith
-register_place_below MarginLow = omega arith
+register_number-below : (r : Reg) → register_number r < 5
+register_number-below Operation = omega arith
+register_number-below VoutCommand = omega arith
+register_number-below VoutMax = omega arith
+register_number-below MarginHigh = omega arith
+register_number-below MarginLow = omega arith
 
-register_back : (r : Reg) → register_at (register_place r) ≡ r
+register_back : (r : Reg) → register_at (register_number r) ≡ r
 register_back Operation = refl
 register_back VoutCommand = refl
 register_back VoutMax = refl
 register_back MarginHigh = refl
 register_back MarginLow = refl
 
-register_place_back : (k : ℕ) → k < 5 → register_place (register_at k) ≡ k
-register_place_back k below =
+register_number-back : (k : ℕ) → k < 5 → register_number (register_at k) ≡ k
+register_number-back k below =
     elim (cases_eq k 0) [ inl e ↦ rw e refl | inr n0 ↦
     elim (cases_eq k 1) [ inl e ↦ rw e refl | inr n1 ↦
     elim (cases_eq k 2) [ inl e ↦ rw e refl | inr n2 ↦
@@ -39,33 +40,33 @@ place_back k =
       inl e ↦ rw (e) refl
     | inr apart ↦
         rw (ne_eqb k protect_place apart)
-        (let r : register_place (register_at (k % 5)) ≡ k % 5 = register_place_back (k % 5) (omega arith) in omega arith)
+        (let r : register_number (register_at (k % 5)) ≡ k % 5 = register_number-back (k % 5) (omega arith) in omega arith)
     ]
 
 -- a cell is that of its place
 pub cell_back : (c : Cell) → IsCell 8 c → cell_in (place_of c) ≡ c
 cell_back (Out output r) there =
-    let below = register_place_below r in
+    let below = register_number-below r in
     let apart : place_of (Out output r) ≡ protect_place → ⊥ = λ e. omega arith in
-    let quotient : (output * 5 + register_place r) / 5 ≡ output = omega arith in
-    let rest : (output * 5 + register_place r) % 5 ≡ register_place r = omega arith in
+    let quotient : (output * 5 + register_number r) / 5 ≡ output = omega arith in
+    let rest : (output * 5 + register_number r) % 5 ≡ register_number r = omega arith in
     rw (ne_eqb (place_of (Out output r)) protect_place apart, quotient, rest, register_back r) refl
 cell_back Protect there = refl
 
 pub place_below : (c : Cell) → IsCell 8 c → place_of c < places
-place_below (Out output r) there = let below = register_place_below r in omega arith
+place_below (Out output r) there = let below = register_number-below r in omega arith
 place_below Protect there = omega arith
 
 -- a cell is the same as itself, and as no other
 pub same_cell_itself : (c : Cell) → same_cell c c ≡ true
-same_cell_itself (Out output r) = rw (eq-eqb output output refl, eq-eqb (register_place r) (register_place r) refl) refl
+same_cell_itself (Out output r) = rw (eq-eqb output output refl, eq-eqb (register_number r) (register_number r) refl) refl
 same_cell_itself Protect = refl
 
 pub same_place : (c d : Cell) → same_cell c d ≡ true → place_of c ≡ place_of d
 same_place (Out output r) (Out other q) h =
     let parts = and_parts (eqb output other) (same_register r q) h in
     let o = eqb-true output other parts.0 in
-    let p = eqb-true (register_place r) (register_place q) parts.1 in
+    let p = eqb-true (register_number r) (register_number q) parts.1 in
     omega arith
 same_place (Out output r) Protect h = cc
 same_place Protect (Out other q) h = cc

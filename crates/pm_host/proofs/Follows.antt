@@ -8,14 +8,14 @@ use Rattle.std.proofs.lemmas.Bool.{cases_eq, eq-eqb, ne_eqb, ltb-true, false≢t
 use Rattle.pm_num.specs.AnyFormat.{Shape}
 use Rattle.pm_table.specs.declared.cell.Cell.{Cell}
 use Rattle.pm_table.specs.declared.cell.Cell.TheVariants.{Out, Protect}
-use Rattle.pm_table.specs.Cell.{cell_accepts}
+use Rattle.pm_table.specs.Cell.{cell_accepts, IsCell}
 use Rattle.pm_host.specs.declared.fault.HostFault.{HostFault}
 use Rattle.pm_host.specs.declared.fault.HostFault.TheVariants.{Busy, UnknownOutput, BadWord, TooUncertain}
 use Rattle.pm_host.specs.declared.stage.Stage.{Stage}
 use Rattle.pm_host.specs.declared.step.Step.{Step}
 use Rattle.pm_host.specs.declared.step.Step.TheVariants.{Next}
 use Rattle.pm_host.specs.Answers.{good_word}
-use Rattle.pm_host.specs.Cells.{IsCell, is_cell}
+use Rattle.pm_host.specs.Cells.{is_cell}
 use Rattle.pm_host.specs.Known.{Known, known_after, known_now}
 use Rattle.pm_host.specs.Marks.{Mark, Put, Good, Restart, marks, puts, goods, put_by, read_by}
 use Rattle.pm_host.specs.Now.{now, stage_of, AreTold}

@@ -8,7 +8,8 @@ use Rattle.pm_host.specs.declared.possible.Possible.{Possible}
 use Rattle.pm_host.specs.declared.possible.Possible.TheVariants.{Any, Words}
 use Rattle.pm_host.specs.declared.standing.Standing.{Standing}
 use Rattle.pm_host.specs.declared.standing.Standing.TheVariants.{Confirmed, Unknown}
-use Rattle.pm_host.specs.Cells.{IsCell, same_cell, place_of, places, table}
+use Rattle.pm_table.specs.Cell.{IsCell, same_cell}
+use Rattle.pm_host.specs.Cells.{place_of, places, table}
 use Rattle.pm_host.specs.Marks.{Mark, Put, Good, Restart}
 use Rattle.pm_host.specs.Standing.{standing_of}
 use Rattle.pm_host.specs.Possible.{is_listed, is_possible, once, possible_from, words_since, possible_of, restart_seen_of, only, joined}

@@ -6,4 +6,5 @@ pub mod KnownLaws
 pub mod Left
 pub mod Once
 pub mod OpenJobs
+pub mod RangeLemmas
 pub mod Turns

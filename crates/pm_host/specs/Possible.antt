@@ -6,7 +6,7 @@ use Rattle.std.specs.List.{list_any}
 use Rattle.pm_table.specs.declared.cell.Cell.{Cell}
 use Rattle.pm_host.specs.declared.possible.Possible.{Possible}
 use Rattle.pm_host.specs.declared.possible.Possible.TheVariants.{Any, Words}
-use Rattle.pm_host.specs.Cells.{same_cell}
+use Rattle.pm_table.specs.Cell.{same_cell}
 use Rattle.pm_host.specs.Marks.{Mark, Put, Good, Restart}
 
 -- the word is in the list

@@ -1,6 +1,11 @@
 -- When a call is refused, and which entries may come: this project's own choice.
-use Rattle.std.specs.Prelude.{◌≡◌, ℕ, ◌<◌, ◌≤◌, Bool, true, false, not, nat_lt, nat_le, ◌||◌, if◌then◌else◌, List, [], ◌∷◌, Option, Some, None, is_none, is_some, option_map}
+use Rattle.std.specs.Prelude.{◌≡◌, ℕ, ◌^◌, ◌<◌, ◌≤◌, ℤ, unsigned_abs, Bool, true, false, not, nat_lt, nat_le, ◌||◌, if◌then◌else◌, List, [], ◌∷◌, Option, Some, None, is_none, is_some, option_map, option_and_then}
 use Rattle.std.specs.Option.{option_or, option_map_or}
+use Rattle.pm_num.specs.declared.fault.NumFault.{NumFault}
+use Rattle.pm_num.specs.declared.fault.NumFault.TheVariants.{BelowLeast, AboveGreatest, TooLarge}
+use Rattle.pm_num.specs.AnyFormat.{Shape, shape_value, shape_rank, shape_lowest, shape_highest}
+use Rattle.pm_num.specs.NearestWord.{is_at_most, nearest_word}
+use Rattle.pm_num.specs.Ratio.{Ratio, micros}
 use Rattle.pm_table.specs.Address.{IsAddress}
 use Rattle.pm_table.specs.declared.cell.Cell.{Cell}
 use Rattle.pm_table.specs.declared.cell.Cell.TheVariants.{Out, Protect}
@@ -9,7 +14,7 @@ use Rattle.pm_table.specs.declared.cell.Reg.TheVariants.{Operation, VoutCommand,
 use Rattle.pm_table.specs.Cell.{cell_accepts, output_of}
 use Rattle.pm_frame.specs.Layout.{is_read_message}
 use Rattle.pm_host.specs.declared.fault.HostFault.{HostFault}
-use Rattle.pm_host.specs.declared.fault.HostFault.TheVariants.{OutputCount, Passes, Busy, UnknownOutput, BadWord, TooUncertain, FormatUnknown}
+use Rattle.pm_host.specs.declared.fault.HostFault.TheVariants.{OutputCount, Passes, Busy, UnknownOutput, BadWord, TooUncertain, FormatUnknown, Num}
 use Rattle.pm_host.specs.Cells.{is_cell}
 use Rattle.pm_host.specs.Possible.{has_room}
 use Rattle.pm_host.specs.Summary.{Summary, possible_at, format_at, sending_in, start, next}
@@ -80,6 +85,33 @@ voltage_fault s cell = first (
     cell_fault s cell ∷
     rule (not (is_voltage cell)) BadWord ∷
     rule (is_none (format_at s (output_of cell))) FormatUnknown ∷
+    [])
+
+-- the word for so many microvolts, in the format of the cell's output
+abbrev pub micro_word : Summary → Cell → ℤ → Option ℕ
+micro_word s cell x = option_and_then
+    (λ shape. nearest_word (shape_value shape) (shape_rank shape) (micros x))
+    (format_at s (output_of cell))
+
+-- N3 for a number below the least value of a format, N4 for one above the greatest
+abbrev pub outside_fault : Ratio → Ratio → Ratio → Option NumFault
+outside_fault least greatest x =
+    if not (is_at_most least x) then Some BelowLeast
+    else (if not (is_at_most x greatest) then Some AboveGreatest else None)
+
+-- N5 for a number of microvolts beyond 10^15 in size, then N3 or N4
+abbrev pub range_fault : Shape → ℤ → Option HostFault
+range_fault shape x =
+    if nat_lt (10 ^ 15) (unsigned_abs x) then Some (Num TooLarge)
+    else option_map (λ fault. Num fault)
+    (outside_fault (shape_lowest shape) (shape_highest shape) (micros x))
+
+-- H3, H4, H5 and H7 in this order, then N5, N3 and N4, then H6 for a word that has no room
+abbrev pub micro_fault : Summary → Cell → ℤ → Option HostFault
+micro_fault s cell x = first (
+    voltage_fault s cell ∷
+    option_and_then (λ shape. range_fault shape x) (format_at s (output_of cell)) ∷
+    option_and_then (λ word. order_fault s cell word) (micro_word s cell x) ∷
     [])
 
 -- a write is being sent, a read is

@@ -1,11 +1,10 @@
 -- What holds of each host between two calls.
 use Rattle.std.specs.Prelude.{◌≡◌, ℕ, ◌<◌, true, List, length, Option, Some, None}
 use Rattle.pm_table.specs.declared.cell.Cell.{Cell}
-use Rattle.pm_table.specs.Cell.{cell_accepts}
+use Rattle.pm_table.specs.Cell.{cell_accepts, IsCell}
 use Rattle.pm_host.specs.declared.stage.Stage.{Stage}
 use Rattle.pm_host.specs.declared.stage.Stage.TheVariants.{Writes, Reads, Checks, AsksMode, AsksCoefficients, Clears}
 use Rattle.pm_host.specs.declared.standing.Standing.TheVariants.{Unknown}
-use Rattle.pm_host.specs.Cells.{IsCell}
 use Rattle.pm_host.specs.Possible.{is_possible}
 use Rattle.pm_host.specs.Refusals.{IsSetup}
 use Rattle.pm_host.specs.Summary.{Summary, possible_at, standing_at}

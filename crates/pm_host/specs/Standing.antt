@@ -4,7 +4,7 @@ use Rattle.std.specs.Prelude.{ℕ, List, [], ◌∷◌, if◌then◌else◌}
 use Rattle.pm_table.specs.declared.cell.Cell.{Cell}
 use Rattle.pm_host.specs.declared.standing.Standing.{Standing}
 use Rattle.pm_host.specs.declared.standing.Standing.TheVariants.{Confirmed, Unknown}
-use Rattle.pm_host.specs.Cells.{same_cell}
+use Rattle.pm_table.specs.Cell.{same_cell}
 use Rattle.pm_host.specs.Marks.{Mark, Put, Good, Restart}
 
 -- The newest mark that is a restart, or a write or a good answer of the cell, decides: a good answer

@@ -1,23 +1,24 @@
 ghost use Rattle.std.specs.Prelude.{◌≡◌, ◌≢◌, ◌+◌, ◌<◌, ◌≤◌, true, false, Some, None, IfOk, OnOk, OnErr, MatchOption, IsNone, IsSomeAnd, option_map};
 ghost use Rattle.std.specs.Result.{result_err, ForOk};
 ghost use Rattle.pm_table.specs.Address.{IsAddress};
-ghost use Rattle.pm_table.specs.Cell.{cell_accepts};
+ghost use Rattle.pm_table.specs.Cell.{cell_accepts, output_of, IsCell};
 ghost use Rattle.pm_table.specs.VoutMode.{IsMode};
-ghost use Rattle.pm_num.specs.AnyFormat.{shape_of};
+ghost use Rattle.pm_num.specs.AnyFormat.{shape_of, shape_value, shape_rank};
+ghost use Rattle.pm_num.specs.Nearest.{IsNearest};
+ghost use Rattle.pm_num.specs.Ratio.{micros};
 ghost use Rattle.pm_frame.specs.Layout.{is_read_message};
-ghost use Rattle.pm_host.specs.Cells.{IsCell};
 ghost use Rattle.pm_host.specs.Marks.{Good};
 ghost use Rattle.pm_host.specs.Messages.{IsFrameOf};
 ghost use Rattle.pm_host.specs.Possible.{has_room, only};
-ghost use Rattle.pm_host.specs.Refusals.{IsSetup, setup_fault, output_fault, cell_fault, order_fault, may_come, sends_read};
+ghost use Rattle.pm_host.specs.Refusals.{IsSetup, setup_fault, output_fault, cell_fault, order_fault, voltage_fault, micro_fault, micro_word, may_come, sends_read};
 ghost use Rattle.pm_host.specs.Sound.{IsOrdering, IsChecking, IsAsking, IsStage, HasWord};
-ghost use Rattle.pm_host.specs.Summary.{start, next, step_of, possible_at, standing_at, sending_in, stage_message, goes_on, ends, another as spec_another, marked, writes, read_back as spec_read_back, checked as spec_checked, learned as spec_learned, mode_taken, mode_answered, coefficients_answered, finished as spec_finished, answered as spec_answered};
+ghost use Rattle.pm_host.specs.Summary.{start, next, step_of, possible_at, standing_at, format_at, sending_in, stage_message, goes_on, ends, another as spec_another, marked, writes, read_back as spec_read_back, checked as spec_checked, learned as spec_learned, mode_taken, mode_answered, coefficients_answered, finished as spec_finished, answered as spec_answered};
 ghost use Rattle.pm_host.specs.Told.{entry_told};
 ghost use Rattle.pm_host.specs.Transcript.{Setup, Accepted, Restarted, Order, Check, Learn, Clear};
 
 use crate::answers::{good_byte, good_coefficients, good_word};
 use crate::fault::HostFault;
-use crate::formats::Formats;
+use crate::formats::{Formats, nearest_word};
 use crate::knowledge::Knowledge;
 use crate::messages::cell_read;
 use crate::possible::Possible;
@@ -27,7 +28,7 @@ use crate::step::{JobEnd, Step};
 use crate::told::Told;
 use pm_frame::{Frame, write_part};
 use pm_num::AnyFormat;
-use pm_table::{Cell, Coefficients, TableFault, VoutMode, format_of};
+use pm_table::{Cell, Coefficients, Reg, TableFault, VoutMode, format_of};
 use std::marker::Model;
 
 // What stands for coefficients where a format has none.
@@ -111,6 +112,21 @@ impl Host {
         }
         self.begin_write(cell, word, 0);
         Ok(())
+    }
+
+    /// Begins an order in microvolts.
+    pub fn order_micro(&mut self, cell: Cell, x: i64) -> Result<(), HostFault>
+        ensures fault { result_err result ≡ micro_fault self.old cell x }
+        ensures ok { OnOk result (IsSomeAnd (micro_word self.old cell x)
+            (λ word. self.new ≡ next self.old (Accepted (Order cell word)))) }
+        ensures nearest { OnOk result (IsSomeAnd (format_at self.old (output_of cell))
+            (λ shape. IsSomeAnd (micro_word self.old cell x)
+            (IsNearest (shape_value shape) (shape_rank shape) (micros x)))) }
+        ensures err { OnErr result (self.new ≡ self.old) }
+    {
+        let format = self.voltage_format(cell)?;
+        let word = nearest_word(&format, x)?;
+        self.order(cell, word)
     }
 
     /// Begins a check: to read the cell.
@@ -248,6 +264,19 @@ impl Host {
             Cell::Out(output, _) => self.output_is_free(output),
             Cell::Protect if self.stage.is_some() => Err(HostFault::Busy),
             Cell::Protect => Ok(()),
+        }
+    }
+
+    // The format of the cell's output, where the cell is a voltage that may be ordered now.
+    fn voltage_format(&self, cell: Cell) -> Result<AnyFormat, HostFault>
+        ensures fault { result_err result ≡ voltage_fault self.now cell }
+        ensures format { IfOk result (λ format.
+            format_at self.now (output_of cell) ≡ Some (shape_of format)) }
+    {
+        self.cell_is_free(cell)?;
+        match cell {
+            Cell::Protect | Cell::Out(_, Reg::Operation) => Err(HostFault::BadWord),
+            Cell::Out(output, _) => self.formats.get(output).ok_or(HostFault::FormatUnknown),
         }
     }
 

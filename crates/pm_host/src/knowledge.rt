@@ -1,5 +1,6 @@
 ghost use Rattle.std.specs.Prelude.{◌≡◌, ◌≤◌, ◌<◌, true, not, length, replicate};
-ghost use Rattle.pm_host.specs.Cells.{IsCell, places};
+ghost use Rattle.pm_table.specs.Cell.{IsCell};
+ghost use Rattle.pm_host.specs.Cells.{places};
 ghost use Rattle.pm_host.specs.Possible.{is_possible, has_room, only};
 ghost use Rattle.pm_host.specs.Known.{known_possible, known_standing, known_after, nothing_known, all_any, all_unknown};
 ghost use Rattle.pm_host.specs.Marks.{Put, Good};

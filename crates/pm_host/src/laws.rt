@@ -3,12 +3,11 @@
 
 ghost use Rattle.std.specs.Prelude.{◌≡◌, ◌≢◌, ℕ, ◌*◌, ◌<◌, ◌≤◌, true, List, [], ◌∷◌, Some, is_some};
 ghost use Rattle.pm_table.specs.declared.cell.Cell.{Cell};
-ghost use Rattle.pm_table.specs.Cell.{cell_accepts};
+ghost use Rattle.pm_table.specs.Cell.{cell_accepts, IsCell};
 ghost use Rattle.pm_frame.specs.declared.message.Message.{Message};
 ghost use Rattle.pm_frame.specs.Layout.{fits_layout};
 ghost use Rattle.pm_frame.specs.View.{message_code};
 ghost use Rattle.pm_host.specs.declared.standing.Standing.{Standing};
-ghost use Rattle.pm_host.specs.Cells.{IsCell};
 ghost use Rattle.pm_host.specs.Frames.{CanSend, frames_of};
 ghost use Rattle.pm_host.specs.Marks.{marks};
 ghost use Rattle.pm_host.specs.Now.{now, AreTold};

@@ -1,7 +1,8 @@
 //! Where a cell stands in a list of all cells.
 
 ghost use Rattle.std.specs.Prelude.{◌≡◌, ◌≤◌, ◌<◌};
-ghost use Rattle.pm_host.specs.Cells.{IsCell, place_of, places, register_place as spec_register_place};
+ghost use Rattle.pm_table.specs.Cell.{IsCell, register_number};
+ghost use Rattle.pm_host.specs.Cells.{place_of, places};
 
 use pm_table::{Cell, Reg};
 
@@ -27,7 +28,7 @@ pub(crate) fn place(outputs: u8, cell: Cell) -> usize
 
 // The number of a register among its output's.
 fn register_place(register: Reg) -> usize
-    ensures place { result ≡ spec_register_place register }
+    ensures place { result ≡ register_number register }
     ensures within { result < 5 }
 {
     match register {
