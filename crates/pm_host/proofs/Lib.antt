@@ -2,6 +2,7 @@ pub mod AnswerLemmas
 pub mod CellLemmas
 pub mod Follows
 pub mod FrameLemmas
+pub mod Kept
 pub mod KnownLaws
 pub mod Left
 pub mod Once

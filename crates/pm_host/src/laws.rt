@@ -15,7 +15,7 @@ ghost use Rattle.pm_host.specs.Possible.{possible_of, is_possible, restart_seen_
 ghost use Rattle.pm_host.specs.Refusals.{IsSetup, is_busy};
 ghost use Rattle.pm_host.specs.Sound.{IsSound};
 ghost use Rattle.pm_host.specs.Standing.{standing_of};
-ghost use Rattle.pm_host.specs.Summary.{start, next, step_of, step_by, sending_in, possible_at, standing_at, format_at};
+ghost use Rattle.pm_host.specs.Summary.{Summary, start, next, step_of, step_by, sending_in, possible_at, standing_at, format_at};
 ghost use Rattle.pm_host.specs.Transcript.{Setup, Job, Order, Entry, open_job, end_of, sending_of, format_of_output};
 
 /// What a host holds after its transcript, which the definitions find by looking back over the whole
@@ -23,6 +23,7 @@ ghost use Rattle.pm_host.specs.Transcript.{Setup, Job, Order, Entry, open_job, e
 ///
 /// - `none`, `more`: of no entry, and of one more;
 /// - `step`: what the call that brings an entry answers is how the job stands after it;
+/// - `kept`: no entry changes what a host was made with;
 /// - `busy`, `sending`, `format`, `standing`, `possible`, `seen`: what the host answers is what the
 ///   definitions find in the transcript and its marks;
 /// - `sound`: what holds of each host between two calls holds of it.
@@ -34,6 +35,7 @@ pub fn transcripts_are_followed()
     ensures step { (setup : Setup) (entries : List Entry) (entry : Entry) → IsSetup setup →
         AreTold setup (entry ∷ entries) →
         step_of (now setup entries) entry ≡ step_by (end_of setup (entry ∷ entries)) }
+    ensures kept { (s : Summary) (entry : Entry) → (next s entry).setup ≡ s.setup }
     ensures busy { (setup : Setup) (entries : List Entry) →
         is_busy (now setup entries) ≡ is_some (open_job setup entries) }
     ensures sending { (setup : Setup) (entries : List Entry) →

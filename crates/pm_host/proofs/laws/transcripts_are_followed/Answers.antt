@@ -2,6 +2,7 @@ use Rattle.std.proofs.Common.{None, sym, ap}
 use Rattle.pm_host.specs.Now.{now}
 use Rattle.pm_host.specs.Summary.{next, step_of}
 use Rattle.pm_host.proofs.Follows.{now-nil, turn-now, IsJob-told, now-format}
+use Rattle.pm_host.proofs.Kept.{next-keeps}
 use Rattle.pm_host.proofs.KnownLaws.{known_now-possible, known_now-standing, known_now-seen}
 use Rattle.pm_host.proofs.OpenJobs.{now-busy, now-sending, now-sound}
 use Rattle.pm_host.specs.Marks.{marks}
@@ -13,6 +14,7 @@ returns c = record {
   none = now-nil;
   more = λ setup entries entry made told. sym (ap (λ t. t.after) (turn-now setup entries entry made (IsJob-told setup entries told.1) told.0));
   step = λ setup entries entry made told. ap (λ t. t.step) (turn-now setup entries entry made (IsJob-told setup entries told.1) told.0);
+  kept = next-keeps;
   busy = now-busy;
   sending = now-sending;
   format = now-format;
