@@ -1,40 +1,41 @@
-ghost use Rattle.std.specs.Prelude.{◌≡◌, ◌≢◌, ◌+◌, ◌<◌, ◌≤◌, true, false, Some, None, IfOk, OnOk, OnErr, MatchOption, IsNone, IsSomeAnd, option_map};
-ghost use Rattle.std.specs.Result.{result_err, ForOk};
+mod turns;
+
+ghost use Rattle.std.specs.Prelude.{◌≡◌, ◌<◌, ◌≤◌, true, false, Some, None, IfOk, OnOk, OnErr, MatchOption, IsNone, IsSomeAnd};
+ghost use Rattle.std.specs.Result.{result_err};
 ghost use Rattle.pm_table.specs.Address.{IsAddress};
-ghost use Rattle.pm_table.specs.Cell.{cell_accepts, output_of, IsCell};
-ghost use Rattle.pm_table.specs.VoutMode.{IsMode};
+ghost use Rattle.pm_table.specs.Cell.{output_of, IsCell};
 ghost use Rattle.pm_num.specs.AnyFormat.{shape_of, shape_value, shape_rank};
 ghost use Rattle.pm_num.specs.Nearest.{IsNearest};
 ghost use Rattle.pm_num.specs.Ratio.{micros};
-ghost use Rattle.pm_frame.specs.Layout.{is_read_message};
-ghost use Rattle.pm_host.specs.Marks.{Good};
 ghost use Rattle.pm_host.specs.Messages.{IsFrameOf};
-ghost use Rattle.pm_host.specs.Possible.{has_room, only};
+ghost use Rattle.pm_host.specs.Possible.{has_room};
 ghost use Rattle.pm_host.specs.Refusals.{IsSetup, setup_fault, output_fault, cell_fault, order_fault, voltage_fault, micro_fault, micro_word, may_come, sends_read};
-ghost use Rattle.pm_host.specs.Sound.{IsOrdering, IsChecking, IsAsking, IsStage, HasWord};
-ghost use Rattle.pm_host.specs.Summary.{start, next, step_of, possible_at, standing_at, format_at, sending_in, stage_message, goes_on, ends, another as spec_another, marked, writes, read_back as spec_read_back, checked as spec_checked, learned as spec_learned, mode_taken, mode_answered, coefficients_answered, finished as spec_finished, answered as spec_answered};
+ghost use Rattle.pm_host.specs.Summary.{start, next, step_of, possible_at, standing_at, format_at, sending_in, stage_message};
 ghost use Rattle.pm_host.specs.Told.{entry_told};
 ghost use Rattle.pm_host.specs.Transcript.{Setup, Accepted, Restarted, Order, Check, Learn, Clear};
 
-use crate::answers::{good_byte, good_coefficients, good_word};
 use crate::fault::HostFault;
 use crate::formats::{Formats, nearest_word};
 use crate::knowledge::Knowledge;
-use crate::messages::cell_read;
 use crate::possible::Possible;
-use crate::stage::{Stage, mode_read};
+use crate::stage::Stage;
 use crate::standing::Standing;
-use crate::step::{JobEnd, Step};
+use crate::step::Step;
 use crate::told::Told;
-use pm_frame::{Frame, write_part};
+use pm_frame::Frame;
 use pm_num::AnyFormat;
-use pm_table::{Cell, Coefficients, Reg, TableFault, VoutMode, format_of};
+use pm_table::{Cell, Reg};
 use std::marker::Model;
 
-// What stands for coefficients where a format has none.
-const NO_COEFFICIENTS: Coefficients = Coefficients { m: 0, b: 0, r: 0 };
-
-/// The host core of PMBus 1.3.
+/// The host: it says which frame to send next, and is told what came of it. It believes a setting only
+/// after a good answer, one that has the layout of an answer to its own request, which the packet
+/// error code covers too.
+///
+/// At most one job is open. `order`, `order_micro`, `check`, `learn` and `clear` begin one and are
+/// refused (H3) until it has ended; from then on `sending` shows its frame, and each frame that was
+/// sent is followed by one call of `told`, until that answers `Step::Ended`. `restart`, `standing`,
+/// `possible` and `restart_seen` may come at any time. A refused call changes nothing. No call takes
+/// memory.
 #[derive(Drop)]
 pub struct Host {
     addr: u8,
@@ -71,7 +72,9 @@ impl Model for Host {
 }
 
 impl Host {
-    /// A host for the device at this address, which has so many outputs.
+    /// A host for the device at this address, 08h to 77h, which has so many outputs, 1 to 8; a job
+    /// has so many passes or tries, 1 to 15. Nothing is known and no job is open. H1 where the
+    /// outputs aren't 1 to 8, otherwise H2 where the passes aren't 1 to 15.
     pub fn new(addr: u8, outputs: u8, passes: u8) -> Result<Host, HostFault>
         requires { IsAddress addr }
         ensures made { let setup : Setup = record { addr = addr; outputs = outputs; passes = passes } in
@@ -96,7 +99,16 @@ impl Host {
         })
     }
 
-    /// Begins an order: to write the word to the cell and read it back.
+    /// Begins an order: at most `passes` passes, each of which sends the write once and then, whatever
+    /// the acknowledgement, reads the cell once. From now on the word is one that the cell may hold,
+    /// and no word of the cell is confirmed.
+    ///
+    /// A good answer with the ordered word ends it as `Done`. After the last pass the end is
+    /// `Differs(word)` where that pass's answer was good, otherwise `Unknown`.
+    ///
+    /// The first that applies refuses: H3 where a job is open, H4 where the output isn't there, H5
+    /// where the cell doesn't accept the word, H6 where the cell may hold any of 16 words and this is
+    /// another.
     #[tactic(auto, unfolding(crate::specs::Summary::next))]
     pub fn order(&mut self, cell: Cell, word: u16) -> Result<(), HostFault>
         ensures fault { result_err result ≡ order_fault self.old cell word }
@@ -114,7 +126,12 @@ impl Host {
         Ok(())
     }
 
-    /// Begins an order in microvolts.
+    /// Begins an order for the word that is nearest to so many microvolts, in the format that the last
+    /// learn of the cell's output found.
+    ///
+    /// The first that applies refuses: H3 and H4 as in `order`, H5 where the cell isn't a voltage, H7
+    /// where the format isn't known, N5 where the number is beyond 10^15 in size, N3 or N4 where it
+    /// lies outside the format's range, H6 as in `order`.
     pub fn order_micro(&mut self, cell: Cell, x: i64) -> Result<(), HostFault>
         ensures fault { result_err result ≡ micro_fault self.old cell x }
         ensures ok { OnOk result (IsSomeAnd (micro_word self.old cell x)
@@ -129,7 +146,9 @@ impl Host {
         self.order(cell, word)
     }
 
-    /// Begins a check: to read the cell.
+    /// Begins a check: the cell is read at most `passes` times. The first good answer ends it as
+    /// `Done`, and its word is confirmed; `Unknown` where none came. H3 where a job is open, otherwise
+    /// H4 where the output isn't there.
     #[tactic(auto, unfolding(crate::specs::Summary::next))]
     pub fn check(&mut self, cell: Cell) -> Result<(), HostFault>
         ensures fault { result_err result ≡ cell_fault self.old cell }
@@ -141,7 +160,10 @@ impl Host {
         Ok(())
     }
 
-    /// Begins a learn.
+    /// Begins a learn of the format of an output's voltages: VOUT_MODE is read at most `passes` times
+    /// and, where it says DIRECT, the coefficients of VOUT_COMMAND at most `passes` times. It ends as
+    /// `Learned`, or as `Unknown` where no good answer came or what came has no format; then a format
+    /// from before stays. H3 where a job is open, otherwise H4 where the output isn't there.
     #[tactic(auto, unfolding(crate::specs::Summary::next))]
     pub fn learn(&mut self, output: u8) -> Result<(), HostFault>
         ensures fault { result_err result ≡ output_fault self.old output }
@@ -153,7 +175,9 @@ impl Host {
         Ok(())
     }
 
-    /// Begins a clear.
+    /// Begins a clear: CLEAR_FAULTS is sent for the output until one is acknowledged, at most `passes`
+    /// times. `Done` says no more than this acknowledgement, `Unknown` that none came. H3 where a job
+    /// is open, otherwise H4 where the output isn't there.
     #[tactic(auto, unfolding(crate::specs::Summary::next))]
     pub fn clear(&mut self, output: u8) -> Result<(), HostFault>
         ensures fault { result_err result ≡ output_fault self.old output }
@@ -165,7 +189,9 @@ impl Host {
         Ok(())
     }
 
-    /// The frame to put on the wire.
+    /// The frame to put on the wire, address first: a whole packet for a write, the request before the
+    /// repeated start for a read. `None` exactly where no job is open. It stays the same until `told`
+    /// or `restart` is called.
     pub fn sending(&self) -> Option<&Frame>
         ensures { MatchOption (sending_in self.now) (IsNone result)
             (λ message. IsSomeAnd result
@@ -177,7 +203,8 @@ impl Host {
         }
     }
 
-    /// Whether what `sending` shows is a request.
+    /// Whether what `sending` shows is a request, whose answer `told` wants as `Got`, and not a write;
+    /// false where nothing is being sent.
     pub fn sending_reads(&self) -> bool
         ensures { result ≡ sends_read self.now }
     {
@@ -187,7 +214,9 @@ impl Host {
         }
     }
 
-    /// What became of the frame that `sending` showed.
+    /// What became of the frame that `sending` showed: `Finished` for a write, `Got` for a request,
+    /// with whatever came back. `Step::Next` asks to send what `sending` shows now; `Step::Ended` says
+    /// how the job ended, and that nothing is being sent.
     #[tactic(auto, unfolding(crate::specs::Summary::next, crate::specs::Summary::step_of))]
     pub fn told(&mut self, told: Told<'_>) -> Step
         requires { may_come self.old (entry_told told) ≡ true }
@@ -204,7 +233,7 @@ impl Host {
         }
     }
 
-    /// Drops the open job and all that is known.
+    /// Drops the open job and all that is known of cells and formats, as after `new`.
     #[tactic(auto, unfolding(crate::specs::Summary::next))]
     pub fn restart(&mut self)
         ensures { self.new ≡ next self.old Restarted }
@@ -214,7 +243,8 @@ impl Host {
         self.knowledge = Knowledge::new();
     }
 
-    /// What is known of a cell's word.
+    /// What is known of a cell's word: confirmed where a good answer for the cell came after every write
+    /// of it that began to be sent. The cell's output is there.
     pub fn standing(&self, cell: Cell) -> Standing
         requires { IsCell self.now.setup.outputs cell }
         ensures { result ≡ standing_at self.now cell }
@@ -222,7 +252,9 @@ impl Host {
         self.knowledge.standing(self.outputs, cell)
     }
 
-    /// The words that a cell may hold.
+    /// The words that a cell may hold: the word of its last good answer, and those that were put on the
+    /// wire for it since. Any word where there was no good answer for it since the host started or saw
+    /// a restart of the device. The cell's output is there.
     pub fn possible(&self, cell: Cell) -> Possible
         requires { IsCell self.now.setup.outputs cell }
         ensures { result ≡ possible_at self.now cell }
@@ -230,7 +262,9 @@ impl Host {
         self.knowledge.possible(self.outputs, cell)
     }
 
-    /// Whether a restart of the device was seen.
+    /// Whether a restart of the device was seen since the host started: a good answer came whose word
+    /// its cell couldn't hold. Cells that were confirmed before stay so, but any word is possible for
+    /// each but the one that was read.
     pub fn restart_seen(&self) -> bool
         ensures { result ≡ self.now.known.seen }
     {
@@ -277,237 +311,6 @@ impl Host {
         match cell {
             Cell::Protect | Cell::Out(_, Reg::Operation) => Err(HostFault::BadWord),
             Cell::Out(output, _) => self.formats.get(output).ok_or(HostFault::FormatUnknown),
-        }
-    }
-
-    // The job goes on at this stage, whose frame is sent next.
-    fn go_on(&mut self, stage: Stage) -> Step
-        requires stage { IsStage self.old (Some stage) }
-        requires word { HasWord stage }
-        ensures after { self.new ≡ (goes_on self.old stage).after }
-        ensures step { result ≡ Step.Next }
-    {
-        self.frame = write_part(self.addr, &stage.message());
-        self.stage = Some(stage);
-        Step::Next
-    }
-
-    // The job has ended.
-    fn end(&mut self, end: JobEnd) -> Step
-        ensures after { self.new ≡ (ends self.old end).after }
-        ensures step { result ≡ Step.Ended end }
-    {
-        self.stage = None;
-        Step::Ended(end)
-    }
-
-    // The job goes on at the stage after these tries, where one is left.
-    fn another(&mut self, tries: u8, stage: Stage) -> Step
-        requires few { self.old.setup.passes ≤ 15 }
-        requires stage { tries + 1 ≢ self.old.setup.passes → IsStage self.old (Some stage) }
-        requires word { HasWord stage }
-        requires left { tries < self.old.setup.passes }
-        ensures after { self.new ≡ (spec_another self.old tries stage).after }
-        ensures step { result ≡ (spec_another self.old tries stage).step }
-    {
-        if tries + 1 == self.passes {
-            return self.end(JobEnd::Unknown);
-        }
-        self.go_on(stage)
-    }
-
-    // The write of an order begins to be sent.
-    fn begin_write(&mut self, cell: Cell, word: u16, pass: u8) -> Step
-        requires idle { self.old.stage ≡ None }
-        requires there { IsCell self.old.setup.outputs cell }
-        requires accepted { cell_accepts cell word ≡ true }
-        requires room { has_room word (possible_at self.old cell) ≡ true }
-        requires left { pass < self.old.setup.passes }
-        ensures after { self.new ≡ (writes self.old cell word pass).after }
-        ensures step { result ≡ Step.Next }
-    {
-        self.knowledge.put(self.outputs, cell, word);
-        self.go_on(Stage::Writes { cell, word, pass })
-    }
-
-    // A good answer for a cell.
-    fn note(&mut self, cell: Cell, word: u16)
-        requires idle { self.old.stage ≡ None }
-        requires there { IsCell self.old.setup.outputs cell }
-        ensures after { self.new ≡ marked self.old (Good cell word) }
-        ensures alone { possible_at self.new cell ≡ only word }
-    {
-        self.knowledge.good(self.outputs, cell, word);
-    }
-
-    // An order read its cell back.
-    fn read_back(&mut self, cell: Cell, word: u16, pass: u8, read: Option<u16>) -> Step
-        requires few { self.old.setup.passes ≤ 15 }
-        requires idle { self.old.stage ≡ None }
-        requires ordering { IsOrdering self.old cell word pass }
-        ensures after { self.new ≡ (spec_read_back self.old cell word pass read).after }
-        ensures step { result ≡ (spec_read_back self.old cell word pass read).step }
-    {
-        if let Some(read) = read {
-            self.note(cell, read);
-            if read == word {
-                return self.end(JobEnd::Done);
-            }
-        }
-        if pass + 1 == self.passes {
-            return self.end(match read {
-                Some(read) => JobEnd::Differs(read),
-                None => JobEnd::Unknown,
-            });
-        }
-        self.begin_write(cell, word, pass + 1)
-    }
-
-    // A check read its cell.
-    fn checked(&mut self, cell: Cell, tries: u8, read: Option<u16>) -> Step
-        requires few { self.old.setup.passes ≤ 15 }
-        requires idle { self.old.stage ≡ None }
-        requires checking { IsChecking self.old cell tries }
-        ensures after { self.new ≡ (spec_checked self.old cell tries read).after }
-        ensures step { result ≡ (spec_checked self.old cell tries read).step }
-    {
-        match read {
-            Some(read) => {
-                self.note(cell, read);
-                self.end(JobEnd::Done)
-            }
-            None => self.another(
-                tries,
-                Stage::Checks {
-                    cell,
-                    tries: tries + 1,
-                },
-            ),
-        }
-    }
-
-    // A learn read VOUT_MODE.
-    fn mode_told(&mut self, output: u8, tries: u8, byte: Option<u8>) -> Step
-        requires few { self.old.setup.passes ≤ 15 }
-        requires idle { self.old.stage ≡ None }
-        requires asking { IsAsking self.old output tries }
-        ensures after { self.new ≡ (mode_answered self.old output tries byte).after }
-        ensures step { result ≡ (mode_answered self.old output tries byte).step }
-    {
-        match byte {
-            Some(byte) => self.mode_known(output, VoutMode::read(byte)),
-            None => self.another(
-                tries,
-                Stage::AsksMode {
-                    output,
-                    tries: tries + 1,
-                },
-            ),
-        }
-    }
-
-    // A learn knows what VOUT_MODE says.
-    fn mode_known(&mut self, output: u8, mode: Result<VoutMode, TableFault>) -> Step
-        requires idle { self.old.stage ≡ None }
-        requires there { output < self.old.setup.outputs }
-        requires some { 1 ≤ self.old.setup.passes }
-        requires mode { ForOk mode IsMode }
-        ensures after { self.new ≡ (mode_taken self.old output mode).after }
-        ensures step { result ≡ (mode_taken self.old output mode).step }
-    {
-        match mode {
-            Ok(VoutMode::Direct) => self.go_on(Stage::AsksCoefficients { output, tries: 0 }),
-            Ok(mode) => self.learned(output, format_of(mode, NO_COEFFICIENTS).ok()),
-            Err(_) => self.end(JobEnd::Unknown),
-        }
-    }
-
-    // A learn read COEFFICIENTS.
-    fn coefficients_told(&mut self, output: u8, tries: u8, told: Option<Coefficients>) -> Step
-        requires few { self.old.setup.passes ≤ 15 }
-        requires idle { self.old.stage ≡ None }
-        requires asking { IsAsking self.old output tries }
-        ensures after { self.new ≡ (coefficients_answered self.old output tries told).after }
-        ensures step { result ≡ (coefficients_answered self.old output tries told).step }
-    {
-        match told {
-            Some(told) => self.learned(output, format_of(VoutMode::Direct, told).ok()),
-            None => self.another(
-                tries,
-                Stage::AsksCoefficients {
-                    output,
-                    tries: tries + 1,
-                },
-            ),
-        }
-    }
-
-    // A learn ends, with a format or with none.
-    fn learned(&mut self, output: u8, format: Option<AnyFormat>) -> Step
-        requires idle { self.old.stage ≡ None }
-        requires there { output < self.old.setup.outputs }
-        ensures after { self.new ≡ (spec_learned self.old output (option_map shape_of format)).after }
-        ensures step { result ≡ (spec_learned self.old output (option_map shape_of format)).step }
-    {
-        match format {
-            Some(format) => {
-                self.formats.learn(output, format);
-                self.end(JobEnd::Learned)
-            }
-            None => self.end(JobEnd::Unknown),
-        }
-    }
-
-    // A write was sent.
-    fn finished(&mut self, stage: Stage, acked: bool) -> Step
-        requires few { self.old.setup.passes ≤ 15 }
-        requires idle { self.old.stage ≡ None }
-        requires stage { IsStage self.old (Some stage) }
-        requires writes { is_read_message (stage_message stage) ≡ false }
-        ensures after { self.new ≡ (spec_finished self.old (Some stage) acked).after }
-        ensures step { result ≡ (spec_finished self.old (Some stage) acked).step }
-    {
-        match stage {
-            Stage::Writes { cell, word, pass } => self.go_on(Stage::Reads { cell, word, pass }),
-            Stage::Clears { .. } if acked => self.end(JobEnd::Done),
-            Stage::Clears { output, tries } => self.another(
-                tries,
-                Stage::Clears {
-                    output,
-                    tries: tries + 1,
-                },
-            ),
-            _ => unreachable!(),
-        }
-    }
-
-    // Bytes came back for a request.
-    fn answered(&mut self, stage: Stage, bytes: &[u8]) -> Step
-        requires few { self.old.setup.passes ≤ 15 }
-        requires idle { self.old.stage ≡ None }
-        requires stage { IsStage self.old (Some stage) }
-        requires reads { is_read_message (stage_message stage) ≡ true }
-        ensures after { self.new ≡ (spec_answered self.old (Some stage) bytes.now).after }
-        ensures step { result ≡ (spec_answered self.old (Some stage) bytes.now).step }
-    {
-        match stage {
-            Stage::Reads { cell, word, pass } => {
-                let read = good_word(self.addr, &cell_read(cell), bytes);
-                self.read_back(cell, word, pass, read)
-            }
-            Stage::Checks { cell, tries } => {
-                let read = good_word(self.addr, &cell_read(cell), bytes);
-                self.checked(cell, tries, read)
-            }
-            Stage::AsksMode { output, tries } => {
-                let byte = good_byte(self.addr, &mode_read(output), bytes);
-                self.mode_told(output, tries, byte)
-            }
-            Stage::AsksCoefficients { output, tries } => {
-                let told = good_coefficients(self.addr, bytes);
-                self.coefficients_told(output, tries, told)
-            }
-            _ => unreachable!(),
         }
     }
 }
