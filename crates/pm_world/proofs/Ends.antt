@@ -1,0 +1,45 @@
+-- A world whose ends were told something.
+use Rattle.std.proofs.Common.{◌≡◌, ℕ, Option, Some, None, refl, sym, ◌∙◌, ap, subst}
+use Rattle.pm_device.specs.declared.config.Config.{Config}
+use Rattle.pm_device.specs.Held.{Held}
+use Rattle.pm_device.specs.Effect as device
+use Rattle.pm_device.specs.History.{next as device_next, after as device_after}
+use Rattle.pm_host.specs.declared.fault.HostFault.{HostFault}
+use Rattle.pm_host.specs.declared.step.JobEnd.{JobEnd}
+use Rattle.pm_host.specs.Summary.{Summary, next as host_next, step_of}
+use Rattle.pm_host.specs.Transcript.{Entry, Setup}
+use Rattle.pm_world.specs.Setup.{IsMatched}
+use Rattle.pm_world.specs.State.{State, shared, tells, hears, end_by, refused}
+
+-- the parts of a world, put together
+abbrev pub state : Held → Summary → Option JobEnd → ℕ → State
+state device host end taken = record { device = device; host = host; end = end; taken = taken }
+
+-- no entry changes what a host was made with
+abbrev pub KeepsSetup : Type 0
+KeepsSetup = (s : Summary) (entry : Entry) → (host_next s entry).setup ≡ s.setup
+
+-- the host's setup stays, and the converter's configuration
+pub matched-host : KeepsSetup → (s h : Summary) (entry : Entry) (config : Config) (taken : ℕ) → h ≡ host_next s entry → IsMatched s.setup config taken → IsMatched h.setup config taken
+matched-host kept s h entry config taken is matched =
+    subst (λ (u : Setup). IsMatched u config taken) (sym (ap (λ (x : Summary). x.setup) is ∙ kept s entry)) matched
+
+pub config-kept : (held new : Held) (event : device.Event) → new ≡ device_next held event → held.config ≡ new.config
+unfolding device_next device_after
+config-kept held new event is = sym (ap (λ (x : Held). x.config) is)
+
+-- the world after the host was told
+pub host-told : (s : State) (device : Held) (host new : Summary) (end after : Option JobEnd) (taken : ℕ) (entry : Entry) →
+    state device host end taken ≡ s → new ≡ host_next host entry → after ≡ end_by (step_of host entry) →
+    state device new after taken ≡ shared s (tells entry)
+host-told s device host new end after taken entry view is ends =
+    ap (λ (h : Summary). state device h after taken) is
+    ∙ (ap (λ (e : Option JobEnd). state device (host_next host entry) e taken) ends
+    ∙ ap (λ (t : State). shared t (tells entry)) view)
+
+-- the world after the converter heard
+pub device-heard : (s : State) (held new : Held) (host : Summary) (end : Option JobEnd) (taken : ℕ) (event : device.Event) →
+    state held host end taken ≡ s → new ≡ device_next held event →
+    state new host end taken ≡ shared s (hears event)
+device-heard s held new host end taken event view is =
+    ap (λ (d : Held). state d host end taken) is ∙ ap (λ (t : State). shared t (hears event)) view

@@ -1,0 +1,4 @@
+pub mod Legal
+pub mod Life
+pub mod Setup
+pub mod State

@@ -1,0 +1,55 @@
+use pm_device::Ending;
+use pm_frame::Frame;
+use pm_table::{Cell, Code};
+
+/// How a frame that the host sends arrives at the converter. Bytes go over the wire in their order,
+/// so a cut frame is a front of it.
+#[derive(Debug, Drop)]
+pub enum Arrival {
+    /// All of its bytes, ended as the host ends them: a write by a stop, a request by a repeated
+    /// start.
+    Whole,
+    /// Its first bytes, so many of them, or all where there are no more, ended by a stop.
+    Cut(u8),
+    /// These bytes in its place, ended so.
+    Bytes(Frame, Ending),
+}
+
+/// What comes back to the host of the converter's answer to a request.
+#[derive(Debug, Drop)]
+pub enum Back {
+    /// The answer; no bytes where the converter gave none.
+    Whole,
+    /// Its first bytes, so many of them, or all where there are no more.
+    Cut(u8),
+    /// These bytes in its place.
+    Bytes(Frame),
+}
+
+/// What happens in a world.
+#[derive(Debug, Drop)]
+pub enum Event {
+    /// The host is asked to write a word to a cell and to read it back.
+    Order(Cell, u16),
+    /// The same for a voltage, in microvolts.
+    OrderMicro(Cell, i64),
+    /// The host is asked to read a cell.
+    Check(Cell),
+    /// The host is asked to read the format of an output's voltages.
+    Learn(u8),
+    /// The host is asked to clear an output's latched status.
+    Clear(u8),
+    /// The converter hears the write that is being sent. It may come any number of times in an
+    /// attempt, also never.
+    Deliver(Arrival),
+    /// The write that is being sent is over, acknowledged or not, whatever was heard of it.
+    Finish(bool),
+    /// The converter hears the request that is being sent, and the host is given what came back.
+    Exchange(Arrival, Back),
+    /// The converter starts again.
+    RestartDevice,
+    /// The host starts again.
+    RestartHost,
+    /// A reading of the converter changes: the output, the READ code, its word.
+    Reading(u8, Code, u16),
+}

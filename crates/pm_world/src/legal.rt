@@ -1,0 +1,84 @@
+//! Which hearings and which returns a world takes, and what arrives of a frame and of an answer.
+
+ghost use Rattle.std.specs.Prelude.{◌≡◌, take};
+ghost use Rattle.pm_world.specs.Legal.{heard_bytes as spec_heard_bytes, ending_of, back_bytes as spec_back_bytes, answer_in as spec_answer_in, is_heard_whole as spec_is_heard_whole, is_legal_hearing as spec_is_legal_hearing, is_legal_return as spec_is_legal_return};
+
+use crate::event::{Arrival, Back};
+use pm_device::{Ending, Heard};
+use pm_frame::is_betrayed;
+
+/// What is heard of a frame.
+pub(crate) fn heard_bytes<'a>(frame: &'a [u8], arrival: &'a Arrival) -> &'a [u8]
+    ensures { result.now ≡ spec_heard_bytes frame.entry.now arrival.entry.now }
+{
+    match arrival {
+        Arrival::Whole => frame,
+        Arrival::Cut(count) => first(frame, *count),
+        Arrival::Bytes(bytes, _) => bytes.as_slice(),
+    }
+}
+
+/// How it ends, where a whole frame ends so.
+pub(crate) fn heard_ending(whole: Ending, arrival: &Arrival) -> Ending
+    ensures { result ≡ ending_of whole arrival.now }
+{
+    match arrival {
+        Arrival::Whole => whole,
+        Arrival::Cut(_) => Ending::Stop,
+        Arrival::Bytes(_, ending) => *ending,
+    }
+}
+
+/// The bytes that a converter answers.
+pub(crate) fn answer_in(heard: &Heard) -> &[u8]
+    ensures { result.now ≡ spec_answer_in heard.now }
+{
+    match heard {
+        Heard::Answer(frame) => frame.as_slice(),
+        Heard::Silent | Heard::Taken | Heard::Refused(_) => &[],
+    }
+}
+
+/// What comes back of an answer.
+pub(crate) fn back_bytes<'a>(answer: &'a [u8], back: &'a Back) -> &'a [u8]
+    ensures { result.now ≡ spec_back_bytes answer.entry.now back.entry.now }
+{
+    match back {
+        Back::Whole => answer,
+        Back::Cut(count) => first(answer, *count),
+        Back::Bytes(bytes) => bytes.as_slice(),
+    }
+}
+
+// The first bytes, or all where there are no more.
+fn first(bytes: &[u8], count: u8) -> &[u8]
+    ensures { result.now ≡ take count bytes.entry.now }
+{
+    match bytes.split_at_checked(usize::from(count)) {
+        Some((front, _)) => front,
+        None => bytes,
+    }
+}
+
+/// Whether bytes that are heard while this frame is being sent are legal.
+#[tactic(auto, unfolding(crate::specs::Legal::is_legal_hearing))]
+pub(crate) fn is_legal_hearing(frame: &[u8], bytes: &[u8], ending: Ending) -> bool
+    ensures { result ≡ spec_is_legal_hearing frame.now bytes.now ending }
+{
+    ending == Ending::Restart || frame.starts_with(bytes) || is_betrayed(&[], bytes)
+}
+
+/// Whether a request was heard whole.
+pub(crate) fn is_heard_whole(frame: &[u8], bytes: &[u8], ending: Ending) -> bool
+    ensures { result ≡ spec_is_heard_whole frame.now bytes.now ending }
+{
+    ending == Ending::Restart && bytes == frame
+}
+
+/// Whether bytes that come back for a request are legal, where the converter answered this to it.
+#[tactic(auto, unfolding(crate::specs::Legal::is_legal_return))]
+pub(crate) fn is_legal_return(request: &[u8], whole_answer: usize, whole: bool, answer: &[u8], bytes: &[u8]) -> bool
+    ensures { result ≡ spec_is_legal_return request.now whole_answer whole answer.now bytes.now }
+{
+    whole && bytes == answer || bytes.len() < whole_answer || is_betrayed(request, bytes)
+}

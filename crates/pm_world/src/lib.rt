@@ -1,0 +1,11 @@
+//! Both ends of the bus under a list of events.
+#![tactic(auto)]
+
+mod event;
+mod legal;
+mod stop;
+mod world;
+
+pub use event::{Arrival, Back, Event};
+pub use stop::{Cause, SetupFault, Stop};
+pub use world::World;

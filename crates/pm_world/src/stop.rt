@@ -1,0 +1,55 @@
+ghost use Rattle.std.specs.Prelude.{◌≡◌};
+ghost use Rattle.pm_world.specs.declared.stop.Cause.TheVariants as causes;
+
+use pm_device::ConfigFault;
+use pm_host::HostFault;
+use thiserror::Error;
+
+/// Why an event isn't taken: the first that applies, in the order of these.
+#[derive(Clone, Copy, Debug, PartialEq, Eq, Error)]
+pub enum Cause {
+    /// S5: 2^48 events were taken.
+    #[error("a full world")]
+    Full,
+    /// S2: no frame is being sent.
+    #[error("no frame is being sent")]
+    NothingSent,
+    /// S3: a read is being sent where a write is delivered or finished, or a write where a request
+    /// is exchanged.
+    #[error("a frame of the other kind is being sent")]
+    WrongKind,
+    /// S1: bytes were heard, or came back, that no cut explains and that the PEC doesn't betray.
+    #[error("damage that the packet error code doesn't betray")]
+    NotBetrayed,
+    /// S4: the host refuses the job.
+    #[error("the host refuses: {0}")]
+    Host(HostFault),
+}
+
+/// Where a run stopped: so many events were taken, and the next one wasn't.
+#[derive(Clone, Copy, Debug, PartialEq, Eq)]
+pub struct Stop {
+    /// How many events were taken, which is the place of the one that wasn't.
+    pub at: usize,
+    /// Why it wasn't.
+    pub cause: Cause,
+}
+
+/// Why no world is made: the converter's fault before the host's.
+#[derive(Clone, Copy, Debug, PartialEq, Eq, Error)]
+pub enum SetupFault {
+    /// V1 to V5: the converter can't be made of this configuration.
+    #[error("the device: {0}")]
+    Device(ConfigFault),
+    /// H2: the host can't have so many passes.
+    #[error("the host: {0}")]
+    Host(HostFault),
+}
+
+impl From<HostFault> for Cause {
+    ghost from_gives = { λ fault cause. cause ≡ causes.Host fault };
+
+    fn from(fault: HostFault) -> Cause {
+        Cause::Host(fault)
+    }
+}

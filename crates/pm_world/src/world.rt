@@ -1,0 +1,332 @@
+ghost use Rattle.std.specs.Prelude.{◌≡◌, ◌<◌, ◌≤◌, ℕ, true, IfOk, OnOk};
+ghost use Rattle.std.specs.Result.{result_err};
+ghost use Rattle.pm_table.specs.Address.{IsAddress};
+ghost use Rattle.pm_frame.specs.declared.message.Message.{Message as Spoken};
+ghost use Rattle.pm_frame.specs.Fault.{whole_answer};
+ghost use Rattle.pm_frame.specs.Layout.{IsRequest};
+ghost use Rattle.pm_world.specs.Setup.{start, setup_fault};
+ghost use Rattle.pm_world.specs.State.{Steps, Acts, shared, tells, hears, end_by as spec_end_by};
+ghost use Rattle.pm_host.specs.Refusals.{may_come};
+ghost use Rattle.pm_host.specs.Told.{entry_told};
+ghost use Rattle.pm_host.specs.Transcript as told;
+ghost use Rattle.pm_device.specs.Effect as heard;
+ghost use Rattle.pm_world.specs.declared.event.Event.TheVariants as event;
+
+use crate::event::{Arrival, Back, Event};
+use crate::legal::{
+    answer_in, back_bytes, heard_bytes, heard_ending, is_heard_whole, is_legal_hearing,
+    is_legal_return,
+};
+use crate::stop::{Cause, SetupFault};
+use pm_device::{Config, Converter, Ending};
+use pm_frame::read_request;
+use pm_host::{Host, JobEnd, Step, Told, transcripts_are_followed};
+use pm_table::{Cell, Code};
+use std::marker::Model;
+
+/// How many events a world takes.
+const EVENT_LIMIT: u64 = 1 << 48;
+
+/// One host and one converter, and what happens between them.
+#[derive(Drop)]
+pub struct World {
+    addr: u8,
+    device: Converter,
+    host: Host,
+    end: Option<JobEnd>,
+    taken: u64,
+}
+
+impl Model for World {
+    ghost use Rattle.pm_world.specs.State.{State};
+
+    ghost Value = { State };
+
+    ghost use Rattle.std.specs.Prelude.{◌≡◌};
+    ghost use Rattle.pm_world.specs.Setup.{IsMatched};
+
+    ghost view = { λ w. record {
+        device = w.device;
+        host = w.host;
+        end = w.end;
+        taken = w.taken } };
+
+    ghost invariant = { λ w. (w.addr ≡ w.device.config.addr)
+        × IsMatched w.host.setup w.device.config w.taken };
+}
+
+impl World {
+    /// A world whose two ends start: a converter of this configuration, and a host for its address
+    /// and its outputs with so many passes. The converter's fault comes before the host's.
+    #[tactic(auto, unfolding(crate::specs::Setup::start, crate::specs::Setup::setup_fault))]
+    pub fn new(c: Config, passes: u8) -> Result<World, SetupFault>
+        ensures made { IfOk result (λ world. world ≡ start c passes) }
+        ensures fault { result_err result ≡ setup_fault c passes }
+    {
+        let device = match Converter::new(c) {
+            Ok(device) => device,
+            Err(fault) => return Err(SetupFault::Device(fault)),
+        };
+        let host = match Host::new(c.addr, c.count, passes) {
+            Ok(host) => host,
+            Err(fault) => return Err(SetupFault::Host(fault)),
+        };
+        Ok(World {
+            addr: c.addr,
+            device,
+            host,
+            end: None,
+            taken: 0,
+        })
+    }
+
+    /// Lets an event happen. `Err` is the first cause against it, in the order of [`Cause`]; then
+    /// nothing has changed.
+    #[tactic(auto, unfolding(crate::specs::State::cause_of, crate::specs::State::next))]
+    pub fn step(&mut self, e: &Event) -> Result<(), Cause>
+        ensures { Steps self.old e.now result self.new }
+    {
+        if self.taken >= EVENT_LIMIT {
+            return Err(Cause::Full);
+        }
+        self.act(e)?;
+        self.taken += 1;
+        Ok(())
+    }
+
+    /// The converter.
+    pub fn device(&self) -> &Converter
+        ensures { result.now ≡ self.now.device }
+    {
+        &self.device
+    }
+
+    /// The host.
+    pub fn host(&self) -> &Host
+        ensures { result.now ≡ self.now.host }
+    {
+        &self.host
+    }
+
+    /// How the last job that was accepted since the host's start ended; `None` while it is open, and
+    /// where there is none.
+    pub fn last_end(&self) -> Option<JobEnd>
+        ensures { result ≡ self.now.end }
+    {
+        self.end
+    }
+
+    // What an event does, in a world that isn't full.
+    fn act(&mut self, e: &Event) -> Result<(), Cause>
+        ensures { Acts self.old e.now result self.new }
+    {
+        match e {
+            Event::Order(cell, word) => self.order(*cell, *word),
+            Event::OrderMicro(cell, microvolts) => self.order_micro(*cell, *microvolts),
+            Event::Check(cell) => self.check(*cell),
+            Event::Learn(output) => self.learn(*output),
+            Event::Clear(output) => self.clear(*output),
+            Event::Deliver(arrival) => self.deliver(arrival),
+            Event::Finish(acked) => self.finish(*acked),
+            Event::Exchange(arrival, back) => self.exchange(arrival, back),
+            Event::RestartDevice => {
+                self.restart_device();
+                Ok(())
+            }
+            Event::RestartHost => {
+                self.restart_host();
+                Ok(())
+            }
+            Event::Reading(output, code, word) => {
+                self.read(*output, *code, *word);
+                Ok(())
+            }
+        }
+    }
+
+    // The host is asked to write a word.
+    fn order(&mut self, cell: Cell, word: u16) -> Result<(), Cause>
+        ensures { Acts self.old (event.Order cell word) result self.new }
+    {
+        transcripts_are_followed();
+        match self.host.order(cell, word) {
+            Ok(()) => {
+                self.end = None;
+                Ok(())
+            }
+            Err(fault) => Err(Cause::Host(fault)),
+        }
+    }
+
+    // The host is asked to write a voltage, in microvolts.
+    fn order_micro(&mut self, cell: Cell, microvolts: i64) -> Result<(), Cause>
+        ensures { Acts self.old (event.OrderMicro cell microvolts) result self.new }
+    {
+        transcripts_are_followed();
+        match self.host.order_micro(cell, microvolts) {
+            Ok(()) => {
+                self.end = None;
+                Ok(())
+            }
+            Err(fault) => Err(Cause::Host(fault)),
+        }
+    }
+
+    // The host is asked to read a cell.
+    fn check(&mut self, cell: Cell) -> Result<(), Cause>
+        ensures { Acts self.old (event.Check cell) result self.new }
+    {
+        transcripts_are_followed();
+        match self.host.check(cell) {
+            Ok(()) => {
+                self.end = None;
+                Ok(())
+            }
+            Err(fault) => Err(Cause::Host(fault)),
+        }
+    }
+
+    // The host is asked to read a format.
+    fn learn(&mut self, output: u8) -> Result<(), Cause>
+        ensures { Acts self.old (event.Learn output) result self.new }
+    {
+        transcripts_are_followed();
+        match self.host.learn(output) {
+            Ok(()) => {
+                self.end = None;
+                Ok(())
+            }
+            Err(fault) => Err(Cause::Host(fault)),
+        }
+    }
+
+    // The host is asked to clear latched status.
+    fn clear(&mut self, output: u8) -> Result<(), Cause>
+        ensures { Acts self.old (event.Clear output) result self.new }
+    {
+        transcripts_are_followed();
+        match self.host.clear(output) {
+            Ok(()) => {
+                self.end = None;
+                Ok(())
+            }
+            Err(fault) => Err(Cause::Host(fault)),
+        }
+    }
+
+    // The converter hears the write that is being sent.
+    fn deliver(&mut self, arrival: &Arrival) -> Result<(), Cause>
+        ensures { Acts self.old (event.Deliver arrival.now) result self.new }
+    {
+        let Some(frame) = self.host.sending() else {
+            return Err(Cause::NothingSent);
+        };
+        if self.host.sending_reads() {
+            return Err(Cause::WrongKind);
+        }
+        let bytes = heard_bytes(frame.as_slice(), arrival);
+        let ending = heard_ending(Ending::Stop, arrival);
+        if !is_legal_hearing(frame.as_slice(), bytes, ending) {
+            return Err(Cause::NotBetrayed);
+        }
+        let _ = self.device.hear(bytes, ending);
+        Ok(())
+    }
+
+    // The write that is being sent is over.
+    fn finish(&mut self, acked: bool) -> Result<(), Cause>
+        ensures { Acts self.old (event.Finish acked) result self.new }
+    {
+        if self.host.sending().is_none() {
+            return Err(Cause::NothingSent);
+        }
+        if self.host.sending_reads() {
+            return Err(Cause::WrongKind);
+        }
+        self.tell(Told::Finished { acked });
+        Ok(())
+    }
+
+    // The converter hears the request that is being sent, and the host is given what came back.
+    fn exchange(&mut self, arrival: &Arrival, back: &Back) -> Result<(), Cause>
+        ensures { Acts self.old (event.Exchange arrival.now back.now) result self.new }
+    {
+        let Some(frame) = self.host.sending() else {
+            return Err(Cause::NothingSent);
+        };
+        if !self.host.sending_reads() {
+            return Err(Cause::WrongKind);
+        }
+        let bytes = heard_bytes(frame.as_slice(), arrival);
+        let ending = heard_ending(Ending::Restart, arrival);
+        if !is_legal_hearing(frame.as_slice(), bytes, ending) {
+            return Err(Cause::NotBetrayed);
+        }
+        let reply = self.device.reply(bytes, ending);
+        let answer = answer_in(&reply);
+        let came = back_bytes(answer, back);
+        let needed = needed_bytes(self.addr, frame.as_slice());
+        let whole = is_heard_whole(frame.as_slice(), bytes, ending);
+        if !is_legal_return(frame.as_slice(), needed, whole, answer, came) {
+            return Err(Cause::NotBetrayed);
+        }
+        let _ = self.device.hear(bytes, ending);
+        self.tell(Told::Got(came));
+        Ok(())
+    }
+
+    // The host is told what came of its frame.
+    fn tell(&mut self, told: Told<'_>)
+        requires { may_come self.old.host (entry_told told) ≡ true }
+        ensures { self.new ≡ shared self.old (tells (entry_told told.entry)) }
+    {
+        transcripts_are_followed();
+        let step = self.host.told(told);
+        self.end = end_by(step);
+    }
+
+    // The converter starts again.
+    fn restart_device(&mut self)
+        ensures { self.new ≡ shared self.old (hears heard.Restarted) }
+    {
+        self.device.restart();
+    }
+
+    // The host starts again.
+    fn restart_host(&mut self)
+        ensures { self.new ≡ shared self.old (tells told.Restarted) }
+    {
+        transcripts_are_followed();
+        self.host.restart();
+        self.end = None;
+    }
+
+    // A reading changes.
+    fn read(&mut self, output: u8, code: Code, word: u16)
+        ensures { self.new ≡ shared self.old (hears (heard.Reading output code.0 word)) }
+    {
+        let _ = self.device.set_reading(output, code, word);
+    }
+}
+
+// How the last job stands after a call of `told`.
+fn end_by(step: Step) -> Option<JobEnd>
+    ensures { result ≡ spec_end_by step }
+{
+    match step {
+        Step::Next => None,
+        Step::Ended(end) => Some(end),
+    }
+}
+
+// How many bytes the whole answer to a request has.
+fn needed_bytes(addr: u8, request: &[u8]) -> usize
+    requires { IsAddress addr }
+    ensures { (message : Spoken) → IsRequest addr message request.now →
+        result ≡ whole_answer message }
+{
+    match read_request(addr, request) {
+        Ok(view) => view.message().whole_answer(),
+        Err(_) => 0,
+    }
+}
