@@ -143,8 +143,16 @@ const CLEAR_0: &[u8] = &[0xB0, 0x05, 0x02, 0x00, 0x03, 0x50];
 
 const VOUT_0: &[u8] = &[0xB0, 0x05, 0x03, 0x00, 0x7A, 0x08, 0x86];
 
-// PAGE is 1.
+// The second with the PEC of the first.
+const BAD_PEC_1: &[u8] = &[0xB0, 0x05, 0x04, 0x01, 0x21, 0xCD, 0x34, 0x5A];
+
+// VOUT_COMMAND of the output that PAGE names is 34CDh.
+const PLAIN_ORDER: &[u8] = &[0xB0, 0x21, 0xCD, 0x34, 0x38];
+
+// PAGE is 1, and 2, which is no output.
 const PAGE_1: &[u8] = &[0xB0, 0x00, 0x01, 0xED];
+
+const PAGE_2: &[u8] = &[0xB0, 0x00, 0x02, 0xE4];
 
 // PAGE carried, which it never is.
 const NESTED: &[u8] = &[0xB0, 0x05, 0x03, 0x00, 0x00, 0x01, 0x99];
@@ -162,54 +170,58 @@ const BAD_DATA: Wanted<'static> = Wanted::Refused(DeviceFault::UnsupportedData);
 
 const CLEAN: [(u16, u8); 2] = [(0x0000, 0x00), (0x0000, 0x00)];
 
+const WRONG_PEC: DeviceFault = DeviceFault::Frame(FrameFault::WrongPec(7));
+
+// What single writes do.
+const WRITES: [Case<'static>; 5] = [
+    Case {
+        lines: &[(ORDER_0, STOP, Wanted::Taken)],
+        words: [0x34CD, 0x1000],
+        page: 0,
+        status: CLEAN,
+        cml: 0x00,
+    },
+    Case {
+        lines: &[(ORDER_1, STOP, Wanted::Taken)],
+        words: [0x1000, 0x34CD],
+        page: 0,
+        status: CLEAN,
+        cml: 0x00,
+    },
+    Case {
+        lines: &[(BAD_PEC_1, STOP, Wanted::Refused(WRONG_PEC))],
+        words: [0x1000, 0x1000],
+        page: 0,
+        status: [(0x0002, 0x00), (0x0002, 0x00)],
+        cml: 0x20,
+    },
+    Case {
+        lines: &[
+            (PAGE_1, STOP, Wanted::Taken),
+            (PLAIN_ORDER, STOP, Wanted::Taken),
+        ],
+        words: [0x1000, 0x34CD],
+        page: 1,
+        status: CLEAN,
+        cml: 0x00,
+    },
+    Case {
+        lines: &[
+            (PAGE_1, STOP, Wanted::Taken),
+            (PAGE_2, STOP, BAD_PAGE),
+            (ORDER_0, STOP, Wanted::Taken),
+        ],
+        words: [0x34CD, 0x1000],
+        page: 1,
+        status: [(0x0002, 0x00), (0x0002, 0x00)],
+        cml: 0x40,
+    },
+];
+
 #[test]
 fn writes_act_on_the_output_that_they_name(rt: HostRuntime) -> Result<(), Fail> {
-    let wrong_pec = DeviceFault::Frame(FrameFault::WrongPec(7));
-    let bad: &[u8] = &[0xB0, 0x05, 0x04, 0x01, 0x21, 0xCD, 0x34, 0x5A];
-    let plain: &[u8] = &[0xB0, 0x21, 0xCD, 0x34, 0x38];
-    let cases = [
-        Case {
-            lines: &[(ORDER_0, STOP, Wanted::Taken)],
-            words: [0x34CD, 0x1000],
-            page: 0,
-            status: CLEAN,
-            cml: 0x00,
-        },
-        Case {
-            lines: &[(ORDER_1, STOP, Wanted::Taken)],
-            words: [0x1000, 0x34CD],
-            page: 0,
-            status: CLEAN,
-            cml: 0x00,
-        },
-        Case {
-            lines: &[(bad, STOP, Wanted::Refused(wrong_pec))],
-            words: [0x1000, 0x1000],
-            page: 0,
-            status: [(0x0002, 0x00), (0x0002, 0x00)],
-            cml: 0x20,
-        },
-        Case {
-            lines: &[(PAGE_1, STOP, Wanted::Taken), (plain, STOP, Wanted::Taken)],
-            words: [0x1000, 0x34CD],
-            page: 1,
-            status: CLEAN,
-            cml: 0x00,
-        },
-        Case {
-            lines: &[
-                (PAGE_1, STOP, Wanted::Taken),
-                (&[0xB0, 0x00, 0x02, 0xE4], STOP, BAD_PAGE),
-                (ORDER_0, STOP, Wanted::Taken),
-            ],
-            words: [0x34CD, 0x1000],
-            page: 1,
-            status: [(0x0002, 0x00), (0x0002, 0x00)],
-            cml: 0x40,
-        },
-    ];
-    for case in &cases {
-        runs(&rt, case)?;
+    for case in WRITES {
+        runs(&rt, &case)?;
     }
     Ok(())
 }
@@ -394,7 +406,6 @@ fn direct_outputs_answer_coefficients_and_are_cut_by_value(rt: HostRuntime) -> R
 
 #[test]
 fn a_restart_gives_the_start_back_and_keeps_readings(rt: HostRuntime) -> Result<(), Fail> {
-    let plain: &[u8] = &[0xB0, 0x21, 0xCD, 0x34, 0x38];
     let mut converter = Converter::new(BASE)?;
     hears(
         &rt,
@@ -407,7 +418,7 @@ fn a_restart_gives_the_start_back_and_keeps_readings(rt: HostRuntime) -> Result<
     assert!(rt; converter.set_reading(1, Code(0x8B), 0x1234));
     converter.restart();
     assert_eq!(rt; (converter.page(), converter.status_cml()), (0, 0x00));
-    hears(&rt, &mut converter, &[(plain, STOP, Wanted::Taken)]);
+    hears(&rt, &mut converter, &[(PLAIN_ORDER, STOP, Wanted::Taken)]);
     assert_eq!(rt; word(&converter, 0, Reg::VoutCommand), 0x34CD);
     assert_eq!(rt; word(&converter, 1, Reg::VoutCommand), 0x1000);
     let lines: [Line<'_>; 2] = [

@@ -5,4 +5,6 @@
 #[cfg(test)]
 mod device;
 #[cfg(test)]
+mod host;
+#[cfg(test)]
 mod model;
