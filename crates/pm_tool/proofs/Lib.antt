@@ -1,4 +1,5 @@
 pub mod AskedLemmas
+pub mod EndLemmas
 pub mod GivenOptions
 pub mod OneText
 pub mod Origin
@@ -8,3 +9,4 @@ pub mod RangeLemmas
 pub mod ReadingLemmas
 pub mod RefusalLemmas
 pub mod WordLemmas
+pub mod Writing

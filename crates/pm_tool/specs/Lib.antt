@@ -3,6 +3,7 @@ pub mod Base
 pub mod Commandline
 pub mod Digits
 pub mod Effect
+pub mod Execution
 pub mod Hearing
 pub mod History
 pub mod NumberFaults

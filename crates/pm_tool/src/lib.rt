@@ -14,14 +14,17 @@ mod commandline;
 mod config;
 mod converter;
 mod engine;
+mod execution;
 mod heard;
 mod hearing;
 mod laws;
 mod numbers;
+mod refusal;
 
 pub use commandline::{Chosen, chosen, status_of};
 pub use config::{Config, ConfigFault, OutputStart};
 pub use engine::hear;
+pub use execution::run;
 pub use heard::{DeviceFault, Ending, Heard};
 pub use laws::words_have_an_origin;
 pub use numbers::{NumberFault, number, number_has_one_text};
