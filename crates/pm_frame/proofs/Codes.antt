@@ -11,6 +11,11 @@ other_code test code one at_one at_code = go (eqb code one) refl where
   go false e = refl
   go true e = absurd (false≢true (sym at_one ∙ (ap test (sym (eqb-true code one e)) ∙ at_code)))
 
+-- PAGE_PLUS_WRITE is written
+pub wrapper-is_written : is_written 0x05 ≡ true
+unfolding line_of
+wrapper-is_written = refl
+
 pub written-is_not_06 : (code : ℕ) → is_written code ≡ true → eqb code 0x06 ≡ false
 unfolding line_of
 written-is_not_06 code h = other_code is_written code 0x06 refl h

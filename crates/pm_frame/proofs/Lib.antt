@@ -2,6 +2,7 @@ pub mod AnswerLaws
 pub mod Carryless
 pub mod Codes
 pub mod Residues
+mod Damage
 pub mod Parts
 pub mod RequestLaws
 pub mod Rules

@@ -1,19 +1,19 @@
 -- The request of a packet that reads has no fault exactly where it has the layout of a message, and
 -- that message is the one that its bytes are.
-use Rattle.std.proofs.Common.{◌≡◌, ℕ, ◌≤◌, Bool, true, false, not, ◌||◌, cond, eqb, ltb, None, List, [], ◌∷◌, ◌++◌, length, length-append, get_or, refl, sym, ◌∙◌, ap, subst, arith}
+use Rattle.std.proofs.Common.{◌≡◌, ◌≢◌, ap₂, ℕ, ◌≤◌, Bool, true, false, not, ◌||◌, cond, eqb, ltb, None, List, [], ◌∷◌, ◌++◌, length, length-append, get_or, refl, sym, ◌∙◌, ap, subst, arith}
 use Rattle.std.proofs.lemmas.Bool.{cond-false, eqb-true, and_from, and_parts, or_parts, not_from_false, not_from_true, not-false, not-true, false≢true, le-ltb, ltb-false}
 use Rattle.std.proofs.lemmas.List.{get_or_append_left}
 use Rattle.std.specs.Option.{option_or}
-use Rattle.pm_table.specs.Commands.{is_read}
+use Rattle.pm_table.specs.Commands.{is_read, is_written}
 use Rattle.pm_frame.specs.declared.fault.FrameFault.TheVariants.{Long, WrongCount, UnknownCode, WrongDirection, Nested}
 use Rattle.pm_frame.specs.declared.message.Message.{Message}
 use Rattle.pm_frame.specs.declared.message.Message.TheVariants.{SendByte, WriteByte, WriteWord, PagePlusWrite, ReadCommand, PagePlusRead, ReadCoefficients}
 use Rattle.pm_frame.specs.Layout.{IsRequest, sent, write_address, fits_layout, is_read_message, is_plain_read, is_carried}
 use Rattle.pm_frame.specs.View.{message_in}
-use Rattle.pm_frame.specs.Fault.{rule, carried_fault, plain_fault, block_request_fault, request_fault}
-use Rattle.pm_frame.proofs.Codes.{read-is_not_05, read-is_known}
+use Rattle.pm_frame.specs.Fault.{rule, carried_fault, plain_fault, block_request_fault, request_fault, write_fault}
+use Rattle.pm_frame.proofs.Codes.{read-is_not_05, read-is_known, written-is_not_06, written-is_not_30}
 use Rattle.pm_frame.proofs.Rules.{or_none, none_or, rule_none, none_rule, opening_fault-none, opening_fault-found, length_fault-none, length_fault-found}
-use Rattle.pm_frame.proofs.WriteLaws.{empty_of}
+use Rattle.pm_frame.proofs.WriteLaws.{empty_of, write-first}
 
 plain_fault-none : (bytes : List ℕ) → is_read (get_or bytes 1 0) ≡ true → plain_fault is_read bytes ≡ None
 unfolding plain_fault
@@ -172,3 +172,15 @@ request-front addr front rest h k =
     let same : cond (eqb (get_or (front ++ rest) 1 0) 0x06 || eqb (get_or (front ++ rest) 1 0) 0x30) 5 2 ≡ cond {A = ℕ} (eqb (get_or front 1 0) 0x06 || eqb (get_or front 1 0) 0x30) 5 2 =
     ap (λ (c : ℕ). cond {A = ℕ} (eqb c 0x06 || eqb c 0x30) 5 2) same_code in
     empty_of rest (omega (arith, length-append front rest))
+
+-- neither a request nor a front of one is a write
+pub request-no_write : (addr other : ℕ) (front rest : List ℕ) → request_fault addr (front ++ rest) ≡ None → write_fault other front ≢ None
+request-no_write addr other front rest h k =
+    let first = write-first other front k in
+    let three : 3 ≤ length front = first.0 in
+    let same = get_or_append_left front rest 0 1 (omega arith) in
+    let written : is_written (get_or (front ++ rest) 1 0) ≡ true = ap is_written same ∙ first.1 in
+    let not_06 = written-is_not_06 (get_or (front ++ rest) 1 0) written in
+    let not_30 = written-is_not_30 (get_or (front ++ rest) 1 0) written in
+    let two : length (front ++ rest) ≡ 2 = request_fault-length addr (front ++ rest) h ∙ ap₂ (λ a b. cond {A = ℕ} (a || b) 5 2) not_06 not_30 in
+    omega (arith, length-append front rest)

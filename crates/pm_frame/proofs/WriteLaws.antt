@@ -6,7 +6,6 @@ use Rattle.std.proofs.Common.{◌⊎◌, inl, inr}
 use Rattle.std.proofs.lemmas.List.{get_or_append_left}
 use Rattle.std.specs.Option.{option_or}
 use Rattle.pm_table.specs.Commands.{is_written, payload_length}
-use Rattle.pm_table.proofs.TableLaws.{payload_length-short}
 use Rattle.pm_frame.specs.declared.fault.FrameFault.TheVariants.{Short, WrongCount, UnknownCode, WrongDirection, Nested}
 use Rattle.pm_frame.specs.declared.message.Message.{Message}
 use Rattle.pm_frame.specs.declared.message.Message.TheVariants.{SendByte, WriteByte, WriteWord, PagePlusWrite, ReadCommand, PagePlusRead, ReadCoefficients}
@@ -16,7 +15,7 @@ use Rattle.pm_frame.specs.Pec.{pec_of}
 use Rattle.pm_frame.specs.Layout.{AreBytes, IsWrite, payload_bytes, sent, with_pec, write_address, fits_layout, is_read_message, is_plain_write, is_carried}
 use Rattle.pm_frame.specs.View.{payload_in, plain_write, message_in}
 use Rattle.pm_frame.specs.Fault.{opening_fault, size_fault, length_fault, carried_count_fault, pec_fault, carried_fault, plain_fault, write_fault}
-use Rattle.pm_frame.proofs.Codes.{written-is_not_06, written-is_not_30, written-is_known}
+use Rattle.pm_frame.proofs.Codes.{wrapper-is_written, written-is_not_06, written-is_not_30, written-is_known}
 use Rattle.pm_frame.proofs.Parts.{last_of, payload_in-bytes, bytes-payload_in, sent-plain, is_read-plain, fits-plain, message_in-plain, message_in-carried}
 use Rattle.pm_frame.proofs.Rules.{or_none, none_or, rule_none, none_rule, eqb-below, opening_fault-none, opening_fault-found, length_fault-none, length_fault-found, pec_fault-none, pec_fault-found}
 
@@ -143,16 +142,20 @@ low_of : (front rest : List ℕ) (last : ℕ) → rest ≡ front ++ last ∷ [] 
 low_of [] rest last split h = omega arith
 low_of (byte ∷ front) rest last split h = subst (λ xs. get_or xs 0 0 < 256) split h
 
+-- no payload in the command table is longer than two bytes, which `payloads_are_short` ensures
+abbrev pub AreShort : Type 0
+AreShort = (code : ℕ) → payload_length code ≤ 2
+
 -- what a faultless plain write is made of
-plain-found : (addr code : ℕ) (rest : List ℕ) → AreBytes (write_address addr ∷ code ∷ rest) → is_plain_write code ≡ true → length (write_address addr ∷ code ∷ rest) ≡ payload_length code + 3 → pec_fault [] (write_address addr ∷ code ∷ rest) ≡ None → IsWrite addr (message_in (write_address addr ∷ code ∷ rest)) (write_address addr ∷ code ∷ rest)
-plain-found addr code rest are_bytes plain whole pec = go rest are_bytes whole pec (last_of rest (omega arith)) where
+plain-found : AreShort → (addr code : ℕ) (rest : List ℕ) → AreBytes (write_address addr ∷ code ∷ rest) → is_plain_write code ≡ true → length (write_address addr ∷ code ∷ rest) ≡ payload_length code + 3 → pec_fault [] (write_address addr ∷ code ∷ rest) ≡ None → IsWrite addr (message_in (write_address addr ∷ code ∷ rest)) (write_address addr ∷ code ∷ rest)
+plain-found are_short addr code rest are_bytes plain whole pec = go rest are_bytes whole pec (last_of rest (omega arith)) where
   go : (rest : List ℕ) → AreBytes (write_address addr ∷ code ∷ rest) → length (write_address addr ∷ code ∷ rest) ≡ payload_length code + 3 → pec_fault [] (write_address addr ∷ code ∷ rest) ≡ None → ((front : List ℕ) × (last : ℕ) × (rest ≡ front ++ last ∷ [])) → IsWrite addr (message_in (write_address addr ∷ code ∷ rest)) (write_address addr ∷ code ∷ rest)
   go rest are_bytes whole pec (front, last, split) =
       let parts = and_parts _ _ plain in
       let bytes : write_address addr ∷ code ∷ rest ≡ write_address addr ∷ code ∷ (front ++ last ∷ []) = ap (λ xs. write_address addr ∷ code ∷ xs) split in
       let size : length front ≡ payload_length code = omega (arith, length-append front (last ∷ []), ap length split) in
       let low : get_or front 0 0 < 256 = low_of front rest last split (are_bytes 2) in
-      let payload : payload_bytes (payload_in front) ≡ front = bytes-payload_in front (omega (arith, payload_length-short code)) low in
+      let payload : payload_bytes (payload_in front) ≡ front = bytes-payload_in front (omega (arith, are_short code)) low in
       let found : message_in (write_address addr ∷ code ∷ rest) ≡ plain_write code (payload_in front) =
       ap message_in bytes ∙ message_in-plain (write_address addr) code front last (not-true _ parts.1) (written-is_not_06 code parts.0) (written-is_not_30 code parts.0) in
       let sent_is : sent addr (plain_write code (payload_in front)) ≡ write_address addr ∷ code ∷ front =
@@ -166,15 +169,15 @@ plain-found addr code rest are_bytes plain whole pec = go rest are_bytes whole p
       }
 
 -- what a faultless PAGE_PLUS_WRITE is made of
-carried-found : (addr count page code : ℕ) (rest : List ℕ) → AreBytes (write_address addr ∷ 0x05 ∷ count ∷ page ∷ code ∷ rest) → is_carried code ≡ true → is_written code ≡ true → count ≡ payload_length code + 2 → length rest ≡ payload_length code + 1 → pec_fault [] (write_address addr ∷ 0x05 ∷ count ∷ page ∷ code ∷ rest) ≡ None → IsWrite addr (message_in (write_address addr ∷ 0x05 ∷ count ∷ page ∷ code ∷ rest)) (write_address addr ∷ 0x05 ∷ count ∷ page ∷ code ∷ rest)
-carried-found addr count page code rest are_bytes carried written counted whole pec = go (last_of rest (omega arith)) where
+carried-found : AreShort → (addr count page code : ℕ) (rest : List ℕ) → AreBytes (write_address addr ∷ 0x05 ∷ count ∷ page ∷ code ∷ rest) → is_carried code ≡ true → is_written code ≡ true → count ≡ payload_length code + 2 → length rest ≡ payload_length code + 1 → pec_fault [] (write_address addr ∷ 0x05 ∷ count ∷ page ∷ code ∷ rest) ≡ None → IsWrite addr (message_in (write_address addr ∷ 0x05 ∷ count ∷ page ∷ code ∷ rest)) (write_address addr ∷ 0x05 ∷ count ∷ page ∷ code ∷ rest)
+carried-found are_short addr count page code rest are_bytes carried written counted whole pec = go (last_of rest (omega arith)) where
   go : ((front : List ℕ) × (last : ℕ) × (rest ≡ front ++ last ∷ [])) → IsWrite addr (message_in (write_address addr ∷ 0x05 ∷ count ∷ page ∷ code ∷ rest)) (write_address addr ∷ 0x05 ∷ count ∷ page ∷ code ∷ rest)
   go (front, last, split) =
       let head : List ℕ → List ℕ = λ xs. write_address addr ∷ 0x05 ∷ count ∷ page ∷ code ∷ xs in
       let bytes : head rest ≡ head (front ++ last ∷ []) = ap head split in
       let size : length front ≡ payload_length code = omega (arith, length-append front (last ∷ []), ap length split) in
       let low : get_or front 0 0 < 256 = low_of front rest last split (are_bytes 5) in
-      let payload : payload_bytes (payload_in front) ≡ front = bytes-payload_in front (omega (arith, payload_length-short code)) low in
+      let payload : payload_bytes (payload_in front) ≡ front = bytes-payload_in front (omega (arith, are_short code)) low in
       let found : message_in (head rest) ≡ PagePlusWrite page code (payload_in front) =
       ap message_in bytes ∙ message_in-carried (write_address addr) count page code front last in
       let count_is : count ≡ 2 + length (payload_bytes (payload_in front)) = omega (arith, ap length payload) in
@@ -234,8 +237,8 @@ write_cases addr bytes h = go (is_plain_write (get_or bytes 1 0)) refl where
   go false plain = not_plain-cases bytes (eqb (get_or bytes 1 0) 0x05) refl h.size h.code plain
 
 -- bytes with no fault have the layout of the message that they are
-pub write_fault-found : (addr : ℕ) (bytes : List ℕ) → AreBytes bytes → write_fault addr bytes ≡ None → IsWrite addr (message_in bytes) bytes
-write_fault-found addr bytes are_bytes h =
+pub write_fault-found : AreShort → (addr : ℕ) (bytes : List ℕ) → AreBytes bytes → write_fault addr bytes ≡ None → IsWrite addr (message_in bytes) bytes
+write_fault-found are_short addr bytes are_bytes h =
     let parts = faultless addr bytes h in
     go bytes are_bytes parts (write_cases addr bytes parts) (opening_fault-found (write_address addr) bytes parts.opening)
   where
@@ -245,10 +248,10 @@ write_fault-found addr bytes are_bytes h =
     five code (count ∷ page ∷ []) b p f = absurd (omega (arith, f.whole, f.counted))
     five code (count ∷ page ∷ carried ∷ rest) b p f =
         subst (λ c. AreBytes (write_address addr ∷ c ∷ count ∷ page ∷ carried ∷ rest) → pec_fault [] (write_address addr ∷ c ∷ count ∷ page ∷ carried ∷ rest) ≡ None → IsWrite addr (message_in (write_address addr ∷ c ∷ count ∷ page ∷ carried ∷ rest)) (write_address addr ∷ c ∷ count ∷ page ∷ carried ∷ rest))
-        (sym f.is_wrapper) (λ b p. carried-found addr count page carried rest b f.carried f.written f.counted (omega (arith, f.whole, f.counted)) p) b p
+        (sym f.is_wrapper) (λ b p. carried-found are_short addr count page carried rest b f.carried f.written f.counted (omega (arith, f.whole, f.counted)) p) b p
 
     here : (code : ℕ) (rest : List ℕ) → AreBytes (write_address addr ∷ code ∷ rest) → Faultless addr (write_address addr ∷ code ∷ rest) → FoundPlain (write_address addr ∷ code ∷ rest) ⊎ FoundCarried (write_address addr ∷ code ∷ rest) → IsWrite addr (message_in (write_address addr ∷ code ∷ rest)) (write_address addr ∷ code ∷ rest)
-    here code rest b p (inl f) = plain-found addr code rest b f.plain f.whole p.pec
+    here code rest b p (inl f) = plain-found are_short addr code rest b f.plain f.whole p.pec
     here code rest b p (inr f) = five code rest b p.pec f
 
     go : (bytes : List ℕ) → AreBytes bytes → Faultless addr bytes → FoundPlain bytes ⊎ FoundCarried bytes → ((second : ℕ) × (rest : List ℕ) × (bytes ≡ write_address addr ∷ second ∷ rest)) → IsWrite addr (message_in bytes) bytes
@@ -286,3 +289,10 @@ write-front addr front rest h k =
 -- the last byte of a write is the PEC of those before it
 pub write-last : (addr last : ℕ) (front : List ℕ) → write_fault addr (front ++ last ∷ []) ≡ None → last ≡ pec_of front
 write-last addr last front h = pec_fault-found [] front last (faultless addr (front ++ last ∷ []) h).pec
+
+-- a write has three bytes at least, and its code is written
+pub write-first : (addr : ℕ) (bytes : List ℕ) → write_fault addr bytes ≡ None → (3 ≤ length bytes) × (is_written (get_or bytes 1 0) ≡ true)
+write-first addr bytes h = go (write_cases addr bytes (faultless addr bytes h)) where
+  go : FoundPlain bytes ⊎ FoundCarried bytes → (3 ≤ length bytes) × (is_written (get_or bytes 1 0) ≡ true)
+  go (inl f) = (omega (arith, f.whole), (and_parts _ _ f.plain).0)
+  go (inr f) = (omega (arith, f.whole), ap is_written f.is_wrapper ∙ wrapper-is_written)

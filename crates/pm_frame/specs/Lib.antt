@@ -1,3 +1,4 @@
+pub mod Betrayal
 pub mod Fault
 pub mod Layout
 pub mod Pec

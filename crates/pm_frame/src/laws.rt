@@ -1,6 +1,6 @@
 //! The laws between the layouts and the faults, over the definitions alone: each is the contract of
-//! a function with an empty body. They hold of lists of any length, and of addresses and messages
-//! of any size.
+//! a function that does nothing, or calls a law of `pm_table`. They hold of lists of any length, and
+//! of addresses and messages of any size.
 
 ghost use Rattle.std.specs.Prelude.{◌≡◌, ◌≢◌, ◌<◌, ℕ, List, [], ◌∷◌, ◌++◌, length, None, true};
 ghost use Rattle.pm_frame.specs.declared.message.Message.{Message};
@@ -8,6 +8,8 @@ ghost use Rattle.pm_frame.specs.Layout.{AreBytes, IsWrite, IsRequest, IsAnswer, 
 ghost use Rattle.pm_frame.specs.View.{message_in, answer_payload};
 ghost use Rattle.pm_frame.specs.Pec.{pec_of};
 ghost use Rattle.pm_frame.specs.Fault.{write_fault, request_fault, answer_fault, whole_answer};
+
+use pm_table::payloads_are_short;
 
 /// Bytes have no fault as a write exactly where they have the layout of some message that writes,
 /// which is the one read by their places; they are then no other message, and no strict front of
@@ -23,7 +25,9 @@ pub fn writes_are_exact()
         IsWrite addr message bytes → IsWrite addr other bytes → message ≡ other }
     ensures front { (addr : ℕ) (message other : Message) (front rest : List ℕ) →
         IsWrite addr message front → IsWrite addr other (front ++ rest) → rest ≡ [] }
-{}
+{
+    payloads_are_short();
+}
 
 /// Bytes have no fault as a request exactly where they have the layout of some message that reads,
 /// which is the one read by their places; they are then no other message, and no strict front of
@@ -61,9 +65,9 @@ pub fn answers_are_exact()
 {}
 
 /// What is cut short has a fault, and so has what its last byte betrays: a strict front of a write,
-/// of a request, of an answer; a write whose last byte isn't the PEC of those before it; an answer
-/// that is shorter than a whole one, or whose last byte isn't the PEC of the request's bytes
-/// followed by those before it.
+/// of a request, of an answer; a write whose last byte isn't the PEC of those before it; a request,
+/// or a front of one, that a stop ended; an answer that is shorter than a whole one, or whose last
+/// byte isn't the PEC of the request's bytes followed by those before it.
 pub fn damage_is_refused()
     ensures write_cut { (addr : ℕ) (front rest : List ℕ) →
         write_fault addr (front ++ rest) ≡ None → rest ≢ [] → write_fault addr front ≢ None }
@@ -71,6 +75,8 @@ pub fn damage_is_refused()
         last ≢ pec_of front → write_fault addr (front ++ last ∷ []) ≢ None }
     ensures request_cut { (addr : ℕ) (front rest : List ℕ) →
         request_fault addr (front ++ rest) ≡ None → rest ≢ [] → request_fault addr front ≢ None }
+    ensures request_written { (addr other : ℕ) (front rest : List ℕ) →
+        request_fault addr (front ++ rest) ≡ None → write_fault other front ≢ None }
     ensures answer_cut { (addr : ℕ) (request : Message) (front rest : List ℕ) →
         answer_fault addr request (front ++ rest) ≡ None → rest ≢ [] →
         answer_fault addr request front ≢ None }

@@ -10,6 +10,7 @@
 //! affair.
 #![tactic(auto)]
 
+mod betrayal;
 mod check;
 mod code;
 mod fault;
@@ -23,6 +24,7 @@ mod view;
 mod writing;
 
 use arrayvec::ArrayVec;
+pub use betrayal::{betrayal_is_refused, is_betrayed};
 pub use fault::FrameFault;
 pub use laws::{answers_are_exact, damage_is_refused, requests_are_exact, writes_are_exact};
 pub use message::{Message, Payload};

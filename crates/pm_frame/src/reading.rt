@@ -13,7 +13,7 @@ use crate::message::Message;
 use crate::packet_error_code::pec;
 use crate::view::FrameView;
 use crate::writing::{read_address, sent, write_address};
-use pm_table::Code;
+use pm_table::{Code, payloads_are_short};
 
 /// Reads bytes that a stop ended as a packet that writes to the device of this address. Takes
 /// exactly the layouts of writes, for bytes of any number; `Err` is the first fault:
@@ -33,6 +33,7 @@ pub fn read_write(addr: u8, bytes: &[u8]) -> Result<FrameView<'_>, FrameFault>
     ensures accepts { (message : Message) → IsWrite addr message bytes.now →
         IsOkAnd result (λ found. found ≡ message) }
 {
+    payloads_are_short();
     written(addr, bytes)?;
     Ok(FrameView::new(bytes))
 }

@@ -1,16 +1,16 @@
 -- The words of the cells are a map.
-use Rattle.std.proofs.Common.{◌≡◌, ◌≢◌, inl, inr, ℕ, ◌+◌, ◌*◌, ◌/◌, ◌%◌, ◌<◌, Bool, true, false, cond, eqb, ◌&&◌, List, length, get_or, set, refl, sym, ◌∙◌, ap, ap₂, arith}
-use Rattle.std.proofs.lemmas.Bool.{cases_eq, cond-false, eqb-true, eq-eqb, ne_eqb, and_parts}
+use Rattle.std.proofs.Common.{◌≡◌, ◌≢◌, inl, inr, ℕ, ◌+◌, ◌*◌, ◌/◌, ◌%◌, ◌<◌, Bool, true, false, cond, eqb, IsTrue, ◌↔◌, List, length, get_or, set, refl, sym, ◌∙◌, ap, ap₂, arith}
+use Rattle.std.proofs.lemmas.Bool.{cases_eq, cond-false, eqb-true, eq-eqb, ne_eqb}
 use Rattle.std.proofs.lemmas.List.{get_or-set_same, get_or-set_other, get_or_default, length-set, set-set, same_lists}
 use Rattle.std.proofs.lemmas.List.FromFn.{length-map-range_with_len, get_or-map-range_with_len, fill_by_all}
 use Rattle.pm_table.specs.declared.cell.Reg.{Reg}
 use Rattle.pm_table.specs.declared.cell.Reg.TheVariants.{Operation, VoutCommand, VoutMax, MarginHigh, MarginLow}
 use Rattle.pm_table.specs.declared.cell.Cell.{Cell}
 use Rattle.pm_table.specs.declared.cell.Cell.TheVariants.{Out, Protect}
-use Rattle.pm_model.specs.Settings.{Words, AreWords, IsCell, register_place, register_at, place, cell_in, words_of, word_at, with_word, same_register, same_cell}
-use Rattle.pm_model.proofs.Places.{register_place-below, place-below, place-output, place-register}
+use Rattle.pm_model.specs.Settings.{Words, AreWords, IsCell, register_number, register_at, place, cell_in, words_of, word_at, with_word, same_cell}
+use Rattle.pm_model.proofs.Places.{register_number-below, place-below, place-output, place-register}
 
-register_at-place : (register : Reg) → register_at (register_place register) ≡ register
+register_at-place : (register : Reg) → register_at (register_number register) ≡ register
 register_at-place Operation = refl
 register_at-place VoutCommand = refl
 register_at-place VoutMax = refl
@@ -18,57 +18,43 @@ register_at-place MarginHigh = refl
 register_at-place MarginLow = refl
 
 -- two registers at one place are one
-register_place-one : (register other : Reg) → register_place register ≡ register_place other → register ≡ other
-register_place-one register other e = sym (register_at-place register) ∙ (ap register_at e ∙ register_at-place other)
+register_number-one : (register other : Reg) → register_number register ≡ register_number other → register ≡ other
+register_number-one register other e = sym (register_at-place register) ∙ (ap register_at e ∙ register_at-place other)
 
-and-true : (a b : Bool) → a ≡ true → b ≡ true → (a && b) ≡ true
-and-true a b p q = ap₂ (λ x y. x && y) p q
-
-eqb-same : (n : ℕ) → eqb n n ≡ true
-eqb-same n = eq-eqb n n refl
-
-pub same_cell-itself : (cell : Cell) → same_cell cell cell ≡ true
-same_cell-itself (Out output register) = and-true _ _ (eqb-same output) (eqb-same (register_place register))
-same_cell-itself Protect = refl
-
-pub same_cell-one : (cell other : Cell) → same_cell cell other ≡ true → cell ≡ other
-same_cell-one (Out output register) (Out other second) h =
-    let parts = and_parts (eqb output other) (same_register register second) h in
-    ap₂ (λ o r. Out o r) (eqb-true _ _ parts.0) (register_place-one register second (eqb-true _ _ parts.1))
-same_cell-one (Out output register) Protect h = cc
-same_cell-one Protect (Out output register) h = cc
-same_cell-one Protect Protect h = refl
+-- `same_cell` tells two cells apart
+abbrev pub TellsCells : Type 0
+TellsCells = (cell other : Cell) → IsTrue (same_cell cell other) ↔ (cell ≡ other)
 
 -- two cells at one place are one
 place-one : (cell other : Cell) → IsCell 8 cell → IsCell 8 other → place cell ≡ place other → cell ≡ other
 unfolding place
 place-one (Out output register) (Out other second) here there e =
-    let r = register_place-below register in
-    let s = register_place-below second in
+    let r = register_number-below register in
+    let s = register_number-below second in
     let same_output : output ≡ other = omega (arith, r, s, e) in
-    let same_place : register_place register ≡ register_place second = omega (arith, r, s, e) in
-    ap₂ (λ o r. Out o r) same_output (register_place-one register second same_place)
+    let same_place : register_number register ≡ register_number second = omega (arith, r, s, e) in
+    ap₂ (λ o r. Out o r) same_output (register_number-one register second same_place)
 place-one (Out output register) Protect here there e =
-    let r = register_place-below register in
+    let r = register_number-below register in
     absurd (omega (arith, r, here, e))
 place-one Protect (Out other second) here there e =
-    let s = register_place-below second in
+    let s = register_number-below second in
     absurd (omega (arith, s, there, e))
 place-one Protect Protect here there e = refl
 
-pub word_at-with_word : (words : Words) (cell other : Cell) (word : ℕ) → AreWords words → IsCell 8 cell → IsCell 8 other → word_at (with_word words cell word) other ≡ cond (same_cell cell other) word (word_at words other)
+pub word_at-with_word : TellsCells → (words : Words) (cell other : Cell) (word : ℕ) → AreWords words → IsCell 8 cell → IsCell 8 other → word_at (with_word words cell word) other ≡ cond (same_cell cell other) word (word_at words other)
 unfolding word_at with_word AreWords
-word_at-with_word words cell other word full here there = go (same_cell cell other) refl where
+word_at-with_word told words cell other word full here there = go (same_cell cell other) refl where
   go : (b : Bool) → same_cell cell other ≡ b → get_or (set words (place cell) word) (place other) 0 ≡ cond b word (get_or words (place other) 0)
   go true e =
-      let one = same_cell-one cell other e in
+      let one = (told cell other).0 e in
       ap (λ (d : Cell). get_or (set words (place cell) word) (place d) 0) (sym one)
       ∙ get_or-set_same words (place cell) word 0 (omega (arith, full, place-below 8 cell (omega arith) here))
   go false e =
       get_or-set_other words (place cell) (place other) word 0 (λ at. absurd (differ (place-one other cell there here at)))
     where
       differ : other ≡ cell → ⊥
-      differ one = let t : same_cell cell other ≡ true = ap (same_cell cell) one ∙ same_cell-itself cell in cc
+      differ one = let t : same_cell cell other ≡ true = (told cell other).1 (sym one) in cc
 
 pub AreWords-with_word : (words : Words) (cell : Cell) (word : ℕ) → AreWords words → AreWords (with_word words cell word)
 unfolding with_word AreWords
@@ -97,10 +83,10 @@ with_word-unchanged words cell full here = set-there words (place cell) (omega (
 cell_in-place : (cell : Cell) → IsCell 8 cell → cell_in (place cell) ≡ cell
 unfolding place
 cell_in-place (Out output register) here =
-    let r = register_place-below register in
-    cond-false _ _ _ (ne_eqb (5 * output + register_place register) 40 (λ e. absurd (omega (arith, r, here, e))))
-    ∙ ap₂ (λ o s. Out o s) (place-output output (register_place register) r)
-    (ap register_at (place-register output (register_place register) r) ∙ register_at-place register)
+    let r = register_number-below register in
+    cond-false _ _ _ (ne_eqb (5 * output + register_number register) 40 (λ e. absurd (omega (arith, r, here, e))))
+    ∙ ap₂ (λ o s. Out o s) (place-output output (register_number register) r)
+    (ap register_at (place-register output (register_number register) r) ∙ register_at-place register)
 cell_in-place Protect here = refl
 
 IsCell-cell_in : (k : ℕ) → k < 41 → IsCell 8 (cell_in k)
@@ -109,10 +95,10 @@ IsCell-cell_in k below = go (eqb k 40) refl where
   go true e = tt
   go false e = let ne : k ≢ 40 = (λ same. let t : eqb k 40 ≡ true = eq-eqb k 40 same in cc) in omega (arith, below, ne)
 
-register_place-at : (k : ℕ) → k < 5 → register_place (register_at k) ≡ k
-register_place-at k below = go (eqb k 0) (eqb k 1) (eqb k 2) (eqb k 3) refl refl refl refl where
+register_number-at : (k : ℕ) → k < 5 → register_number (register_at k) ≡ k
+register_number-at k below = go (eqb k 0) (eqb k 1) (eqb k 2) (eqb k 3) refl refl refl refl where
   go : (a b c d : Bool) → eqb k 0 ≡ a → eqb k 1 ≡ b → eqb k 2 ≡ c → eqb k 3 ≡ d →
-      register_place (cond a Operation (cond b VoutCommand (cond c VoutMax (cond d MarginHigh MarginLow)))) ≡ k
+      register_number (cond a Operation (cond b VoutCommand (cond c VoutMax (cond d MarginHigh MarginLow)))) ≡ k
   go true b c d h i j l = sym (eqb-true k 0 h)
   go false true c d h i j l = sym (eqb-true k 1 i)
   go false false true d h i j l = sym (eqb-true k 2 j)
@@ -129,7 +115,7 @@ unfolding place
 place-cell_in k below = go (eqb k 40) refl where
   go : (b : Bool) → eqb k 40 ≡ b → place (cond b Protect (Out (k / 5) (register_at (k % 5)))) ≡ k
   go true e = sym (eqb-true k 40 e)
-  go false e = let at = register_place-at (k % 5) (omega arith) in omega (arith, at)
+  go false e = let at = register_number-at (k % 5) (omega arith) in omega (arith, at)
 
 pub word_at-words_of : (word : Cell → ℕ) (cell : Cell) → IsCell 8 cell → word_at (words_of word) cell ≡ word cell
 unfolding word_at words_of

@@ -8,15 +8,15 @@ use Rattle.pm_table.specs.declared.cell.Reg.TheVariants.{Operation, VoutCommand,
 use Rattle.pm_table.specs.declared.cell.Cell.{Cell}
 use Rattle.pm_table.specs.declared.cell.Cell.TheVariants.{Out, Protect}
 use Rattle.pm_model.specs.declared.registers.Registers.{Registers}
-use Rattle.pm_model.specs.Settings.{AreWords, IsCell, register_place, place, word_at, with_word, register_words, no_registers, kept_at, kept_words}
+use Rattle.pm_model.specs.Settings.{AreWords, IsCell, register_number, place, word_at, with_word, register_words, no_registers, kept_at, kept_words}
 
 -- a register's place is one of five
-pub register_place-below : (register : Reg) → register_place register < 5
-register_place-below Operation = omega arith
-register_place-below VoutCommand = omega arith
-register_place-below VoutMax = omega arith
-register_place-below MarginHigh = omega arith
-register_place-below MarginLow = omega arith
+pub register_number-below : (register : Reg) → register_number register < 5
+register_number-below Operation = omega arith
+register_number-below VoutCommand = omega arith
+register_number-below VoutMax = omega arith
+register_number-below MarginHigh = omega arith
+register_number-below MarginLow = omega arith
 
 -- the output and the register of a place
 pub place-output : (o r : ℕ) → r < 5 → (5 * o + r) / 5 ≡ o
@@ -29,7 +29,7 @@ place-register o r h = omega arith
 pub place-below : (count : ℕ) (cell : Cell) → count ≤ 8 → IsCell count cell → place cell < 41
 unfolding place
 place-below count (Out output register) few here =
-    let r = register_place-below register in
+    let r = register_number-below register in
     omega (arith, r, few, here)
 place-below count Protect few here = omega arith
 
@@ -54,12 +54,12 @@ kept_at-register rows protect o r few within =
     ∙ (ap (λ n. get_or (register_words (get_or rows n no_registers)) ((5 * o + r) % 5) 0) (place-output o r within)
     ∙ ap (λ n. get_or (register_words (get_or rows o no_registers)) n 0) (place-register o r within))
 
-pub word_at-register : (rows : List Registers) (protect output : ℕ) (register : Reg) → output < 8 → word_at (kept_words rows protect) (Out output register) ≡ get_or (register_words (get_or rows output no_registers)) (register_place register) 0
+pub word_at-register : (rows : List Registers) (protect output : ℕ) (register : Reg) → output < 8 → word_at (kept_words rows protect) (Out output register) ≡ get_or (register_words (get_or rows output no_registers)) (register_number register) 0
 unfolding word_at place
 word_at-register rows protect output register few =
-    let r = register_place-below register in
-    kept_words-at rows protect (5 * output + register_place register) 0 (omega (arith, r, few))
-    ∙ kept_at-register rows protect output (register_place register) few r
+    let r = register_number-below register in
+    kept_words-at rows protect (5 * output + register_number register) 0 (omega (arith, r, few))
+    ∙ kept_at-register rows protect output (register_number register) few r
 
 pub word_at-protect : (rows : List Registers) (protect : ℕ) → word_at (kept_words rows protect) Protect ≡ protect
 unfolding word_at place
@@ -113,13 +113,13 @@ kept_at-set rows row protect o r w k size few within is below = elim (cases_eq k
 
 -- the words after a write of one register
 pub kept_words-register : (rows : List Registers) (row : Registers) (protect output w : ℕ) (register : Reg) → length rows ≡ 8 → output < 8 →
-    register_words row ≡ set (register_words (get_or rows output no_registers)) (register_place register) w →
+    register_words row ≡ set (register_words (get_or rows output no_registers)) (register_number register) w →
     kept_words (set rows output row) protect ≡ with_word (kept_words rows protect) (Out output register) w
 unfolding kept_words with_word place
 kept_words-register rows row protect output w register size few is =
-    sym (fill_by_all (kept_at (set rows output row) protect) (set (kept_words rows protect) (5 * output + register_place register) w) 41 0
-    (length-set (kept_words rows protect) (5 * output + register_place register) w ∙ length-kept_words rows protect)
-    (λ k below. kept_at-set rows row protect output (register_place register) w k size few (register_place-below register) is below))
+    sym (fill_by_all (kept_at (set rows output row) protect) (set (kept_words rows protect) (5 * output + register_number register) w) 41 0
+    (length-set (kept_words rows protect) (5 * output + register_number register) w ∙ length-kept_words rows protect)
+    (λ k below. kept_at-set rows row protect output (register_number register) w k size few (register_number-below register) is below))
 
 -- the words after a write of WRITE_PROTECT
 pub kept_words-protect : (rows : List Registers) (protect w : ℕ) → kept_words rows w ≡ with_word (kept_words rows protect) Protect w

@@ -1,11 +1,12 @@
 -- The settings of a converter as a map from its cells to words. A crate above speaks of them by
 -- `word_at` and `with_word` alone. Which cells there are is this project's own choice.
-use Rattle.std.specs.Prelude.{◌≡◌, ℕ, ◌+◌, ◌*◌, ◌/◌, ◌%◌, ◌<◌, Bool, true, false, ◌&&◌, if◌then◌else◌, ◌==◌, List, [], ◌∷◌, length, map, slice_index, slice_index_or, slice_set}
+use Rattle.std.specs.Prelude.{◌≡◌, ℕ, ◌+◌, ◌*◌, ◌/◌, ◌%◌, if◌then◌else◌, ◌==◌, List, [], ◌∷◌, length, map, slice_index, slice_index_or, slice_set}
 use Rattle.std.specs.List.{range_with_len}
 use Rattle.pm_table.specs.declared.cell.Reg.{Reg}
 use Rattle.pm_table.specs.declared.cell.Reg.TheVariants.{Operation, VoutCommand, VoutMax, MarginHigh, MarginLow}
 use Rattle.pm_table.specs.declared.cell.Cell.{Cell}
 use Rattle.pm_table.specs.declared.cell.Cell.TheVariants.{Out, Protect}
+pub use Rattle.pm_table.specs.Cell.{IsCell, same_cell, register_number}
 use Rattle.pm_model.specs.declared.registers.Registers.{Registers}
 
 -- the words of the cells of eight outputs and of the device, in an order of this file's own, which
@@ -18,17 +19,9 @@ pub record Settings : Type 0 where
   pub count : ℕ
   pub words : Words
 
--- the place of a register among those of its output
-abbrev pub register_place : Reg → ℕ
-register_place Operation = 0
-register_place VoutCommand = 1
-register_place VoutMax = 2
-register_place MarginHigh = 3
-register_place MarginLow = 4
-
 -- the place of a cell: five registers for each output, and WRITE_PROTECT behind them
 unfoldable pub place : Cell → ℕ
-place (Out output register) = 5 * output + register_place register
+place (Out output register) = 5 * output + register_number register
 place Protect = 40
 
 -- the register, and the cell, at a place
@@ -58,27 +51,10 @@ word_at words cell = slice_index words (place cell)
 unfoldable pub with_word : Words → Cell → ℕ → Words
 with_word words cell word = slice_set words (place cell) word
 
--- a cell of a converter with so many outputs
-abbrev pub IsCell : ℕ → Cell → Type 0
-IsCell count (Out output register) = output < count
-IsCell count Protect = Unit {0}
-
 -- an output's registers have the same words in both
 abbrev pub HaveSameRegisters : Words → Words → ℕ → Type 0
 HaveSameRegisters words others output =
     (register : Reg) → word_at words (Out output register) ≡ word_at others (Out output register)
-
--- two registers are one
-abbrev pub same_register : Reg → Reg → Bool
-same_register register other = register_place register == register_place other
-
--- two cells are one
-abbrev pub same_cell : Cell → Cell → Bool
-same_cell (Out output register) (Out other second) =
-    output == other && same_register register second
-same_cell (Out output register) Protect = false
-same_cell Protect (Out output register) = false
-same_cell Protect Protect = true
 
 -- the words of an output's registers, by their places
 abbrev pub register_words : Registers → List ℕ

@@ -1,15 +1,16 @@
 //! The laws of the map of cells, over the definitions alone: the contract of a function with an
 //! empty body.
 
-ghost use Rattle.std.specs.Prelude.{◌≡◌, ◌↔◌, ℕ, IsTrue, if◌then◌else◌};
+ghost use Rattle.std.specs.Prelude.{◌≡◌, ℕ, if◌then◌else◌};
 ghost use Rattle.pm_table.specs.declared.cell.Cell.{Cell};
 ghost use Rattle.pm_model.specs.Settings.{Words, AreWords, IsCell, same_cell, word_at, with_word, words_of, HaveSameRegisters};
 ghost use Rattle.pm_model.specs.Commanded.{Scale, commanded, is_cut};
 
+use pm_table::cells_are_told_apart;
+
 /// The words of the cells are a map, for cells of a converter with eight outputs at most:
 ///
 /// - `read`: a cell that was written has the new word, and every other cell its old one;
-/// - `same`: two cells are one exactly where `same_cell` says so;
 /// - `kept`, `again`, `unchanged`: a write leaves a word for each cell; the same write a second
 ///   time changes nothing, and neither does that of the word that is there;
 /// - `made`, `one`: any words can be given to the cells, and no two maps give each cell the same one.
@@ -18,7 +19,6 @@ pub fn settings_are_a_map()
         AreWords words → IsCell 8 cell → IsCell 8 other →
         word_at (with_word words cell word) other
         ≡ (if same_cell cell other then word else word_at words other) }
-    ensures same { (cell other : Cell) → IsTrue (same_cell cell other) ↔ (cell ≡ other) }
     ensures kept { (words : Words) (cell : Cell) (word : ℕ) →
         AreWords words → AreWords (with_word words cell word) }
     ensures again { (words : Words) (cell : Cell) (word : ℕ) →
@@ -31,7 +31,9 @@ pub fn settings_are_a_map()
     ensures one { (words : Words) (word : Cell → ℕ) → AreWords words →
         ((cell : Cell) → IsCell 8 cell → word_at words cell ≡ word cell) →
         words ≡ words_of word }
-{}
+{
+    cells_are_told_apart();
+}
 
 /// What an output commands, and whether it is cut, depends on that output's own registers alone.
 pub fn outputs_stand_alone()

@@ -1,7 +1,7 @@
-ghost use Rattle.std.specs.Prelude.{◌≡◌, ◌≤◌, ◌<◌, ℕ, [], IsTrue, length, slice_index, slice_index_or};
+ghost use Rattle.std.specs.Prelude.{◌≡◌, ◌↔◌, ◌≤◌, ◌<◌, ℕ, [], IsTrue, length, slice_index, slice_index_or};
 ghost use Rattle.pm_table.specs.Cell.{cell_accepts, register_accepts};
 ghost use Rattle.pm_table.specs.declared.cell.Reg.{Reg as Register};
-ghost use Rattle.pm_model.specs.Settings.{word_at, with_word, register_place, register_words, no_registers, AreWords, IsCell};
+ghost use Rattle.pm_model.specs.Settings.{word_at, with_word, register_number, register_words, no_registers, AreWords, IsCell};
 ghost use Rattle.pm_model.specs.Commanded.{selected, selected_register as spec_selected_register, is_above as spec_is_above, is_cut, commanded, scale_at};
 
 use crate::formats::Formats;
@@ -59,12 +59,12 @@ impl Plain {
         requires few { count ≤ 8 }
         requires registers { (output : ℕ) (register : Register) → output < count →
             IsTrue (register_accepts register
-            (slice_index (slice_index_or words output []) (register_place register))) }
+            (slice_index (slice_index_or words output []) (register_number register))) }
         requires protection { IsTrue (cell_accepts Cell.Protect protect) }
         ensures count { result.count ≡ count }
         ensures registers { (output : ℕ) (register : Register) → output < 8 →
             word_at result.words (Cell.Out output register)
-            ≡ slice_index (slice_index_or words output []) (register_place register) }
+            ≡ slice_index (slice_index_or words output []) (register_number register) }
         ensures protection { word_at result.words Cell.Protect ≡ protect }
         ensures words { AreWords result.words }
     {
@@ -83,6 +83,16 @@ impl Plain {
         ensures words { AreWords self.now.words }
     {
         self.count
+    }
+
+    /// Whether there is such a cell: an output's only where the output is there.
+    pub fn has(&self, cell: Cell) -> bool
+        ensures { IsTrue result ↔ IsCell self.now.count cell }
+    {
+        match cell {
+            Cell::Out(output, _) => output < self.count,
+            Cell::Protect => true,
+        }
     }
 
     /// The word of a cell that there is.

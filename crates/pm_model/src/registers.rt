@@ -1,5 +1,5 @@
 ghost use Rattle.std.specs.Prelude.{◌≡◌, slice_index, slice_set};
-ghost use Rattle.pm_model.specs.Settings.{register_place, register_words};
+ghost use Rattle.pm_model.specs.Settings.{register_number, register_words};
 
 use pm_table::Reg;
 
@@ -30,7 +30,7 @@ impl Registers {
 
     /// The word of a register.
     pub(crate) fn get(&self, register: Reg) -> u16
-        ensures { result ≡ slice_index (register_words self.now) (register_place register) }
+        ensures { result ≡ slice_index (register_words self.now) (register_number register) }
     {
         match register {
             Reg::Operation => self.operation,
@@ -44,7 +44,7 @@ impl Registers {
     /// The registers with another word for one of them.
     pub(crate) fn with(self, register: Reg, word: u16) -> Registers
         ensures { register_words result
-            ≡ slice_set (register_words self) (register_place register) word }
+            ≡ slice_set (register_words self) (register_number register) word }
     {
         match register {
             Reg::Operation => Registers {

@@ -1,6 +1,7 @@
 pub mod Ratio
 pub mod Value
 pub mod Nearest
+pub mod NearestWord
 pub mod Formats
 pub mod Parameters
 pub mod AnyFormat

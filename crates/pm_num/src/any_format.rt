@@ -21,6 +21,7 @@ pub enum AnyFormat {
 impl NumFormat for AnyFormat {
     ghost use Rattle.pm_num.specs.AnyFormat.{any_value, any_rank, any_lowest, any_highest};
     ghost use Rattle.pm_num.specs.Laws.OneWord.{same_from_nearest, one_from_nearest};
+    ghost use Rattle.pm_num.specs.Laws.Found.{nearest_word-found};
     ghost use Rattle.pm_num.specs.Laws.Any.{any-has_den, any-within, any-least_met, any-greatest_met, any-one_word};
 
     ghost value = { any_value };
@@ -48,6 +49,10 @@ impl NumFormat for AnyFormat {
 
     ghost one = { λ f x u w h k.
         one_from_nearest (any_value f) (any_rank f) (any-one_word f) x u w h k };
+
+    ghost found = { λ f x w h.
+        nearest_word-found (any_value f) (any_rank f) x w
+        (one_from_nearest (any_value f) (any_rank f) (any-one_word f) x) h };
 
     fn least(&self) -> Frac {
         match self {

@@ -6,6 +6,7 @@ ghost use Rattle.pm_num.specs.Nearest.{one_rank};
 ghost use Rattle.pm_num.specs.Steps.{direct_spacing};
 ghost use Rattle.pm_num.specs.Formats.{IsDecimal};
 ghost use Rattle.pm_num.specs.declared.fault.NumFault.TheVariants.{ZeroSlope, ExponentRange};
+ghost use Rattle.pm_num.specs.Laws.Found.{nearest_word-found};
 ghost use Rattle.pm_num.specs.Laws.OneWord.{same_from_nearest, one_from_nearest};
 ghost use Rattle.pm_num.specs.Laws.Slope.{direct-has_den, direct-within, direct-one_word, direct-least_met, direct-greatest_met};
 
@@ -150,6 +151,10 @@ impl NumFormat for Direct {
     ghost one = { λ f x u w h k.
         one_from_nearest (direct_value f.m f.b f.r) one_rank
         (direct-one_word f.m f.b f.r f.slope) x u w h k };
+
+    ghost found = { λ f x w h.
+        nearest_word-found (direct_value f.m f.b f.r) one_rank x w
+        (one_from_nearest (direct_value f.m f.b f.r) one_rank (direct-one_word f.m f.b f.r f.slope) x) h };
 
     fn least(&self) -> Frac {
         self.value_of(if self.m < 0 { LARGEST } else { SMALLEST })

@@ -1,8 +1,9 @@
 //! What the numeric formats have in common.
 
-ghost use Rattle.std.specs.Prelude.{◌≡◌, ℕ, ◌^◌, ◌<◌, ◌↔◌, IsOk, IfOk, IfErr};
+ghost use Rattle.std.specs.Prelude.{◌≡◌, ℕ, ◌^◌, ◌<◌, ◌↔◌, IsOk, IfOk, IfErr, Some};
 ghost use Rattle.pm_num.specs.Ratio.{Ratio, AtMost, SameValue, IsBetween};
 ghost use Rattle.pm_num.specs.Nearest.{IsNearest, IsOutside, IsValue, Near};
+ghost use Rattle.pm_num.specs.NearestWord.{nearest_word};
 
 use crate::fault::NumFault;
 use crate::frac::Frac;
@@ -74,6 +75,10 @@ pub trait NumFormat {
     // There is one word for x at most.
     ghost one: { (f : Self) (x : Ratio) (u w : ℕ) →
         IsNearest (value f) (rank f) x u → IsNearest (value f) (rank f) x w → u ≡ w };
+
+    // It is the one that is found among all.
+    ghost found: { (f : Self) (x : Ratio) (w : ℕ) →
+        IsNearest (value f) (rank f) x w → nearest_word (value f) (rank f) x ≡ Some w };
 }
 
 /// The word that a word's value is encoded as: the same value, in the spelling that the format

@@ -14,6 +14,7 @@ mod fault;
 mod format;
 mod frac;
 mod grid;
+mod laws;
 mod linear11;
 mod power;
 #[cfg(test)]
@@ -28,5 +29,6 @@ pub use direct::Direct;
 pub use fault::NumFault;
 pub use format::{NumFormat, canonical};
 pub use frac::{Frac, micro};
+pub use laws::found_words_are_nearest;
 pub use linear11::Linear11;
 pub use ulinear16::Ulinear16;

@@ -6,6 +6,7 @@ ghost use Rattle.pm_num.specs.Value.{upper, exponent, mantissa, linear11_value};
 ghost use Rattle.pm_num.specs.Nearest.{linear11_rank};
 ghost use Rattle.pm_num.specs.Formats.{IsExponent};
 ghost use Rattle.pm_num.specs.Steps.{IsRounded, IsSpelling, IsFar, IsLarge, IsPreferred, IsPlaceFor};
+ghost use Rattle.pm_num.specs.Laws.Found.{nearest_word-found};
 ghost use Rattle.pm_num.specs.Laws.OneWord.{same_from_nearest, one_from_nearest};
 ghost use Rattle.pm_num.specs.Laws.Unsigned.{lower-positive};
 ghost use Rattle.pm_num.specs.Laws.Spelling.{linear11-within, linear11-one_word};
@@ -64,6 +65,10 @@ impl NumFormat for Linear11 {
 
     ghost one = { λ f x u w h k.
         one_from_nearest linear11_value linear11_rank linear11-one_word x u w h k };
+
+    ghost found = { λ f x w h.
+        nearest_word-found linear11_value linear11_rank x w
+        (one_from_nearest linear11_value linear11_rank linear11-one_word x) h };
 
     fn least(&self) -> Frac {
         self.value_of(LEAST)

@@ -4,6 +4,7 @@ ghost use Rattle.std.specs.Prelude.{◌≡◌, ◌^◌, ◌≤◌, ◌↔◌, po
 ghost use Rattle.pm_num.specs.Value.{upper, lower, ulinear16_value};
 ghost use Rattle.pm_num.specs.Nearest.{one_rank};
 ghost use Rattle.pm_num.specs.Formats.{IsExponent};
+ghost use Rattle.pm_num.specs.Laws.Found.{nearest_word-found};
 ghost use Rattle.pm_num.specs.Laws.OneWord.{same_from_nearest, one_from_nearest};
 ghost use Rattle.pm_num.specs.Laws.Unsigned.{lower-positive, ulinear16-within, ulinear16-one_word};
 ghost use Rattle.std.proofs.Common.{refl, lit<};
@@ -82,6 +83,10 @@ impl NumFormat for Ulinear16 {
 
     ghost one = { λ f x u w h k.
         one_from_nearest (ulinear16_value f.n) one_rank (ulinear16-one_word f.n) x u w h k };
+
+    ghost found = { λ f x w h.
+        nearest_word-found (ulinear16_value f.n) one_rank x w
+        (one_from_nearest (ulinear16_value f.n) one_rank (ulinear16-one_word f.n) x) h };
 
     fn least(&self) -> Frac {
         self.value_of(0)

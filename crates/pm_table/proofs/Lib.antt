@@ -1,1 +1,2 @@
-pub mod TableLaws
+mod CellLaws
+mod TableLaws

@@ -1,6 +1,6 @@
 -- The cells: the settings of a power converter that hold a word. An output has five, and
 -- WRITE_PROTECT is the device's.
-use Rattle.std.specs.Prelude.{ℕ, ◌/◌, Bool, true, ◌||◌, Option, Some, None, if◌then◌else◌, ◌==◌}
+use Rattle.std.specs.Prelude.{ℕ, ◌/◌, ◌<◌, Bool, true, false, ◌&&◌, ◌||◌, Option, Some, None, if◌then◌else◌, ◌==◌}
 use Rattle.std.specs.Option.{option_map}
 use Rattle.pm_table.specs.declared.cell.Reg.{Reg}
 use Rattle.pm_table.specs.declared.cell.Reg.TheVariants.{Operation, VoutCommand, VoutMax, MarginHigh, MarginLow}
@@ -64,3 +64,32 @@ register_accepts MarginLow word = true
 abbrev pub cell_accepts : Cell → ℕ → Bool
 cell_accepts (Out output register) word = register_accepts register word
 cell_accepts Protect word = is_protection word
+
+-- the number of a register among its output's
+abbrev pub register_number : Reg → ℕ
+register_number Operation = 0
+register_number VoutCommand = 1
+register_number VoutMax = 2
+register_number MarginHigh = 3
+register_number MarginLow = 4
+
+-- how many registers an output has
+abbrev pub register_count : ℕ
+register_count = 5
+
+-- two registers are one
+abbrev pub same_register : Reg → Reg → Bool
+same_register register other = register_number register == register_number other
+
+-- two cells are one
+abbrev pub same_cell : Cell → Cell → Bool
+same_cell (Out output register) (Out other second) =
+    output == other && same_register register second
+same_cell (Out output register) Protect = false
+same_cell Protect (Out output register) = false
+same_cell Protect Protect = true
+
+-- a cell of a device with so many outputs
+abbrev pub IsCell : ℕ → Cell → Type 0
+IsCell count (Out output register) = output < count
+IsCell count Protect = Unit {0}

@@ -1,7 +1,7 @@
 -- The command table of PMBus 1.3 Part II, as far as this project's converter has it. Codes and
 -- lengths are the standard's; read, write and scope are this project's own choice. Every other
 -- question on a code asks `line_of`.
-use Rattle.std.specs.Prelude.{ℕ, Bool, true, false, List, Option, Some, None, if◌then◌else◌, ◌==◌, is_some, codes}
+use Rattle.std.specs.Prelude.{ℕ, Bool, true, false, List, [], ◌∷◌, Option, Some, None, if◌then◌else◌, ◌==◌, is_some, codes}
 use Rattle.std.specs.Option.{option_map_or}
 use Rattle.pm_table.specs.declared.commands.Info.{Info}
 
@@ -50,32 +50,49 @@ reading name length paged = line name length paged true false
 abbrev pub action : List ℕ → ℕ → Bool → Line
 action name length paged = line name length paged false true
 
--- The table. `false` is the scope of the device, `true` that of an output.
+-- a code with its line
+pub record Row : Type 0 where
+  pub code : ℕ
+  pub line : Line
+
+abbrev pub row : ℕ → Line → Row
+row code line = record { code = code; line = line }
+
+-- The table, a row for each code. `false` is the scope of the device, `true` that of an output.
+abbrev pub rows : List Row
+rows =
+    row 0x00 (setting (codes "PAGE") 1 false) ∷
+    row 0x01 (setting (codes "OPERATION") 1 true) ∷
+    row 0x03 (action (codes "CLEAR_FAULTS") 0 true) ∷
+    row 0x05 (action (codes "PAGE_PLUS_WRITE") 0 false) ∷
+    row 0x06 (reading (codes "PAGE_PLUS_READ") 0 false) ∷
+    row 0x10 (setting (codes "WRITE_PROTECT") 1 false) ∷
+    row 0x19 (reading (codes "CAPABILITY") 1 false) ∷
+    row 0x20 (reading (codes "VOUT_MODE") 1 true) ∷
+    row 0x21 (setting (codes "VOUT_COMMAND") 2 true) ∷
+    row 0x24 (setting (codes "VOUT_MAX") 2 true) ∷
+    row 0x25 (setting (codes "VOUT_MARGIN_HIGH") 2 true) ∷
+    row 0x26 (setting (codes "VOUT_MARGIN_LOW") 2 true) ∷
+    row 0x30 (reading (codes "COEFFICIENTS") 0 false) ∷
+    row 0x78 (reading (codes "STATUS_BYTE") 1 true) ∷
+    row 0x79 (reading (codes "STATUS_WORD") 2 true) ∷
+    row 0x7A (setting (codes "STATUS_VOUT") 1 true) ∷
+    row 0x7E (setting (codes "STATUS_CML") 1 false) ∷
+    row 0x88 (reading (codes "READ_VIN") 2 false) ∷
+    row 0x8B (reading (codes "READ_VOUT") 2 true) ∷
+    row 0x8C (reading (codes "READ_IOUT") 2 true) ∷
+    row 0x8D (reading (codes "READ_TEMPERATURE_1") 2 false) ∷
+    row 0x98 (reading (codes "PMBUS_REVISION") 1 false) ∷
+    []
+
+-- the line of the first row with this code
+abbrev pub line_among : List Row → ℕ → Option Line
+line_among [] code = None
+line_among (row ∷ rows) code = if code == row.code then Some row.line else line_among rows code
+
+-- what the table says of a code; nothing of a code that has no row
 unfoldable pub line_of : ℕ → Option Line
-line_of code =
-    if code == 0x00 then Some (setting (codes "PAGE") 1 false)
-    else (if code == 0x01 then Some (setting (codes "OPERATION") 1 true)
-    else (if code == 0x03 then Some (action (codes "CLEAR_FAULTS") 0 true)
-    else (if code == 0x05 then Some (action (codes "PAGE_PLUS_WRITE") 0 false)
-    else (if code == 0x06 then Some (reading (codes "PAGE_PLUS_READ") 0 false)
-    else (if code == 0x10 then Some (setting (codes "WRITE_PROTECT") 1 false)
-    else (if code == 0x19 then Some (reading (codes "CAPABILITY") 1 false)
-    else (if code == 0x20 then Some (reading (codes "VOUT_MODE") 1 true)
-    else (if code == 0x21 then Some (setting (codes "VOUT_COMMAND") 2 true)
-    else (if code == 0x24 then Some (setting (codes "VOUT_MAX") 2 true)
-    else (if code == 0x25 then Some (setting (codes "VOUT_MARGIN_HIGH") 2 true)
-    else (if code == 0x26 then Some (setting (codes "VOUT_MARGIN_LOW") 2 true)
-    else (if code == 0x30 then Some (reading (codes "COEFFICIENTS") 0 false)
-    else (if code == 0x78 then Some (reading (codes "STATUS_BYTE") 1 true)
-    else (if code == 0x79 then Some (reading (codes "STATUS_WORD") 2 true)
-    else (if code == 0x7A then Some (setting (codes "STATUS_VOUT") 1 true)
-    else (if code == 0x7E then Some (setting (codes "STATUS_CML") 1 false)
-    else (if code == 0x88 then Some (reading (codes "READ_VIN") 2 false)
-    else (if code == 0x8B then Some (reading (codes "READ_VOUT") 2 true)
-    else (if code == 0x8C then Some (reading (codes "READ_IOUT") 2 true)
-    else (if code == 0x8D then Some (reading (codes "READ_TEMPERATURE_1") 2 false)
-    else (if code == 0x98 then Some (reading (codes "PMBUS_REVISION") 1 false)
-    else None)))))))))))))))))))))
+line_of code = line_among rows code
 
 -- the code stands in the table
 abbrev pub is_known : ℕ → Bool

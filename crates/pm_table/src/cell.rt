@@ -1,5 +1,6 @@
-ghost use Rattle.std.specs.Prelude.{◌≡◌, Some};
-ghost use Rattle.pm_table.specs.Cell.{cell_at};
+ghost use Rattle.std.specs.Prelude.{◌≡◌, ◌↔◌, Some, IsTrue};
+ghost use Rattle.pm_table.specs.declared.cell.Cell.{Cell};
+ghost use Rattle.pm_table.specs.Cell.{cell_at, same_cell};
 
 use crate::commands::Code;
 
@@ -82,6 +83,11 @@ pub fn cell_of(code: Code, output: u8) -> Option<Cell>
     };
     Some(Cell::Out(output, register))
 }
+
+/// Two cells are one exactly where `same_cell` says so: a law of the definitions.
+pub fn cells_are_told_apart()
+    ensures { (cell other : Cell) → IsTrue (same_cell cell other) ↔ (cell ≡ other) }
+{}
 
 #[cfg(test)]
 mod tests {

@@ -5,7 +5,7 @@ use Rattle.pm_frame.proofs.laws.writes_are_exact.Goals as goal
 
 pub returns : goal.returns
 returns c = record {
-  faultless = λ addr bytes are_bytes none. (message_in bytes, write_fault-found addr bytes are_bytes none);
+  faultless = λ addr bytes are_bytes none. (message_in bytes, write_fault-found c.payloads_are_short.ensures addr bytes are_bytes none);
   spelled = write_fault-spelled;
   places = message_in-write;
   one = λ addr message other bytes h k. sym (message_in-write addr message bytes h) ∙ message_in-write addr other bytes k;

@@ -1,7 +1,7 @@
 use Rattle.std.proofs.Common.{◌≡◌, ℕ, ◌<◌, get_or, set, sym, ◌∙◌, ap, subst, arith}
 use Rattle.pm_table.specs.declared.cell.Cell.{Cell}
 use Rattle.pm_table.specs.declared.cell.Cell.TheVariants.{Out, Protect}
-use Rattle.pm_model.specs.Settings.{Settings, Words, IsCell, register_place, register_words, no_registers, kept_words, with_word}
+use Rattle.pm_model.specs.Settings.{Settings, Words, IsCell, register_number, register_words, no_registers, kept_words, with_word}
 use Rattle.pm_model.proofs.plain.Plain.with.Goals as goal
 use Rattle.pm_model.proofs.Places.{kept_words-register, kept_words-protect}
 
@@ -25,7 +25,7 @@ returns-in-Out c =
     (ap (λ n. kept_words (set c.self.inside.rows n c.with.result) c.self.inside.protect) c.from-row.ensures
     ∙ kept_words-register c.self.inside.rows c.with.result c.self.inside.protect c.in-Out.output c.args.word c.in-Out.register
     c.self.invariant.0 few
-    (c.with.ensures ∙ ap (λ n. set (register_words (get_or c.self.inside.rows n no_registers)) (register_place c.in-Out.register) c.args.word) c.from-row.ensures))
+    (c.with.ensures ∙ ap (λ n. set (register_words (get_or c.self.inside.rows n no_registers)) (register_number c.in-Out.register) c.args.word) c.from-row.ensures))
     c.self.view_is c.in-Out.is
 
 pub returns-in-Protect : goal.returns-in-Protect

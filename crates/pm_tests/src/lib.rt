@@ -1,0 +1,6 @@
+//! Tests over the public calls of the other crates, a module for each crate that is tested. There
+//! is nothing here to use.
+#![tactic(auto)]
+
+#[cfg(test)]
+mod model;

@@ -1,0 +1,131 @@
+ghost use Rattle.std.specs.Prelude.{◌≡◌, ◌<◌};
+
+use pm_model::{Formats, Plain};
+use pm_num::{AnyFormat, Direct, NumFormat, Ulinear16};
+use pm_table::{Cell, Reg};
+use std::test::Fail;
+
+// Settings of two outputs: on, 1 V asked for, at most 4 V, margins at 1.0625 V and 0.9375 V, in
+// ULINEAR16 with N = -12.
+const START: [u16; 5] = [0x80, 0x1000, 0x4000, 0x1100, 0x0F00];
+
+#[test]
+fn each_cell_is_read_back_and_no_other_changes(rt: HostRuntime) {
+    let cells = [
+        (Cell::Out(0, Reg::Operation), 0x80, 0x40),
+        (Cell::Out(0, Reg::VoutCommand), 0x1000, 0xFFFF),
+        (Cell::Out(1, Reg::VoutMax), 0x4000, 0x0000),
+        (Cell::Out(1, Reg::MarginHigh), 0x1100, 0x1234),
+        (Cell::Out(0, Reg::MarginLow), 0x0F00, 0x4321),
+        (Cell::Protect, 0x00, 0x80),
+    ];
+    let base = Plain::new(2, [START; 8], 0x00);
+    assert!(rt; !base.has(Cell::Out(2, Reg::Operation)));
+    for (cell, before, after) in cells {
+        assert!(rt; base.has(cell) && cell.accepts(after));
+        assert_eq!(rt; base.get(cell), before, "{cell:?}");
+        let changed = base.with(cell, after);
+        for (other, start, _) in cells {
+            assert!(rt; changed.has(other));
+            let wanted = if other == cell { after } else { start };
+            assert_eq!(rt; changed.get(other), wanted, "{other:?} after {cell:?}");
+        }
+    }
+}
+
+// What OPERATION, VOUT_COMMAND, VOUT_MAX and both margins of output 1 make it command.
+fn commands(format: AnyFormat, words: [u16; 5]) -> (i128, i128, bool) {
+    let mut rows = [START; 8];
+    rows[1] = words;
+    let [operation, ..] = words;
+    if !Cell::Out(1, Reg::Operation).accepts(operation) {
+        return (0, 0, false);
+    }
+    let plain = Plain::new(2, rows, 0x00);
+    let formats = Formats {
+        count: 2,
+        each: [format; 8],
+    };
+    let value = plain.commanded(&formats, 1);
+    (value.num(), value.den(), plain.is_cut(&formats, 1))
+}
+
+#[test]
+fn the_selected_value_is_cut_to_that_of_vout_max(rt: HostRuntime) -> Result<(), Fail> {
+    let Some(linear) = Ulinear16::new(-12) else {
+        unreachable!()
+    };
+    let linear = AnyFormat::Ulinear16(linear);
+    let falling = AnyFormat::Direct(Direct::new(-1, 5, 3)?);
+    let rows = [
+        (
+            linear,
+            [0x80, 0x34CD, 0x4000, 0x1100, 0x0F00],
+            (13517, 4096, false),
+        ),
+        (
+            linear,
+            [0x80, 0x4000, 0x4000, 0x1100, 0x0F00],
+            (16384, 4096, false),
+        ),
+        (
+            linear,
+            [0x80, 0x4001, 0x4000, 0x1100, 0x0F00],
+            (16384, 4096, true),
+        ),
+        (
+            linear,
+            [0xA8, 0x1000, 0x4000, 0x1100, 0x0F00],
+            (4352, 4096, false),
+        ),
+        (
+            linear,
+            [0xA4, 0x1000, 0x1000, 0x1100, 0x0F00],
+            (4096, 4096, true),
+        ),
+        (
+            linear,
+            [0x94, 0x5000, 0x4000, 0x1100, 0x0F00],
+            (3840, 4096, false),
+        ),
+        (
+            linear,
+            [0x9B, 0x5000, 0x4000, 0x1100, 0x0F00],
+            (3840, 4096, false),
+        ),
+        (
+            linear,
+            [0x00, 0x1000, 0x4000, 0x1100, 0x0F00],
+            (4096, 4096, false),
+        ),
+        (
+            linear,
+            [0x28, 0x1000, 0x4000, 0x1100, 0x0F00],
+            (4096, 4096, false),
+        ),
+        (
+            linear,
+            [0x68, 0x1000, 0x4000, 0x1100, 0x0F00],
+            (4096, 4096, false),
+        ),
+        (
+            falling,
+            [0x80, 0x03E8, 0x0BB8, 0x0000, 0x0000],
+            (2000, 1000, true),
+        ),
+        (
+            falling,
+            [0x80, 0x0BB8, 0x03E8, 0x0000, 0x0000],
+            (2000, 1000, false),
+        ),
+        (
+            falling,
+            [0x80, 0xFFFF, 0x0000, 0x0000, 0x0000],
+            (5000, 1000, true),
+        ),
+    ];
+    for (format, words, wanted) in rows {
+        assert_eq!(rt; commands(format, words), wanted, "{words:?}");
+    }
+    Ok(())
+}
