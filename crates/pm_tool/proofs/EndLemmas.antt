@@ -21,7 +21,7 @@ use Rattle.pm_tool.specs.NumberText.{IsCommandLineFault, IsNumberText, IsOfNumbe
 use Rattle.pm_tool.specs.declared.numbers.fault.NumberFault.{NumberFault}
 use Rattle.pm_tool.specs.declared.numbers.fault.NumberFault.TheVariants.{OneOf, Format, Word, Micro, Num, Text as OfText}
 use Rattle.pm_tool.specs.declared.numbers.question.Question.{Question}
-use Rattle.pm_tool.specs.Outcome.{printed_text}
+use Rattle.pm_tool.specs.Script.{printed_text}
 
 -- a result that is no such error
 pub false_unless : (b : Bool) → (IsTrue b → ⊥) → IsFalse b

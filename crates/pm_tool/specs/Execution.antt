@@ -19,7 +19,7 @@ use Rattle.pm_text.specs.declared.text.TheConstants.{MAX_TEXT}
 use Rattle.pm_tool.specs.Commandline.{Asks, pmb, status_by}
 use Rattle.pm_tool.specs.NumberFaults.{refusal_status, refusal_words}
 use Rattle.pm_tool.specs.NumberText.{IsNumberText, RefusesNumber}
-use Rattle.pm_tool.specs.Outcome.{printed_text}
+use Rattle.pm_tool.specs.Script.{printed_text}
 use Rattle.pm_tool.specs.Question.{question, text_at}
 use Rattle.pm_tool.specs.declared.commandline.choice.Chosen.{Chosen}
 use Rattle.pm_tool.specs.declared.commandline.choice.Chosen.TheVariants.{Hear, Number as NumberChosen}

@@ -6,7 +6,7 @@ ghost use Rattle.pm_tool.specs.Execution.{CutShort, Printed, arguments_of, no_wo
 ghost use Rattle.pm_tool.specs.Question.{question, text_at};
 
 use crate::commandline::{Chosen, chosen};
-use crate::engine::hear;
+use crate::script::hear;
 use crate::numbers::number;
 use crate::refusal::say;
 use clap::error::ErrorKind;
@@ -140,11 +140,7 @@ fn show_usage<W: Write, E: Write>(
 }
 
 // Prints a whole text.
-fn print_whole<W: Write, E: Write>(
-    text: &[u8],
-    output: &mut Sink<W>,
-    errors: &mut Sink<E>,
-) -> u8
+fn print_whole<W: Write, E: Write>(text: &[u8], output: &mut Sink<W>, errors: &mut Sink<E>) -> u8
     requires output { IsFalse output.old.failed }
     requires errors { IsFalse errors.old.failed }
     ensures { (end : End) × ((end ≡ Printed 0 text.now) ⊎ (end ≡ CutShort text.now))

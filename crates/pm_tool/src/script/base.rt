@@ -1,7 +1,7 @@
 ghost use Rattle.std.specs.Prelude.{◌≡◌};
 ghost use Rattle.pm_tool.specs.Base.{base};
 
-use crate::config::{Config, OutputStart};
+use pm_device::{Config, OutputStart};
 use pm_table::Coefficients;
 
 /// How each output of the base configuration starts: ULINEAR16 with N = -12, on, 1 V asked for, at

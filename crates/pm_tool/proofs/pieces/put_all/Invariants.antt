@@ -1,7 +1,7 @@
 use Rattle.std.proofs.Common.{◌≡◌, false, take}
 use Rattle.std.specs.Prelude.{flat_map}
 use Rattle.std.specs.Io.KnownBytes.{Appends}
-use Rattle.pm_tool.proofs.refusal.put_all.Given as goal
+use Rattle.pm_tool.proofs.pieces.put_all.Given as goal
 
 -- the pieces so far were written, and no call failed
 abbrev pub invariant-pieces : goal.invariant-pieces

@@ -1,15 +1,13 @@
--- What a converter's answer is written as, and the words of the outputs behind it. This project's
--- own choice.
-use Rattle.std.specs.Prelude.{ℕ, List, [], ◌∷◌, ◌++◌, flat_map, decimal, codes}
-use Rattle.std.specs.List.{enumerate_from}
-use Rattle.std.specs.Int.{to_be_bytes, w16}
+-- What a converter's answer is written as, and an output's word of VOUT_COMMAND. This project's own
+-- choice.
+use Rattle.std.specs.Prelude.{ℕ, ◌/◌, ◌%◌, List, [], ◌∷◌, ◌++◌, flat_map, decimal, codes}
 use Rattle.hex.specs.Hex.{encode_upper}
 use Rattle.pm_frame.specs.declared.fault.FrameFault.{FrameFault}
 use Rattle.pm_frame.specs.declared.fault.FrameFault.TheVariants.{NotOurs, Short, Long, WrongCount, WrongPec, UnknownCode, WrongDirection, Nested as NotCarried}
-use Rattle.pm_tool.specs.declared.heard.DeviceFault.{DeviceFault}
-use Rattle.pm_tool.specs.declared.heard.DeviceFault.TheVariants.{Frame, UnsupportedCode, UnsupportedData, BadPage, Protected, Nested, ReadOnly}
-use Rattle.pm_tool.specs.declared.heard.Heard.{Heard}
-use Rattle.pm_tool.specs.declared.heard.Heard.TheVariants.{Silent, Taken, Answer, Refused}
+use Rattle.pm_device.specs.declared.heard.DeviceFault.{DeviceFault}
+use Rattle.pm_device.specs.declared.heard.DeviceFault.TheVariants.{Frame, UnsupportedCode, UnsupportedData, BadPage, Protected, Nested, ReadOnly}
+use Rattle.pm_device.specs.declared.heard.Heard.{Heard}
+use Rattle.pm_device.specs.declared.heard.Heard.TheVariants.{Silent, Taken, Answer, Refused}
 
 -- the fault of a frame: its letters and name, and the place where there is one
 abbrev pub frame_fault_words : FrameFault → List ℕ
@@ -32,9 +30,13 @@ device_fault_words Protected = codes "K5 Protected"
 device_fault_words Nested = codes "K6 Nested"
 device_fault_words ReadOnly = codes "K7 ReadOnly"
 
--- bytes in upper-case hexadecimal, a space before each
+-- a byte as two upper-case hexadecimal digits
+abbrev pub hex_byte : ℕ → List ℕ
+hex_byte byte = encode_upper (byte ∷ [])
+
+-- bytes in hexadecimal, a space before each
 abbrev pub spaced_bytes : List ℕ → List ℕ
-spaced_bytes bytes = flat_map (λ byte. codes " " ++ encode_upper (byte ∷ [])) bytes
+spaced_bytes bytes = flat_map (λ byte. codes " " ++ hex_byte byte) bytes
 
 -- what the converter answered
 abbrev pub reply_words : Heard → List ℕ
@@ -43,21 +45,11 @@ reply_words Taken = codes "taken"
 reply_words (Answer frame) = codes "answer" ++ spaced_bytes frame.items
 reply_words (Refused fault) = codes "refused " ++ device_fault_words fault
 
--- an output's number, and its word of VOUT_COMMAND in four upper-case hexadecimal digits, the high
--- byte first
-abbrev pub output_words : ℕ × ℕ → List ℕ
-output_words output =
-    codes "output " ++ decimal output.0 ++ codes " VOUT_COMMAND "
-    ++ encode_upper (to_be_bytes w16 output.1)
-
 -- a line, ended by a line feed
 abbrev pub as_line : List ℕ → List ℕ
-as_line words = words ++ 10 ∷ []
+as_line words = words ++ codes "\n"
 
--- the lines of outputs
-abbrev pub output_lines : List (ℕ × ℕ) → List ℕ
-output_lines outputs = flat_map (λ output. as_line (output_words output)) outputs
-
--- The text: a line for the answer, then one for each output, from 0.
-abbrev pub heard_text : Heard → List ℕ → List ℕ
-heard_text reply words = as_line (reply_words reply) ++ output_lines (enumerate_from 0 words)
+-- the line of an output: its number, and its word of VOUT_COMMAND, the high byte first
+abbrev pub output_line : ℕ → ℕ → List ℕ
+output_line output word = as_line (codes "output " ++ decimal output ++ codes " VOUT_COMMAND "
+    ++ hex_byte (word / 256) ++ hex_byte (word % 256))

@@ -1,7 +1,7 @@
 use Rattle.std.proofs.Common.{ap, Err}
 use Rattle.std.proofs.lemmas.Result.{err_from_is_err_and}
 use Rattle.pm_tool.proofs.OutcomeLemmas.{same-read, same-refused, same-written}
-use Rattle.pm_tool.proofs.engine.hear.Goals as goal
+use Rattle.pm_tool.proofs.script.hear.Goals as goal
 
 pub returns-in_err-input-clause-same : goal.returns-in_err-input-clause-same
 returns-in_err-input-clause-same g c =

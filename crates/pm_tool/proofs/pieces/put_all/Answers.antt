@@ -1,7 +1,7 @@
 use Rattle.std.proofs.Common.{Result, Ok, Err}
 use Rattle.std.specs.Prelude.{OnErr}
 use Rattle.pm_tool.proofs.Writing.{AppendsFront-later, flat_map-at}
-use Rattle.pm_tool.proofs.refusal.put_all.Goals as goal
+use Rattle.pm_tool.proofs.pieces.put_all.Goals as goal
 
 on_err : {T E : Type 0} (r : Result T E) (P : Type 0) → P → OnErr r P
 on_err (Ok x) P p = tt
