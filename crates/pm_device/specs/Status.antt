@@ -185,3 +185,16 @@ abbrev pub status_word : Held → ℕ → ℕ
 status_word held output =
     status_byte held output + marked 0x8000 (over_at held.over output)
     + marked 0x0800 (not (is_on held output))
+
+-- one bit of what is latched, and the same with one bit set
+abbrev pub cml_at : CmlFaults → CmlBit → Bool
+cml_at faults Command = faults.command
+cml_at faults Data = faults.data
+cml_at faults Pec = faults.pec
+cml_at faults Other = faults.other
+
+abbrev pub with_bit : CmlFaults → CmlBit → CmlFaults
+with_bit faults Command = record faults { command = true }
+with_bit faults Data = record faults { «data» = true }
+with_bit faults Pec = record faults { pec = true }
+with_bit faults Other = record faults { other = true }
