@@ -6,9 +6,9 @@ ghost use Rattle.pm_tool.specs.Execution.{CutShort, Printed, arguments_of, no_wo
 ghost use Rattle.pm_tool.specs.Question.{question, text_at};
 
 use crate::commandline::{Chosen, chosen};
-use crate::script::hear;
 use crate::numbers::number;
 use crate::refusal::say;
+use crate::script::hear;
 use clap::error::ErrorKind;
 use pm_text::{Sink, Source, TextFault};
 use std::alloc::Global;

@@ -12,7 +12,7 @@ ghost use Rattle.pm_tool.specs.Base.{base};
 ghost use Rattle.pm_tool.specs.LineEvent.{event_of};
 ghost use Rattle.pm_tool.specs.Outcome.{outcome_of, IsSettled};
 ghost use Rattle.pm_tool.specs.ReplyText.{as_line};
-ghost use Rattle.pm_tool.specs.Script.{events_in, event_lines, event_words, held_after, output_lines, printed_text};
+ghost use Rattle.pm_tool.specs.Script.{events_in, event_lines, event_words, held_after, output_at, output_lines, printed_text};
 
 mod base;
 mod line;
@@ -87,10 +87,22 @@ pub fn hear<R: Read, W: Write>(
         (λ input. IsSettled result → result ≡ outcome_of input) }
 {
     let input = read_text(alloc, reader)?;
+    let (lines, converter) = answers_to(alloc, &input)?;
+    put_text(writer, &lines, &converter)
+}
+
+// The lines of a fresh converter's answers to a text, and the converter as it is then.
+fn answers_to(alloc: Global, input: &[u8]) -> Result<(Vec<u8>, Converter), TextFault>
+    requires { length input.now + 1 < 2 ^ 64 }
+    ensures text { IfOk result (λ answers.
+        printed_text input.now ≡ Ok (answers.0.items ++ output_lines answers.1)) }
+    ensures fault { IfErr result (λ e. (e ≡ TextFault.Memory) ⊎ (printed_text input.now ≡ Err e)) }
+    ensures faults { IfErr result IsOfText }
+    ensures memory { IsErrOf result TextFault.Memory → 0 < length input.now }
+{
     let mut converter = base_converter();
-    let lines = answer_lines(alloc, &input, &mut converter)?;
-    writer.put(&lines)?;
-    put_outputs(writer, &converter)
+    let lines = answer_lines(alloc, input, &mut converter)?;
+    Ok((lines, converter))
 }
 
 // A fresh converter of the base configuration.
@@ -150,19 +162,32 @@ fn push_event(
     }
 }
 
-// Writes the line of each output. Takes no memory.
-fn put_outputs<W: Write>(writer: &mut Sink<W>, converter: &Converter) -> Result<(), TextFault>
+// Writes the lines of the answers, and then the line of each output. Takes no memory.
+fn put_text<W: Write>(
+    writer: &mut Sink<W>,
+    lines: &[u8],
+    converter: &Converter,
+) -> Result<(), TextFault>
     requires { IsFalse writer.old.failed }
     ensures all { OnOk result (Appends (W.contents writer.old.inner) (W.contents writer.new.inner)
-        (output_lines converter.now)) }
+        (lines.now ++ output_lines converter.now)) }
     ensures front { OnErr result (AppendsFront (W.contents writer.old.inner)
-        (W.contents writer.new.inner) (output_lines converter.now)) }
+        (W.contents writer.new.inner) (lines.now ++ output_lines converter.now)) }
     ensures failed { writer.new.failed ≡ is_err result }
     ensures fault { IfErr result (λ e. e ≡ TextFault.Write) }
 {
+    writer.put(lines)?;
     'outputs: for output in 0..converter.count() {
-        let word = converter.word(Cell::Out(output, Reg::VoutCommand));
-        writer.put(&output_line(output, word))?;
+        writer.put(&line_at(converter, output))?;
     }
     Ok(())
+}
+
+// The line of an output that is there.
+fn line_at(converter: &Converter, output: u8) -> [u8; 27]
+    requires { output < converter.now.config.count }
+    ensures { result ≡ output_at converter.now output }
+{
+    let _count = converter.count();
+    output_line(output, converter.word(Cell::Out(output, Reg::VoutCommand)))
 }

@@ -62,10 +62,9 @@ fn read_restart(line: Line<'_>) -> Result<(), TextFault>
     ensures faults { IfErr result IsOfText }
 {
     let mut words = Words::new(line);
-    let _restart = words.next_word();
-    match words.next_word() {
-        None => Ok(()),
-        Some(_) => Err(TextFault::Syntax(line.number)),
+    match (words.next_word(), words.next_word()) {
+        (Some(_restart), None) => Ok(()),
+        _ => Err(TextFault::Syntax(line.number)),
     }
 }
 

@@ -1,11 +1,5 @@
-use Rattle.std.proofs.Common.{Result, Ok, Err}
-use Rattle.std.specs.Prelude.{OnErr}
-use Rattle.pm_tool.proofs.Writing.{AppendsFront-later, flat_map-at}
+use Rattle.pm_tool.proofs.Writing.{AppendsFront-later, flat_map-at, on_err}
 use Rattle.pm_tool.proofs.pieces.put_all.Goals as goal
-
-on_err : {T E : Type 0} (r : Result T E) (P : Type 0) → P → OnErr r P
-on_err (Ok x) P p = tt
-on_err (Err e) P p = p
 
 pub returns-in_err-put-clause-front : goal.returns-in_err-put-clause-front
 returns-in_err-put-clause-front g c =
