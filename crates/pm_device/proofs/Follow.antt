@@ -1,26 +1,26 @@
 -- What a converter holds after its past is what one event after another makes of its start.
-use Rattle.std.proofs.Common.{◌≡◌, ◌≢◌, ◌⊎◌, inl, inr, ℕ, ◌<◌, ◌≤◌, Bool, true, false, cond, eqb, ltb, not, ◌||◌, ◌&&◌, Option, Some, None, List, [], ◌∷◌, length, get_or, set, refl, sym, ◌∙◌, ap, ap₂, subst, arith}
-use Rattle.std.proofs.lemmas.Bool.{cases_eq, cond-true, cond-false, eqb-true, eq-eqb, ne_eqb, lt-ltb, ltb-true}
+use Rattle.std.proofs.Common.{◌≡◌, ◌≢◌, inl, inr, ℕ, ◌<◌, ◌≤◌, Bool, true, false, cond, eqb, ltb, ◌||◌, ◌&&◌, Option, Some, None, List, [], ◌∷◌, length, get_or, set, refl, sym, ◌∙◌, ap, subst, arith}
+use Rattle.std.proofs.lemmas.Bool.{cases_eq, cond-false, eq-eqb, ne_eqb}
 use Rattle.std.proofs.lemmas.List.{get_or-set_same, get_or-set_other, length-set}
 use Rattle.std.proofs.Math.Bool.{or_comm}
 use Rattle.std.specs.List.{list_any}
 use Rattle.pm_table.specs.declared.cell.Reg.{Reg}
 use Rattle.pm_table.specs.declared.cell.Cell.{Cell}
 use Rattle.pm_table.specs.declared.cell.Cell.TheVariants.{Out, Protect}
-use Rattle.pm_model.specs.Settings.{Words, AreWords, IsCell, same_cell, same_register, word_at, with_word, words_of, HaveSameRegisters}
+use Rattle.pm_model.specs.Settings.{Words, AreWords, IsCell, same_cell, word_at, with_word, words_of, HaveSameRegisters}
+use Rattle.pm_table.specs.Cell.{same_register}
 use Rattle.pm_model.specs.Commanded.{Scale, is_cut}
 use Rattle.pm_device.specs.declared.act.Act.{Act}
 use Rattle.pm_device.specs.declared.act.Act.TheVariants.{Put, Select, ClearFaults, ClearVout, ClearCml}
 use Rattle.pm_device.specs.declared.config.Config.{Config}
-use Rattle.pm_device.specs.declared.heard.Ending.{Ending}
 use Rattle.pm_device.specs.declared.verdict.Verdict.{Verdict}
 use Rattle.pm_device.specs.declared.verdict.Verdict.TheVariants.{Ignores, Refuses, Takes, Answers}
 use Rattle.pm_device.specs.Held.{Held, CmlFaults, Measured, no_readings, no_faults, value_for}
 use Rattle.pm_device.specs.Start.{start_word, start_words}
 use Rattle.pm_device.specs.Verdict.{verdict_of, CanAct}
-use Rattle.pm_device.specs.Effect.{Event, Hearing, Restarted, Reading, Outcome, Heard, Restarts, Measures, outcome_of, outcome_in, act_taken, act_words, act_page, words_by, page_by}
+use Rattle.pm_device.specs.Effect.{Event, Hearing, Restarted, Reading, Outcome, Heard, Restarts, Measures, outcome_of, act_taken, act_words, act_page, words_by, page_by}
 use Rattle.pm_device.specs.Status.{CmlBit, Command, Data, Pec, Other, Moment, has_bit, kept, moments, from_last, act_clears_vout, act_clears_cml, clears, sets_cml, is_over, over_at, vout_in, cml_in}
-use Rattle.pm_device.specs.History.{each_output, readings_in, readings_by, now, start_of, cleared, latched, over_by_act, over_by, fault_by, faults_by, after, next}
+use Rattle.pm_device.specs.History.{each_output, readings_in, readings_by, now, start_of, cleared, over_by_act, over_by, fault_by, faults_by, after, next}
 use Rattle.pm_device.proofs.OverLemmas.{each_output-by, length-each_output, over_at-each_output}
 use Rattle.pm_device.proofs.TakenActs.{verdict-can}
 
@@ -194,12 +194,12 @@ module _ (law : IsMap) (config : Config) (count : IsCount config) (past : List E
       each_output-set (vout_in config past) (λ output. is_over config words output || vout_in config past output) place (over_at (each_output (vout_in config past)) place || is_over config words place)
       (λ within. ap (λ b. b || is_over config words place) (over_at-each_output (vout_in config past) place within) ∙ or_comm (vout_in config past place) (is_over config words place))
       (λ output there ne. stays output
-        ∙ ap (λ b. b || vout_in config past output)
-        (sym (is_over-kept law config (kept config past).words (Out place register) word output (kept-words law config past) (omega (arith, can.0, count.few)) there (λ second. other-output place output register second ne))))
+      ∙ ap (λ b. b || vout_in config past output)
+      (sym (is_over-kept law config (kept config past).words (Out place register) word output (kept-words law config past) (omega (arith, can.0, count.few)) there (λ second. other-output place output register second ne))))
   act-over (Put Protect word) can =
       each_output-same (vout_in config past) (λ output. is_over config (with_word (kept config past).words Protect word) output || vout_in config past output)
       (λ output there. stays output
-        ∙ ap (λ b. b || vout_in config past output) (sym (is_over-kept law config (kept config past).words Protect word output (kept-words law config past) tt there (λ second. refl))))
+      ∙ ap (λ b. b || vout_in config past output) (sym (is_over-kept law config (kept config past).words Protect word output (kept-words law config past) tt there (λ second. refl))))
   act-over (Select page) can =
       each_output-same (vout_in config past) (λ output. is_over config (kept config past).words output || vout_in config past output) (λ output there. stays output)
   act-over (ClearCml byte) can =
@@ -257,7 +257,7 @@ module _ (law : IsMap) (config : Config) (count : IsCount config) (past : List E
       ∙ sym (over-step (outcome_of config (kept config past).words (kept config past).page event) (outcome-can event))
     where
       step : (output : ℕ) → vout_in config (event ∷ past) output
-        ≡ (is_over config (words_by config (kept config past).words (outcome_of config (kept config past).words (kept config past).page event)) output || cond (clears (act_clears_vout output) (outcome_of config (kept config past).words (kept config past).page event)) false (vout_in config past output))
+          ≡ (is_over config (words_by config (kept config past).words (outcome_of config (kept config past).words (kept config past).page event)) output || cond (clears (act_clears_vout output) (outcome_of config (kept config past).words (kept config past).page event)) false (vout_in config past output))
       step output = vout-step config past event output ∙ ap (λ w. is_over config w output || cond (clears (act_clears_vout output) (outcome_of config (kept config past).words (kept config past).page event)) false (vout_in config past output)) (kept-step config past event)
 
   readings-step : (event : Event) → readings_in config (event ∷ past) ≡ readings_by config (readings_in config past) (outcome_of config (kept config past).words (kept config past).page event)
@@ -280,3 +280,8 @@ unfolding now start_of kept vout_in cml_in moments
 now-nil config =
     ap (λ over. record { config = config; words = start_words config; page = 0; readings = no_readings; over = over; faults = no_faults })
     (each_output-same (λ output. is_over config (start_words config) output || false) (is_over config (start_words config)) (λ output there. or-fails (is_over config (start_words config) output)))
+
+-- PAGE names an output
+pub now-page : (config : Config) (past : List Event) → 1 ≤ config.count → (now config past).page < config.count
+unfolding now
+now-page config past some = kept-page config past some

@@ -1,30 +1,29 @@
 -- Where the words of the cells come from, over a converter's whole past.
-use Rattle.std.proofs.Common.{◌≡◌, ◌⊎◌, inl, inr, ℕ, ◌+◌, ◌*◌, ◌/◌, ◌%◌, ◌<◌, ◌≤◌, ◌^◌, Bool, true, false, cond, eqb, ◌||◌, Option, Some, None, List, [], ◌∷◌, ◌++◌, refl, sym, ◌∙◌, ap, subst, arith}
-use Rattle.std.proofs.lemmas.Bool.{cond-true, cond-false, eqb-true}
+use Rattle.std.proofs.Common.{◌≡◌, ◌⊎◌, inl, inr, ℕ, ◌≤◌, Bool, true, false, cond, eqb, Option, Some, None, List, [], ◌∷◌, refl, sym, ◌∙◌, ap, subst, arith}
+use Rattle.std.proofs.lemmas.Bool.{cond-true, cond-false}
 use Rattle.std.specs.Option.{option_map}
 use Rattle.pm_table.specs.declared.cell.Cell.{Cell}
 use Rattle.pm_table.specs.declared.cell.Cell.TheVariants.{Out, Protect}
 use Rattle.pm_table.specs.Cell.{cell_at, cell_accepts}
-use Rattle.pm_frame.specs.declared.message.Message.{Message}
 use Rattle.pm_frame.specs.Fault.{write_fault}
 use Rattle.pm_frame.specs.Layout.{AreBytes, IsWrite}
 use Rattle.pm_frame.specs.View.{message_in, message_code}
-use Rattle.pm_model.specs.Settings.{Words, AreWords, IsCell, same_cell, word_at, with_word, words_of}
+use Rattle.pm_model.specs.Settings.{Words, AreWords, IsCell, same_cell, word_at, with_word}
 use Rattle.pm_device.specs.declared.act.Act.{Act}
 use Rattle.pm_device.specs.declared.act.Act.TheVariants.{Put, Select, ClearFaults, ClearVout, ClearCml}
 use Rattle.pm_device.specs.declared.config.Config.{Config}
 use Rattle.pm_device.specs.declared.heard.Ending.{Ending}
-use Rattle.pm_device.specs.declared.heard.Ending.TheVariants.{Stop, Restart}
+use Rattle.pm_device.specs.declared.heard.Ending.TheVariants.{Stop}
 use Rattle.pm_device.specs.declared.heard.Heard.TheVariants.{Taken}
 use Rattle.pm_device.specs.declared.verdict.Verdict.{Verdict}
 use Rattle.pm_device.specs.declared.verdict.Verdict.TheVariants.{Ignores, Refuses, Takes, Answers}
 use Rattle.pm_device.specs.Start.{start_word, start_words, IsSound}
-use Rattle.pm_device.specs.Verdict.{written_word, output_in, act_in, verdict_of, CanAct}
+use Rattle.pm_device.specs.Verdict.{written_word, output_in, act_in, verdict_of}
 use Rattle.pm_device.specs.Effect.{Event, Hearing, Restarted, Reading, act_taken, act_words}
 use Rattle.pm_device.specs.Status.{kept}
 use Rattle.pm_device.specs.Reply.{reply_to, reply_of}
-use Rattle.pm_device.specs.History.{now, AreHeard, IsUnbroken, WasCarried}
-use Rattle.pm_device.proofs.TakenActs.{WasTaken, verdict-taken, verdict-can}
+use Rattle.pm_device.specs.History.{now, AreHeard, WasCarried}
+use Rattle.pm_device.proofs.TakenActs.{verdict-taken, verdict-can}
 use Rattle.pm_device.proofs.Follow.{IsMap, IsCount, kept-words, kept-page}
 
 -- the laws of the layers below, as far as this needs them
@@ -137,8 +136,8 @@ kept-origin law config [] cell count heard here = inl (start-at law config cell 
 kept-origin law config (Restarted ∷ past) cell count heard here = inl (start-at law config cell (cell-of_eight config.count cell count.few here))
 kept-origin law config (Reading output code word ∷ past) cell count heard here =
     elim (kept-origin law config past cell count heard.1 here) [
-      inl e ↦ inl e
-    | inr w ↦ inr (carried-measured config past output code word cell (word_at (kept config past).words cell) w)
+      | inl e ↦ inl e
+      | inr w ↦ inr (carried-measured config past output code word cell (word_at (kept config past).words cell) w)
     ]
 kept-origin law config (Hearing bytes ending ∷ past) cell count heard here =
     act-word law (kept config past).words (verdict_of config (kept config past).words (kept config past).page bytes ending) cell
@@ -149,8 +148,8 @@ kept-origin law config (Hearing bytes ending ∷ past) cell count heard here =
       λ same. inr (carried-now law config past bytes ending other cell word heard.0 e same),
     ))
     (elim (kept-origin law config past cell count heard.1 here) [
-      inl e ↦ inl e
-    | inr w ↦ inr (carried-heard config past bytes ending cell (word_at (kept config past).words cell) w)
+      | inl e ↦ inl e
+      | inr w ↦ inr (carried-heard config past bytes ending cell (word_at (kept config past).words cell) w)
     ])
 
 pub now-origin : (law : IsLaw) (config : Config) (past : List Event) (cell : Cell) → IsCount config → AreHeard past → IsCell config.count cell → (word_at (now config past).words cell ≡ start_word config cell) ⊎ WasCarried config past cell (word_at (now config past).words cell)
@@ -170,7 +169,7 @@ kept-accepted law config (Hearing bytes ending ∷ past) cell sound here =
     (λ w. cell_accepts cell w ≡ true)
     (kept-words law.map config past) (cell-of_eight config.count cell sound.few here)
     (λ other word e.
-      let can = verdict-can config (kept config past).words (kept config past).page bytes ending (Put other word) e (kept-page config past sound.some) in (
+    let can = verdict-can config (kept config past).words (kept config past).page bytes ending (Put other word) e (kept-page config past sound.some) in (
       cell-of_eight config.count other sound.few can.0,
       λ same. subst (λ c. cell_accepts c word ≡ true) same can.1,
     ))

@@ -1,25 +1,23 @@
 -- What a hearing leaves, by its answer.
-use Rattle.std.proofs.Common.{◌≡◌, ℕ, ◌<◌, ◌≤◌, Bool, true, false, cond, ◌||◌, ◌&&◌, ltb, Option, Some, None, List, [], ◌∷◌, refl, sym, ◌∙◌, ap, subst, arith}
+use Rattle.std.proofs.Common.{◌≡◌, ℕ, ◌<◌, ◌≤◌, Bool, true, false, cond, ◌&&◌, List, refl, sym, ◌∙◌, ap, arith}
 use Rattle.std.proofs.lemmas.Bool.{lt-ltb}
 use Rattle.pm_frame.specs.declared.message.Message.{Message}
 use Rattle.pm_model.specs.Settings.{Words}
 use Rattle.pm_model.specs.Commanded.{is_cut}
-use Rattle.pm_device.specs.declared.act.Act.{Act}
-use Rattle.pm_device.specs.declared.act.Act.TheVariants.{Put, Select, ClearFaults, ClearVout, ClearCml}
 use Rattle.pm_device.specs.declared.config.Config.{Config}
 use Rattle.pm_device.specs.declared.heard.DeviceFault.{DeviceFault}
 use Rattle.pm_device.specs.declared.heard.Ending.{Ending}
 use Rattle.pm_device.specs.declared.heard.Heard.{Heard}
-use Rattle.pm_device.specs.declared.heard.Heard.TheVariants.{Silent, Taken, Answer, Refused}
+use Rattle.pm_device.specs.declared.heard.Heard.TheVariants.{Silent, Taken, Refused}
 use Rattle.pm_device.specs.declared.verdict.Verdict.{Verdict}
 use Rattle.pm_device.specs.declared.verdict.Verdict.TheVariants.{Ignores, Refuses, Takes, Answers}
 use Rattle.pm_device.specs.Held.{Held, CmlFaults, value_for}
 use Rattle.pm_device.specs.Verdict.{verdict_of}
 use Rattle.pm_device.specs.Effect.{Event, Hearing, Outcome}
 use Rattle.pm_device.specs.Effect as effect
-use Rattle.pm_device.specs.Status.{CmlBit, Command, Data, Pec, Other, fault_bit, cml_at, with_bit, act_clears_cml, is_over, over_at, marked, status_vout, status_cml, kept, vout_in, cml_in}
+use Rattle.pm_device.specs.Status.{CmlBit, Command, Data, Pec, Other, fault_bit, cml_at, with_bit, act_clears_cml, is_over, marked, status_vout, kept, vout_in, cml_in}
 use Rattle.pm_device.specs.Reply.{reply_to, reply_of}
-use Rattle.pm_device.specs.History.{each_output, faults_by, after, next, now}
+use Rattle.pm_device.specs.History.{faults_by, after, next, now}
 use Rattle.pm_device.proofs.OverLemmas.{over_at-each_output}
 use Rattle.pm_device.proofs.Follow.{vout-shows}
 

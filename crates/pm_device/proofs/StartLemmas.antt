@@ -1,6 +1,5 @@
 -- The start words of the cells, and what a configuration without a fault has.
-use Rattle.std.proofs.Common.{◌≡◌, ◌≢◌, ℕ, zero, suc, ◌+◌, ◌<◌, ◌≤◌, Bool, true, false, cond, eqb, ltb, not, ◌||◌, ◌&&◌, Option, Some, None, unwrap_or, Result, Ok, Err, List, [], ◌∷◌, length, map, take, get_or, refl, sym, ◌∙◌, ap, subst, arith}
-use Rattle.std.proofs.lemmas.Bool.{cases_eq, cond-true, cond-false, eqb-true, ltb-true, lt-ltb}
+use Rattle.std.proofs.Common.{◌≡◌, ℕ, zero, suc, ◌+◌, ◌<◌, ◌≤◌, Bool, true, false, cond, eqb, ltb, not, ◌||◌, Option, Some, None, unwrap_or, Result, Ok, Err, List, [], ◌∷◌, map, get_or, refl, sym, ◌∙◌, ap, subst, arith}
 use Rattle.std.proofs.lemmas.Bool.Decides.{nat_tests}
 use Rattle.std.proofs.lemmas.List.{get_or-take}
 use Rattle.std.proofs.Math.ListN.{get_or-map}
@@ -21,7 +20,7 @@ use Rattle.pm_table.specs.declared.coefficients.Coefficients.{Coefficients}
 use Rattle.pm_table.specs.declared.fault.TableFault.{TableFault}
 use Rattle.pm_table.specs.declared.vout_mode.VoutMode.{VoutMode}
 use Rattle.pm_table.specs.declared.vout_mode.VoutMode.TheVariants.{Linear, Direct}
-use Rattle.pm_model.specs.Settings.{Words, IsCell, word_at, words_of, register_place}
+use Rattle.pm_model.specs.Settings.{Words, IsCell, word_at, words_of, register_number}
 use Rattle.pm_device.specs.declared.config.Config.{Config}
 use Rattle.pm_device.specs.declared.config.OutputStart.{OutputStart}
 use Rattle.pm_device.specs.declared.config.ConfigFault.{ConfigFault}
@@ -30,7 +29,7 @@ use Rattle.pm_device.specs.Held.{mode_for, shape_made, shape_for}
 use Rattle.pm_device.specs.Start.{register_start, start_row, start_word, start_words, no_start, outputs, is_direct, has_direct, bad_register, bad_registers, bad_start, bad_mode, bad_coefficients, config_fault, IsSound}
 
 -- a register's start word stands at its place in the row
-row-at : (start : OutputStart) (register : Reg) → get_or (start_row start) (register_place register) 0 ≡ register_start register start
+row-at : (start : OutputStart) (register : Reg) → get_or (start_row start) (register_number register) 0 ≡ register_start register start
 row-at start Operation = refl
 row-at start VoutCommand = refl
 row-at start VoutMax = refl
@@ -46,9 +45,9 @@ word-of_start starts output MarginHigh = get_or-map (register_start MarginHigh) 
 word-of_start starts output MarginLow = get_or-map (register_start MarginLow) starts output no_start
 
 -- a word of the rows is the cell's start word
-pub row-start : (config : Config) (row : List ℕ) (output : ℕ) (register : Reg) → row ≡ start_row (get_or config.starts output no_start) → get_or row (register_place register) 0 ≡ start_word config (Out output register)
+pub row-start : (config : Config) (row : List ℕ) (output : ℕ) (register : Reg) → row ≡ start_row (get_or config.starts output no_start) → get_or row (register_number register) 0 ≡ start_word config (Out output register)
 row-start config row output register is =
-    ap (λ r. get_or r (register_place register) 0) is
+    ap (λ r. get_or r (register_number register) 0) is
     ∙ (row-at (get_or config.starts output no_start) register ∙ sym (word-of_start config.starts output register))
 
 -- words that have each cell's start word are the start words

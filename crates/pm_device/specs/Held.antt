@@ -1,6 +1,6 @@
 -- What a converter was made with and what it holds: the words of its cells, PAGE, the readings, and
 -- the status bits that are latched.
-use Rattle.std.specs.Prelude.{ℕ, Bool, false, ◌||◌, ◌&&◌, ◌==◌, nat_lt, if◌then◌else◌, List, Option, Some, None, map, replicate, slice_index, slice_set, unwrap_or}
+use Rattle.std.specs.Prelude.{ℕ, Bool, false, ◌||◌, ◌&&◌, ◌==◌, nat_lt, if◌then◌else◌, List, Option, map, replicate, slice_index, slice_set, unwrap_or}
 use Rattle.std.specs.Option.{option_and_then}
 use Rattle.std.specs.Result.{result_ok}
 use Rattle.pm_num.specs.AnyFormat.{Shape, InLinear11, shape_value}

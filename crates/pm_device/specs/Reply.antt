@@ -1,7 +1,7 @@
 -- What a converter answers: silence, that a write is taken, a refusal, or the bytes that answer a
 -- read, whose payload is the named register's (PMBus 1.3 Part II). That CAPABILITY answers 80h and
 -- PMBUS_REVISION 33h is this project's own choice.
-use Rattle.std.specs.Prelude.{ℕ, ◌/◌, ◌%◌, ◌==◌, if◌then◌else◌, List, [], ◌∷◌, take, unwrap_or}
+use Rattle.std.specs.Prelude.{ℕ, ◌/◌, ◌%◌, ◌==◌, if◌then◌else◌, List, [], ◌∷◌, take}
 use Rattle.std.specs.Option.{option_map_or}
 use Rattle.pm_table.specs.Cell.{cell_at}
 use Rattle.pm_table.specs.Commands.{payload_length}
@@ -9,7 +9,6 @@ use Rattle.pm_table.specs.Coefficients.{coefficient_bytes}
 use Rattle.pm_frame.specs.declared.message.Message.{Message}
 use Rattle.pm_frame.specs.declared.message.Message.TheVariants.{SendByte, WriteByte, WriteWord, PagePlusWrite, ReadCommand, PagePlusRead, ReadCoefficients}
 use Rattle.pm_frame.specs.Layout.{sent, answered, with_pec}
-use Rattle.pm_frame.specs.View.{message_code}
 use Rattle.pm_model.specs.Settings.{word_at}
 use Rattle.pm_device.specs.declared.heard.Ending.{Ending}
 use Rattle.pm_device.specs.declared.heard.Heard.{Heard}
@@ -17,7 +16,7 @@ use Rattle.pm_device.specs.declared.heard.Heard.TheVariants.{Silent, Taken, Answ
 use Rattle.pm_device.specs.declared.verdict.Verdict.{Verdict}
 use Rattle.pm_device.specs.declared.verdict.Verdict.TheVariants.{Ignores, Refuses, Takes, Answers}
 use Rattle.pm_device.specs.Held.{Held, mode_for, reading_at}
-use Rattle.pm_device.specs.Verdict.{output_in, verdict_of}
+use Rattle.pm_device.specs.Verdict.{verdict_of}
 use Rattle.pm_device.specs.Status.{status_byte, status_word, status_vout, status_cml}
 
 -- the word of a code that isn't a cell's

@@ -24,7 +24,7 @@ use Rattle.pm_device.specs.declared.config.Config.{Config}
 use Rattle.pm_device.specs.declared.config.OutputStart.{OutputStart}
 use Rattle.pm_device.specs.declared.config.ConfigFault.{ConfigFault}
 use Rattle.pm_device.specs.declared.config.ConfigFault.TheVariants.{OutputCount, BadStart, Address, BadMode, BadCoefficients}
-use Rattle.pm_device.specs.Held.{mode_for, shape_made, shape_for}
+use Rattle.pm_device.specs.Held.{shape_made, shape_for}
 
 -- the start word of a register
 abbrev pub register_start : Reg → OutputStart → ℕ
@@ -119,16 +119,16 @@ pub record IsSound (config : Config) : Type 0 where
   pub few : config.count ≤ 8
   pub address : IsAddress config.addr
   pub starts : (cell : Cell) → IsCell config.count cell →
-    cell_accepts cell (start_word config cell) ≡ true
+      cell_accepts cell (start_word config cell) ≡ true
   pub formats : (output : ℕ) → output < config.count →
-    shape_made config output ≡ Some (shape_for config output)
+      shape_made config output ≡ Some (shape_for config output)
 
 -- What a converter keeps true of what it keeps: its formats are those of its configuration, which is
 -- sound, PAGE names an output that is there, and there is a latch for each place for an output.
 pub record IsKept (config : Config) (formats : List AnyFormat) (count page : ℕ) (over : List Bool) : Type 0 where
   pub sound : IsSound config
   pub shapes : (output : ℕ) → output < 8 →
-    shape_of (slice_index_or formats output Linear11) ≡ shape_for config output
+      shape_of (slice_index_or formats output Linear11) ≡ shape_for config output
   pub counted : count ≡ config.count
   pub selected : page < config.count
   pub latches : length over ≡ 8

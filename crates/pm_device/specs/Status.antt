@@ -2,7 +2,7 @@
 -- STATUS_CML are latched, and are looked up in the past here; STATUS_BYTE and STATUS_WORD follow from
 -- them and from OPERATION. Which refusal sets which bit of STATUS_CML, that CLEAR_FAULTS acts on one
 -- output, and that POWER_GOOD# is OFF, are this project's own choice.
-use Rattle.std.specs.Prelude.{ℕ, ◌+◌, ◌/◌, Bool, true, false, not, ◌&&◌, ◌||◌, ◌==◌, nat_lt, if◌then◌else◌, bit_and, List, [], ◌∷◌, slice_index_or}
+use Rattle.std.specs.Prelude.{ℕ, ◌+◌, Bool, true, false, not, ◌&&◌, ◌==◌, nat_lt, if◌then◌else◌, bit_and, List, [], ◌∷◌, slice_index_or}
 use Rattle.std.specs.List.{list_any}
 use Rattle.pm_table.specs.declared.cell.Reg.TheVariants.{Operation}
 use Rattle.pm_table.specs.declared.cell.Cell.TheVariants.{Out}
@@ -15,7 +15,6 @@ use Rattle.pm_device.specs.declared.act.Act.TheVariants.{Put, Select, ClearFault
 use Rattle.pm_device.specs.declared.config.Config.{Config}
 use Rattle.pm_device.specs.declared.heard.DeviceFault.{DeviceFault}
 use Rattle.pm_device.specs.declared.heard.DeviceFault.TheVariants.{Frame, UnsupportedCode, UnsupportedData, BadPage, Protected, Nested, ReadOnly}
-use Rattle.pm_device.specs.declared.verdict.Verdict.{Verdict}
 use Rattle.pm_device.specs.declared.verdict.Verdict.TheVariants.{Ignores, Refuses, Takes, Answers}
 use Rattle.pm_device.specs.Held.{Held, CmlFaults, value_for}
 use Rattle.pm_device.specs.Start.{start_words}

@@ -27,7 +27,11 @@ impl Model for CmlLatches {
     ghost Value = { CmlFaults };
 
     ghost view = { λ l. record {
-        command = l.command; «data» = l.unsupported; pec = l.pec; other = l.other } };
+      command = l.command;
+      «data» = l.unsupported;
+      pec = l.pec;
+      other = l.other;
+    } };
 }
 
 impl CmlLatches {

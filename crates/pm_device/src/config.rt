@@ -58,9 +58,10 @@ impl Config {
         requires { self.now.count ≤ 8 }
         ensures { result ≡ has_direct self.now }
     {
-        self.outputs()
-            .iter()
-            .any(|start| matches!(VoutMode::read(start.mode), Ok(VoutMode::Direct)))
+        self.outputs().iter().any(|start| matches!(
+            VoutMode::read(start.mode),
+            Ok(VoutMode::Direct)
+        ))
     }
 
     /// Whether COEFFICIENTS is answered for a code and a side: the code is that of a voltage, the

@@ -48,8 +48,14 @@ impl Model for Converter {
 
     ghost use Rattle.pm_device.specs.Start.{IsKept};
 
-    ghost view = { λ c. record { config = c.config; words = c.settings.words; page = c.page;
-        readings = c.readings; over = c.over; faults = c.faults } };
+    ghost view = { λ c. record {
+      config = c.config;
+      words = c.settings.words;
+      page = c.page;
+      readings = c.readings;
+      over = c.over;
+      faults = c.faults;
+    } };
 
     ghost invariant = { λ c. IsKept c.config c.formats.each c.settings.count c.page c.over };
 }

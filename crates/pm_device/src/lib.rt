@@ -15,6 +15,7 @@ mod config;
 mod converter;
 mod formats;
 mod heard;
+mod laws;
 mod over;
 mod readings;
 mod status;
@@ -23,4 +24,8 @@ mod verdict;
 pub use config::{Config, ConfigFault, OutputStart};
 pub use converter::Converter;
 pub use heard::{DeviceFault, Ending, Heard};
+pub use laws::{
+    pasts_are_followed, reads_are_answered, refusals_set_one_bit, words_have_an_origin,
+    writes_reach_one_cell,
+};
 pub use status::{StatusByte, StatusCml, StatusVout, StatusWord};

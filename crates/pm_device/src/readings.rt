@@ -21,7 +21,11 @@ impl Model for Readings {
     ghost Value = { Measured };
 
     ghost view = { λ r. record {
-        vout = r.vout; iout = r.iout; vin = r.vin; temperature = r.temperature } };
+      vout = r.vout;
+      iout = r.iout;
+      vin = r.vin;
+      temperature = r.temperature;
+    } };
 
     ghost invariant = { λ r. (length r.vout ≡ 8) × (length r.iout ≡ 8) };
 }

@@ -28,7 +28,13 @@ pub(crate) enum Verdict {
 impl Verdict {
     /// What bytes of any number come to.
     #[tactic(auto, unfolding(crate::specs::Verdict::verdict_of))]
-    pub(crate) fn of_bytes(config: &Config, settings: &Plain, page: u8, bytes: &[u8], ending: Ending) -> Verdict
+    pub(crate) fn of_bytes(
+        config: &Config,
+        settings: &Plain,
+        page: u8,
+        bytes: &[u8],
+        ending: Ending,
+    ) -> Verdict
         requires sound { IsSound config.now }
         requires count { settings.now.count ≡ config.now.count }
         requires page { page < config.now.count }

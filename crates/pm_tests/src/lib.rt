@@ -3,4 +3,6 @@
 #![tactic(auto)]
 
 #[cfg(test)]
+mod host;
+#[cfg(test)]
 mod model;

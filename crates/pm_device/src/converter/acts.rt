@@ -69,7 +69,8 @@ impl Converter {
     fn latch(&mut self, output: u8)
         requires { output < self.old.config.count }
         ensures { self.new ≡ record self.old {
-            over = latched self.old.config self.old.words self.old.over output } }
+          over = latched self.old.config self.old.words self.old.over output;
+        } }
     {
         let place = usize::from(output);
         if is_over(&self.config, &self.formats, &self.settings, place) {
@@ -81,7 +82,8 @@ impl Converter {
     fn unlatch(&mut self, output: u8)
         requires { output < self.old.config.count }
         ensures { self.new ≡ record self.old {
-            over = cleared self.old.config self.old.words self.old.over output } }
+          over = cleared self.old.config self.old.words self.old.over output;
+        } }
     {
         let place = usize::from(output);
         self.over[place] = is_over(&self.config, &self.formats, &self.settings, place);

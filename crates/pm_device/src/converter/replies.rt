@@ -73,9 +73,7 @@ impl Converter {
     {
         let addr = self.config.addr;
         match *request {
-            Message::PagePlusRead { page, code } => {
-                self.register_answer(request, page, code)
-            }
+            Message::PagePlusRead { page, code } => { self.register_answer(request, page, code) }
             Message::ReadCommand { code } => self.register_answer(request, self.page, code),
             _ => answer(addr, request, &self.config.coefficients.bytes()),
         }

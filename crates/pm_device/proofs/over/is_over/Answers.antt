@@ -1,4 +1,4 @@
-use Rattle.std.proofs.Common.{◌≡◌, ◌≤◌, ◌<◌, ◌∙◌, sym, ltb, false, arith}
+use Rattle.std.proofs.Common.{◌≡◌, ◌∙◌, sym, ltb, false, arith}
 use Rattle.std.proofs.lemmas.Bool.Decides.{nat_tests}
 use Rattle.pm_device.proofs.OverLemmas.{is_over-there, is_over-past}
 use Rattle.pm_device.proofs.over.is_over.Goals as goal
