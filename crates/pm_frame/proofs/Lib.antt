@@ -3,6 +3,7 @@ mod BetrayalLemmas
 mod Burst
 mod Carryless
 mod Codes
+mod DamageLemmas
 mod FewBits
 mod Fold
 mod Numbers

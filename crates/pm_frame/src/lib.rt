@@ -26,7 +26,7 @@ mod tests;
 mod view;
 
 use arrayvec::ArrayVec;
-pub use betrayal::{betrayal_is_refused, is_betrayed};
+pub use betrayal::{betrayal_is_refused, damage_is_betrayed, is_betrayed};
 pub use fault::FrameFault;
 pub use laws::{
     answers_are_exact, bursts_are_betrayed, damage_is_refused, few_changes_are_betrayed,

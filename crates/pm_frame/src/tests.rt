@@ -6,7 +6,9 @@ mod frames;
 pub(crate) mod framing;
 mod layouts;
 
-use crate::{FrameFault, answer, fits, read_answer, read_request, read_write, write_part};
+use crate::{
+    FrameFault, answer, fits, is_betrayed, read_answer, read_request, read_write, write_part,
+};
 use frames::{READS, WRITES};
 use pm_table::address_ok;
 
@@ -20,6 +22,7 @@ fn a_write_is_put_on_the_wire_and_read_again(rt: HostRuntime) {
         );
         let sent = write_part(row.addr, &row.message);
         assert_eq!(rt; sent.as_slice(), row.bytes, "{:?}", row.message);
+        assert!(rt; !is_betrayed(&[], row.bytes), "{:?}", row.message);
         match read_write(row.addr, row.bytes) {
             Ok(view) => {
                 assert_eq!(rt; view.message(), row.message);
@@ -65,8 +68,11 @@ fn an_answer_is_put_on_the_wire_and_read_again(rt: HostRuntime) {
         assert_eq!(rt; row.answered.len(), request.answer_length(), "{request:?}");
         let sent = answer(row.addr, &request, row.answered);
         assert_eq!(rt; sent.as_slice(), row.answer, "{request:?}");
+        assert_eq!(rt; row.answer.len(), request.whole_answer(), "{request:?}");
         let found = read_answer(row.addr, &request, row.answer);
         assert_eq!(rt; found, Ok(row.answered), "{request:?}");
+        assert!(rt; !is_betrayed(row.request, row.answer), "{request:?}");
+        assert!(rt; is_betrayed(&row.request[1..], row.answer), "{request:?}");
     }
 }
 
