@@ -1,3 +1,5 @@
 mod Ends
 mod Exchanges
 mod Frames
+mod Lives
+mod Runs

@@ -1,14 +1,15 @@
 -- The life of a world: what its events make the two ends live through, one event after another. A
 -- list of events is newest first, and so are the pasts of the ends.
-use Rattle.std.specs.Prelude.{◌≡◌, ℕ, List, [], ◌∷◌, ◌++◌, length, Option, None, option_to_list}
+use Rattle.std.specs.Prelude.{◌≡◌, ℕ, List, [], ◌∷◌, ◌++◌, length, reverse, take, slice_get, Option, Some, None, IsSomeAnd, option_to_list}
 use Rattle.pm_device.specs.declared.config.Config.{Config}
 use Rattle.pm_device.specs.Effect as device
 use Rattle.pm_device.specs.History.{now as device_now}
 use Rattle.pm_host.specs.Now.{now as host_now}
 use Rattle.pm_host.specs.Transcript as host
 use Rattle.pm_world.specs.declared.event.Event.{Event}
+use Rattle.pm_world.specs.declared.stop.Stop.{Stop}
 use Rattle.pm_world.specs.Setup.{setup_of}
-use Rattle.pm_world.specs.State.{State, Share, share_of, IsTaken}
+use Rattle.pm_world.specs.State.{State, Share, share_of, next, cause_of, IsTaken}
 
 -- what the converter heard, measured and was restarted by, and what the host was told
 pub record Life : Type 0 where
@@ -47,3 +48,31 @@ abbrev pub AreTaken : Config → ℕ → List Event → Type 0
 AreTaken config passes [] = Unit {0}
 AreTaken config passes (event ∷ before) =
     IsTaken (now config passes before) event × AreTaken config passes before
+
+-- what events make of a world, newest first, one after another; and that each of them was taken
+abbrev pub after_all : State → List Event → State
+after_all s [] = s
+after_all s (event ∷ before) = next (after_all s before) event
+
+abbrev pub AreTakenFrom : State → List Event → Type 0
+AreTakenFrom s [] = Unit {0}
+AreTakenFrom s (event ∷ before) = IsTaken (after_all s before) event × AreTakenFrom s before
+
+-- the events of a run that were taken, newest first: those before its stop, or all
+abbrev pub taken_events : List Event → Option Stop → List Event
+taken_events events None = reverse events
+taken_events events (Some stop) = reverse (take stop.at events)
+
+-- the same of events that come upon a world
+abbrev pub StopsFrom : State → List Event → Option Stop → Type 0
+StopsFrom s events None = Unit {0}
+StopsFrom s events (Some stop) =
+    IsSomeAnd (slice_get events stop.at)
+    (λ event. cause_of (after_all s (taken_events events (Some stop))) event ≡ Some stop.cause)
+
+-- a run stops at an event of its list, with the cause that this event has, and only there
+abbrev pub StopsAt : Config → ℕ → List Event → Option Stop → Type 0
+StopsAt config passes events None = Unit {0}
+StopsAt config passes events (Some stop) =
+    IsSomeAnd (slice_get events stop.at)
+    (λ event. cause_of (now config passes (taken_events events (Some stop))) event ≡ Some stop.cause)

@@ -2,10 +2,12 @@
 #![tactic(auto)]
 
 mod event;
+mod laws;
 mod legal;
 mod stop;
 mod world;
 
 pub use event::{Arrival, Back, Event};
+pub use laws::lives_are_followed;
 pub use stop::{Cause, SetupFault, Stop};
 pub use world::World;

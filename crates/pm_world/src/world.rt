@@ -4,7 +4,10 @@ ghost use Rattle.pm_table.specs.Address.{IsAddress};
 ghost use Rattle.pm_frame.specs.declared.message.Message.{Message as Spoken};
 ghost use Rattle.pm_frame.specs.Fault.{whole_answer};
 ghost use Rattle.pm_frame.specs.Layout.{IsRequest};
-ghost use Rattle.pm_world.specs.Setup.{start, setup_fault};
+ghost use Rattle.pm_device.specs.Start.{IsSound};
+ghost use Rattle.pm_host.specs.Refusals.{IsSetup};
+ghost use Rattle.pm_world.specs.Setup.{setup_of, start, setup_fault};
+ghost use Rattle.pm_world.specs.Life.{now, taken_events, after_all, AreTaken, AreTakenFrom, StopsAt, StopsFrom};
 ghost use Rattle.pm_world.specs.State.{Steps, Acts, shared, tells, hears, end_by as spec_end_by};
 ghost use Rattle.pm_host.specs.Refusals.{may_come};
 ghost use Rattle.pm_host.specs.Told.{entry_told};
@@ -17,7 +20,8 @@ use crate::legal::{
     answer_in, back_bytes, heard_bytes, heard_ending, is_heard_whole, is_legal_hearing,
     is_legal_return,
 };
-use crate::stop::{Cause, SetupFault};
+use crate::laws::lives_are_followed;
+use crate::stop::{Cause, SetupFault, Stop};
 use pm_device::{Config, Converter, Ending};
 use pm_frame::read_request;
 use pm_host::{Host, JobEnd, Step, Told, transcripts_are_followed};
@@ -61,6 +65,7 @@ impl World {
     #[tactic(auto, unfolding(crate::specs::Setup::start, crate::specs::Setup::setup_fault))]
     pub fn new(c: Config, passes: u8) -> Result<World, SetupFault>
         ensures made { IfOk result (λ world. world ≡ start c passes) }
+        ensures sound { OnOk result (IsSound c × IsSetup (setup_of c passes)) }
         ensures fault { result_err result ≡ setup_fault c passes }
     {
         let device = match Converter::new(c) {
@@ -78,6 +83,29 @@ impl World {
             end: None,
             taken: 0,
         })
+    }
+
+    /// A new world, and then one event after another up to the first that isn't taken. `Err` is why
+    /// no world is made.
+    ///
+    /// What the clauses call the taken events are the first ones of the list, as many as the stop
+    /// says, or all of them; newest first, as lives are. The world is what its definition says of
+    /// them (`now`), each of them was taken (`all`), and the run stops exactly at the first event
+    /// that has a cause, with that cause (`stop`).
+    pub fn run(c: Config, passes: u8, events: &[Event]) -> Result<(World, Option<Stop>), SetupFault>
+        ensures fault { result_err result ≡ setup_fault c passes }
+        ensures now { IfOk result (λ run.
+            run.0 ≡ now c passes (taken_events events.now run.1)) }
+        ensures all { IfOk result (λ run. AreTaken c passes (taken_events events.now run.1)) }
+        ensures stop { IfOk result (λ run. StopsAt c passes events.now run.1) }
+    {
+        lives_are_followed();
+        let mut world = match World::new(c, passes) {
+            Ok(world) => world,
+            Err(fault) => return Err(fault),
+        };
+        let stop = world.run_up(events);
+        Ok((world, stop))
     }
 
     /// Lets an event happen. `Err` is the first cause against it, in the order of [`Cause`]; then
@@ -114,6 +142,20 @@ impl World {
         ensures { result ≡ self.now.end }
     {
         self.end
+    }
+
+    // One event after another, up to the first that isn't taken.
+    fn run_up(&mut self, events: &[Event]) -> Option<Stop>
+        ensures after { self.new ≡ after_all self.old (taken_events events.now result) }
+        ensures all { AreTakenFrom self.old (taken_events events.now result) }
+        ensures stop { StopsFrom self.old events.now result }
+    {
+        for (at, event) in events.iter().enumerate() {
+            if let Err(cause) = self.step(event) {
+                return Some(Stop { at, cause });
+            }
+        }
+        None
     }
 
     // What an event does, in a world that isn't full.

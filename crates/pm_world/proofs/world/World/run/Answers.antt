@@ -1,0 +1,37 @@
+use Rattle.std.proofs.Common.{◌≡◌, ℕ, List, Option, Some, None, sym, ◌∙◌, ap, subst}
+use Rattle.std.specs.Prelude.{slice_get, IsSomeAnd}
+use Rattle.pm_device.specs.declared.config.Config.{Config}
+use Rattle.pm_world.specs.declared.event.Event.{Event}
+use Rattle.pm_world.specs.declared.stop.Stop.{Stop}
+use Rattle.pm_world.specs.Setup.{start}
+use Rattle.pm_world.specs.State.{State, cause_of}
+use Rattle.pm_world.specs.Life.{now, taken_events, after_all, AreTaken, AreTakenFrom, StopsAt, StopsFrom}
+use Rattle.pm_world.proofs.world.World.run.Goals as goal
+
+-- the life of the taken events, from what they made of the start
+stops : (config : Config) (passes : ℕ) (events : List Event) (stop : Option Stop) → now config passes (taken_events events stop) ≡ after_all (start config passes) (taken_events events stop) →
+    StopsFrom (start config passes) events stop → StopsAt config passes events stop
+stops config passes events None same h = tt
+stops config passes events (Some stop) same h =
+    subst (λ (s : State). IsSomeAnd (slice_get events stop.at) (λ event. cause_of s event ≡ Some stop.cause)) (sym same) h
+
+pub returns-clause-now : goal.returns-clause-now
+returns-clause-now c =
+    let new = c.in-Ok.ensures {u = tt} in
+    let es = taken_events c.args.events.now c.run_up-stop.result in
+    let so = c.lives_are_followed.ensures.from_start c.args.c c.args.passes es new.sound.0 new.sound.1 (subst (λ (s : State). AreTakenFrom s es) new.made c.run_up-stop.ensures.all) in
+    c.run_up-stop.ensures.after ∙ (ap (λ (s : State). after_all s es) new.made ∙ sym so.1)
+
+pub returns-clause-all : goal.returns-clause-all
+returns-clause-all c =
+    let new = c.in-Ok.ensures {u = tt} in
+    let es = taken_events c.args.events.now c.run_up-stop.result in
+    (c.lives_are_followed.ensures.from_start c.args.c c.args.passes es new.sound.0 new.sound.1 (subst (λ (s : State). AreTakenFrom s es) new.made c.run_up-stop.ensures.all)).0
+
+pub returns-clause-stop : goal.returns-clause-stop
+returns-clause-stop c =
+    let new = c.in-Ok.ensures {u = tt} in
+    let es = taken_events c.args.events.now c.run_up-stop.result in
+    let so = c.lives_are_followed.ensures.from_start c.args.c c.args.passes es new.sound.0 new.sound.1 (subst (λ (s : State). AreTakenFrom s es) new.made c.run_up-stop.ensures.all) in
+    stops c.args.c c.args.passes c.args.events.now c.run_up-stop.result so.1
+    (subst (λ (s : State). StopsFrom s c.args.events.now c.run_up-stop.result) new.made c.run_up-stop.ensures.stop)
