@@ -17,6 +17,7 @@ mod text;
 mod words;
 
 pub use bytes::push_bytes;
+pub use cut::cut_at;
 pub use fault::TextFault;
 pub use line::Line;
 pub use lines::Lines;
