@@ -27,20 +27,32 @@ register_back MarginLow = refl
 
 register_number-back : (k : ℕ) → k < 5 → register_number (register_at k) ≡ k
 register_number-back k below =
-    elim (cases_eq k 0) [ inl e ↦ rw e refl | inr n0 ↦
-    elim (cases_eq k 1) [ inl e ↦ rw e refl | inr n1 ↦
-    elim (cases_eq k 2) [ inl e ↦ rw e refl | inr n2 ↦
-    elim (cases_eq k 3) [ inl e ↦ rw e refl | inr n3 ↦
-      rw (ne_eqb k 0 n0, ne_eqb k 1 n1, ne_eqb k 2 n2, ne_eqb k 3 n3) (omega arith) ] ] ] ]
+    elim (cases_eq k 0) [
+      | inl e ↦ rw e refl
+      | inr n0 ↦
+          elim (cases_eq k 1) [
+            | inl e ↦ rw e refl
+            | inr n1 ↦
+                elim (cases_eq k 2) [
+                  | inl e ↦ rw e refl
+                  | inr n2 ↦
+                      elim (cases_eq k 3) [
+                        | inl e ↦ rw e refl
+                        | inr n3 ↦
+                            rw (ne_eqb k 0 n0, ne_eqb k 1 n1, ne_eqb k 2 n2, ne_eqb k 3 n3) (omega arith)
+                      ]
+                ]
+          ]
+    ]
 
 -- a place is that of its cell
 pub place_back : (k : ℕ) → place_of (cell_in k) ≡ k
 place_back k =
     elim (cases_eq k protect_place) [
-      inl e ↦ rw (e) refl
-    | inr apart ↦
-        rw (ne_eqb k protect_place apart)
-        (let r : register_number (register_at (k % 5)) ≡ k % 5 = register_number-back (k % 5) (omega arith) in omega arith)
+      | inl e ↦ rw (e) refl
+      | inr apart ↦
+          rw (ne_eqb k protect_place apart)
+          (let r : register_number (register_at (k % 5)) ≡ k % 5 = register_number-back (k % 5) (omega arith) in omega arith)
     ]
 
 -- a cell is that of its place
@@ -76,8 +88,8 @@ same_place Protect Protect h = refl
 pub other_place : (c : Cell) (k : ℕ) → (k ≡ place_of c → ⊥) → same_cell c (cell_in k) ≡ false
 other_place c k apart =
     elim (cases_Bool (same_cell c (cell_in k))) [
-      inl h ↦ absurd (apart (sym (same_place c (cell_in k) h ∙ place_back k)))
-    | inr h ↦ h
+      | inl h ↦ absurd (apart (sym (same_place c (cell_in k) h ∙ place_back k)))
+      | inr h ↦ h
     ]
 
 pub length-table : {X : Type 0} (n : ℕ) (f : Cell → X) → length (table n f) ≡ n
@@ -97,24 +109,24 @@ pub table-set : {X : Type 0} (n : ℕ) (f g : Cell → X) (c : Cell) (v : X) →
     → ((d : Cell) → same_cell c d ≡ false → g d ≡ f d) → table n g ≡ set (table n f) (place_of c) v
 table-set n f g c v there below at others =
     same_lists _ _ (length-table n g ∙ sym (length-set (table n f) (place_of c) v ∙ length-table n f)) (λ k d h.
-      let within : k < n = let l = length-table n g in omega arith in
-      let inside : place_of c < length (table n f) = let l = length-table n f in omega arith in
-      elim (cases_eq k (place_of c)) [
-        inl e ↦ rw e (table-at n g c d there below ∙ at ∙ sym (get_or-set_same (table n f) (place_of c) v d inside))
+    let within : k < n = let l = length-table n g in omega arith in
+    let inside : place_of c < length (table n f) = let l = length-table n f in omega arith in
+    elim (cases_eq k (place_of c)) [
+      | inl e ↦ rw e (table-at n g c d there below ∙ at ∙ sym (get_or-set_same (table n f) (place_of c) v d inside))
       | inr apart ↦
           get_or-table n g k d within ∙ others (cell_in k) (other_place c k apart) ∙ sym (get_or-table n f k d within)
           ∙ sym (get_or-set_other (table n f) (place_of c) k v d apart)
-      ])
+    ])
 
 -- the same element for each
 pub table-same : {X : Type 0} (n : ℕ) (f : Cell → X) (v : X) → ((c : Cell) → f c ≡ v) → table n f ≡ replicate n v
 table-same n f v same =
     same_lists _ _ (length-table n f ∙ sym (length-replicate n v)) (λ k d h.
-      let within : k < n = let l = length-table n f in omega arith in
-      get_or-table n f k d within ∙ same (cell_in k) ∙ sym (get_or-replicate n k v d within))
+    let within : k < n = let l = length-table n f in omega arith in
+    get_or-table n f k d within ∙ same (cell_in k) ∙ sym (get_or-replicate n k v d within))
 
 pub table-agree : {X : Type 0} (n : ℕ) (f g : Cell → X) → ((c : Cell) → f c ≡ g c) → table n f ≡ table n g
 table-agree n f g same =
     same_lists _ _ (length-table n f ∙ sym (length-table n g)) (λ k d h.
-      let within : k < n = let l = length-table n f in omega arith in
-      get_or-table n f k d within ∙ same (cell_in k) ∙ sym (get_or-table n g k d within))
+    let within : k < n = let l = length-table n f in omega arith in
+    get_or-table n f k d within ∙ same (cell_in k) ∙ sym (get_or-table n g k d within))

@@ -100,15 +100,15 @@ format_set n l f shape below =
     let R = range_with_len 0 n in
     let long = length-map-range_with_len f 0 n in
     same_lists _ _ (length-map-range_with_len g 0 n ∙ sym (length-set (map f R) l (Some shape) ∙ long)) (λ k d h.
-      let within : k < n = let m = length-map-range_with_len g 0 n in omega arith in
-      let inside : l < length (map f R) = omega arith in
-      get_or-map-range_with_len g 0 n k k d within (omega arith) ∙ elim (cases_eq k l) [
-        inl e ↦ rw (e, eq-eqb l l refl, get_or-set_same (map f R) l (Some shape) d inside) refl
+    let within : k < n = let m = length-map-range_with_len g 0 n in omega arith in
+    let inside : l < length (map f R) = omega arith in
+    get_or-map-range_with_len g 0 n k k d within (omega arith) ∙ elim (cases_eq k l) [
+      | inl e ↦ rw (e, eq-eqb l l refl, get_or-set_same (map f R) l (Some shape) d inside) refl
       | inr apart ↦
           let other : l ≡ k → ⊥ = λ e. apart (sym e) in
           rw (ne_eqb l k other, get_or-set_other (map f R) l k (Some shape) d apart)
           (sym (get_or-map-range_with_len f 0 n k k d within (omega arith)))
-      ])
+    ])
 
 format_found : (l : ℕ) (f : ℕ → Option Shape) (x : Option Shape) → l < 8
     → map (λ o. option_or (cond (eqb l o) x None) (f o)) (range_with_len 0 8) ≡ formats_set (map f (range_with_len 0 8)) l x
@@ -180,7 +180,7 @@ IsJob-told setup (Restarted ∷ es) h = tt
 -- one more entry
 same_turn : (setup : Setup) (stage : Option Stage) (f g : List (Option Shape)) (k l : Known) (step : Step) → f ≡ g → k ≡ l
     → ◌≡◌ {A = Turn} (record { after = record { setup = setup; stage = stage; formats = f; known = k }; step = step })
-      (record { after = record { setup = setup; stage = stage; formats = g; known = l }; step = step })
+    (record { after = record { setup = setup; stage = stage; formats = g; known = l }; step = step })
 same_turn setup stage f g k l step e h = rw (e, h) refl
 
 -- what the call that brings an entry does, and what the look back says after it
@@ -191,26 +191,26 @@ turn-now setup es (Accepted job) made there h =
     let job_there = IsJob-from (now setup es) job h in
     accepted_follows (now setup es) job made.one_pass
     ∙ same_turn setup _ _ _ _ _ _
-      (sym (formats_found setup (Some job) [] (format_of_output setup es) made.few_outputs job_there ∙ formats_accepted setup job _))
-      (sym (known_now-more (puts_by setup (Some job) []) (marks setup es)
-        (put_by-marks setup (Some job) [] made.few_outputs job_there (is_none (end_by setup (Some job) [])))))
+    (sym (formats_found setup (Some job) [] (format_of_output setup es) made.few_outputs job_there ∙ formats_accepted setup job _))
+    (sym (known_now-more (puts_by setup (Some job) []) (marks setup es)
+    (put_by-marks setup (Some job) [] made.few_outputs job_there (is_none (end_by setup (Some job) [])))))
 turn-now setup es (Finished acked) made there h =
     let writes = WritesBy-from setup (last_job es) (told_since es) h in
     finished_follows (idle (now setup es)) (last_job es) (told_since es) acked writes
     ∙ same_turn setup _ _ _ _ _ _
-      (sym (formats_found setup (last_job es) (Finished acked ∷ told_since es) (format_of_output setup es) made.few_outputs there
-        ∙ formats_finished setup (last_job es) (told_since es) (Finished acked) _ writes))
-      refl
+    (sym (formats_found setup (last_job es) (Finished acked ∷ told_since es) (format_of_output setup es) made.few_outputs there
+    ∙ formats_finished setup (last_job es) (told_since es) (Finished acked) _ writes))
+    refl
 turn-now setup es (Got bytes) made there h =
     let reads = ReadsBy-from setup (last_job es) (told_since es) h in
     got_follows (idle (now setup es)) (last_job es) (told_since es) bytes made.one_pass reads
     ∙ same_turn setup _ _ _ _ _ _
-      (sym (formats_found setup (last_job es) (Got bytes ∷ told_since es) (format_of_output setup es) made.few_outputs there))
-      (sym (known_now-more (puts_by setup (last_job es) (Got bytes ∷ told_since es)) _
-        (put_by-marks setup (last_job es) (Got bytes ∷ told_since es) made.few_outputs there (is_none (end_by setup (last_job es) (Got bytes ∷ told_since es))))
-        ∙ ap (λ k. known_more k (puts_by setup (last_job es) (Got bytes ∷ told_since es)))
-          (known_now-more (goods_by setup (last_job es) (told_since es) bytes) (marks setup es)
-            (goods_by-marks setup (last_job es) (told_since es) bytes made.few_outputs there (is_none (end_by setup (last_job es) (told_since es)))))))
+    (sym (formats_found setup (last_job es) (Got bytes ∷ told_since es) (format_of_output setup es) made.few_outputs there))
+    (sym (known_now-more (puts_by setup (last_job es) (Got bytes ∷ told_since es)) _
+    (put_by-marks setup (last_job es) (Got bytes ∷ told_since es) made.few_outputs there (is_none (end_by setup (last_job es) (Got bytes ∷ told_since es))))
+    ∙ ap (λ k. known_more k (puts_by setup (last_job es) (Got bytes ∷ told_since es)))
+    (known_now-more (goods_by setup (last_job es) (told_since es) bytes) (marks setup es)
+    (goods_by-marks setup (last_job es) (told_since es) bytes made.few_outputs there (is_none (end_by setup (last_job es) (told_since es)))))))
 turn-now setup es Restarted made there h =
     same_turn setup None _ _ _ _ Next refl (sym (known_now-next (marks setup es) Restart tt))
 

@@ -54,8 +54,8 @@ possible_of-good_other : (ms : List Mark) (c d : Cell) (w : ℕ) → same_cell c
 unfolding possible_of
 possible_of-good_other ms c d w other =
     rw other (elim (cases_Bool (is_possible w (possible_from (words_since ms c)))) [
-      inl h ↦ rw h refl
-    | inr h ↦ rw h refl
+      | inl h ↦ rw h refl
+      | inr h ↦ rw h refl
     ])
 
 standing_of-other : (ms : List Mark) (c d : Cell) (w : ℕ) → same_cell c d ≡ false

@@ -11,18 +11,18 @@ is_listed-filter : (w x : ℕ) → (x ≡ w → ⊥) → (ys : List ℕ) → is_
 is_listed-filter w x differ [] = refl
 is_listed-filter w x differ (y ∷ ys) =
     elim (cases_eq y x) [
-      inl same ↦
-        let other : y ≡ w → ⊥ = λ e. differ (sym same ∙ e) in
-        rw (eq-eqb y x same, ne_eqb y w other) (is_listed-filter w x differ ys)
-    | inr apart ↦ rw (ne_eqb y x apart) (ap (λ b. eqb y w || b) (is_listed-filter w x differ ys))
+      | inl same ↦
+          let other : y ≡ w → ⊥ = λ e. differ (sym same ∙ e) in
+          rw (eq-eqb y x same, ne_eqb y w other) (is_listed-filter w x differ ys)
+      | inr apart ↦ rw (ne_eqb y x apart) (ap (λ b. eqb y w || b) (is_listed-filter w x differ ys))
     ]
 
 pub is_listed-once : (w : ℕ) (xs : List ℕ) → is_listed w (once xs) ≡ is_listed w xs
 is_listed-once w [] = refl
 is_listed-once w (x ∷ xs) =
     elim (cases_eq x w) [
-      inl same ↦ rw (eq-eqb x w same) refl
-    | inr apart ↦ ap (λ b. eqb x w || b) (is_listed-filter w x apart (once xs) ∙ is_listed-once w xs)
+      | inl same ↦ rw (eq-eqb x w same) refl
+      | inr apart ↦ ap (λ b. eqb x w || b) (is_listed-filter w x apart (once xs) ∙ is_listed-once w xs)
     ]
 
 -- one more word at the end
@@ -31,8 +31,8 @@ once_step : (w x : ℕ) (xs : List ℕ) (listed : Bool) → once (xs ++ w ∷ []
 once_step w x xs true h = rw (h, or_right (eqb x w) true refl) refl
 once_step w x xs false h =
     rw (h, filter-append (λ y. not (eqb y x)) (once xs) (w ∷ [])) (elim (cases_eq x w) [
-      inl same ↦ rw (eq-eqb x w same, eq-eqb w x (sym same)) (ap (λ ys. x ∷ ys) (append-nil _))
-    | inr apart ↦ rw (ne_eqb x w apart, ne_eqb w x (λ e. apart (sym e))) refl
+      | inl same ↦ rw (eq-eqb x w same, eq-eqb w x (sym same)) (ap (λ ys. x ∷ ys) (append-nil _))
+      | inr apart ↦ rw (ne_eqb x w apart, ne_eqb w x (λ e. apart (sym e))) refl
     ])
 
 pub once-push : (w : ℕ) (xs : List ℕ) → once (xs ++ w ∷ []) ≡ cond (is_listed w xs) (once xs) (once xs ++ w ∷ [])

@@ -95,7 +95,7 @@ open_order setup (Got bytes ∷ es) c w made told is =
     let odd = (reads_order setup (last_job es) (told_since es) c w last reads).1 in
     marked_facts _ (goods setup es bytes ++ marks setup es) c w
     (put_newest (open_job setup (Got bytes ∷ es)) (told_since (Got bytes ∷ es)) c w (goods setup es bytes ++ marks setup es) is
-      (turn_after_read (length (told_since es)) setup.passes odd).0)
+    (turn_after_read (length (told_since es)) setup.passes odd).0)
 open_order setup (Restarted ∷ es) c w made told is = absurd (none-some (Order c w) (open_is_last setup (Restarted ∷ es) (Order c w) is).0)
 
 -- what a host holds of its open job is sound
@@ -117,10 +117,10 @@ ordering setup es c w n turn' made told is left =
       unknown = known_now-standing (marks setup es) c eight ∙ facts.1;
       left = below;
     }) where
-  ordering_step : (turn' : Bool) → IsLeft setup.passes (Some (cond turn' (Writes c w n) (Reads c w n)))
-      → (n < setup.passes → IsOrdering (now setup es) c w n) → IsStage (now setup es) (Some (cond turn' (Writes c w n) (Reads c w n)))
-  ordering_step true left f = f left
-  ordering_step false left f = f left
+      ordering_step : (turn' : Bool) → IsLeft setup.passes (Some (cond turn' (Writes c w n) (Reads c w n)))
+          → (n < setup.passes → IsOrdering (now setup es) c w n) → IsStage (now setup es) (Some (cond turn' (Writes c w n) (Reads c w n)))
+      ordering_step true left f = f left
+      ordering_step false left f = f left
 
 learning : (setup : Setup) (es : List Entry) (o m n : ℕ) (known : Bool) → o < setup.outputs
     → IsLeft setup.passes (Some (cond known (AsksCoefficients o m) (AsksMode o n)))
@@ -196,16 +196,16 @@ learn_bound setup (Finished acked ∷ es) o made told is known =
     absurd (no_learn_writes setup (last_job es) (told_since es) o is (finished_writes setup es acked told))
 learn_bound setup (Got bytes ∷ es) o made told is known =
     step (mode_told setup o (told_since es)) refl (λ mode. learn_bound setup es o made told.1 is mode) where
-  step : (m : Option ℕ) → mode_told setup o (told_since es) ≡ m
-      → (is_some (mode_told setup o (told_since es)) ≡ true → length (told_since es) ≤ setup.passes + coefficients_tries setup o (told_since es))
-      → length (told_since (Got bytes ∷ es)) ≤ setup.passes + coefficients_tries setup o (told_since (Got bytes ∷ es))
-  step None m earlier =
-      let opened : open_job setup es ≡ Some (Learn o) = unfold open_job in unfold end_of in learn_is_open setup (last_job es) (told_since es) o is (got_reads setup es bytes told) in
-      let below : length (told_since es) < setup.passes = mode_left setup es o opened m (told-left setup es made told.1) in
-      rw m (omega arith)
-  step (Some b) m earlier =
-      let before : length (told_since es) ≤ setup.passes + coefficients_tries setup o (told_since es) = earlier (rw m refl) in
-      rw m (omega arith)
+      step : (m : Option ℕ) → mode_told setup o (told_since es) ≡ m
+          → (is_some (mode_told setup o (told_since es)) ≡ true → length (told_since es) ≤ setup.passes + coefficients_tries setup o (told_since es))
+          → length (told_since (Got bytes ∷ es)) ≤ setup.passes + coefficients_tries setup o (told_since (Got bytes ∷ es))
+      step None m earlier =
+          let opened : open_job setup es ≡ Some (Learn o) = unfold open_job in unfold end_of in learn_is_open setup (last_job es) (told_since es) o is (got_reads setup es bytes told) in
+          let below : length (told_since es) < setup.passes = mode_left setup es o opened m (told-left setup es made told.1) in
+          rw m (omega arith)
+      step (Some b) m earlier =
+          let before : length (told_since es) ≤ setup.passes + coefficients_tries setup o (told_since es) = earlier (rw m refl) in
+          rw m (omega arith)
 learn_bound setup (Restarted ∷ es) o made told is known = absurd (false≢true known)
 
 order_bound : (n p : ℕ) (c : Cell) (w : ℕ) (turn' : Bool) → eqb (n % 2) 0 ≡ turn' → IsLeft p (Some (cond turn' (Writes c w (n / 2)) (Reads c w (n / 2)))) → n + 1 ≤ 2 * p

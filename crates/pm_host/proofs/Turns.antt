@@ -172,11 +172,16 @@ turn_after_write n h =
 pub turn_after_read : (n p : ℕ) → eqb (n % 2) 0 ≡ false → (eqb (suc n % 2) 0 ≡ true) × ((suc n / 2 ≡ n / 2 + 1) × (eqb (n / 2 + 1) p ≡ eqb (suc n) (2 * p)))
 turn_after_read n p h =
     let odd : n % 2 ≡ 0 → ⊥ = eqb-false (n % 2) 0 h in
-    let even : suc n % 2 ≡ 0 = omega arith in
-    (eq-eqb (suc n % 2) 0 even, (omega arith, elim (cases_eq (n / 2 + 1) p) [
-      inl e ↦ let f : suc n ≡ 2 * p = omega arith in rw (eq-eqb (n / 2 + 1) p e, eq-eqb (suc n) (2 * p) f) refl
-    | inr ne ↦ let f : suc n ≡ 2 * p → ⊥ = λ g. ne (omega arith) in rw (ne_eqb (n / 2 + 1) p ne, ne_eqb (suc n) (2 * p) f) refl
-    ]))
+    let even : suc n % 2 ≡ 0 = omega arith in (
+      eq-eqb (suc n % 2) 0 even,
+      (
+        omega arith,
+        elim (cases_eq (n / 2 + 1) p) [
+          | inl e ↦ let f : suc n ≡ 2 * p = omega arith in rw (eq-eqb (n / 2 + 1) p e, eq-eqb (suc n) (2 * p) f) refl
+          | inr ne ↦ let f : suc n ≡ 2 * p → ⊥ = λ g. ne (omega arith) in rw (ne_eqb (n / 2 + 1) p ne, ne_eqb (suc n) (2 * p) f) refl
+        ],
+      ),
+    )
 
 -- the write of an order was sent
 order_finished : (s : Summary) (c : Cell) (w : ℕ) (told : List Entry) (acked : Bool) → WritesBy s.setup (Some (Order c w)) told

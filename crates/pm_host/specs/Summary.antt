@@ -35,6 +35,15 @@ pub record Summary : Type 0 where
   -- what is known of the cells
   pub known : Known
 
+-- the summary of these parts
+abbrev pub summary : (addr outputs passes : ℕ) → Option Stage → List (Option Shape) → Known → Summary
+summary addr outputs passes stage formats known = record {
+  setup = record { addr = addr; outputs = outputs; passes = passes };
+  stage = stage;
+  formats = formats;
+  known = known;
+}
+
 -- the words that a cell may hold, what is said of it, and the format of an output's voltages
 abbrev pub possible_at : Summary → Cell → Possible
 possible_at s cell = known_possible s.known cell

@@ -55,19 +55,12 @@ impl Model for Host {
     ghost use Rattle.std.specs.Prelude.{IfSome};
     ghost use Rattle.pm_host.specs.Messages.{IsFrameOf};
     ghost use Rattle.pm_host.specs.Sound.{IsSound};
-    ghost use Rattle.pm_host.specs.Summary.{stage_message};
+    ghost use Rattle.pm_host.specs.Summary.{summary, stage_message};
 
-    ghost view = { λ h. record {
-        setup = record { addr = h.addr; outputs = h.outputs; passes = h.passes };
-        stage = h.stage;
-        formats = h.formats;
-        known = h.knowledge } };
+    ghost view = { λ h. summary h.addr h.outputs h.passes h.stage h.formats h.knowledge };
 
-    ghost invariant = { λ h. IsSound (record {
-        setup = record { addr = h.addr; outputs = h.outputs; passes = h.passes };
-        stage = h.stage;
-        formats = h.formats;
-        known = h.knowledge })
+    ghost invariant = { λ h.
+        IsSound (summary h.addr h.outputs h.passes h.stage h.formats h.knowledge)
         × IfSome h.stage (λ stage. IsFrameOf h.addr (stage_message stage) h.frame.items) };
 }
 

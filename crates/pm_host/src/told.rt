@@ -3,9 +3,7 @@
 pub enum Told<'a> {
     /// A write was sent. `acked` says whether every byte was acknowledged; the host never takes that
     /// for the cell's having the word.
-    Finished {
-        acked: bool,
-    },
+    Finished { acked: bool },
     /// A request was sent, and these bytes came back: none where there was no answer.
     Got(&'a [u8]),
 }

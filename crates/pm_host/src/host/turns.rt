@@ -167,7 +167,12 @@ impl Host {
     }
 
     /// A learn read COEFFICIENTS.
-    pub(super) fn coefficients_told(&mut self, output: u8, tries: u8, told: Option<Coefficients>) -> Step
+    pub(super) fn coefficients_told(
+        &mut self,
+        output: u8,
+        tries: u8,
+        told: Option<Coefficients>,
+    ) -> Step
         requires few { self.old.setup.passes ≤ 15 }
         requires idle { self.old.stage ≡ None }
         requires asking { IsAsking self.old output tries }

@@ -16,6 +16,6 @@ returns-in-Err-clause-fault g c =
     let within = g.met.F.NumFormat.within f met.0 met.1 in
     let den = g.met.F.NumFormat.has_den f met.0 met.1 in
     sym (outside_fault-some (g.F.NumFormat.lowest f) (g.F.NumFormat.highest f) c.args.x c.in-Err.fault
-      (subst (λ (v : Ratio). 0 < v.den) met.2 den)
-      (subst (λ (v : Ratio). AtMost (g.F.NumFormat.lowest f) v) met.2 within.from_least)
-      c.in-Err.ensures.refused)
+    (subst (λ (v : Ratio). 0 < v.den) met.2 den)
+    (subst (λ (v : Ratio). AtMost (g.F.NumFormat.lowest f) v) met.2 within.from_least)
+    c.in-Err.ensures.refused)

@@ -10,6 +10,6 @@ unfolding all_any
 returns c =
     let items = c.from_fn.ensures.items in
     same_lists _ _ (items.long ∙ sym (length-replicate places Any)) (λ k d h.
-        let each = items.at k d (let l = items.long in search rules) in
-        let here : get_or c.from_fn.result k d ≡ Any = search rules in
-        here ∙ sym (get_or-replicate places k Any d (let l = items.long in search rules)))
+    let each = items.at k d (let l = items.long in search rules) in
+    let here : get_or c.from_fn.result k d ≡ Any = search rules in
+    here ∙ sym (get_or-replicate places k Any d (let l = items.long in search rules)))
