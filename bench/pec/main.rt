@@ -35,7 +35,12 @@ fn measure<R: Clock + Print>(rt: &R, message: &mut [u8], turns: u32) -> io::Resu
 }
 
 fn main(rt: HostRuntime) -> io::Result<()> {
-    for (length, turns) in [(8, 8_000_000), (16, 8_000_000), (256, 1_000_000), (1 << 20, 2_000)] {
+    for (length, turns) in [
+        (8, 8_000_000),
+        (16, 8_000_000),
+        (256, 1_000_000),
+        (1 << 20, 2_000),
+    ] {
         let mut message = vec![in rt.alloc(); 0x5A; length]?;
         measure(&rt, &mut message, turns)?;
     }
