@@ -3,6 +3,12 @@
 #![tactic(auto)]
 
 #[cfg(test)]
+mod fakes;
+#[cfg(test)]
 mod host;
 #[cfg(test)]
 mod model;
+#[cfg(test)]
+mod streams;
+#[cfg(test)]
+mod tool;
