@@ -15,8 +15,6 @@ mod answer;
 mod digits;
 mod fault;
 mod question;
-#[cfg(test)]
-mod tests;
 
 use answer::{Answer, answer_in, line};
 pub use fault::NumberFault;

@@ -1,9 +1,8 @@
 //! Lines and refusals of `number`, over a writer with little room.
 ghost use Rattle.std.specs.Prelude.{◌≤◌};
 
-use super::{NumberFault, number};
 use pm_num::NumFault;
-use pm_text::{Sink, TextFault};
+use pm_tool::{NumberFault, Sink, TextFault, number};
 use std::alloc::Global;
 use std::io;
 use std::io::Write;
