@@ -2,7 +2,9 @@ ghost use Rattle.std.specs.Prelude.{◌≡◌};
 ghost use Rattle.pm_table.specs.Cell.{IsCell};
 
 use pm_frame::{Frame, Message, answer, fits, pec};
-use pm_host::{Host, HostFault, JobEnd, Possible, Standing, Step, Told, transcripts_are_followed};
+use pm_host::{
+    Host, HostFault, JobEnd, Possible, Standing, Step, Told, transcripts_are_followed,
+};
 use pm_num::NumFault;
 use pm_table::{Cell, Reg};
 
@@ -161,29 +163,14 @@ fn an_order_is_done_by_a_good_answer_whatever_was_acknowledged(rt: HostRuntime) 
 fn an_order_in_microvolts_wants_a_learned_format(rt: HostRuntime) {
     let operation = Cell::Out(0, Reg::Operation);
     let mut bench = Bench::new();
-    assert_eq!(rt;
-        bench.order_micro(FIRST, 3_300_000),
-        Err(HostFault::FormatUnknown)
-    );
-    assert_eq!(rt;
-        bench.order_micro(operation, 3_300_000),
-        Err(HostFault::BadWord)
-    );
+    assert_eq!(rt; bench.order_micro(FIRST, 3_300_000), Err(HostFault::FormatUnknown));
+    assert_eq!(rt; bench.order_micro(operation, 3_300_000), Err(HostFault::BadWord));
     assert_eq!(rt; bench.learn(0), Ok(()));
     assert!(rt; bench.sends(&[0xB0, 0x06, 0x02, 0x00, 0x20]));
     assert_eq!(rt; bench.got(&[0xB1, 0x01, 0x14, 0x4E]), LEARNED);
-    assert_eq!(rt;
-        bench.order_micro(operation, 3_300_000),
-        Err(HostFault::BadWord)
-    );
-    assert_eq!(rt;
-        bench.order_micro(Cell::Protect, 0),
-        Err(HostFault::BadWord)
-    );
-    assert_eq!(rt;
-        bench.order_micro(SECOND, 3_300_000),
-        Err(HostFault::FormatUnknown)
-    );
+    assert_eq!(rt; bench.order_micro(operation, 3_300_000), Err(HostFault::BadWord));
+    assert_eq!(rt; bench.order_micro(Cell::Protect, 0), Err(HostFault::BadWord));
+    assert_eq!(rt; bench.order_micro(SECOND, 3_300_000), Err(HostFault::FormatUnknown));
     let refused = [
         (1_000_000_000_000_001, NumFault::TooLarge),
         (-1_000_000_000_000_001, NumFault::TooLarge),
@@ -191,11 +178,7 @@ fn an_order_in_microvolts_wants_a_learned_format(rt: HostRuntime) {
         (16_000_000, NumFault::AboveGreatest),
     ];
     for (x, fault) in refused {
-        assert_eq!(rt;
-            bench.order_micro(FIRST, x),
-            Err(HostFault::Num(fault)),
-            "{x}"
-        );
+        assert_eq!(rt; bench.order_micro(FIRST, x), Err(HostFault::Num(fault)), "{x}");
     }
     assert_eq!(rt; bench.order_micro(FIRST, 3_300_000), Ok(()));
     assert!(rt; bench.sends(&[0xB0, 0x05, 0x04, 0x00, 0x21, 0xCD, 0x34, 0x5A]));
@@ -301,10 +284,7 @@ fn a_restart_of_the_host_drops_the_job_and_the_formats(rt: HostRuntime) {
     assert_eq!(rt; bench.order_micro(FIRST, 1_000_000), Ok(()));
     bench.restart();
     assert!(rt; bench.sends(&[]) && !bench.host.sending_reads());
-    assert_eq!(rt;
-        bench.order_micro(FIRST, 1_000_000),
-        Err(HostFault::FormatUnknown)
-    );
+    assert_eq!(rt; bench.order_micro(FIRST, 1_000_000), Err(HostFault::FormatUnknown));
     assert!(rt; bench.may_hold(FIRST, &[]));
     assert_eq!(rt; bench.order(FIRST, 0x1000), Ok(()));
 }
@@ -326,10 +306,7 @@ fn a_seventeenth_word_is_too_uncertain(rt: HostRuntime) {
     assert_eq!(rt; bench.order(FIRST, 0x2010), Err(HostFault::TooUncertain));
     let above = Err(HostFault::Num(NumFault::AboveGreatest));
     assert_eq!(rt; bench.order_micro(FIRST, 16_000_000), above);
-    assert_eq!(rt;
-        bench.order_micro(FIRST, 3_300_000),
-        Err(HostFault::TooUncertain)
-    );
+    assert_eq!(rt; bench.order_micro(FIRST, 3_300_000), Err(HostFault::TooUncertain));
     assert_eq!(rt; bench.order(SECOND, 0x2010), Ok(()));
     assert_eq!(rt; bench.order(FIRST, 0x2010), Err(HostFault::Busy));
     assert_eq!(rt; bench.finish(true), NEXT);
@@ -353,41 +330,22 @@ fn each_refusal_comes_before_those_that_it_precedes(rt: HostRuntime) {
         (1, 1, None),
         (8, 15, None),
     ] {
-        assert_eq!(rt;
-            Host::new(0x08, outputs, passes).err(),
-            wanted,
-            "{outputs} {passes}"
-        );
+        assert_eq!(rt; Host::new(0x08, outputs, passes).err(), wanted, "{outputs} {passes}");
     }
     let mut bench = Bench::new();
     let operation = Cell::Out(2, Reg::Operation);
-    assert_eq!(rt;
-        bench.order(operation, 0xFFFF),
-        Err(HostFault::UnknownOutput)
-    );
-    assert_eq!(rt;
-        bench.order_micro(operation, i64::MAX),
-        Err(HostFault::UnknownOutput)
-    );
+    assert_eq!(rt; bench.order(operation, 0xFFFF), Err(HostFault::UnknownOutput));
+    assert_eq!(rt; bench.order_micro(operation, i64::MAX), Err(HostFault::UnknownOutput));
     assert_eq!(rt; bench.check(operation), Err(HostFault::UnknownOutput));
     assert_eq!(rt; bench.learn(2), Err(HostFault::UnknownOutput));
     assert_eq!(rt; bench.clear(255), Err(HostFault::UnknownOutput));
-    assert_eq!(rt;
-        bench.order(Cell::Out(1, Reg::Operation), 0xB0),
-        Err(HostFault::BadWord)
-    );
+    assert_eq!(rt; bench.order(Cell::Out(1, Reg::Operation), 0xB0), Err(HostFault::BadWord));
     assert_eq!(rt; bench.order(Cell::Protect, 0x60), Err(HostFault::BadWord));
-    assert_eq!(rt;
-        bench.order_micro(FIRST, i64::MAX),
-        Err(HostFault::FormatUnknown)
-    );
+    assert_eq!(rt; bench.order_micro(FIRST, i64::MAX), Err(HostFault::FormatUnknown));
     assert!(rt; bench.sends(&[]));
     assert_eq!(rt; bench.check(FIRST), Ok(()));
     assert_eq!(rt; bench.order(operation, 0xFFFF), Err(HostFault::Busy));
-    assert_eq!(rt;
-        bench.order_micro(operation, i64::MAX),
-        Err(HostFault::Busy)
-    );
+    assert_eq!(rt; bench.order_micro(operation, i64::MAX), Err(HostFault::Busy));
     assert_eq!(rt; bench.check(operation), Err(HostFault::Busy));
     assert_eq!(rt; bench.learn(2), Err(HostFault::Busy));
     assert_eq!(rt; bench.clear(2), Err(HostFault::Busy));
