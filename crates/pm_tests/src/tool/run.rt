@@ -27,7 +27,7 @@ impl Ran {
 }
 
 /// Runs the program with its output and its errors going to such writers.
-fn ran<R: Read>(
+fn run_with<R: Read>(
     alloc: Global,
     words: Result<&[&str], ErrorKind>,
     input: &mut Source<R>,

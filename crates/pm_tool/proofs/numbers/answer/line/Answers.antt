@@ -3,7 +3,7 @@ use Rattle.std.proofs.lemmas.Result.{IfOk-weaker}
 use Rattle.std.specs.Fmt.{decimal, signed_decimal, padded_integral, digits, format_spec}
 use Rattle.pm_tool.specs.NumberText.{hex_word}
 use Rattle.pm_tool.proofs.WordLemmas.{hex_word_is, regrouped}
-use Rattle.pm_tool.proofs.numbers.answer.answering.line.Goals as goal
+use Rattle.pm_tool.proofs.numbers.answer.line.Goals as goal
 
 pub returns : goal.returns
 returns c =

@@ -3,7 +3,7 @@ use Rattle.std.specs.Str.{bytes_eq}
 use Rattle.std.proofs.lemmas.Slice.Eq.{bytes_eq-Decides}
 use Rattle.pm_tool.specs.Question.{Text, format_by, parts}
 use Rattle.pm_tool.proofs.PartLemmas.{other_parts, ulinear16_parts}
-use Rattle.pm_tool.proofs.numbers.question.reading.read_format.Goals as goal
+use Rattle.pm_tool.proofs.numbers.question.read_format.Goals as goal
 
 unequal : (a b : Text) → a ≢ b → bytes_eq a b ≡ false
 unequal a b apart = go (bytes_eq a b) (bytes_eq-Decides a b).0
