@@ -7,8 +7,7 @@ mod reads;
 use frames::*;
 use pm_device::{Config, ConfigFault, Converter, DeviceFault, Ending, Heard, OutputStart};
 use pm_frame::FrameFault;
-use pm_num::NumFault;
-use pm_table::{Cell, Code, Coefficients, Reg, TableFault};
+use pm_table::{Cell, Coefficients, Reg};
 use std::process::Abort;
 use std::test::Fail;
 
