@@ -29,9 +29,10 @@ impl Model for OrderMachine {
     ghost Value = { Machine };
 
     ghost view = { λ m. record {
-        start = m.start;
-        words = m.settings.words;
-        pending = m.pending } };
+      start = m.start;
+      words = m.settings.words;
+      pending = m.pending;
+    } };
 
     ghost invariant = { λ m. (m.settings.count ≡ m.start.count)
         × CanTake m.start.count m.pending };
