@@ -2,9 +2,9 @@ mod Ends
 mod Exchanges
 mod Frames
 mod Hearings
-mod Lives
 mod OpenOrders
 mod OrderEvents
 mod OwnWords
 mod Retellings
+mod Lives
 mod Runs
