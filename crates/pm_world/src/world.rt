@@ -22,11 +22,11 @@ ghost use Rattle.pm_device.specs.Held.{value_for};
 ghost use Rattle.pm_world.specs.Retelling.{IsOrderRun, IsOwnWord, CommandsOwn};
 
 use crate::event::{Arrival, Back, Event};
+use crate::laws::lives_are_followed;
 use crate::legal::{
     answer_in, back_bytes, heard_bytes, heard_ending, is_heard_whole, is_legal_hearing,
     is_legal_return,
 };
-use crate::laws::lives_are_followed;
 use crate::orders::lives_are_orders;
 use crate::stop::{Cause, SetupFault, Stop};
 use pm_device::{Config, Converter, Ending};
@@ -57,10 +57,11 @@ impl Model for World {
     ghost use Rattle.pm_world.specs.Setup.{IsMatched};
 
     ghost view = { λ w. record {
-        device = w.device;
-        host = w.host;
-        end = w.end;
-        taken = w.taken } };
+      device = w.device;
+      host = w.host;
+      end = w.end;
+      taken = w.taken;
+    } };
 
     ghost invariant = { λ w. (w.addr ≡ w.device.config.addr)
         × IsMatched w.host.setup w.device.config w.taken };
