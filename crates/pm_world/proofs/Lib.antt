@@ -1,5 +1,10 @@
 mod Ends
 mod Exchanges
 mod Frames
+mod Hearings
+mod OpenOrders
+mod OrderEvents
+mod OwnWords
+mod Retellings
 mod Lives
 mod Runs

@@ -1,4 +1,5 @@
 pub mod Legal
 pub mod Life
+pub mod Retelling
 pub mod Setup
 pub mod State

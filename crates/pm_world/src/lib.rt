@@ -4,10 +4,12 @@
 mod event;
 mod laws;
 mod legal;
+mod orders;
 mod stop;
 mod world;
 
 pub use event::{Arrival, Back, Event};
 pub use laws::lives_are_followed;
+pub use orders::lives_are_orders;
 pub use stop::{Cause, SetupFault, Stop};
 pub use world::World;
