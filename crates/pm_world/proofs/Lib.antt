@@ -1,3 +1,4 @@
+mod Deliveries
 mod Ends
 mod Exchanges
 mod Frames

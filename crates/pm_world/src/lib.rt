@@ -2,12 +2,14 @@
 #![tactic(auto)]
 
 mod event;
+mod honest;
 mod laws;
 mod legal;
 mod stop;
 mod world;
 
 pub use event::{Arrival, Back, Event};
+pub use honest::frames_are_few;
 pub use laws::lives_are_followed;
 pub use stop::{Cause, SetupFault, Stop};
 pub use world::World;
