@@ -3,4 +3,6 @@ mod Ends
 mod Exchanges
 mod Frames
 mod Lives
+mod ReadBack
 mod Runs
+mod Undisturbed

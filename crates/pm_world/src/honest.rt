@@ -1,18 +1,28 @@
 //! What undisturbed frames come to in a world, over the definitions alone: each law is the contract
 //! of a function with an empty body.
 
-ghost use Rattle.std.specs.Prelude.{◌≡◌, ◌≤◌, ◌*◌, ℕ, List, ◌∷◌};
+ghost use Rattle.std.specs.Prelude.{◌≡◌, ◌≤◌, ◌*◌, ℕ, Bool, true, List, ◌∷◌};
+ghost use Rattle.std.specs.List.{list_any};
+ghost use Rattle.pm_table.specs.declared.cell.Cell.{Cell};
+ghost use Rattle.pm_table.specs.declared.cell.Cell.TheVariants.{Protect};
+ghost use Rattle.pm_table.specs.Cell.{cell_code};
+ghost use Rattle.pm_table.specs.Protection.{is_allowed};
+ghost use Rattle.pm_model.specs.Settings.{word_at};
 ghost use Rattle.pm_device.specs.declared.config.Config.{Config};
 ghost use Rattle.pm_device.specs.Start.{IsSound};
 ghost use Rattle.pm_host.specs.Frames.{frames_of};
 ghost use Rattle.pm_host.specs.Refusals.{IsSetup};
+ghost use Rattle.pm_world.specs.declared.event.Arrival.{Arrival};
 ghost use Rattle.pm_world.specs.declared.event.Event.{Event};
-ghost use Rattle.pm_world.specs.Honest.{AreFewFrames};
-ghost use Rattle.pm_world.specs.Life.{AreTaken};
+ghost use Rattle.pm_world.specs.Honest.{AreFewFrames, WentThrough, honest, is_whole};
+ghost use Rattle.pm_world.specs.Life.{AreTaken, now};
 ghost use Rattle.pm_world.specs.Setup.{setup_of};
 
 use crate::laws::lives_are_followed;
-use pm_host::jobs_are_bounded;
+use pm_device::{pasts_are_followed, reads_are_answered, writes_reach_one_cell};
+use pm_frame::{answers_are_exact, betrayal_is_refused, damage_is_refused, writes_are_exact};
+use pm_host::{frames_are_named, jobs_are_bounded, transcripts_are_followed};
+use pm_model::settings_are_a_map;
 
 /// After each of the events that were taken, the last job has sent at most twice as many frames as a
 /// job has passes.
@@ -23,4 +33,30 @@ pub fn frames_are_few()
 {
     lives_are_followed();
     jobs_are_bounded();
+}
+
+/// An order goes through, after any events that were taken, where WRITE_PROTECT allows its code then,
+/// its write is delivered whole at least once, whatever else is delivered of it, is over with an
+/// acknowledgement or without, and is read back undisturbed, each of these events being taken: it
+/// took one write and one read, it is done, the cell's word is confirmed and the converter holds it.
+pub fn honest_orders_go_through()
+    ensures { (config : Config) (passes : ℕ) (before : List Event) (cell : Cell) (word : ℕ)
+        (arrivals : List Arrival) (acked : Bool) →
+        IsSound config → IsSetup (setup_of config passes) →
+        AreTaken config passes (honest cell word arrivals acked before) →
+        is_allowed (word_at (now config passes before).device.words Protect) (cell_code cell) ≡ true →
+        list_any is_whole arrivals ≡ true →
+        WentThrough config passes cell word acked before (honest cell word arrivals acked before) }
+{
+    lives_are_followed();
+    transcripts_are_followed();
+    frames_are_named();
+    pasts_are_followed();
+    writes_reach_one_cell();
+    reads_are_answered();
+    settings_are_a_map();
+    writes_are_exact();
+    damage_is_refused();
+    betrayal_is_refused();
+    answers_are_exact();
 }
