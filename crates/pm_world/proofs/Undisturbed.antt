@@ -440,6 +440,11 @@ taken-order : (config : Config) (passes : ℕ) (before : List Event) (cell : Cel
 taken-order config passes before cell word [] taken = taken
 taken-order config passes before cell word (arrival ∷ arrivals) taken = taken-order config passes before cell word arrivals taken.1
 
+-- what came before events that were taken was taken
+pub taken-before : (config : Config) (passes : ℕ) (later before : List Event) → AreTaken config passes (later ++ before) → AreTaken config passes before
+taken-before config passes [] before taken = taken
+taken-before config passes (event ∷ later) before taken = taken-before config passes later before taken.1
+
 pub went-through : HonestLaws → (config : Config) (passes : ℕ) (before : List Event) (cell : Cell) (word : ℕ) (arrivals : List Arrival) (acked : Bool) → IsSound config → IsSetup (setup_of config passes) →
     AreTaken config passes (honest cell word arrivals acked before) → is_allowed (word_at (now config passes before).device.words Protect) (cell_code cell) ≡ true → list_any is_whole arrivals ≡ true →
     WentThrough config passes cell word acked before (honest cell word arrivals acked before)

@@ -1,7 +1,11 @@
 -- What undisturbed frames come to in a world: this project's own choice of how an order, a check, a
 -- learn and a clear go.
 use Rattle.std.specs.Prelude.{◌≡◌, ◌≤◌, ◌*◌, ℕ, Bool, true, false, List, [], ◌∷◌, ◌++◌, map, Option, Some}
+use Rattle.std.specs.List.{list_any}
 use Rattle.pm_table.specs.declared.cell.Cell.{Cell}
+use Rattle.pm_table.specs.declared.cell.Cell.TheVariants.{Protect}
+use Rattle.pm_table.specs.Cell.{cell_code}
+use Rattle.pm_table.specs.Protection.{is_allowed}
 use Rattle.pm_model.specs.Settings.{word_at}
 use Rattle.pm_device.specs.declared.config.Config.{Config}
 use Rattle.pm_host.specs.declared.standing.Standing.TheVariants.{Confirmed}
@@ -50,3 +54,13 @@ pub record WentThrough (config : Config) (passes : ℕ) (cell : Cell) (word : �
   pub done : (now config passes after).end ≡ Some Done
   pub confirmed : standing_at (now config passes after).host cell ≡ Confirmed word
   pub held : word_at (now config passes after).device.words cell ≡ word
+
+-- Each such order among the events went through, where WRITE_PROTECT allowed its code as it was
+-- accepted and its write was delivered whole at least once.
+abbrev pub OrdersGoThrough : Config → ℕ → List Event → Type 0
+OrdersGoThrough config passes events =
+    (later before : List Event) (cell : Cell) (word : ℕ) (arrivals : List Arrival) (acked : Bool) →
+    events ≡ later ++ honest cell word arrivals acked before →
+    is_allowed (word_at (now config passes before).device.words Protect) (cell_code cell) ≡ true →
+    list_any is_whole arrivals ≡ true →
+    WentThrough config passes cell word acked before (honest cell word arrivals acked before)

@@ -1,21 +1,13 @@
 //! What undisturbed frames come to in a world, over the definitions alone: each law is the contract
 //! of a function with an empty body.
 
-ghost use Rattle.std.specs.Prelude.{◌≡◌, ◌≤◌, ◌*◌, ℕ, Bool, true, List, ◌∷◌};
-ghost use Rattle.std.specs.List.{list_any};
-ghost use Rattle.pm_table.specs.declared.cell.Cell.{Cell};
-ghost use Rattle.pm_table.specs.declared.cell.Cell.TheVariants.{Protect};
-ghost use Rattle.pm_table.specs.Cell.{cell_code};
-ghost use Rattle.pm_table.specs.Protection.{is_allowed};
-ghost use Rattle.pm_model.specs.Settings.{word_at};
+ghost use Rattle.std.specs.Prelude.{ℕ, List};
 ghost use Rattle.pm_device.specs.declared.config.Config.{Config};
 ghost use Rattle.pm_device.specs.Start.{IsSound};
-ghost use Rattle.pm_host.specs.Frames.{frames_of};
 ghost use Rattle.pm_host.specs.Refusals.{IsSetup};
-ghost use Rattle.pm_world.specs.declared.event.Arrival.{Arrival};
 ghost use Rattle.pm_world.specs.declared.event.Event.{Event};
-ghost use Rattle.pm_world.specs.Honest.{AreFewFrames, WentThrough, honest, is_whole};
-ghost use Rattle.pm_world.specs.Life.{AreTaken, now};
+ghost use Rattle.pm_world.specs.Honest.{AreFewFrames, OrdersGoThrough};
+ghost use Rattle.pm_world.specs.Life.{AreTaken};
 ghost use Rattle.pm_world.specs.Setup.{setup_of};
 
 use crate::laws::lives_are_followed;
@@ -35,18 +27,14 @@ pub fn frames_are_few()
     jobs_are_bounded();
 }
 
-/// An order goes through, after any events that were taken, where WRITE_PROTECT allows its code then,
-/// its write is delivered whole at least once, whatever else is delivered of it, is over with an
-/// acknowledgement or without, and is read back undisturbed, each of these events being taken: it
-/// took one write and one read, it is done, the cell's word is confirmed and the converter holds it.
+/// Among events that were taken, an order goes through where WRITE_PROTECT allows its code as it is
+/// accepted, its write is delivered whole at least once, whatever else is delivered of it, is then
+/// over, acknowledged or not, and is read back undisturbed: it took one write and one read, it is
+/// done, the cell's word is confirmed, and the converter holds it.
 pub fn honest_orders_go_through()
-    ensures { (config : Config) (passes : ℕ) (before : List Event) (cell : Cell) (word : ℕ)
-        (arrivals : List Arrival) (acked : Bool) →
-        IsSound config → IsSetup (setup_of config passes) →
-        AreTaken config passes (honest cell word arrivals acked before) →
-        is_allowed (word_at (now config passes before).device.words Protect) (cell_code cell) ≡ true →
-        list_any is_whole arrivals ≡ true →
-        WentThrough config passes cell word acked before (honest cell word arrivals acked before) }
+    ensures { (config : Config) (passes : ℕ) (events : List Event) →
+        IsSound config → IsSetup (setup_of config passes) → AreTaken config passes events →
+        OrdersGoThrough config passes events }
 {
     lives_are_followed();
     transcripts_are_followed();

@@ -42,3 +42,10 @@ returns-clause-few c =
     let es = taken_events c.args.events.now c.run_up-stop.result in
     c.frames_are_few.ensures c.args.c c.args.passes es new.sound.0 new.sound.1
     (c.lives_are_followed.ensures.from_start c.args.c c.args.passes es new.sound.0 new.sound.1 (subst (λ (s : State). AreTakenFrom s es) new.made c.run_up-stop.ensures.all)).0
+
+pub returns-clause-through : goal.returns-clause-through
+returns-clause-through c =
+    let new = c.in-Ok.ensures {u = tt} in
+    let es = taken_events c.args.events.now c.run_up-stop.result in
+    c.honest_orders_go_through.ensures c.args.c c.args.passes es new.sound.0 new.sound.1
+    (c.lives_are_followed.ensures.from_start c.args.c c.args.passes es new.sound.0 new.sound.1 (subst (λ (s : State). AreTakenFrom s es) new.made c.run_up-stop.ensures.all)).0
