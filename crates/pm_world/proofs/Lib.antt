@@ -1,3 +1,4 @@
+mod Deliveries
 mod Ends
 mod Exchanges
 mod Frames
@@ -7,4 +8,6 @@ mod OrderEvents
 mod OwnWords
 mod Retellings
 mod Lives
+mod ReadBack
 mod Runs
+mod Undisturbed

@@ -68,3 +68,17 @@ returns-clause-stop c =
     let so = c.lives_are_followed.ensures.from_start c.args.c c.args.passes es new.sound.0 new.sound.1 (subst (λ (s : State). AreTakenFrom s es) new.made c.run_up-stop.ensures.all) in
     stops c.args.c c.args.passes c.args.events.now c.run_up-stop.result so.1
     (subst (λ (s : State). StopsFrom s c.args.events.now c.run_up-stop.result) new.made c.run_up-stop.ensures.stop)
+
+pub returns-clause-few : goal.returns-clause-few
+returns-clause-few c =
+    let new = c.in-Ok.ensures {u = tt} in
+    let es = taken_events c.args.events.now c.run_up-stop.result in
+    c.frames_are_few.ensures c.args.c c.args.passes es new.sound.0 new.sound.1
+    (c.lives_are_followed.ensures.from_start c.args.c c.args.passes es new.sound.0 new.sound.1 (subst (λ (s : State). AreTakenFrom s es) new.made c.run_up-stop.ensures.all)).0
+
+pub returns-clause-through : goal.returns-clause-through
+returns-clause-through c =
+    let new = c.in-Ok.ensures {u = tt} in
+    let es = taken_events c.args.events.now c.run_up-stop.result in
+    c.honest_orders_go_through.ensures c.args.c c.args.passes es new.sound.0 new.sound.1
+    (c.lives_are_followed.ensures.from_start c.args.c c.args.passes es new.sound.0 new.sound.1 (subst (λ (s : State). AreTakenFrom s es) new.made c.run_up-stop.ensures.all)).0
