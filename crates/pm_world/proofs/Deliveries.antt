@@ -37,13 +37,13 @@ pub record WriteLaws : Type 0 where
   pub request : (held : Held) (bytes : List ℕ) → words_after held (Hearing bytes Restart) ≡ held.words
   pub faulty : (held : Held) (bytes : List ℕ) → (write_fault held.config.addr bytes ≡ None → ⊥) → words_after held (Hearing bytes Stop) ≡ held.words
   pub carried : (held : Held) (output code : ℕ) (payload : Payload) (cell : Cell) (bytes : List ℕ) →
-    IsWrite held.config.addr (PagePlusWrite output code payload) bytes → cell_at code output ≡ Some cell →
-    words_after held (Hearing bytes Stop)
-    ≡ (if nat_lt output held.config.count && is_allowed (word_at held.words Protect) code && cell_accepts cell (payload_word payload)
-    then with_word held.words cell (payload_word payload) else held.words)
+      IsWrite held.config.addr (PagePlusWrite output code payload) bytes → cell_at code output ≡ Some cell →
+      words_after held (Hearing bytes Stop)
+      ≡ (if nat_lt output held.config.count && is_allowed (word_at held.words Protect) code && cell_accepts cell (payload_word payload)
+      then with_word held.words cell (payload_word payload) else held.words)
   pub plain : (held : Held) (byte : ℕ) (bytes : List ℕ) → IsWrite held.config.addr (WriteByte 0x10 byte) bytes →
-    words_after held (Hearing bytes Stop)
-    ≡ (if is_allowed (word_at held.words Protect) 0x10 && cell_accepts Protect byte then with_word held.words Protect byte else held.words)
+      words_after held (Hearing bytes Stop)
+      ≡ (if is_allowed (word_at held.words Protect) 0x10 && cell_accepts Protect byte then with_word held.words Protect byte else held.words)
 
 -- a write that a converter takes: its cell is there and accepts the word, and WRITE_PROTECT allows its
 -- code

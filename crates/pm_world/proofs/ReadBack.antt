@@ -22,12 +22,12 @@ use Rattle.pm_world.proofs.Deliveries.{register_cell}
 -- the laws of answers
 pub record ReadLaws : Type 0 where
   pub cell : (held : Held) (output code : ℕ) (cell : Cell) (bytes : List ℕ) → IsRequest held.config.addr (PagePlusRead output code) bytes →
-    output < held.config.count → cell_at code output ≡ Some cell →
-    (frame : List ℕ) × (reply_of held bytes Restart ≡ Answer (record { items = frame }))
-    × IsAnswer held.config.addr (PagePlusRead output code) (register_bytes code (word_at held.words cell)) frame
+      output < held.config.count → cell_at code output ≡ Some cell →
+      (frame : List ℕ) × (reply_of held bytes Restart ≡ Answer (record { items = frame }))
+      × IsAnswer held.config.addr (PagePlusRead output code) (register_bytes code (word_at held.words cell)) frame
   pub protect : (held : Held) (bytes : List ℕ) → IsRequest held.config.addr (ReadCommand 0x10) bytes →
-    (frame : List ℕ) × (reply_of held bytes Restart ≡ Answer (record { items = frame }))
-    × IsAnswer held.config.addr (ReadCommand 0x10) (register_bytes 0x10 (word_at held.words Protect)) frame
+      (frame : List ℕ) × (reply_of held bytes Restart ≡ Answer (record { items = frame }))
+      × IsAnswer held.config.addr (ReadCommand 0x10) (register_bytes 0x10 (word_at held.words Protect)) frame
   pub number : (cell : Cell) (word : ℕ) → cell_accepts cell word ≡ true → payload_word (payload_in (register_bytes (cell_code cell) word)) ≡ word
   pub spelled : (addr : ℕ) (request : Message) (payload bytes : List ℕ) → IsAnswer addr request payload bytes → answer_fault addr request bytes ≡ None
   pub places : (addr : ℕ) (request : Message) (payload bytes : List ℕ) → IsAnswer addr request payload bytes → answer_payload request bytes ≡ payload

@@ -60,7 +60,7 @@ use Rattle.pm_world.proofs.ReadBack.{ReadLaws, reads-cell, read-word}
 -- a cell that was written has the new word, and every other cell its old one
 pub record MapLaws : Type 0 where
   pub read : (words : Words) (cell other : Cell) (word : ℕ) → AreWords words → IsCell 8 cell → IsCell 8 other →
-    word_at (with_word words cell word) other ≡ (if same_cell cell other then word else word_at words other)
+      word_at (with_word words cell word) other ≡ (if same_cell cell other then word else word_at words other)
 
 -- a word that WRITE_PROTECT may hold allows its own code
 four : (a b c d : Bool) → (a || b || c || d) ≡ true → cond d true (cond c true (cond b true (cond a true false))) ≡ true
@@ -189,7 +189,7 @@ delivered-words laws s cell word whole arrival fixed sends free =
     let sending = sending-write s cell word sends.stage in
     let legal = subst (λ a. is_legal_hearing (frame_of a message) (heard_bytes (frame_of a message) arrival) (heard_ending message arrival) ≡ true) fixed.addr (delivery-legal s arrival message sending free) in
     let after : (next s (Deliver arrival)).device.words ≡ words_after s.device (hearing s.device.config.addr message arrival) =
-        next-deliver-words s arrival message sending ∙ ap (λ a. words_after s.device (hearing a message arrival)) fixed.addr in
+    next-deliver-words s arrival message sending ∙ ap (λ a. words_after s.device (hearing a message arrival)) fixed.addr in
     elim (legal-write laws s.device cell word (heard_bytes (frame_of s.device.config.addr message) arrival) (heard_ending message arrival) (can-take s cell word whole fixed sends) legal) [
       | inl same ↦ inl (after ∙ same)
       | inr wrote ↦ inr (after ∙ wrote)
@@ -283,9 +283,9 @@ ended write_laws read_laws s cell word fixed stage held long =
     let sending : sending_in s.host ≡ Some (cell_read cell) = ap (option_map stage_message) stage in
     let answer = answer_in (reply_of s.device (frame_of s.host.setup.addr (cell_read cell)) Restart) in
     let good : good_word s.device.config.addr cell answer ≡ Some word =
-        ap (λ a. good_word s.device.config.addr cell (answer_in (reply_of s.device (frame_of a (cell_read cell)) Restart))) fixed.addr
-        ∙ (read-word read_laws s.device cell fixed.there (ap (cell_accepts cell) held ∙ fixed.accepted) fixed.read_fits
-        ∙ ap (λ w. Some w) held) in
+    ap (λ a. good_word s.device.config.addr cell (answer_in (reply_of s.device (frame_of a (cell_read cell)) Restart))) fixed.addr
+    ∙ (read-word read_laws s.device cell fixed.there (ap (cell_accepts cell) held ∙ fixed.accepted) fixed.read_fits
+    ∙ ap (λ w. Some w) held) in
     let told = exchange-told s (cell_read cell) sending (read-restart cell) in
     let done = turn-done s.host cell word answer stage (ap (λ a. good_word a cell answer) fixed.addr ∙ good) in
     record {
@@ -306,9 +306,9 @@ pub record HonestLaws : Type 0 where
   pub fits : (setup : host.Setup) (message : Message) → CanSend setup message → fits_layout message ≡ true
   pub sound : (setup : host.Setup) (entries : List host.Entry) → IsSetup setup → AreTold setup entries → IsSoundHost (host_now setup entries)
   pub more : (config : Config) (passes : ℕ) (events : List Event) (event : Event) → IsSound config → IsSetup (setup_of config passes) →
-    AreTaken config passes (event ∷ events) → now config passes (event ∷ events) ≡ next (now config passes events) event
+      AreTaken config passes (event ∷ events) → now config passes (event ∷ events) ≡ next (now config passes events) event
   pub told : (config : Config) (passes : ℕ) (events : List Event) → IsSound config → IsSetup (setup_of config passes) → AreTaken config passes events →
-    AreTold (setup_of config passes) (life config passes events).entries
+      AreTold (setup_of config passes) (life config passes events).entries
 
 now-are : HonestLaws → (config : Config) (passes : ℕ) (events : List Event) → AreWords (now config passes events).device.words
 unfolding now state_of
@@ -456,9 +456,9 @@ went-through laws config passes before cell word arrivals acked sound made taken
     let finish = laws.more config passes events (Finish acked) sound made taken.1 in
     let s = now config passes (Finish acked ∷ events) in
     let e = ended laws.write laws.read s cell word (fixed laws config passes (Finish acked ∷ events) cell word o)
-        (ap (λ (t : State). t.host.stage) finish ∙ finish-stage (now config passes events) acked cell word so.sends.stage)
-        (ap (λ (h : Held). word_at h.words cell) (ap (λ (t : State). t.device) finish ∙ finish-device (now config passes events) acked) ∙ so.sends.held whole)
-        (now-standings config passes (Finish acked ∷ events)) in
+    (ap (λ (t : State). t.host.stage) finish ∙ finish-stage (now config passes events) acked cell word so.sends.stage)
+    (ap (λ (h : Held). word_at h.words cell) (ap (λ (t : State). t.device) finish ∙ finish-device (now config passes events) acked) ∙ so.sends.held whole)
+    (now-standings config passes (Finish acked ∷ events)) in
     let after = laws.more config passes (Finish acked ∷ events) read sound made taken in
     record {
       answer = e.answer;

@@ -23,13 +23,12 @@ ghost use Rattle.pm_device.specs.Held.{value_for};
 ghost use Rattle.pm_world.specs.Retelling.{IsOrderRun, IsOwnWord, CommandsOwn};
 
 use crate::event::{Arrival, Back, Event};
+use crate::honest::{frames_are_few, honest_orders_go_through};
 use crate::laws::lives_are_followed;
 use crate::legal::{
     answer_in, back_bytes, heard_bytes, heard_ending, is_heard_whole, is_legal_hearing,
     is_legal_return,
 };
-use crate::honest::{frames_are_few, honest_orders_go_through};
-use crate::laws::lives_are_followed;
 use crate::orders::lives_are_orders;
 use crate::stop::{Cause, SetupFault, Stop};
 use pm_device::{Config, Converter, Ending};
