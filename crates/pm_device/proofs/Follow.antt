@@ -285,3 +285,7 @@ now-nil config =
 pub now-page : (config : Config) (past : List Event) → 1 ≤ config.count → (now config past).page < config.count
 unfolding now
 now-page config past some = kept-page config past some
+
+pub now-words : (law : IsMap) (config : Config) (past : List Event) → AreWords (now config past).words
+unfolding now
+now-words law config past = kept-words law config past

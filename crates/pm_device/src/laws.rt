@@ -13,7 +13,7 @@ ghost use Rattle.pm_frame.specs.declared.message.Payload.{Payload};
 ghost use Rattle.pm_frame.specs.Fault.{write_fault};
 ghost use Rattle.pm_frame.specs.Layout.{IsWrite, IsRequest, IsAnswer};
 ghost use Rattle.pm_frame.specs.View.{payload_in};
-ghost use Rattle.pm_model.specs.Settings.{IsCell, word_at, with_word};
+ghost use Rattle.pm_model.specs.Settings.{AreWords, IsCell, word_at, with_word};
 ghost use Rattle.pm_model.specs.Commanded.{is_cut};
 ghost use Rattle.pm_device.specs.declared.config.Config.{Config};
 ghost use Rattle.pm_device.specs.declared.heard.DeviceFault.{DeviceFault};
@@ -35,7 +35,7 @@ use pm_table::{cells_are_told_apart, payloads_are_short};
 /// what one event after another makes of its start (`none`, `more`), so the status bits that are
 /// latched are those that are found by looking back (`vout`, `cml`). A cause that holds now shows at
 /// once, also just after CLEAR_FAULTS, a written bit or a restart (`shows`). PAGE always names an
-/// output that is there (`page`).
+/// output that is there (`page`), and there is always a word for each cell (`words`).
 pub fn pasts_are_followed()
     ensures none { (config : Config) → now config [] ≡ start_of config }
     ensures more { (config : Config) (past : List Event) (event : Event) →
@@ -51,6 +51,7 @@ pub fn pasts_are_followed()
         status_vout (now config past) output ≡ 0x08 }
     ensures page { (config : Config) (past : List Event) →
         1 ≤ config.count → (now config past).page < config.count }
+    ensures words { (config : Config) (past : List Event) → AreWords (now config past).words }
 {
     settings_are_a_map();
     outputs_stand_alone();

@@ -1,5 +1,13 @@
+mod Deliveries
 mod Ends
 mod Exchanges
 mod Frames
+mod Hearings
+mod OpenOrders
+mod OrderEvents
+mod OwnWords
+mod Retellings
 mod Lives
+mod ReadBack
 mod Runs
+mod Undisturbed

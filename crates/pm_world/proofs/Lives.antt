@@ -40,7 +40,7 @@ pub record EndLaws : Type 0 where
       step_of (host_now setup entries) entry ≡ step_by (host.end_of setup (entry ∷ entries))
 
 -- of two, none
-or-none : {A : Type 0} (a b : Option A) → option_or a b ≡ None → (a ≡ None) × (b ≡ None)
+pub or-none : {A : Type 0} (a b : Option A) → option_or a b ≡ None → (a ≡ None) × (b ≡ None)
 or-none None b h = (refl, h)
 or-none (Some x) b h = cc
 
@@ -48,7 +48,7 @@ refused-none : (fault : Option HostFault) → refused fault ≡ None → is_none
 refused-none None h = refl
 refused-none (Some fault) h = cc
 
-rule-none : (b : Bool) (cause : Cause) → rule b cause ≡ None → b ≡ false
+pub rule-none : (b : Bool) (cause : Cause) → rule b cause ≡ None → b ≡ false
 rule-none false cause h = refl
 rule-none true cause h = cc
 
@@ -62,7 +62,7 @@ finish-may s None e h = cc
 finish-may s (Some message) e h =
     ap (λ o. option_map_or (λ m. not (is_read_message m)) o false) e ∙ ap not (rule-none (is_read_message message) WrongKind h)
 
-not-false : (b : Bool) → not b ≡ false → b ≡ true
+pub not-false : (b : Bool) → not b ≡ false → b ≡ true
 not-false true h = refl
 not-false false h = cc
 

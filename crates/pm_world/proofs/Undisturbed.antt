@@ -1,0 +1,471 @@
+-- An order whose write is delivered whole, and whose read nothing disturbs.
+use Rattle.std.proofs.Common.{◌≡◌, ℕ, ◌+◌, ◌*◌, ◌<◌, ◌≤◌, Bool, true, false, not, cond, ◌||◌, eqb, List, [], ◌∷◌, ◌++◌, map, length, get_or, set, Option, Some, None, option_map, refl, sym, ◌∙◌, ap, subst, ◌⊎◌, inl, inr, arith}
+use Rattle.std.specs.Prelude.{if◌then◌else◌, option_to_list, nat_le}
+use Rattle.std.specs.List.{list_any}
+use Rattle.std.proofs.lemmas.Bool.{eq-eqb, cond-true, or_cases}
+use Rattle.std.proofs.lemmas.List.{get_or-set_same}
+use Rattle.std.proofs.lemmas.List.FromFn.{length-map-range_with_len}
+use Rattle.pm_table.specs.declared.cell.Reg.{Reg}
+use Rattle.pm_table.specs.declared.cell.Reg.TheVariants.{Operation, VoutCommand, VoutMax, MarginHigh, MarginLow}
+use Rattle.pm_table.specs.declared.cell.Cell.{Cell}
+use Rattle.pm_table.specs.declared.cell.Cell.TheVariants.{Out, Protect}
+use Rattle.pm_table.specs.Cell.{cell_accepts, cell_code, is_protection, register_number, IsCell, same_cell}
+use Rattle.pm_table.specs.Commands.{line_of}
+use Rattle.pm_table.specs.Protection.{is_allowed}
+use Rattle.pm_frame.specs.declared.message.Message.{Message}
+use Rattle.pm_frame.specs.Layout.{fits_layout, is_read_message}
+use Rattle.pm_model.specs.Settings.{Words, AreWords, word_at, with_word}
+use Rattle.pm_device.specs.declared.config.Config.{Config}
+use Rattle.pm_device.specs.declared.heard.Ending.{Ending}
+use Rattle.pm_device.specs.declared.heard.Ending.TheVariants.{Stop, Restart}
+use Rattle.pm_device.specs.Held.{Held}
+use Rattle.pm_device.specs.Start.{IsSound}
+use Rattle.pm_device.specs.Effect as device
+use Rattle.pm_device.specs.Effect.{words_after}
+use Rattle.pm_device.specs.History.{now as device_now, next as device_next, after as device_outcome}
+use Rattle.pm_device.specs.Reply.{reply_of}
+use Rattle.pm_host.specs.declared.stage.Stage.{Stage}
+use Rattle.pm_host.specs.declared.stage.Stage.TheVariants.{Writes, Reads}
+use Rattle.pm_host.specs.declared.standing.Standing.{Standing}
+use Rattle.pm_host.specs.declared.standing.Standing.TheVariants.{Confirmed, Unknown}
+use Rattle.pm_host.specs.declared.step.JobEnd.{JobEnd}
+use Rattle.pm_host.specs.declared.step.JobEnd.TheVariants.{Done}
+use Rattle.pm_host.specs.Answers.{good_word}
+use Rattle.pm_host.specs.Cells.{cell_in, place_of, places, table}
+use Rattle.pm_host.specs.Frames.{CanSend, writes_output, writes_protect, reads_output, reads_protect}
+use Rattle.pm_host.specs.Known.{known_now}
+use Rattle.pm_host.specs.Marks.{Good, marks}
+use Rattle.pm_host.specs.Messages.{cell_write, cell_read}
+use Rattle.pm_host.specs.Now.{now as host_now, AreTold}
+use Rattle.pm_host.specs.Refusals.{IsSetup}
+use Rattle.pm_host.specs.Sound.{IsOrdering, IsStage, IsSound as IsSoundHost}
+use Rattle.pm_host.specs.Summary.{Summary, Turn, next as host_next, step_of, turn, finished, answered, read_back, idle, marked, ends, sending_in, stage_message, standing_at}
+use Rattle.pm_host.specs.Standing.{standing_of}
+use Rattle.pm_host.specs.Transcript as host
+use Rattle.pm_world.specs.declared.event.Event.{Event}
+use Rattle.pm_world.specs.declared.event.Event.TheVariants.{Order, Deliver, Finish, Exchange}
+use Rattle.pm_world.specs.declared.event.Arrival.{Arrival}
+use Rattle.pm_world.specs.declared.event.Arrival.TheVariants.{Whole, Cut, Bytes}
+use Rattle.pm_world.specs.declared.event.Back.TheVariants as back
+use Rattle.pm_world.specs.declared.stop.Cause.TheVariants.{Full, WrongKind, NotBetrayed}
+use Rattle.pm_world.specs.Honest.{honest, is_whole, WentThrough}
+use Rattle.pm_world.specs.Legal.{frame_of, heard_bytes, heard_ending, ending_of, is_legal_hearing, answer_in}
+use Rattle.pm_world.specs.Life.{Life, life, now, state_of, AreTaken}
+use Rattle.pm_world.specs.Setup.{setup_of}
+use Rattle.pm_world.specs.State.{State, Share, share_of, delivered, exchanged, shared, counted, next, device_after, host_after, end_after, end_by, event_cause, event_limit, cause_of, delivery_cause, rule, hearing, answer_to, IsTaken}
+use Rattle.pm_world.proofs.Deliveries.{WriteLaws, CanTake, whole-write, legal-write}
+use Rattle.pm_world.proofs.Lives.{or-none, rule-none}
+use Rattle.pm_world.proofs.ReadBack.{ReadLaws, reads-cell, read-word}
+
+-- a cell that was written has the new word, and every other cell its old one
+pub record MapLaws : Type 0 where
+  pub read : (words : Words) (cell other : Cell) (word : ℕ) → AreWords words → IsCell 8 cell → IsCell 8 other →
+      word_at (with_word words cell word) other ≡ (if same_cell cell other then word else word_at words other)
+
+-- a word that WRITE_PROTECT may hold allows its own code
+four : (a b c d : Bool) → (a || b || c || d) ≡ true → cond d true (cond c true (cond b true (cond a true false))) ≡ true
+four a b c true h = refl
+four a b true false h = refl
+four a true false false h = refl
+four true false false false h = refl
+four false false false false h = cc
+
+protect-allowed : (word : ℕ) → is_protection word ≡ true → is_allowed word 0x10 ≡ true
+unfolding line_of
+protect-allowed word h = four (eqb word 0x00) (eqb word 0x20) (eqb word 0x40) (eqb word 0x80) h
+
+same_cell-itself : (cell : Cell) → same_cell cell cell ≡ true
+same_cell-itself (Out output register) = rw (eq-eqb output output refl, eq-eqb (register_number register) (register_number register) refl) refl
+same_cell-itself Protect = refl
+
+-- after a write the cell has its word, and its code stays allowed
+wrote-held : MapLaws → (words : Words) (cell : Cell) (word : ℕ) → AreWords words → IsCell 8 cell → word_at (with_word words cell word) cell ≡ word
+wrote-held laws words cell word are there = laws.read words cell cell word are there there ∙ cond-true (same_cell cell cell) word (word_at words cell) (same_cell-itself cell)
+
+wrote-allowed : MapLaws → (words : Words) (cell : Cell) (word : ℕ) → AreWords words → IsCell 8 cell → cell_accepts cell word ≡ true →
+    is_allowed (word_at words Protect) (cell_code cell) ≡ true → is_allowed (word_at (with_word words cell word) Protect) (cell_code cell) ≡ true
+wrote-allowed laws words (Out output register) word are there accepted allowed =
+    ap (λ p. is_allowed p (cell_code (Out output register))) (laws.read words (Out output register) Protect word are there tt) ∙ allowed
+wrote-allowed laws words Protect word are there accepted allowed =
+    ap (λ p. is_allowed p (cell_code Protect)) (laws.read words Protect Protect word are tt tt) ∙ protect-allowed word accepted
+
+eight : (count : ℕ) (cell : Cell) → count ≤ 8 → IsCell count cell → IsCell 8 cell
+eight count (Out output register) few there = omega (arith, few, there)
+eight count Protect few there = tt
+
+write-fits : ((setup : host.Setup) (message : Message) → CanSend setup message → fits_layout message ≡ true) →
+    (setup : host.Setup) (cell : Cell) (word : ℕ) → IsCell setup.outputs cell → cell_accepts cell word ≡ true → fits_layout (cell_write cell word) ≡ true
+write-fits fits setup (Out output register) word there accepted = fits setup _ (writes_output output register word there accepted)
+write-fits fits setup Protect word there accepted = fits setup _ (writes_protect word accepted)
+
+read-fits : ((setup : host.Setup) (message : Message) → CanSend setup message → fits_layout message ≡ true) →
+    (setup : host.Setup) (cell : Cell) → IsCell setup.outputs cell → fits_layout (cell_read cell) ≡ true
+read-fits fits setup (Out output register) there = fits setup _ (reads_output output register there)
+read-fits fits setup Protect there = fits setup _ reads_protect
+
+-- one delivery
+taken-free : (s : State) (event : Event) → IsTaken s event → event_cause s event ≡ None
+unfolding cause_of
+taken-free s event taken = (or-none (rule (nat_le event_limit s.taken) Full) (event_cause s event) taken.free).1
+
+not-not : (b : Bool) → not b ≡ false → b ≡ true
+not-not true h = refl
+not-not false h = cc
+
+delivery-legal : (s : State) (arrival : Arrival) (message : Message) → sending_in s.host ≡ Some message → event_cause s (Deliver arrival) ≡ None →
+    is_legal_hearing (frame_of s.host.setup.addr message) (heard_bytes (frame_of s.host.setup.addr message) arrival) (heard_ending message arrival) ≡ true
+delivery-legal s arrival message sending free =
+    let none : delivery_cause s arrival (Some message) ≡ None = ap (delivery_cause s arrival) (sym sending) ∙ free in
+    let legal = is_legal_hearing (frame_of s.host.setup.addr message) (heard_bytes (frame_of s.host.setup.addr message) arrival) (heard_ending message arrival) in
+    not-not legal (rule-none (not legal) NotBetrayed (or-none (rule (is_read_message message) WrongKind) (rule (not legal) NotBetrayed) none).1)
+
+told-nothing : (s : State) (arrival : Arrival) (sending : Option Message) → (delivered s arrival sending).told ≡ None
+told-nothing s arrival None = refl
+told-nothing s arrival (Some message) = refl
+
+next-deliver-host : (s : State) (arrival : Arrival) → (next s (Deliver arrival)).host ≡ s.host
+unfolding next
+next-deliver-host s arrival = ap (host_after s.host) (told-nothing s arrival (sending_in s.host))
+
+next-deliver-words : (s : State) (arrival : Arrival) (message : Message) → sending_in s.host ≡ Some message →
+    (next s (Deliver arrival)).device.words ≡ words_after s.device (hearing s.host.setup.addr message arrival)
+unfolding next device_next device_outcome
+next-deliver-words s arrival message sending = ap (λ o. (device_after s.device (delivered s arrival o).heard).words) sending
+
+write-stop : (cell : Cell) (word : ℕ) → heard_ending (cell_write cell word) Whole ≡ Stop
+write-stop (Out output register) word = refl
+write-stop Protect word = refl
+
+-- what holds of a world while the write of an order is being sent
+pub record Sends (s : State) (cell : Cell) (word : ℕ) (whole : Bool) : Type 0 where
+  pub stage : s.host.stage ≡ Some (Writes cell word 0)
+  pub allowed : is_allowed (word_at s.device.words Protect) (cell_code cell) ≡ true
+  pub held : whole ≡ true → word_at s.device.words cell ≡ word
+
+-- what holds of it throughout
+pub record Fixed (s : State) (cell : Cell) (word : ℕ) : Type 0 where
+  pub addr : s.host.setup.addr ≡ s.device.config.addr
+  pub there : IsCell s.device.config.count cell
+  pub few : s.device.config.count ≤ 8
+  pub accepted : cell_accepts cell word ≡ true
+  pub write_fits : fits_layout (cell_write cell word) ≡ true
+  pub read_fits : fits_layout (cell_read cell) ≡ true
+  pub are : AreWords s.device.words
+
+can-take : (s : State) (cell : Cell) (word : ℕ) (whole : Bool) → Fixed s cell word → Sends s cell word whole → CanTake s.device cell word
+can-take s cell word whole fixed sends = record { there = fixed.there; accepted = fixed.accepted; allowed = sends.allowed; fits = fixed.write_fits }
+
+sends-words : MapLaws → (s t : State) (cell : Cell) (word : ℕ) (whole : Bool) → Fixed s cell word → Sends s cell word whole → t.host ≡ s.host →
+    (t.device.words ≡ s.device.words) ⊎ (t.device.words ≡ with_word s.device.words cell word) → Sends t cell word whole
+sends-words laws s t cell word whole fixed sends host (inl same) = record {
+  stage = ap (λ (h : Summary). h.stage) host ∙ sends.stage;
+  allowed = ap (λ w. is_allowed (word_at w Protect) (cell_code cell)) same ∙ sends.allowed;
+  held = λ h. ap (λ w. word_at w cell) same ∙ sends.held h;
+}
+sends-words laws s t cell word whole fixed sends host (inr wrote) = record {
+  stage = ap (λ (h : Summary). h.stage) host ∙ sends.stage;
+  allowed = ap (λ w. is_allowed (word_at w Protect) (cell_code cell)) wrote
+      ∙ wrote-allowed laws s.device.words cell word fixed.are (eight s.device.config.count cell fixed.few fixed.there) fixed.accepted sends.allowed;
+  held = λ h. ap (λ w. word_at w cell) wrote ∙ wrote-held laws s.device.words cell word fixed.are (eight s.device.config.count cell fixed.few fixed.there);
+}
+
+sends-whole : MapLaws → (s t : State) (cell : Cell) (word : ℕ) (whole : Bool) → Fixed s cell word → Sends s cell word whole → t.host ≡ s.host →
+    t.device.words ≡ with_word s.device.words cell word → Sends t cell word true
+sends-whole laws s t cell word whole fixed sends host wrote = record {
+  stage = ap (λ (h : Summary). h.stage) host ∙ sends.stage;
+  allowed = ap (λ w. is_allowed (word_at w Protect) (cell_code cell)) wrote
+      ∙ wrote-allowed laws s.device.words cell word fixed.are (eight s.device.config.count cell fixed.few fixed.there) fixed.accepted sends.allowed;
+  held = λ h. ap (λ w. word_at w cell) wrote ∙ wrote-held laws s.device.words cell word fixed.are (eight s.device.config.count cell fixed.few fixed.there);
+}
+
+sending-write : (s : State) (cell : Cell) (word : ℕ) → s.host.stage ≡ Some (Writes cell word 0) → sending_in s.host ≡ Some (cell_write cell word)
+sending-write s cell word stage = ap (option_map stage_message) stage
+
+-- a delivery leaves the words or sets that one
+delivered-words : WriteLaws → (s : State) (cell : Cell) (word : ℕ) (whole : Bool) (arrival : Arrival) → Fixed s cell word → Sends s cell word whole → event_cause s (Deliver arrival) ≡ None →
+    ((next s (Deliver arrival)).device.words ≡ s.device.words) ⊎ ((next s (Deliver arrival)).device.words ≡ with_word s.device.words cell word)
+delivered-words laws s cell word whole arrival fixed sends free =
+    let message = cell_write cell word in
+    let sending = sending-write s cell word sends.stage in
+    let legal = subst (λ a. is_legal_hearing (frame_of a message) (heard_bytes (frame_of a message) arrival) (heard_ending message arrival) ≡ true) fixed.addr (delivery-legal s arrival message sending free) in
+    let after : (next s (Deliver arrival)).device.words ≡ words_after s.device (hearing s.device.config.addr message arrival) =
+    next-deliver-words s arrival message sending ∙ ap (λ a. words_after s.device (hearing a message arrival)) fixed.addr in
+    elim (legal-write laws s.device cell word (heard_bytes (frame_of s.device.config.addr message) arrival) (heard_ending message arrival) (can-take s cell word whole fixed sends) legal) [
+      | inl same ↦ inl (after ∙ same)
+      | inr wrote ↦ inr (after ∙ wrote)
+    ]
+
+deliver-sends : WriteLaws → MapLaws → (s : State) (cell : Cell) (word : ℕ) (whole : Bool) (arrival : Arrival) → Fixed s cell word → Sends s cell word whole → event_cause s (Deliver arrival) ≡ None →
+    Sends (next s (Deliver arrival)) cell word (is_whole arrival || whole)
+deliver-sends laws map_laws s cell word whole Whole fixed sends free =
+    let message = cell_write cell word in
+    sends-whole map_laws s (next s (Deliver Whole)) cell word whole fixed sends (next-deliver-host s Whole)
+    (next-deliver-words s Whole message (sending-write s cell word sends.stage)
+    ∙ (ap (λ a. words_after s.device (hearing a message Whole)) fixed.addr
+    ∙ (ap (λ e. words_after s.device (device.Hearing (frame_of s.device.config.addr message) e)) (write-stop cell word)
+    ∙ whole-write laws s.device cell word (can-take s cell word whole fixed sends))))
+deliver-sends laws map_laws s cell word whole (Cut count) fixed sends free =
+    sends-words map_laws s (next s (Deliver (Cut count))) cell word whole fixed sends (next-deliver-host s (Cut count))
+    (delivered-words laws s cell word whole (Cut count) fixed sends free)
+deliver-sends laws map_laws s cell word whole (Bytes bytes ending) fixed sends free =
+    sends-words map_laws s (next s (Deliver (Bytes bytes ending))) cell word whole fixed sends (next-deliver-host s (Bytes bytes ending))
+    (delivered-words laws s cell word whole (Bytes bytes ending) fixed sends free)
+
+-- the read that ends an order
+turn-done : (h : Summary) (cell : Cell) (word : ℕ) (bytes : List ℕ) → h.stage ≡ Some (Reads cell word 0) → good_word h.setup.addr cell bytes ≡ Some word →
+    turn h (host.Got bytes) ≡ ends (marked (idle h) (Good cell word)) Done
+turn-done h cell word bytes stage good =
+    ap (λ o. answered (idle h) o bytes) stage
+    ∙ (ap (read_back (idle h) cell word 0) good
+    ∙ cond-true (eqb word word) _ _ (eq-eqb word word refl))
+
+register_number-below : (register : Reg) → register_number register < 5
+register_number-below Operation = omega arith
+register_number-below VoutCommand = omega arith
+register_number-below VoutMax = omega arith
+register_number-below MarginHigh = omega arith
+register_number-below MarginLow = omega arith
+
+place-below : (cell : Cell) → IsCell 8 cell → place_of cell < places
+place-below (Out output register) there = let below = register_number-below register in omega arith
+place-below Protect there = omega arith
+
+now-standings : (config : Config) (passes : ℕ) (events : List Event) → length (now config passes events).host.known.standing ≡ places
+unfolding now state_of host_now known_now table
+now-standings config passes events = length-map-range_with_len {X = Standing} (λ place. standing_of (marks (setup_of config passes) (life config passes events).entries) (cell_in place)) 0 places
+
+-- what an undisturbed read of an order comes to
+pub record Ended (s : State) (cell : Cell) (word : ℕ) (event : Event) : Type 0 where
+  pub answer : List ℕ
+  pub good : good_word s.device.config.addr cell answer ≡ Some word
+  pub told : (share_of s event).told ≡ Some (host.Got answer)
+  pub done : (next s event).end ≡ Some Done
+  pub confirmed : standing_at (next s event).host cell ≡ Confirmed word
+  pub held : word_at (next s event).device.words cell ≡ word
+
+read-restart : (cell : Cell) → heard_ending (cell_read cell) Whole ≡ Restart
+read-restart (Out output register) = refl
+read-restart Protect = refl
+
+exchange-told : (s : State) (message : Message) → sending_in s.host ≡ Some message → heard_ending message Whole ≡ Restart →
+    (share_of s (Exchange Whole back.Whole)).told ≡ Some (host.Got (answer_in (reply_of s.device (frame_of s.host.setup.addr message) Restart)))
+exchange-told s message sending ending =
+    ap (λ o. (exchanged s Whole back.Whole o).told) sending
+    ∙ ap (λ e. Some (host.Got (answer_in (reply_of s.device (frame_of s.host.setup.addr message) e)))) ending
+
+exchange-heard : (s : State) (message : Message) → sending_in s.host ≡ Some message → heard_ending message Whole ≡ Restart →
+    (share_of s (Exchange Whole back.Whole)).heard ≡ Some (device.Hearing (frame_of s.host.setup.addr message) Restart)
+exchange-heard s message sending ending =
+    ap (λ o. (exchanged s Whole back.Whole o).heard) sending
+    ∙ ap (λ e. Some (device.Hearing (frame_of s.host.setup.addr message) e)) ending
+
+next-heard : WriteLaws → (s : State) (event : Event) (bytes : List ℕ) → (share_of s event).heard ≡ Some (device.Hearing bytes Restart) → (next s event).device.words ≡ s.device.words
+unfolding next device_next device_outcome
+next-heard laws s event bytes heard = ap (λ o. (device_after s.device o).words) heard ∙ laws.request s.device bytes
+
+next-done : (s : State) (event : Event) (cell : Cell) (word : ℕ) (bytes : List ℕ) → (share_of s event).told ≡ Some (host.Got bytes) →
+    turn s.host (host.Got bytes) ≡ ends (marked (idle s.host) (Good cell word)) Done → (next s event).end ≡ Some Done
+unfolding next step_of
+next-done s event cell word bytes told done = ap (end_after s.host s.end) told ∙ ap (λ (t : Turn). end_by t.step) done
+
+next-confirmed : (s : State) (event : Event) (cell : Cell) (word : ℕ) (bytes : List ℕ) → (share_of s event).told ≡ Some (host.Got bytes) →
+    turn s.host (host.Got bytes) ≡ ends (marked (idle s.host) (Good cell word)) Done → length s.host.known.standing ≡ places → IsCell 8 cell →
+    standing_at (next s event).host cell ≡ Confirmed word
+unfolding next host_next
+next-confirmed s event cell word bytes told done long there =
+    ap (λ o. standing_at (host_after s.host o) cell) told
+    ∙ (ap (λ (t : Turn). standing_at t.after cell) done
+    ∙ get_or-set_same s.host.known.standing (place_of cell) (Confirmed word) Unknown (let below = place-below cell there in omega arith))
+
+ended : WriteLaws → ReadLaws → (s : State) (cell : Cell) (word : ℕ) → Fixed s cell word → s.host.stage ≡ Some (Reads cell word 0) → word_at s.device.words cell ≡ word →
+    length s.host.known.standing ≡ places → Ended s cell word (Exchange Whole back.Whole)
+ended write_laws read_laws s cell word fixed stage held long =
+    let sending : sending_in s.host ≡ Some (cell_read cell) = ap (option_map stage_message) stage in
+    let answer = answer_in (reply_of s.device (frame_of s.host.setup.addr (cell_read cell)) Restart) in
+    let good : good_word s.device.config.addr cell answer ≡ Some word =
+    ap (λ a. good_word s.device.config.addr cell (answer_in (reply_of s.device (frame_of a (cell_read cell)) Restart))) fixed.addr
+    ∙ (read-word read_laws s.device cell fixed.there (ap (cell_accepts cell) held ∙ fixed.accepted) fixed.read_fits
+    ∙ ap (λ w. Some w) held) in
+    let told = exchange-told s (cell_read cell) sending (read-restart cell) in
+    let done = turn-done s.host cell word answer stage (ap (λ a. good_word a cell answer) fixed.addr ∙ good) in
+    record {
+      answer = answer;
+      good = good;
+      told = told;
+      done = next-done s (Exchange Whole back.Whole) cell word answer told done;
+      confirmed = next-confirmed s (Exchange Whole back.Whole) cell word answer told done long (eight s.device.config.count cell fixed.few fixed.there);
+      held = ap (λ w. word_at w cell) (next-heard write_laws s (Exchange Whole back.Whole) _ (exchange-heard s (cell_read cell) sending (read-restart cell))) ∙ held;
+    }
+
+-- the laws of the ends and of the world's life
+pub record HonestLaws : Type 0 where
+  pub write : WriteLaws
+  pub read : ReadLaws
+  pub map_laws : MapLaws
+  pub words : (config : Config) (past : List device.Event) → AreWords (device_now config past).words
+  pub fits : (setup : host.Setup) (message : Message) → CanSend setup message → fits_layout message ≡ true
+  pub sound : (setup : host.Setup) (entries : List host.Entry) → IsSetup setup → AreTold setup entries → IsSoundHost (host_now setup entries)
+  pub more : (config : Config) (passes : ℕ) (events : List Event) (event : Event) → IsSound config → IsSetup (setup_of config passes) →
+      AreTaken config passes (event ∷ events) → now config passes (event ∷ events) ≡ next (now config passes events) event
+  pub told : (config : Config) (passes : ℕ) (events : List Event) → IsSound config → IsSetup (setup_of config passes) → AreTaken config passes events →
+      AreTold (setup_of config passes) (life config passes events).entries
+
+now-are : HonestLaws → (config : Config) (passes : ℕ) (events : List Event) → AreWords (now config passes events).device.words
+unfolding now state_of
+now-are laws config passes events = laws.words config (life config passes events).past
+
+now-sound : HonestLaws → (config : Config) (passes : ℕ) (events : List Event) → IsSound config → IsSetup (setup_of config passes) → AreTaken config passes events → IsSoundHost (now config passes events).host
+unfolding now state_of
+now-sound laws config passes events sound made taken = laws.sound (setup_of config passes) (life config passes events).entries made (laws.told config passes events sound made taken)
+
+-- what no event changes
+now-config : (config : Config) (passes : ℕ) (events : List Event) → config ≡ (now config passes events).device.config
+unfolding now state_of device_now
+now-config config passes events = refl
+
+now-setup : (config : Config) (passes : ℕ) (events : List Event) → (now config passes events).host.setup ≡ setup_of config passes
+unfolding now state_of host_now
+now-setup config passes events = refl
+
+order-stage : (s : State) (cell : Cell) (word : ℕ) → (next s (Order cell word)).host.stage ≡ Some (Writes cell word 0)
+unfolding next host_next
+order-stage s cell word = refl
+
+order-device : (s : State) (cell : Cell) (word : ℕ) → (next s (Order cell word)).device ≡ s.device
+unfolding next
+order-device s cell word = refl
+
+order-entries : (config : Config) (passes : ℕ) (before : List Event) (cell : Cell) (word : ℕ) →
+    (life config passes (Order cell word ∷ before)).entries ≡ host.Accepted (host.Order cell word) ∷ (life config passes before).entries
+unfolding life
+order-entries config passes before cell word = refl
+
+finish-stage : (s : State) (acked : Bool) (cell : Cell) (word : ℕ) → s.host.stage ≡ Some (Writes cell word 0) → (next s (Finish acked)).host.stage ≡ Some (Reads cell word 0)
+unfolding next host_next
+finish-stage s acked cell word stage = ap (λ o. (finished (idle s.host) o acked).after.stage) stage
+
+finish-device : (s : State) (acked : Bool) → (next s (Finish acked)).device ≡ s.device
+unfolding next
+finish-device s acked = refl
+
+finish-entries : (config : Config) (passes : ℕ) (before : List Event) (acked : Bool) →
+    (life config passes (Finish acked ∷ before)).entries ≡ host.Finished acked ∷ (life config passes before).entries
+unfolding life
+finish-entries config passes before acked = refl
+
+deliver-entries : (config : Config) (passes : ℕ) (before : List Event) (arrival : Arrival) →
+    (life config passes (Deliver arrival ∷ before)).entries ≡ (life config passes before).entries
+unfolding life now
+deliver-entries config passes before arrival =
+    ap (λ t. option_to_list t ++ (life config passes before).entries)
+    (told-nothing (state_of config passes (length before) (life config passes before)) arrival (sending_in (state_of config passes (length before) (life config passes before)).host))
+
+share-entries : (config : Config) (passes : ℕ) (before : List Event) (event : Event) (entry : host.Entry) → (share_of (now config passes before) event).told ≡ Some entry →
+    (life config passes (event ∷ before)).entries ≡ entry ∷ (life config passes before).entries
+unfolding life now
+share-entries config passes before event entry told = ap (λ t. option_to_list t ++ (life config passes before).entries) told
+
+ordering : HonestLaws → (config : Config) (passes : ℕ) (before : List Event) (cell : Cell) (word : ℕ) → IsSound config → IsSetup (setup_of config passes) → AreTaken config passes (Order cell word ∷ before) →
+    IsOrdering (now config passes (Order cell word ∷ before)).host cell word 0
+ordering laws config passes before cell word sound made taken =
+    subst (IsStage (now config passes (Order cell word ∷ before)).host)
+    (ap (λ (s : State). s.host.stage) (laws.more config passes before (Order cell word) sound made taken) ∙ order-stage (now config passes before) cell word)
+    (now-sound laws config passes (Order cell word ∷ before) sound made taken).stage
+
+-- one order, from its acceptance on
+pub record Ordered (config : Config) (cell : Cell) (word : ℕ) : Type 0 where
+  pub sound : IsSound config
+  pub there : IsCell config.count cell
+  pub accepted : cell_accepts cell word ≡ true
+  pub write_fits : fits_layout (cell_write cell word) ≡ true
+  pub read_fits : fits_layout (cell_read cell) ≡ true
+
+ordered : HonestLaws → (config : Config) (passes : ℕ) (before : List Event) (cell : Cell) (word : ℕ) → IsSound config → IsSetup (setup_of config passes) → AreTaken config passes (Order cell word ∷ before) → Ordered config cell word
+ordered laws config passes before cell word sound made taken =
+    let o = ordering laws config passes before cell word sound made taken in
+    let there : IsCell config.count cell = subst (λ (u : host.Setup). IsCell u.outputs cell) (now-setup config passes (Order cell word ∷ before)) o.there in
+    record {
+      sound = sound;
+      there = there;
+      accepted = o.accepted;
+      write_fits = write-fits laws.fits (setup_of config passes) cell word there o.accepted;
+      read_fits = read-fits laws.fits (setup_of config passes) cell there;
+    }
+
+fixed : HonestLaws → (config : Config) (passes : ℕ) (events : List Event) (cell : Cell) (word : ℕ) → Ordered config cell word → Fixed (now config passes events) cell word
+fixed laws config passes events cell word o =
+    let same = now-config config passes events in
+    record {
+      addr = ap (λ (u : host.Setup). u.addr) (now-setup config passes events) ∙ ap (λ (k : Config). k.addr) same;
+      there = subst (λ (k : Config). IsCell k.count cell) same o.there;
+      few = subst (λ (k : Config). k.count ≤ 8) same o.sound.few;
+      accepted = o.accepted;
+      write_fits = o.write_fits;
+      read_fits = o.read_fits;
+      are = now-are laws config passes events;
+    }
+
+-- the events of an order up to so many deliveries
+abbrev sent_by : Cell → ℕ → List Arrival → List Event → List Event
+sent_by cell word arrivals before = map (λ arrival. Deliver arrival) arrivals ++ Order cell word ∷ before
+
+record Sent (config : Config) (passes : ℕ) (cell : Cell) (word : ℕ) (before events : List Event) (whole : Bool) : Type 0 where
+  pub sends : Sends (now config passes events) cell word whole
+  pub entries : (life config passes events).entries ≡ host.Accepted (host.Order cell word) ∷ (life config passes before).entries
+
+sent-so : HonestLaws → (config : Config) (passes : ℕ) (before : List Event) (cell : Cell) (word : ℕ) → Ordered config cell word → IsSetup (setup_of config passes) →
+    is_allowed (word_at (now config passes before).device.words Protect) (cell_code cell) ≡ true → (arrivals : List Arrival) → AreTaken config passes (sent_by cell word arrivals before) →
+    Sent config passes cell word before (sent_by cell word arrivals before) (list_any is_whole arrivals)
+sent-so laws config passes before cell word o made allowed [] taken =
+    let after = laws.more config passes before (Order cell word) o.sound made taken in
+    record {
+      sends = record {
+        stage = ap (λ (s : State). s.host.stage) after ∙ order-stage (now config passes before) cell word;
+        allowed = ap (λ (h : Held). is_allowed (word_at h.words Protect) (cell_code cell)) (ap (λ (s : State). s.device) after ∙ order-device (now config passes before) cell word) ∙ allowed;
+        held = λ h. cc;
+      };
+      entries = order-entries config passes before cell word;
+    }
+sent-so laws config passes before cell word o made allowed (arrival ∷ arrivals) taken =
+    let events = sent_by cell word arrivals before in
+    let so_far = sent-so laws config passes before cell word o made allowed arrivals taken.1 in
+    record {
+      sends = subst (λ (s : State). Sends s cell word (is_whole arrival || list_any is_whole arrivals)) (sym (laws.more config passes events (Deliver arrival) o.sound made taken))
+          (deliver-sends laws.write laws.map_laws (now config passes events) cell word (list_any is_whole arrivals) arrival (fixed laws config passes events cell word o) so_far.sends
+          (taken-free (now config passes events) (Deliver arrival) taken.0));
+      entries = deliver-entries config passes events arrival ∙ so_far.entries;
+    }
+
+taken-order : (config : Config) (passes : ℕ) (before : List Event) (cell : Cell) (word : ℕ) (arrivals : List Arrival) → AreTaken config passes (sent_by cell word arrivals before) → AreTaken config passes (Order cell word ∷ before)
+taken-order config passes before cell word [] taken = taken
+taken-order config passes before cell word (arrival ∷ arrivals) taken = taken-order config passes before cell word arrivals taken.1
+
+-- what came before events that were taken was taken
+pub taken-before : (config : Config) (passes : ℕ) (later before : List Event) → AreTaken config passes (later ++ before) → AreTaken config passes before
+taken-before config passes [] before taken = taken
+taken-before config passes (event ∷ later) before taken = taken-before config passes later before taken.1
+
+pub went-through : HonestLaws → (config : Config) (passes : ℕ) (before : List Event) (cell : Cell) (word : ℕ) (arrivals : List Arrival) (acked : Bool) → IsSound config → IsSetup (setup_of config passes) →
+    AreTaken config passes (honest cell word arrivals acked before) → is_allowed (word_at (now config passes before).device.words Protect) (cell_code cell) ≡ true → list_any is_whole arrivals ≡ true →
+    WentThrough config passes cell word acked before (honest cell word arrivals acked before)
+went-through laws config passes before cell word arrivals acked sound made taken allowed whole =
+    let events = sent_by cell word arrivals before in
+    let read = Exchange Whole back.Whole in
+    let o = ordered laws config passes before cell word sound made (taken-order config passes before cell word arrivals taken.1.1) in
+    let so = sent-so laws config passes before cell word o made allowed arrivals taken.1.1 in
+    let finish = laws.more config passes events (Finish acked) sound made taken.1 in
+    let s = now config passes (Finish acked ∷ events) in
+    let e = ended laws.write laws.read s cell word (fixed laws config passes (Finish acked ∷ events) cell word o)
+    (ap (λ (t : State). t.host.stage) finish ∙ finish-stage (now config passes events) acked cell word so.sends.stage)
+    (ap (λ (h : Held). word_at h.words cell) (ap (λ (t : State). t.device) finish ∙ finish-device (now config passes events) acked) ∙ so.sends.held whole)
+    (now-standings config passes (Finish acked ∷ events)) in
+    let after = laws.more config passes (Finish acked ∷ events) read sound made taken in
+    record {
+      answer = e.answer;
+      good = ap (λ (k : Config). good_word k.addr cell e.answer) (now-config config passes (Finish acked ∷ events)) ∙ e.good;
+      two_frames = share-entries config passes (Finish acked ∷ events) read (host.Got e.answer) e.told
+          ∙ ap (λ xs. host.Got e.answer ∷ xs) (finish-entries config passes events acked ∙ ap (λ xs. host.Finished acked ∷ xs) so.entries);
+      done = ap (λ (t : State). t.end) after ∙ e.done;
+      confirmed = ap (λ (t : State). standing_at t.host cell) after ∙ e.confirmed;
+      held = ap (λ (t : State). word_at t.device.words cell) after ∙ e.held;
+    }

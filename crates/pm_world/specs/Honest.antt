@@ -1,0 +1,66 @@
+-- What undisturbed frames come to in a world: this project's own choice of how an order, a check, a
+-- learn and a clear go.
+use Rattle.std.specs.Prelude.{◌≡◌, ◌≤◌, ◌*◌, ℕ, Bool, true, false, List, [], ◌∷◌, ◌++◌, map, Option, Some}
+use Rattle.std.specs.List.{list_any}
+use Rattle.pm_table.specs.declared.cell.Cell.{Cell}
+use Rattle.pm_table.specs.declared.cell.Cell.TheVariants.{Protect}
+use Rattle.pm_table.specs.Cell.{cell_code}
+use Rattle.pm_table.specs.Protection.{is_allowed}
+use Rattle.pm_model.specs.Settings.{word_at}
+use Rattle.pm_device.specs.declared.config.Config.{Config}
+use Rattle.pm_host.specs.declared.standing.Standing.TheVariants.{Confirmed}
+use Rattle.pm_host.specs.declared.step.JobEnd.TheVariants.{Done}
+use Rattle.pm_host.specs.Answers.{good_word}
+use Rattle.pm_host.specs.Frames.{frames_of}
+use Rattle.pm_host.specs.Summary.{standing_at}
+use Rattle.pm_host.specs.Transcript.{Accepted, Finished, Got}
+use Rattle.pm_host.specs.Transcript as host
+use Rattle.pm_world.specs.declared.event.Event.{Event}
+use Rattle.pm_world.specs.declared.event.Event.TheVariants.{Order, Deliver, Finish, Exchange}
+use Rattle.pm_world.specs.declared.event.Arrival.{Arrival}
+use Rattle.pm_world.specs.declared.event.Arrival.TheVariants.{Whole, Cut, Bytes}
+use Rattle.pm_world.specs.declared.event.Back.TheVariants as back
+use Rattle.pm_world.specs.Setup.{setup_of}
+use Rattle.pm_world.specs.Life.{life, now}
+
+-- after each of the events, the last job has sent at most twice as many frames as a job has passes,
+-- with the one that is being sent
+abbrev pub AreFewFrames : Config → ℕ → List Event → Type 0
+AreFewFrames config passes [] = Unit {0}
+AreFewFrames config passes (event ∷ before) =
+    (frames_of (setup_of config passes) (life config passes (event ∷ before)).entries ≤ 2 * passes)
+    × AreFewFrames config passes before
+
+-- a delivery of all the bytes of a frame
+abbrev pub is_whole : Arrival → Bool
+is_whole Whole = true
+is_whole (Cut count) = false
+is_whole (Bytes bytes ending) = false
+
+-- an order, deliveries of its write, the end of that write, acknowledged or not, and an exchange that
+-- nothing disturbs; newest first
+abbrev pub honest : Cell → ℕ → List Arrival → Bool → List Event → List Event
+honest cell word arrivals acked before =
+    Exchange Whole back.Whole ∷ Finish acked
+    ∷ (map (λ arrival. Deliver arrival) arrivals ++ Order cell word ∷ before)
+
+-- An order went through: the host sent its write and one read, whose answer was good and had the
+-- word; its job is done, the cell's word is confirmed, and the converter holds it.
+pub record WentThrough (config : Config) (passes : ℕ) (cell : Cell) (word : ℕ) (acked : Bool) (before after : List Event) : Type 0 where
+  pub answer : List ℕ
+  pub good : good_word config.addr cell answer ≡ Some word
+  pub two_frames : (life config passes after).entries
+      ≡ Got answer ∷ Finished acked ∷ Accepted (host.Order cell word) ∷ (life config passes before).entries
+  pub done : (now config passes after).end ≡ Some Done
+  pub confirmed : standing_at (now config passes after).host cell ≡ Confirmed word
+  pub held : word_at (now config passes after).device.words cell ≡ word
+
+-- Each such order among the events went through, where WRITE_PROTECT allowed its code as it was
+-- accepted and its write was delivered whole at least once.
+abbrev pub OrdersGoThrough : Config → ℕ → List Event → Type 0
+OrdersGoThrough config passes events =
+    (later before : List Event) (cell : Cell) (word : ℕ) (arrivals : List Arrival) (acked : Bool) →
+    events ≡ later ++ honest cell word arrivals acked before →
+    is_allowed (word_at (now config passes before).device.words Protect) (cell_code cell) ≡ true →
+    list_any is_whole arrivals ≡ true →
+    WentThrough config passes cell word acked before (honest cell word arrivals acked before)
