@@ -1,4 +1,12 @@
 pub mod Bytes
+pub mod Counts
+pub mod Decoding
 pub mod Faults
+pub mod Gathered
 pub mod Lines
+pub mod Marks
+pub mod OpenLines
+pub mod Parts
+pub mod ShownLines
 pub mod Streams
+pub mod Trace

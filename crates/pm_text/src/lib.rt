@@ -6,21 +6,39 @@
 //! takes memory for a word.
 #![tactic(auto)]
 
+mod byte_list;
 mod bytes;
 mod cut;
 mod fault;
+mod fed;
+mod gathered;
+mod hex_digit;
 mod line;
+mod line_body;
+mod line_fault;
+mod line_kind;
 mod lines;
+mod open_line;
+mod part;
+mod shown;
 mod sink;
 mod source;
+mod standing;
+mod tally;
 mod text;
+mod trace_line;
 mod words;
 
+pub use byte_list::ByteList;
 pub use bytes::push_bytes;
 pub use fault::TextFault;
+pub use fed::Fed;
 pub use line::Line;
 pub use lines::Lines;
+pub use part::PART_BYTES;
+pub use shown::Shown;
 pub use sink::Sink;
 pub use source::Source;
 pub use text::{MAX_TEXT, read_text};
+pub use trace_line::TraceLine;
 pub use words::Words;
