@@ -1,2 +1,4 @@
 pub mod CountLemmas
+pub mod GatheredLemmas
 pub mod LineLemmas
+pub mod RunLemmas

@@ -139,11 +139,11 @@ pub record Fails (old : Holding) (fault : TextFault) (new : Holding) : Type 0 wh
   pub shown : new.shown ≡ None
   pub counts : new.kept.counts ≡ old.kept.counts
 
--- the line that ends within these bytes carries a code that wasn't counted before
-pub record CarriesNew (old : Kept) (bytes : List ℕ) : Type 0 where
+-- the one line that ends carries a code that wasn't counted before
+pub record CarriesNew (counts : Counts) (lines : List Told) : Type 0 where
   pub line : Told
-  pub ends : told old bytes ≡ line ∷ []
-  pub is_new : IsNewCode old.counts line.1
+  pub one : lines ≡ line ∷ []
+  pub is_new : IsNewCode counts line.1
 
 -- the end of all bytes, in each standing
 abbrev pub is_ended_by : Standing → Kept → Bool

@@ -9,6 +9,7 @@
 mod byte_list;
 mod bytes;
 mod cut;
+mod decoder;
 mod fault;
 mod fed;
 mod gathered;
@@ -31,6 +32,7 @@ mod words;
 
 pub use byte_list::ByteList;
 pub use bytes::push_bytes;
+pub use decoder::Decoder;
 pub use fault::TextFault;
 pub use fed::Fed;
 pub use line::Line;

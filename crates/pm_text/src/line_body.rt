@@ -4,6 +4,7 @@ use crate::hex_digit::{byte_of, is_digit};
 use crate::line_fault::LineFault;
 use crate::line_kind::LineKind;
 use crate::part::Part;
+use crate::shown::{Shown, packet_shown};
 
 /// What is kept of a line of a trace, but for the carriage return at its end.
 #[derive(Debug, Drop)]
@@ -25,7 +26,8 @@ pub(crate) struct LineBody {
 impl LineBody {
     ghost use Rattle.std.specs.Prelude.{[], option_map, IfOk, IfErr, Ok, Err};
     ghost use Rattle.pm_text.specs.OpenLines.{body_of, body_takes, body_parts, body_goes_on, body_read, is_skipped_kind, is_empty_kind};
-    ghost use Rattle.pm_text.specs.OpenLines.{body_with};
+    ghost use Rattle.pm_text.specs.OpenLines.{body_with, body_judged};
+    ghost use Rattle.pm_text.specs.ShownLines.{judged_in};
 
     /// A line without bytes.
     #[tactic(auto, unfolding(crate::specs::OpenLines::body_of))]
@@ -125,6 +127,17 @@ impl LineBody {
             None
         };
         Ok((self.write.bytes(), read))
+    }
+
+    /// What the line says as it stands.
+    pub(crate) fn shown(&self) -> Shown<'_>
+        ensures { judged_in result ≡ body_judged self.now }
+    {
+        match self.parts() {
+            Ok((write, read)) => packet_shown(write, read),
+            Err(LineFault::Syntax) => Shown::BadSyntax,
+            Err(LineFault::BadHex) => Shown::BadHex,
+        }
     }
 
     /// Whether the line is skipped as it stands.
