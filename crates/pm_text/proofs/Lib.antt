@@ -1,4 +1,6 @@
+pub mod BodyLemmas
 pub mod CountLemmas
 pub mod GatheredLemmas
 pub mod LineLemmas
+pub mod MarkLemmas
 pub mod RunLemmas
