@@ -322,11 +322,3 @@ body_of-snoc line b = by (is_separator b) refl
     by : (c : Bool) → is_separator b ≡ c → body_of (line ++ b ∷ []) ≡ cond c (body_parts (body_of line) b) (body_goes_on (body_of line) b)
     by true is = body_parted line b is
     by false other = body_went_on line b other
-
--- ---- a line
-
--- the last byte of a list, where it has one
-pub record HasLast (xs : List ℕ) : Type 0 where
-  pub front : List ℕ
-  pub last : ℕ
-  pub is : xs ≡ front ++ last ∷ []
