@@ -4,5 +4,6 @@ pub mod GatheredLemmas
 pub mod LineLemmas
 pub mod MarkLemmas
 pub mod OpenLineLemmas
+pub mod PieceLemmas
 pub mod RunLemmas
 pub mod SaidLemmas

@@ -7,6 +7,7 @@ pub mod Lines
 pub mod Marks
 pub mod OpenLines
 pub mod Parts
+pub mod Pieces
 pub mod ShownLines
 pub mod Streams
 pub mod Trace
