@@ -1,16 +1,17 @@
 -- What came back for a request has no fault exactly where it has the layout of an answer to it,
 -- with the payload between.
-use Rattle.std.proofs.Common.{◌≡◌, ℕ, ◌+◌, ◌-◌, Bool, true, false, not, ◌&&◌, cond, eqb, None, List, [], ◌∷◌, ◌++◌, length, length-append, get_or, refl, sym, ◌∙◌, ap, ap₂, subst, arith}
+use Rattle.std.proofs.Common.{◌≡◌, ℕ, ◌+◌, ◌-◌, Bool, true, false, not, ◌&&◌, cond, eqb, None, List, [], ◌∷◌, ◌++◌, length, length-append, get_or, refl, sym, ◌∙◌, ap, ap₂, subst, arith, append_assoc, ◌<◌, ◌≤◌}
 use Rattle.std.proofs.lemmas.Bool.{cond-false, cond-true, eq-eqb, eqb-true, not_from_true, not-false}
 use Rattle.std.specs.Prelude.{slice_range}
 use Rattle.pm_frame.specs.declared.fault.FrameFault.TheVariants.{WrongCount}
 use Rattle.pm_frame.specs.declared.message.Message.{Message}
+use Rattle.pm_frame.specs.Damage.{EndsInPec}
 use Rattle.pm_frame.specs.Pec.{pec_of}
 use Rattle.pm_frame.specs.Layout.{IsAnswer, is_read_message, fits_layout, sent, answered, with_pec, read_address, has_count, answer_length}
 use Rattle.pm_frame.specs.View.{answer_payload}
 use Rattle.pm_frame.specs.Fault.{rule, address_fault, length_fault, pec_fault, whole_answer, answer_fault}
 use Rattle.pm_frame.proofs.Parts.{last_of, take-front}
-use Rattle.pm_frame.proofs.Rules.{or_none, none_or, rule_none, none_rule, address_fault-none, address_fault-found, length_fault-none, length_fault-found, pec_fault-none, pec_fault-found}
+use Rattle.pm_frame.proofs.RuleLemmas.{or_none, none_or, rule_none, none_rule, address_fault-none, address_fault-found, length_fault-none, length_fault-found, pec_fault-none, pec_fault-found}
 use Rattle.pm_frame.proofs.WriteLaws.{empty_of}
 
 -- an answer with its address and count in front
@@ -149,3 +150,20 @@ answer_fault-front addr request front rest long short =
     let whole = answer_fault-length addr request (front ++ rest) long in
     let cut = answer_fault-length addr request front short in
     empty_of rest (omega (arith, length-append front rest))
+
+-- a request followed by an answer ends in its PEC
+pub answer-ends : (addr : ℕ) (request : Message) (bytes : List ℕ) → answer_fault addr request bytes ≡ None → EndsInPec (sent addr request ++ bytes)
+answer-ends addr request bytes none =
+    let whole = answer_fault-length addr request bytes none in
+    let two = at_least_two (has_count request) (answer_length request) in
+    let some : 0 < length bytes = omega arith in
+    let parts = last_of bytes some in
+    let last : parts.1 ≡ pec_of (sent addr request ++ parts.0) = answer-last addr parts.1 request parts.0 (sym (ap (answer_fault addr request) parts.2) ∙ none) in
+    record {
+      front = sent addr request ++ parts.0;
+      is = ap (λ xs. sent addr request ++ xs) parts.2 ∙ sym (append_assoc (sent addr request) parts.0 (parts.1 ∷ [])) ∙ ap (λ x. sent addr request ++ parts.0 ++ x ∷ []) last;
+    }
+  where
+    at_least_two : (counted : Bool) (n : ℕ) → 2 ≤ cond counted 3 2 + n
+    at_least_two true n = omega arith
+    at_least_two false n = omega arith

@@ -1,10 +1,15 @@
-pub mod AnswerLaws
-pub mod Carryless
-pub mod Codes
-pub mod Residues
-mod Damage
-pub mod Parts
-pub mod RequestLaws
-pub mod Rules
-pub mod Whole
-pub mod WriteLaws
+mod AnswerLaws
+mod BetrayalLemmas
+mod Burst
+mod Carryless
+mod Codes
+mod DamageLemmas
+mod FewBits
+mod Fold
+mod Numbers
+mod Parts
+mod RequestLaws
+mod Residues
+mod RuleLemmas
+mod Whole
+mod WriteLaws

@@ -9,7 +9,7 @@ use Rattle.pm_frame.specs.declared.message.Payload.{Payload}
 use Rattle.pm_frame.specs.declared.message.Payload.TheVariants.{Empty, Byte, Word}
 use Rattle.pm_frame.specs.Layout.{payload_bytes, sent, write_address, fits_layout, is_read_message, is_plain_write}
 use Rattle.pm_frame.specs.View.{payload_in, plain_write, message_in, message_code, message_payload}
-use Rattle.pm_frame.proofs.Rules.{eqb-below}
+use Rattle.pm_frame.proofs.RuleLemmas.{eqb-below}
 
 -- a list that isn't empty has a last element
 pub last_of : (bytes : List ℕ) → 0 < length bytes → (front : List ℕ) × (last : ℕ) × (bytes ≡ front ++ last ∷ [])

@@ -5,6 +5,7 @@ use Rattle.std.proofs.lemmas.Bool.{cond-false, eqb-true, and_from, and_parts, or
 use Rattle.std.proofs.lemmas.List.{get_or_append_left}
 use Rattle.std.specs.Option.{option_or}
 use Rattle.pm_table.specs.Commands.{is_read, is_written}
+use Rattle.pm_frame.specs.declared.direction.Direction.TheVariants.{Read}
 use Rattle.pm_frame.specs.declared.fault.FrameFault.TheVariants.{Long, WrongCount, UnknownCode, WrongDirection, Nested}
 use Rattle.pm_frame.specs.declared.message.Message.{Message}
 use Rattle.pm_frame.specs.declared.message.Message.TheVariants.{SendByte, WriteByte, WriteWord, PagePlusWrite, ReadCommand, PagePlusRead, ReadCoefficients}
@@ -12,27 +13,27 @@ use Rattle.pm_frame.specs.Layout.{IsRequest, sent, write_address, fits_layout, i
 use Rattle.pm_frame.specs.View.{message_in}
 use Rattle.pm_frame.specs.Fault.{rule, carried_fault, plain_fault, block_request_fault, request_fault, write_fault}
 use Rattle.pm_frame.proofs.Codes.{read-is_not_05, read-is_known, written-is_not_06, written-is_not_30}
-use Rattle.pm_frame.proofs.Rules.{or_none, none_or, rule_none, none_rule, opening_fault-none, opening_fault-found, length_fault-none, length_fault-found}
+use Rattle.pm_frame.proofs.RuleLemmas.{or_none, none_or, rule_none, none_rule, opening_fault-none, opening_fault-found, length_fault-none, length_fault-found}
 use Rattle.pm_frame.proofs.WriteLaws.{empty_of, write-first}
 
-plain_fault-none : (bytes : List ℕ) → is_read (get_or bytes 1 0) ≡ true → plain_fault is_read bytes ≡ None
+plain_fault-none : (bytes : List ℕ) → is_read (get_or bytes 1 0) ≡ true → plain_fault Read bytes ≡ None
 unfolding plain_fault
 plain_fault-none bytes h =
     none_or _ _ (none_rule _ (UnknownCode 1) (not_from_true _ (read-is_known (get_or bytes 1 0) h)))
     (none_or _ _ (none_rule _ (WrongDirection 1) (not_from_true _ h)) refl)
 
-plain_fault-found : (bytes : List ℕ) → plain_fault is_read bytes ≡ None → is_read (get_or bytes 1 0) ≡ true
+plain_fault-found : (bytes : List ℕ) → plain_fault Read bytes ≡ None → is_read (get_or bytes 1 0) ≡ true
 unfolding plain_fault
 plain_fault-found bytes h = not-false _ (rule_none _ (WrongDirection 1) (or_none _ _ (or_none _ _ h).1).0)
 
-carried_fault-none : (bytes : List ℕ) → is_carried (get_or bytes 4 0) ≡ true → is_read (get_or bytes 4 0) ≡ true → carried_fault is_read bytes ≡ None
+carried_fault-none : (bytes : List ℕ) → is_carried (get_or bytes 4 0) ≡ true → is_read (get_or bytes 4 0) ≡ true → carried_fault Read bytes ≡ None
 unfolding carried_fault
 carried_fault-none bytes carried h =
     none_or _ _ (none_rule _ (Nested 4) (not_from_true _ carried))
     (none_or _ _ (none_rule _ (UnknownCode 4) (not_from_true _ (read-is_known (get_or bytes 4 0) h)))
     (none_or _ _ (none_rule _ (WrongDirection 4) (not_from_true _ h)) refl))
 
-carried_fault-found : (bytes : List ℕ) → carried_fault is_read bytes ≡ None → (is_carried (get_or bytes 4 0) ≡ true) × (is_read (get_or bytes 4 0) ≡ true)
+carried_fault-found : (bytes : List ℕ) → carried_fault Read bytes ≡ None → (is_carried (get_or bytes 4 0) ≡ true) × (is_read (get_or bytes 4 0) ≡ true)
 unfolding carried_fault
 carried_fault-found bytes h =
     let nested = or_none _ _ h in
@@ -110,16 +111,16 @@ block-found addr code rest block h =
         subst (λ c. IsRequest addr (message_in (write_address addr ∷ c ∷ 2 ∷ asked ∷ side ∷ [])) (write_address addr ∷ c ∷ 2 ∷ asked ∷ side ∷ [])) (sym is)
         (record { reads = refl; fits = refl; spelled = refl })
 
-    three : (x y : ℕ) (is_paged : Bool) → eqb code 0x06 ≡ is_paged → cond is_paged (carried_fault is_read (write_address addr ∷ code ∷ 2 ∷ x ∷ y ∷ [])) None ≡ None → IsRequest addr (message_in (write_address addr ∷ code ∷ 2 ∷ x ∷ y ∷ [])) (write_address addr ∷ code ∷ 2 ∷ x ∷ y ∷ [])
+    three : (x y : ℕ) (is_paged : Bool) → eqb code 0x06 ≡ is_paged → cond is_paged (carried_fault Read (write_address addr ∷ code ∷ 2 ∷ x ∷ y ∷ [])) None ≡ None → IsRequest addr (message_in (write_address addr ∷ code ∷ 2 ∷ x ∷ y ∷ [])) (write_address addr ∷ code ∷ 2 ∷ x ∷ y ∷ [])
     three x y true is e = paged x y (eqb-true code 0x06 is) (carried_fault-found (write_address addr ∷ code ∷ 2 ∷ x ∷ y ∷ []) e)
     three x y false is e = coefficients x y (eqb-true code 0x30 (ap (λ b. b || eqb code 0x30) (sym is) ∙ block))
 
-    go : (rest : List ℕ) → length (write_address addr ∷ code ∷ rest) ≡ 5 → get_or (write_address addr ∷ code ∷ rest) 2 0 ≡ 2 → (is_paged : Bool) → eqb code 0x06 ≡ is_paged → cond is_paged (carried_fault is_read (write_address addr ∷ code ∷ rest)) None ≡ None → IsRequest addr (message_in (write_address addr ∷ code ∷ rest)) (write_address addr ∷ code ∷ rest)
+    go : (rest : List ℕ) → length (write_address addr ∷ code ∷ rest) ≡ 5 → get_or (write_address addr ∷ code ∷ rest) 2 0 ≡ 2 → (is_paged : Bool) → eqb code 0x06 ≡ is_paged → cond is_paged (carried_fault Read (write_address addr ∷ code ∷ rest)) None ≡ None → IsRequest addr (message_in (write_address addr ∷ code ∷ rest)) (write_address addr ∷ code ∷ rest)
     go [] n c p is e = absurd (omega arith)
     go (x ∷ []) n c p is e = absurd (omega arith)
     go (x ∷ y ∷ []) n c p is e = absurd (omega arith)
     go (x ∷ y ∷ z ∷ []) n c p is e =
-        subst (λ k. cond p (carried_fault is_read (write_address addr ∷ code ∷ k ∷ y ∷ z ∷ [])) None ≡ None → IsRequest addr (message_in (write_address addr ∷ code ∷ k ∷ y ∷ z ∷ [])) (write_address addr ∷ code ∷ k ∷ y ∷ z ∷ [])) (sym c) (three y z p is) e
+        subst (λ k. cond p (carried_fault Read (write_address addr ∷ code ∷ k ∷ y ∷ z ∷ [])) None ≡ None → IsRequest addr (message_in (write_address addr ∷ code ∷ k ∷ y ∷ z ∷ [])) (write_address addr ∷ code ∷ k ∷ y ∷ z ∷ [])) (sym c) (three y z p is) e
     go (x ∷ y ∷ z ∷ w ∷ more) n c p is e = absurd (omega arith)
 
 plain-found : (addr code : ℕ) (rest : List ℕ) → eqb code 0x06 || eqb code 0x30 ≡ false → is_read code ≡ true → length (write_address addr ∷ code ∷ rest) ≤ 2 → IsRequest addr (message_in (write_address addr ∷ code ∷ rest)) (write_address addr ∷ code ∷ rest)
@@ -135,15 +136,15 @@ request_fault-found addr bytes h =
     let opened = or_none _ _ h in
     go bytes opened.1 (opening_fault-found (write_address addr) bytes opened.0)
   where
-    here : (code : ℕ) (rest : List ℕ) (block : Bool) → eqb code 0x06 || eqb code 0x30 ≡ block → cond block (block_request_fault (write_address addr ∷ code ∷ rest)) (option_or (plain_fault is_read (write_address addr ∷ code ∷ rest)) (rule (ltb 2 (length (write_address addr ∷ code ∷ rest))) (Long 2))) ≡ None → IsRequest addr (message_in (write_address addr ∷ code ∷ rest)) (write_address addr ∷ code ∷ rest)
+    here : (code : ℕ) (rest : List ℕ) (block : Bool) → eqb code 0x06 || eqb code 0x30 ≡ block → cond block (block_request_fault (write_address addr ∷ code ∷ rest)) (option_or (plain_fault Read (write_address addr ∷ code ∷ rest)) (rule (ltb 2 (length (write_address addr ∷ code ∷ rest))) (Long 2))) ≡ None → IsRequest addr (message_in (write_address addr ∷ code ∷ rest)) (write_address addr ∷ code ∷ rest)
     here code rest true is e = block-found addr code rest is e
     here code rest false is e =
         let both = or_none _ _ e in
         plain-found addr code rest is (plain_fault-found (write_address addr ∷ code ∷ rest) both.0) (ltb-false _ _ (rule_none _ (Long 2) both.1))
 
-    go : (bytes : List ℕ) → cond (eqb (get_or bytes 1 0) 0x06 || eqb (get_or bytes 1 0) 0x30) (block_request_fault bytes) (option_or (plain_fault is_read bytes) (rule (ltb 2 (length bytes)) (Long 2))) ≡ None → ((second : ℕ) × (rest : List ℕ) × (bytes ≡ write_address addr ∷ second ∷ rest)) → IsRequest addr (message_in bytes) bytes
+    go : (bytes : List ℕ) → cond (eqb (get_or bytes 1 0) 0x06 || eqb (get_or bytes 1 0) 0x30) (block_request_fault bytes) (option_or (plain_fault Read bytes) (rule (ltb 2 (length bytes)) (Long 2))) ≡ None → ((second : ℕ) × (rest : List ℕ) × (bytes ≡ write_address addr ∷ second ∷ rest)) → IsRequest addr (message_in bytes) bytes
     go bytes e (code, rest, split) =
-        subst (λ xs. cond (eqb (get_or xs 1 0) 0x06 || eqb (get_or xs 1 0) 0x30) (block_request_fault xs) (option_or (plain_fault is_read xs) (rule (ltb 2 (length xs)) (Long 2))) ≡ None → IsRequest addr (message_in xs) xs)
+        subst (λ xs. cond (eqb (get_or xs 1 0) 0x06 || eqb (get_or xs 1 0) 0x30) (block_request_fault xs) (option_or (plain_fault Read xs) (rule (ltb 2 (length xs)) (Long 2))) ≡ None → IsRequest addr (message_in xs) xs)
         (sym split) (here code rest (eqb code 0x06 || eqb code 0x30) refl) e
 
 request_fault-length : (addr : ℕ) (bytes : List ℕ) → request_fault addr bytes ≡ None → length bytes ≡ cond (eqb (get_or bytes 1 0) 0x06 || eqb (get_or bytes 1 0) 0x30) 5 2

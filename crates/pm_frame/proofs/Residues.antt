@@ -108,7 +108,7 @@ residues_of-after byte more after (suc j) =
     ∙ (λ i. bit_xor (one i) (residues_of-after byte more after j i))
 
 -- the residues of the lowest bits of the last byte are those bits, doubled eight times
-residues_of-last : (byte count : ℕ) → count ≤ 8 → residues_of byte 0 count ≡ doubled_times 8 (byte % 2 ^ count)
+pub residues_of-last : (byte count : ℕ) → count ≤ 8 → residues_of byte 0 count ≡ doubled_times 8 (byte % 2 ^ count)
 unfolding residues_of
 residues_of-last byte zero h =
     let none : 0 ≡ byte % 2 ^ 0 = omega arith in
@@ -142,7 +142,7 @@ pec_of-byte byte h =
     xor_zero_r (residues_of byte 0 8) ∙ residues_of-last byte 8 (omega arith) ∙ ap (doubled_times 8) (mod-eq_of_lt h)
 
 -- one byte more
-pec_of-append_byte : (front : List ℕ) (byte : ℕ) → byte < 2 ^ 8 → pec_of (front ++ byte ∷ []) ≡ doubled_times 8 (bit_xor (pec_of front) byte)
+pub pec_of-append_byte : (front : List ℕ) (byte : ℕ) → byte < 2 ^ 8 → pec_of (front ++ byte ∷ []) ≡ doubled_times 8 (bit_xor (pec_of front) byte)
 unfolding pec_of
 pec_of-append_byte [] byte h = pec_of-byte byte h
 pec_of-append_byte (x ∷ xs) byte h =

@@ -6,25 +6,27 @@ use Rattle.std.proofs.Common.{◌⊎◌, inl, inr}
 use Rattle.std.proofs.lemmas.List.{get_or_append_left}
 use Rattle.std.specs.Option.{option_or}
 use Rattle.pm_table.specs.Commands.{is_written, payload_length}
+use Rattle.pm_frame.specs.declared.direction.Direction.TheVariants.{Write}
 use Rattle.pm_frame.specs.declared.fault.FrameFault.TheVariants.{Short, WrongCount, UnknownCode, WrongDirection, Nested}
 use Rattle.pm_frame.specs.declared.message.Message.{Message}
 use Rattle.pm_frame.specs.declared.message.Message.TheVariants.{SendByte, WriteByte, WriteWord, PagePlusWrite, ReadCommand, PagePlusRead, ReadCoefficients}
 use Rattle.pm_frame.specs.declared.message.Payload.{Payload}
 use Rattle.pm_frame.specs.declared.message.Payload.TheVariants.{Empty, Byte, Word}
+use Rattle.pm_frame.specs.Damage.{EndsInPec}
 use Rattle.pm_frame.specs.Pec.{pec_of}
 use Rattle.pm_frame.specs.Layout.{AreBytes, IsWrite, payload_bytes, sent, with_pec, write_address, fits_layout, is_read_message, is_plain_write, is_carried}
 use Rattle.pm_frame.specs.View.{payload_in, plain_write, message_in}
 use Rattle.pm_frame.specs.Fault.{opening_fault, size_fault, length_fault, carried_count_fault, pec_fault, carried_fault, plain_fault, write_fault}
 use Rattle.pm_frame.proofs.Codes.{wrapper-is_written, written-is_not_06, written-is_not_30, written-is_known}
 use Rattle.pm_frame.proofs.Parts.{last_of, payload_in-bytes, bytes-payload_in, sent-plain, is_read-plain, fits-plain, message_in-plain, message_in-carried}
-use Rattle.pm_frame.proofs.Rules.{or_none, none_or, rule_none, none_rule, eqb-below, opening_fault-none, opening_fault-found, length_fault-none, length_fault-found, pec_fault-none, pec_fault-found}
+use Rattle.pm_frame.proofs.RuleLemmas.{or_none, none_or, rule_none, none_rule, eqb-below, opening_fault-none, opening_fault-found, length_fault-none, length_fault-found, pec_fault-none, pec_fault-found}
 
 -- each group of rules leaves the bytes alone
 record Faultless (addr : ℕ) (bytes : List ℕ) : Type 0 where
   opening : opening_fault (write_address addr) bytes ≡ None
   size : size_fault bytes ≡ None
   pec : pec_fault [] bytes ≡ None
-  code : cond (eqb (get_or bytes 1 0) 0x05) (carried_fault is_written bytes) (plain_fault is_written bytes) ≡ None
+  code : cond (eqb (get_or bytes 1 0) 0x05) (carried_fault Write bytes) (plain_fault Write bytes) ≡ None
 
 faultless : (addr : ℕ) (bytes : List ℕ) → write_fault addr bytes ≡ None → Faultless addr bytes
 unfolding write_fault
@@ -39,25 +41,25 @@ unfolding write_fault
 write_fault-none addr bytes h = none_or _ _ h.opening (none_or _ _ h.size (none_or _ _ h.pec (none_or _ _ h.code refl)))
 
 -- a plain code that is written has no fault
-plain_fault-none : (bytes : List ℕ) → is_written (get_or bytes 1 0) ≡ true → plain_fault is_written bytes ≡ None
+plain_fault-none : (bytes : List ℕ) → is_written (get_or bytes 1 0) ≡ true → plain_fault Write bytes ≡ None
 unfolding plain_fault
 plain_fault-none bytes h =
     let code = get_or bytes 1 0 in
     none_or _ _ (none_rule _ (UnknownCode 1) (not_from_true _ (written-is_known code h)))
     (none_or _ _ (none_rule _ (WrongDirection 1) (not_from_true _ h)) refl)
 
-plain_fault-found : (bytes : List ℕ) → plain_fault is_written bytes ≡ None → is_written (get_or bytes 1 0) ≡ true
+plain_fault-found : (bytes : List ℕ) → plain_fault Write bytes ≡ None → is_written (get_or bytes 1 0) ≡ true
 unfolding plain_fault
 plain_fault-found bytes h = not-false _ (rule_none _ (WrongDirection 1) (or_none _ _ (or_none _ _ h).1).0)
 
-carried_fault-none : (bytes : List ℕ) → is_carried (get_or bytes 4 0) ≡ true → is_written (get_or bytes 4 0) ≡ true → carried_fault is_written bytes ≡ None
+carried_fault-none : (bytes : List ℕ) → is_carried (get_or bytes 4 0) ≡ true → is_written (get_or bytes 4 0) ≡ true → carried_fault Write bytes ≡ None
 unfolding carried_fault
 carried_fault-none bytes carried h =
     none_or _ _ (none_rule _ (Nested 4) (not_from_true _ carried))
     (none_or _ _ (none_rule _ (UnknownCode 4) (not_from_true _ (written-is_known (get_or bytes 4 0) h)))
     (none_or _ _ (none_rule _ (WrongDirection 4) (not_from_true _ h)) refl))
 
-carried_fault-found : (bytes : List ℕ) → carried_fault is_written bytes ≡ None → (is_carried (get_or bytes 4 0) ≡ true) × (is_written (get_or bytes 4 0) ≡ true)
+carried_fault-found : (bytes : List ℕ) → carried_fault Write bytes ≡ None → (is_carried (get_or bytes 4 0) ≡ true) × (is_written (get_or bytes 4 0) ≡ true)
 unfolding carried_fault
 carried_fault-found bytes h =
     let nested = or_none _ _ h in
@@ -206,7 +208,7 @@ second_false : (a b : Bool) → a ≡ true → (a && b) ≡ false → b ≡ fals
 second_false true b h e = e
 second_false false b h e = absurd (false≢true h)
 
-not_plain-cases : (bytes : List ℕ) (wrapper : Bool) → eqb (get_or bytes 1 0) 0x05 ≡ wrapper → size_fault bytes ≡ None → cond wrapper (carried_fault is_written bytes) (plain_fault is_written bytes) ≡ None → is_plain_write (get_or bytes 1 0) ≡ false → FoundPlain bytes ⊎ FoundCarried bytes
+not_plain-cases : (bytes : List ℕ) (wrapper : Bool) → eqb (get_or bytes 1 0) 0x05 ≡ wrapper → size_fault bytes ≡ None → cond wrapper (carried_fault Write bytes) (plain_fault Write bytes) ≡ None → is_plain_write (get_or bytes 1 0) ≡ false → FoundPlain bytes ⊎ FoundCarried bytes
 unfolding size_fault carried_count_fault
 not_plain-cases bytes false other size code not_plain =
     absurd (both_ways _ not_plain (and_from _ _ (plain_fault-found bytes code) (not_from_false _ other)))
@@ -296,3 +298,11 @@ write-first addr bytes h = go (write_cases addr bytes (faultless addr bytes h)) 
   go : FoundPlain bytes ⊎ FoundCarried bytes → (3 ≤ length bytes) × (is_written (get_or bytes 1 0) ≡ true)
   go (inl f) = (omega (arith, f.whole), (and_parts _ _ f.plain).0)
   go (inr f) = (omega (arith, f.whole), ap is_written f.is_wrapper ∙ wrapper-is_written)
+
+-- a write ends in its PEC
+pub write-ends : (addr : ℕ) (bytes : List ℕ) → write_fault addr bytes ≡ None → EndsInPec bytes
+write-ends addr bytes none =
+    let some : 0 < length bytes = omega (arith, (write-first addr bytes none).0) in
+    let parts = last_of bytes some in
+    let last : parts.1 ≡ pec_of parts.0 = write-last addr parts.1 parts.0 (sym (ap (write_fault addr) parts.2) ∙ none) in
+    record { front = parts.0; is = parts.2 ∙ ap (λ x. parts.0 ++ x ∷ []) last }

@@ -5,6 +5,8 @@
 use Rattle.std.specs.Prelude.{ℕ, ◌+◌, ◌-◌, Bool, not, ◌&&◌, ◌||◌, ◌==◌, nat_lt, if◌then◌else◌, List, [], ◌∷◌, ◌++◌, length, take, slice_index, Option, Some, None}
 use Rattle.std.specs.Option.{option_or}
 use Rattle.pm_table.specs.Commands.{is_known, is_read, is_written, payload_length}
+use Rattle.pm_frame.specs.declared.direction.Direction.{Direction}
+use Rattle.pm_frame.specs.declared.direction.Direction.TheVariants.{Write, Read}
 use Rattle.pm_frame.specs.declared.fault.FrameFault.{FrameFault}
 use Rattle.pm_frame.specs.declared.fault.FrameFault.TheVariants.{NotOurs, Short, Long, WrongCount, WrongPec, UnknownCode, WrongDirection, Nested}
 use Rattle.pm_frame.specs.declared.message.Message.{Message}
@@ -65,24 +67,29 @@ pec_fault before bytes =
     let last = length bytes - 1 in
     rule (not (slice_index bytes last == pec_of (before ++ take last bytes))) (WrongPec last)
 
+-- the codes that go one way, those that are written or those that are read
+abbrev pub codes_of : Direction → ℕ → Bool
+codes_of Write = is_written
+codes_of Read = is_read
+
 -- F8 for a carried code that PAGE_PLUS doesn't carry, F6 for one that isn't in the table, F7 for
 -- one of the other direction
-unfoldable pub carried_fault : (ℕ → Bool) → List ℕ → Option FrameFault
-carried_fault is_allowed bytes =
+unfoldable pub carried_fault : Direction → List ℕ → Option FrameFault
+carried_fault direction bytes =
     let code = slice_index bytes 4 in
     first (
     rule (not (is_carried code)) (Nested 4) ∷
     rule (not (is_known code)) (UnknownCode 4) ∷
-    rule (not (is_allowed code)) (WrongDirection 4) ∷
+    rule (not (codes_of direction code)) (WrongDirection 4) ∷
     [])
 
 -- F6 for a plain code that isn't in the table, F7 for one of the other direction
-unfoldable pub plain_fault : (ℕ → Bool) → List ℕ → Option FrameFault
-plain_fault is_allowed bytes =
+unfoldable pub plain_fault : Direction → List ℕ → Option FrameFault
+plain_fault direction bytes =
     let code = slice_index bytes 1 in
     first (
     rule (not (is_known code)) (UnknownCode 1) ∷
-    rule (not (is_allowed code)) (WrongDirection 1) ∷
+    rule (not (codes_of direction code)) (WrongDirection 1) ∷
     [])
 
 -- what is wrong with bytes that a stop ended
@@ -91,8 +98,8 @@ write_fault addr bytes = first (
     opening_fault (write_address addr) bytes ∷
     size_fault bytes ∷
     pec_fault [] bytes ∷
-    (if slice_index bytes 1 == 0x05 then carried_fault is_written bytes
-    else plain_fault is_written bytes) ∷
+    (if slice_index bytes 1 == 0x05 then carried_fault Write bytes
+    else plain_fault Write bytes) ∷
     [])
 
 -- what is wrong with the five bytes of a read whose request has a count
@@ -100,7 +107,7 @@ unfoldable pub block_request_fault : List ℕ → Option FrameFault
 block_request_fault bytes = first (
     length_fault 5 bytes ∷
     rule (not (slice_index bytes 2 == 2)) (WrongCount 2) ∷
-    (if slice_index bytes 1 == 0x06 then carried_fault is_read bytes else None) ∷
+    (if slice_index bytes 1 == 0x06 then carried_fault Read bytes else None) ∷
     [])
 
 -- what is wrong with bytes that a repeated start ended
@@ -109,7 +116,7 @@ request_fault addr bytes =
     let code = slice_index bytes 1 in
     option_or (opening_fault (write_address addr) bytes)
     (if code == 0x06 || code == 0x30 then block_request_fault bytes
-    else option_or (plain_fault is_read bytes) (rule (nat_lt 2 (length bytes)) (Long 2)))
+    else option_or (plain_fault Read bytes) (rule (nat_lt 2 (length bytes)) (Long 2)))
 
 -- how many bytes a whole answer has: the address, a count where there is one, the payload and the
 -- PEC

@@ -1,7 +1,7 @@
 -- The packets of SMBus and PMBus 1.3 Part II as relations between an address, a message and its
 -- bytes. A packet that writes is one list of bytes, ended by a stop. A packet that reads is two,
 -- the request and the answer, with a repeated start between them, which is no byte; one packet
--- error code stands at the end of the answer and covers both. That each code has a PEC and an exact
+-- error code stands at the end of the answer and covers both. That each packet has a PEC and an exact
 -- length is this project's own choice, and so are the four codes that PAGE_PLUS doesn't carry.
 use Rattle.std.specs.Prelude.{◌≡◌, ℕ, ◌+◌, ◌*◌, ◌/◌, ◌%◌, Bool, true, false, not, ◌&&◌, ◌||◌, ◌==◌, if◌then◌else◌, List, [], ◌∷◌, ◌++◌, length, slice_index, ◌<◌, ◌^◌}
 use Rattle.pm_table.specs.Commands.{is_read, is_written, payload_length}

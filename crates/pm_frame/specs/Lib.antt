@@ -1,4 +1,5 @@
 pub mod Betrayal
+pub mod Damage
 pub mod Fault
 pub mod Layout
 pub mod Pec

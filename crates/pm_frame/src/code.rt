@@ -5,14 +5,16 @@ ghost use Rattle.pm_frame.specs.Layout as layout;
 
 use pm_table::Code;
 
-// The codes that PAGE_PLUS doesn't carry.
-
+/// PAGE, which PAGE_PLUS doesn't carry, as it doesn't the three below.
 pub(crate) const PAGE: u8 = 0x00;
 
+/// PAGE_PLUS_WRITE, which has a layout of its own.
 pub(crate) const PAGE_PLUS_WRITE: u8 = 0x05;
 
+/// PAGE_PLUS_READ, which has a layout of its own.
 pub(crate) const PAGE_PLUS_READ: u8 = 0x06;
 
+/// COEFFICIENTS, which has a layout of its own.
 pub(crate) const COEFFICIENTS: u8 = 0x30;
 
 /// PAGE_PLUS carries the code.

@@ -2,10 +2,11 @@
 //! a function that does nothing, or calls a law of `pm_table`. They hold of lists of any length, and
 //! of addresses and messages of any size.
 
-ghost use Rattle.std.specs.Prelude.{◌≡◌, ◌≢◌, ◌<◌, ℕ, List, [], ◌∷◌, ◌++◌, length, None, true};
+ghost use Rattle.std.specs.Prelude.{◌≡◌, ◌≢◌, ◌<◌, ◌≤◌, ◌%◌, ℕ, List, [], ◌∷◌, ◌++◌, length, None, true};
 ghost use Rattle.pm_frame.specs.declared.message.Message.{Message};
 ghost use Rattle.pm_frame.specs.Layout.{AreBytes, IsWrite, IsRequest, IsAnswer, sent, is_read_message, fits_layout};
 ghost use Rattle.pm_frame.specs.View.{message_in, answer_payload};
+ghost use Rattle.pm_frame.specs.Damage.{DifferWithinEight, EndsInPec, changed_bits};
 ghost use Rattle.pm_frame.specs.Pec.{pec_of};
 ghost use Rattle.pm_frame.specs.Fault.{write_fault, request_fault, answer_fault, whole_answer};
 
@@ -67,12 +68,15 @@ pub fn answers_are_exact()
 /// What is cut short has a fault, and so has what its last byte betrays: a strict front of a write,
 /// of a request, of an answer; a write whose last byte isn't the PEC of those before it; a request,
 /// or a front of one, that a stop ended; an answer that is shorter than a whole one, or whose last
-/// byte isn't the PEC of the request's bytes followed by those before it.
+/// byte isn't the PEC of the request's bytes followed by those before it. So a write without a fault
+/// ends in its PEC, and so does a request followed by an answer without one.
 pub fn damage_is_refused()
     ensures write_cut { (addr : ℕ) (front rest : List ℕ) →
         write_fault addr (front ++ rest) ≡ None → rest ≢ [] → write_fault addr front ≢ None }
     ensures write_betrayed { (addr last : ℕ) (front : List ℕ) →
         last ≢ pec_of front → write_fault addr (front ++ last ∷ []) ≢ None }
+    ensures write_ends { (addr : ℕ) (bytes : List ℕ) →
+        write_fault addr bytes ≡ None → EndsInPec bytes }
     ensures request_cut { (addr : ℕ) (front rest : List ℕ) →
         request_fault addr (front ++ rest) ≡ None → rest ≢ [] → request_fault addr front ≢ None }
     ensures request_written { (addr other : ℕ) (front rest : List ℕ) →
@@ -85,4 +89,35 @@ pub fn damage_is_refused()
     ensures answer_betrayed { (addr last : ℕ) (request : Message) (front : List ℕ) →
         last ≢ pec_of (sent addr request ++ front) →
         answer_fault addr request (front ++ last ∷ []) ≢ None }
+    ensures answer_ends { (addr : ℕ) (request : Message) (bytes : List ℕ) →
+        answer_fault addr request bytes ≡ None → EndsInPec (sent addr request ++ bytes) }
+{}
+
+/// A change that lies within eight neighbouring bits of a message, its PEC included, is betrayed: the
+/// PEC of the whole isn't what it was, and what ended in its PEC doesn't any more. The eight bits
+/// may be of two bytes; the message may be of any length.
+pub fn bursts_are_betrayed()
+    ensures code { (sent heard : List ℕ) → AreBytes sent → AreBytes heard →
+        length sent ≡ length heard → sent ≢ heard → DifferWithinEight sent heard →
+        pec_of sent ≢ pec_of heard }
+    ensures whole { (sent heard : List ℕ) → AreBytes sent → AreBytes heard →
+        length sent ≡ length heard → sent ≢ heard → DifferWithinEight sent heard →
+        EndsInPec sent → ¬ EndsInPec heard }
+{}
+
+/// A change of one, two or three bits anywhere in a message of at most 15 bytes, its PEC included, is
+/// betrayed, and so is a change of an odd number of bits in a message of any length. Two bits that
+/// are 127 apart, as the first and the last of 16 bytes, are not.
+pub fn few_changes_are_betrayed()
+    ensures few { (sent heard : List ℕ) → AreBytes sent → AreBytes heard →
+        length sent ≡ length heard → sent ≢ heard → length sent ≤ 15 →
+        changed_bits sent heard ≤ 3 → pec_of sent ≢ pec_of heard }
+    ensures few_whole { (sent heard : List ℕ) → AreBytes sent → AreBytes heard →
+        length sent ≡ length heard → sent ≢ heard → length sent ≤ 15 →
+        changed_bits sent heard ≤ 3 → EndsInPec sent → ¬ EndsInPec heard }
+    ensures odd { (sent heard : List ℕ) → AreBytes sent → AreBytes heard →
+        length sent ≡ length heard → changed_bits sent heard % 2 ≡ 1 → pec_of sent ≢ pec_of heard }
+    ensures odd_whole { (sent heard : List ℕ) → AreBytes sent → AreBytes heard →
+        length sent ≡ length heard → changed_bits sent heard % 2 ≡ 1 →
+        EndsInPec sent → ¬ EndsInPec heard }
 {}

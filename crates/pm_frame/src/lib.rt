@@ -11,27 +11,32 @@
 #![tactic(auto)]
 
 mod betrayal;
-mod check;
 mod code;
+mod direction;
 mod fault;
 mod laws;
+mod layout;
 mod message;
 mod packet_error_code;
-mod reading;
+mod places;
+mod received;
+mod rules;
 #[cfg(test)]
 mod tests;
 mod view;
-mod writing;
 
 use arrayvec::ArrayVec;
-pub use betrayal::{betrayal_is_refused, is_betrayed};
+pub use betrayal::{betrayal_is_refused, damage_is_betrayed, is_betrayed};
 pub use fault::FrameFault;
-pub use laws::{answers_are_exact, damage_is_refused, requests_are_exact, writes_are_exact};
+pub use laws::{
+    answers_are_exact, bursts_are_betrayed, damage_is_refused, few_changes_are_betrayed,
+    requests_are_exact, writes_are_exact,
+};
+pub use layout::{answer, fits, write_part};
 pub use message::{Message, Payload};
 pub use packet_error_code::pec;
-pub use reading::{read_answer, read_request, read_write};
+pub use received::{read_answer, read_request, read_write};
 pub use view::FrameView;
-pub use writing::{answer, fits, write_part};
 
 /// The bytes of a frame that is sent, at most 16.
 pub type Frame = ArrayVec<u8, 16>;

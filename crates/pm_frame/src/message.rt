@@ -105,6 +105,7 @@ impl Payload {
 
 impl Message {
     ghost use Rattle.pm_frame.specs.Layout.{is_read_message, has_count, answer_length};
+    ghost use Rattle.pm_frame.specs.Fault.{whole_answer};
 
     /// Whether it's a read, and not a write: the host sends a request, and the device answers it.
     pub fn is_read(&self) -> bool
@@ -147,5 +148,13 @@ impl Message {
             Message::ReadCoefficients { .. } => 5,
             _ => 0,
         }
+    }
+
+    /// How many bytes its whole answer has: the address, a count where there is one, the payload and
+    /// the PEC. 2 for a write, which has no answer.
+    pub fn whole_answer(&self) -> usize
+        ensures { result ≡ whole_answer self.now }
+    {
+        self.payload_place() + self.answer_length() + 1
     }
 }

@@ -1,62 +1,78 @@
-//! Tests that go through several calls, with frames to the address 58h.
+//! Tests that go through several calls.
 
+mod faulty_reads;
+mod faulty_writes;
 mod frames;
+pub(crate) mod framing;
+mod layouts;
 
-use crate::{Frame, FrameFault, answer, fits, read_answer, read_request, read_write, write_part};
+use crate::{
+    FrameFault, answer, fits, is_betrayed, read_answer, read_request, read_write, write_part,
+};
 use frames::{READS, WRITES};
-use std::process::Abort;
-
-const ADDR: u8 = 0x58;
+use pm_table::address_ok;
 
 #[test]
 fn a_write_is_put_on_the_wire_and_read_again(rt: HostRuntime) {
-    for (message, bytes, page, code, payload) in WRITES {
-        assert!(rt; fits(&message), "{message:?}");
-        assert_eq!(rt; write_part(ADDR, &message).as_slice(), bytes, "{message:?}");
-        match read_write(ADDR, bytes) {
+    for row in &WRITES {
+        assert!(rt;
+            address_ok(row.addr) && fits(&row.message),
+            "{:?}",
+            row.message
+        );
+        let sent = write_part(row.addr, &row.message);
+        assert_eq!(rt; sent.as_slice(), row.bytes, "{:?}", row.message);
+        assert!(rt; !is_betrayed(&[], row.bytes), "{:?}", row.message);
+        match read_write(row.addr, row.bytes) {
             Ok(view) => {
-                assert_eq!(rt; view.message(), message);
-                assert_eq!(rt; view.page(), page, "{message:?}");
-                assert_eq!(rt; view.code(), code, "{message:?}");
-                assert_eq!(rt; view.payload(), payload, "{message:?}");
+                assert_eq!(rt; view.message(), row.message);
+                assert_eq!(rt; view.page(), row.page, "{:?}", row.message);
+                assert_eq!(rt; view.code(), row.code, "{:?}", row.message);
+                assert_eq!(rt; view.payload(), row.payload, "{:?}", row.message);
             }
-            Err(fault) => panic!(&rt; "{message:?} is {fault:?}"),
+            Err(fault) => panic!(&rt; "{:?} is {fault:?}", row.message),
         }
     }
 }
 
 #[test]
 fn a_request_is_put_on_the_wire_and_read_again(rt: HostRuntime) {
-    for (message, bytes, page, code, payload, _, _) in READS {
-        assert!(rt; fits(&message), "{message:?}");
-        assert_eq!(rt; write_part(ADDR, &message).as_slice(), bytes, "{message:?}");
-        match read_request(ADDR, bytes) {
+    for row in &READS {
+        assert!(rt;
+            address_ok(row.addr) && fits(&row.message),
+            "{:?}",
+            row.message
+        );
+        let sent = write_part(row.addr, &row.message);
+        assert_eq!(rt; sent.as_slice(), row.request, "{:?}", row.message);
+        match read_request(row.addr, row.request) {
             Ok(view) => {
-                assert_eq!(rt; view.message(), message);
-                assert_eq!(rt; view.page(), page, "{message:?}");
-                assert_eq!(rt; view.code(), code, "{message:?}");
-                assert_eq!(rt; view.payload(), payload, "{message:?}");
+                assert_eq!(rt; view.message(), row.message);
+                assert_eq!(rt; view.page(), row.page, "{:?}", row.message);
+                assert_eq!(rt; view.code(), row.code, "{:?}", row.message);
+                assert_eq!(rt; view.payload(), row.payload, "{:?}", row.message);
             }
-            Err(fault) => panic!(&rt; "{message:?} is {fault:?}"),
+            Err(fault) => panic!(&rt; "{:?} is {fault:?}", row.message),
         }
     }
 }
 
 #[test]
 fn an_answer_is_put_on_the_wire_and_read_again(rt: HostRuntime) {
-    for (request, _, _, _, _, payload, bytes) in READS {
-        assert!(rt; request.is_read() && fits(&request), "{request:?}");
-        assert_eq!(rt; payload.len(), request.answer_length(), "{request:?}");
-        assert_eq!(rt;
-            answer(ADDR, &request, payload).as_slice(),
-            bytes,
+    for row in &READS {
+        let request = row.message;
+        assert!(rt;
+            address_ok(row.addr) && request.is_read() && fits(&request),
             "{request:?}"
         );
-        assert_eq!(rt;
-            read_answer(ADDR, &request, bytes),
-            Ok(payload),
-            "{request:?}"
-        );
+        assert_eq!(rt; row.answered.len(), request.answer_length(), "{request:?}");
+        let sent = answer(row.addr, &request, row.answered);
+        assert_eq!(rt; sent.as_slice(), row.answer, "{request:?}");
+        assert_eq!(rt; row.answer.len(), request.whole_answer(), "{request:?}");
+        let found = read_answer(row.addr, &request, row.answer);
+        assert_eq!(rt; found, Ok(row.answered), "{request:?}");
+        assert!(rt; !is_betrayed(row.request, row.answer), "{request:?}");
+        assert!(rt; is_betrayed(&row.request[1..], row.answer), "{request:?}");
     }
 }
 
@@ -70,90 +86,24 @@ fn cut_to(n: usize) -> FrameFault {
 }
 
 #[test]
-fn a_strict_front_of_a_write_is_short(rt: HostRuntime) {
-    for (message, bytes, _, _, _) in WRITES {
-        for n in 0..bytes.len() {
-            let fault = read_write(ADDR, &bytes[..n]).err();
-            assert_eq!(rt; fault, Some(cut_to(n)), "{n} of {message:?}");
+fn a_strict_front_is_short(rt: HostRuntime) {
+    for row in &WRITES {
+        assert!(rt; address_ok(row.addr));
+        for n in 0..row.bytes.len() {
+            let fault = read_write(row.addr, &row.bytes[..n]).err();
+            assert_eq!(rt; fault, Some(cut_to(n)), "{n} of {:?}", row.message);
         }
     }
-}
-
-#[test]
-fn a_strict_front_of_a_request_is_short(rt: HostRuntime) {
-    for (request, bytes, _, _, _, _, _) in READS {
-        for n in 0..bytes.len() {
-            let fault = read_request(ADDR, &bytes[..n]).err();
+    for row in &READS {
+        let request = row.message;
+        assert!(rt; address_ok(row.addr) && request.is_read() && fits(&request));
+        for n in 0..row.request.len() {
+            let fault = read_request(row.addr, &row.request[..n]).err();
             assert_eq!(rt; fault, Some(cut_to(n)), "{n} of {request:?}");
         }
-    }
-}
-
-#[test]
-fn a_strict_front_of_an_answer_is_short(rt: HostRuntime) {
-    for (request, _, _, _, _, _, bytes) in READS {
-        assert!(rt; request.is_read() && fits(&request));
-        for n in 0..bytes.len() {
-            let fault = read_answer(ADDR, &request, &bytes[..n]).err();
+        for n in 0..row.answer.len() {
+            let fault = read_answer(row.addr, &request, &row.answer[..n]).err();
             assert_eq!(rt; fault, Some(cut_to(n)), "{n} of {request:?}");
-        }
-    }
-}
-
-// These bytes with one bit changed, the bits numbered along the wire from 0.
-fn with_bit_changed(rt: &impl Abort, bytes: &[u8], bit: usize) -> Frame {
-    let mut changed = Frame::new();
-    for (place, byte) in bytes.iter().enumerate() {
-        let mask = if place == bit / 8 {
-            0x80u8 >> (bit % 8)
-        } else {
-            0
-        };
-        assert!(rt; changed.try_push(*byte ^ mask).is_ok(), "at most 16 bytes");
-    }
-    changed
-}
-
-#[test]
-fn a_write_with_one_bit_changed_is_refused(rt: HostRuntime) {
-    for (message, bytes, _, _, _) in WRITES {
-        assert!(rt; bytes.len() <= 16);
-        for bit in 0..bytes.len() * 8 {
-            let changed = with_bit_changed(&rt, bytes, bit);
-            let fault = read_write(ADDR, changed.as_slice()).err();
-            assert!(rt; fault.is_some(), "bit {bit} of {message:?}");
-        }
-    }
-}
-
-#[test]
-fn an_answer_with_one_bit_changed_is_refused(rt: HostRuntime) {
-    for (request, _, _, _, _, _, bytes) in READS {
-        assert!(rt; request.is_read() && fits(&request) && bytes.len() <= 16);
-        for bit in 0..bytes.len() * 8 {
-            let changed = with_bit_changed(&rt, bytes, bit);
-            let fault = read_answer(ADDR, &request, changed.as_slice()).err();
-            assert!(rt; fault.is_some(), "bit {bit} of {request:?}");
-        }
-    }
-}
-
-// The request may be another one when a bit has changed on the way; its answer doesn't pass as one
-// to the request that was sent.
-#[test]
-fn an_answer_to_a_request_with_one_bit_changed_is_refused(rt: HostRuntime) {
-    for (request, bytes, _, _, _, _, _) in READS {
-        assert!(rt; request.is_read() && fits(&request) && bytes.len() <= 16);
-        for bit in 0..bytes.len() * 8 {
-            let changed = with_bit_changed(&rt, bytes, bit);
-            if let Ok(heard) = read_request(ADDR, changed.as_slice()) {
-                let other = heard.message();
-                let length = other.answer_length();
-                assert!(rt; other.is_read() && fits(&other));
-                let got = answer(ADDR, &other, &[0x12, 0x34, 0x56, 0x78, 0x9A][..length]);
-                let fault = read_answer(ADDR, &request, got.as_slice()).err();
-                assert!(rt; fault.is_some(), "bit {bit} of {request:?}");
-            }
         }
     }
 }

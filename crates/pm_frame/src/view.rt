@@ -1,9 +1,9 @@
 ghost use Rattle.std.specs.Prelude.{◌≡◌};
 ghost use Rattle.pm_frame.specs.View.{message_in, IsWhole, message_page, message_code, message_payload, payload_in, plain_write as spec_plain_write};
 
-use crate::check::{CARRIED, CODE, PAGE_PLACE};
 use crate::code::{COEFFICIENTS, PAGE_PLUS_READ, PAGE_PLUS_WRITE};
 use crate::message::{Message, Payload};
+use crate::places::{CARRIED, CARRIED_PAYLOAD, CODE, PAGE, PAYLOAD};
 use std::marker::Model;
 
 /// The bytes of a packet that was read without a fault, borrowed from the caller: a write, or the
@@ -25,7 +25,7 @@ impl<'a> Model for FrameView<'a> {
 }
 
 impl<'a> FrameView<'a> {
-    // A view of bytes that are as many as a packet has.
+    /// A view of bytes that are as many as a packet has.
     pub(crate) fn new(bytes: &'a [u8]) -> FrameView<'a>
         requires { IsWhole bytes.now }
         ensures { result ≡ message_in bytes.entry.now }
@@ -41,7 +41,7 @@ impl FrameView<'_> {
         ensures { result ≡ message_page self.now }
     {
         match self.bytes[CODE] {
-            PAGE_PLUS_WRITE | PAGE_PLUS_READ => Some(self.bytes[PAGE_PLACE]),
+            PAGE_PLUS_WRITE | PAGE_PLUS_READ => Some(self.bytes[PAGE]),
             _ => None,
         }
     }
@@ -66,11 +66,11 @@ impl FrameView<'_> {
     {
         let length = self.bytes.len();
         match self.bytes[CODE] {
-            PAGE_PLUS_WRITE => &self.bytes[CARRIED + 1..length - 1],
+            PAGE_PLUS_WRITE => &self.bytes[CARRIED_PAYLOAD..length - 1],
             PAGE_PLUS_READ => &[],
-            COEFFICIENTS => &self.bytes[PAGE_PLACE..],
+            COEFFICIENTS => &self.bytes[PAGE..],
             _ if length == 2 => &[],
-            _ => &self.bytes[CODE + 1..length - 1],
+            _ => &self.bytes[PAYLOAD..length - 1],
         }
     }
 
@@ -81,20 +81,20 @@ impl FrameView<'_> {
     {
         match self.bytes[CODE] {
             PAGE_PLUS_WRITE => Message::PagePlusWrite {
-                page: self.bytes[PAGE_PLACE],
+                page: self.bytes[PAGE],
                 code: self.bytes[CARRIED],
-                payload: payload_of(&self.bytes[CARRIED + 1..self.bytes.len() - 1]),
+                payload: payload_of(&self.bytes[CARRIED_PAYLOAD..self.bytes.len() - 1]),
             },
             PAGE_PLUS_READ => Message::PagePlusRead {
-                page: self.bytes[PAGE_PLACE],
+                page: self.bytes[PAGE],
                 code: self.bytes[CARRIED],
             },
             COEFFICIENTS => Message::ReadCoefficients {
-                code: self.bytes[PAGE_PLACE],
+                code: self.bytes[PAGE],
                 side: self.bytes[CARRIED],
             },
             code if self.bytes.len() == 2 => Message::ReadCommand { code },
-            code => plain_write(code, &self.bytes[CODE + 1..self.bytes.len() - 1]),
+            code => plain_write(code, &self.bytes[PAYLOAD..self.bytes.len() - 1]),
         }
     }
 }

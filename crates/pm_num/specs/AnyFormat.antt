@@ -2,7 +2,7 @@ use Rattle.std.specs.Prelude.{ℕ, ℤ}
 use Rattle.pm_num.specs.declared.any_format.AnyFormat.{AnyFormat}
 use Rattle.pm_num.specs.declared.any_format.AnyFormat.TheVariants.{Linear11, Ulinear16, Direct}
 use Rattle.pm_num.specs.Ratio.{Ratio}
-use Rattle.pm_num.specs.Value.{linear11_value, ulinear16_value, direct_value, direct_least, direct_greatest}
+use Rattle.pm_num.specs.Value.{linear11_value, linear11_least, linear11_greatest, ulinear16_value, direct_value, direct_least, direct_greatest}
 use Rattle.pm_num.specs.Nearest.{linear11_rank, one_rank}
 
 -- What a format is, with no fact on its numbers: LINEAR11, ULINEAR16 with the exponent n, or DIRECT
@@ -24,12 +24,12 @@ shape_rank (InUlinear16 n) = one_rank
 shape_rank (InDirect m b r) = one_rank
 
 abbrev pub shape_lowest : Shape → Ratio
-shape_lowest InLinear11 = linear11_value 0x7C00
+shape_lowest InLinear11 = linear11_value linear11_least
 shape_lowest (InUlinear16 n) = ulinear16_value n 0
 shape_lowest (InDirect m b r) = direct_value m b r (direct_least m)
 
 abbrev pub shape_highest : Shape → Ratio
-shape_highest InLinear11 = linear11_value 0x7BFF
+shape_highest InLinear11 = linear11_value linear11_greatest
 shape_highest (InUlinear16 n) = ulinear16_value n 0xFFFF
 shape_highest (InDirect m b r) = direct_value m b r (direct_greatest m)
 

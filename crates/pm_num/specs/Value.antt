@@ -31,6 +31,13 @@ linear11_value word = record {
   den = lower 2 (exponent word);
 }
 
+-- LINEAR11: the words of the least and of the greatest value, -1024 * 2^15 and 1023 * 2^15.
+abbrev pub linear11_least : ℕ
+linear11_least = 0x7C00
+
+abbrev pub linear11_greatest : ℕ
+linear11_greatest = 0x7BFF
+
 -- ULINEAR16: word * 2^n likewise, where n comes from VOUT_MODE.
 abbrev pub ulinear16_value : ℤ → ℕ → Ratio
 ulinear16_value n word = record { num = pos word *ℤ pos (upper 2 n); den = lower 2 n }

@@ -17,9 +17,10 @@ use crate::grid::Grid;
 use crate::power::{lower_of_ten, upper_of_ten};
 use crate::whole::product;
 
-/// The words of the least and of the greatest number in two's complement.
+// The word of the least number in two's complement.
 const SMALLEST: u16 = 0x8000;
 
+// The word of the greatest number in two's complement.
 const LARGEST: u16 = 0x7FFF;
 
 /// DIRECT of PMBus 1.3 Part II: a word `Y`, in two's complement, stands for `(Y * 10^-R - b) / m`,
@@ -58,7 +59,7 @@ impl Direct {
         Ok(Direct { m, b, r })
     }
 
-    /// `z` times the sign of the slope.
+    // `z` times the sign of the slope.
     fn times_sign(&self, z: i128) -> i128
         requires { unsigned_abs z ≤ 2 ^ 56 }
         ensures value { result ≡ sign self.now.m *ℤ z }
@@ -67,7 +68,7 @@ impl Direct {
         if self.m < 0 { -z } else { z }
     }
 
-    /// The word as a number, times the denominator of `10^R`.
+    // The word as a number, times the denominator of `10^R`.
     fn scaled(&self, word: u16) -> i128
         ensures value { result ≡ signed 16 word *ℤ pos (lower 10 self.now.r) }
         ensures size { unsigned_abs result ≤ 2 ^ 15 * lower 10 self.now.r }
@@ -75,7 +76,7 @@ impl Direct {
         product(i128::from(word.cast_signed()), lower_of_ten(self.r))
     }
 
-    /// The offset `b`, times the numerator of `10^R`.
+    // The offset `b`, times the numerator of `10^R`.
     fn offset(&self) -> i128
         ensures value { result ≡ self.now.b *ℤ pos (upper 10 self.now.r) }
         ensures size { unsigned_abs result ≤ 2 ^ 15 * upper 10 self.now.r }
@@ -84,7 +85,7 @@ impl Direct {
         product(i128::from(self.b), upper_of_ten(self.r))
     }
 
-    /// The numerator of the value of `word`, but for the sign of the slope.
+    // The numerator of the value of `word`, but for the sign of the slope.
     fn difference(&self, word: u16) -> i128
         ensures value { let y = signed 16 word *ℤ pos (lower 10 self.now.r) in
             result ≡ y -ℤ self.now.b *ℤ pos (upper 10 self.now.r) }
@@ -93,7 +94,7 @@ impl Direct {
         self.scaled(word) - self.offset()
     }
 
-    /// The denominator of every value.
+    // The denominator of every value.
     fn den(&self) -> i128
         ensures value { result ≡ pos (unsigned_abs self.now.m * upper 10 self.now.r) }
         ensures positive { pos 1 ≤ℤ result }
@@ -102,7 +103,7 @@ impl Direct {
         product(i128::from(self.m.unsigned_abs()), upper_of_ten(self.r))
     }
 
-    /// The values of all words, evenly spaced; a value's place grows with it.
+    // The values of all words, evenly spaced; a value's place grows with it.
     fn grid(&self) -> Grid
         ensures { result ≡ direct_spacing self.now.m self.now.b self.now.r }
     {
@@ -114,7 +115,7 @@ impl Direct {
     }
 }
 
-/// The word that is `y` in two's complement.
+// The word that is `y` in two's complement.
 fn word_of(y: i128) -> u16
     requires above { neg_ℤ (pos 32768) ≤ℤ y }
     requires below { y ≤ℤ pos 32767 }

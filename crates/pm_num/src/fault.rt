@@ -2,7 +2,7 @@
 
 use thiserror::Error;
 
-/// Why a format or a number is refused. The five letters are this project's own.
+/// Why a format or a number is refused. The faults N1 to N5 are this project's own.
 #[derive(Clone, Copy, Debug, PartialEq, Eq, Error)]
 pub enum NumFault {
     /// N1: the slope m of a DIRECT format is 0.

@@ -12,13 +12,13 @@ use crate::whole::floor;
 use std::cmp::Ordering;
 use std::marker::Model;
 
-/// The greatest denominator, and the greatest size of a numerator.
+// The greatest denominator, and the greatest size of a numerator.
 const LIMIT: i128 = 1 << 55;
 
-/// Millionths in one.
+// Millionths in one.
 const MILLION: i128 = 1_000_000;
 
-/// The greatest number of millionths that [`micro`] takes, in size.
+// The greatest number of millionths that [`micro`] takes, in size.
 const MICRO_LIMIT: i64 = 1_000_000_000_000_000;
 
 /// A fraction `num / den` of whole numbers, with `den` from 1 to 2^55 and `num` from -2^55 to 2^55.
@@ -84,7 +84,7 @@ impl Frac {
         self.den
     }
 
-    /// This numerator times the other's denominator.
+    // This numerator times the other's denominator.
     fn cross(&self, o: &Frac) -> i128
         ensures { result ≡ self.now.num *ℤ pos o.now.den }
     {

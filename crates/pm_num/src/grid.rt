@@ -37,7 +37,7 @@ impl Grid {
         Grid { den, step, offset }
     }
 
-    /// The denominator of every number.
+    // The denominator of every number.
     fn den(&self) -> i128
         ensures value { result ≡ pos self.now.den }
         ensures sizes { IsSpacing (pos self.now.den) (pos self.now.step) self.now.offset }
@@ -45,7 +45,7 @@ impl Grid {
         self.den
     }
 
-    /// How far neighbours are apart, as a numerator.
+    // How far neighbours are apart, as a numerator.
     fn step(&self) -> i128
         ensures value { result ≡ pos self.now.step }
         ensures sizes { IsSpacing (pos self.now.den) (pos self.now.step) self.now.offset }
@@ -53,7 +53,7 @@ impl Grid {
         self.step
     }
 
-    /// What is taken from every numerator.
+    // What is taken from every numerator.
     fn offset(&self) -> i128
         ensures value { result ≡ self.now.offset }
         ensures sizes { IsSpacing (pos self.now.den) (pos self.now.step) self.now.offset }
@@ -61,7 +61,7 @@ impl Grid {
         self.offset
     }
 
-    /// `x`, moved by the offset, as a numerator over both denominators.
+    // `x`, moved by the offset, as a numerator over both denominators.
     fn moved(&self, x: &Frac) -> i128
         ensures value { result
             ≡ x.now.num *ℤ pos self.now.den +ℤ self.now.offset *ℤ pos x.now.den }
@@ -71,7 +71,7 @@ impl Grid {
         product(x.num(), self.den()) + product(self.offset(), x.den())
     }
 
-    /// The step, as a numerator over both denominators.
+    // The step, as a numerator over both denominators.
     fn spacing(&self, x: &Frac) -> i128
         ensures value { result ≡ pos (self.now.step * x.now.den) }
         ensures positive { pos 0 <ℤ result }

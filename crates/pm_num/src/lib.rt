@@ -29,6 +29,6 @@ pub use direct::Direct;
 pub use fault::NumFault;
 pub use format::{NumFormat, canonical};
 pub use frac::{Frac, micro};
-pub use laws::found_words_are_nearest;
+pub use laws::{found_words_are_nearest, parameters_are_the_shape, refusals_tell_the_side};
 pub use linear11::Linear11;
 pub use ulinear16::Ulinear16;

@@ -2,7 +2,7 @@
 
 ghost use Rattle.std.specs.Prelude.{◌≡◌, ℕ, ◌*◌, ◌^◌, ◌<◌, ◌≤◌, pos, neg_ℤ, ◌-ℤ◌, ◌*ℤ◌, ◌≤ℤ◌, unsigned_abs};
 ghost use Rattle.pm_num.specs.Ratio.{IsBetween};
-ghost use Rattle.pm_num.specs.Value.{upper, exponent, mantissa, linear11_value};
+ghost use Rattle.pm_num.specs.Value.{upper, exponent, mantissa, linear11_value, linear11_least, linear11_greatest};
 ghost use Rattle.pm_num.specs.Nearest.{linear11_rank};
 ghost use Rattle.pm_num.specs.Formats.{IsExponent};
 ghost use Rattle.pm_num.specs.Steps.{IsRounded, IsSpelling, IsFar, IsLarge, IsPreferred, IsPlaceFor};
@@ -23,15 +23,16 @@ use crate::whole::{product, rounded};
 #[derive(Clone, Copy, Debug)]
 pub struct Linear11;
 
-/// The words of the least and of the greatest value: -1024 * 2^15 and 1023 * 2^15.
+// The word of the least value, -1024 * 2^15.
 const LEAST: u16 = 0x7C00;
 
+// The word of the greatest value, 1023 * 2^15.
 const GREATEST: u16 = 0x7BFF;
 
-/// The place of the exponent 0. A place is an exponent counted from the least, -16.
+// The place of the exponent 0. A place is an exponent counted from the least, -16.
 const UNIT_PLACE: u32 = 16;
 
-/// The number `mantissa * 2^(place - 16)`.
+// The number `mantissa * 2^(place - 16)`.
 #[derive(Clone, Copy)]
 struct Spelling {
     mantissa: i128,
@@ -43,17 +44,17 @@ impl NumFormat for Linear11 {
 
     ghost rank = { λ _. linear11_rank };
 
-    ghost lowest = { λ _. linear11_value 0x7C00 };
+    ghost lowest = { λ _. linear11_value linear11_least };
 
-    ghost highest = { λ _. linear11_value 0x7BFF };
+    ghost highest = { λ _. linear11_value linear11_greatest };
 
     ghost has_den = { λ f w h. lower-positive (exponent w) };
 
     ghost within = { λ f w h. linear11-within w h };
 
-    ghost least_met = { λ f. (0x7C00, lit< tt, refl) };
+    ghost least_met = { λ f. (linear11_least, lit< tt, refl) };
 
-    ghost greatest_met = { λ f. (0x7BFF, lit< tt, refl) };
+    ghost greatest_met = { λ f. (linear11_greatest, lit< tt, refl) };
 
     ghost same = { λ f u w h nearest.
         same_from_nearest linear11_value linear11_rank u w
@@ -90,7 +91,7 @@ impl NumFormat for Linear11 {
     }
 }
 
-/// Bits 15:11 in two's complement.
+// Bits 15:11 in two's complement.
 fn exponent_of(word: u16) -> i8
     ensures value { result ≡ exponent word }
     ensures range { IsExponent result }
@@ -99,7 +100,7 @@ fn exponent_of(word: u16) -> i8
     if field < 16 { field } else { field - 32 }
 }
 
-/// Bits 10:0 in two's complement.
+// Bits 10:0 in two's complement.
 fn mantissa_of(word: u16) -> i16
     ensures value { result ≡ mantissa word }
     ensures above { neg_ℤ (pos 1024) ≤ℤ result }
@@ -109,7 +110,7 @@ fn mantissa_of(word: u16) -> i16
     if field < 1024 { field } else { field - 2048 }
 }
 
-/// The numerator of the value of `word`.
+// The numerator of the value of `word`.
 fn numerator(word: u16) -> i128
     ensures value { result ≡ mantissa word *ℤ pos (upper 2 (exponent word)) }
     ensures small { unsigned_abs result ≤ 2 ^ 55 }
@@ -120,15 +121,15 @@ fn numerator(word: u16) -> i128
     )
 }
 
-/// The least place at which mantissas of at most 1024 in size reach `x`.
+// The least place at which mantissas of at most 1024 in size reach `x`.
 fn place_for(x: &Frac) -> u32
-    requires { IsBetween (linear11_value 0x7C00) (linear11_value 0x7BFF) x.now }
+    requires { IsBetween (linear11_value linear11_least) (linear11_value linear11_greatest) x.now }
     ensures { IsPlaceFor x.now result }
 {
     least_place(x.num().unsigned_abs() << 16, x.den().unsigned_abs() << 10)
 }
 
-/// The least `place` with `size` at most `unit * 2^place`.
+// The least `place` with `size` at most `unit * 2^place`.
 fn least_place(size: u128, unit: u128) -> u32
     requires reachable { size ≤ unit * 2 ^ 31 }
     requires unit_small { unit ≤ 2 ^ 65 }
@@ -145,7 +146,7 @@ fn least_place(size: u128, unit: u128) -> u32
     place
 }
 
-/// The mantissa, at `place`, of the multiple of that place's unit that is nearest to `x`.
+// The mantissa, at `place`, of the multiple of that place's unit that is nearest to `x`.
 fn mantissa_at(x: &Frac, place: u32) -> i128
     requires { place ≤ 31 }
     ensures { IsRounded (x.now.num *ℤ pos (2 ^ 16)) (pos (x.now.den * 2 ^ place)) result }
@@ -156,8 +157,8 @@ fn mantissa_at(x: &Frac, place: u32) -> i128
     )
 }
 
-/// A spelling of `mantissa * 2^(place - 16)` that a word has; above place 16 the one of the lowest
-/// place.
+// A spelling of `mantissa * 2^(place - 16)` that a word has; above place 16 the one of the lowest
+// place.
 fn settled(mantissa: i128, place: u32) -> Spelling
     requires above { neg_ℤ (pos 1024) ≤ℤ mantissa }
     requires below { mantissa ≤ℤ pos 1024 }
@@ -183,7 +184,7 @@ fn settled(mantissa: i128, place: u32) -> Spelling
     }
 }
 
-/// The spelling of the same number whose place is nearest to that of exponent 0.
+// The spelling of the same number whose place is nearest to that of exponent 0.
 fn preferred(s: Spelling) -> Spelling
     requires spelling { IsSpelling s.mantissa s.place }
     requires large { 16 < s.place → IsLarge s.mantissa }
@@ -200,7 +201,7 @@ fn preferred(s: Spelling) -> Spelling
     Spelling { mantissa, place }
 }
 
-/// The word with this mantissa and the exponent of this place.
+// The word with this mantissa and the exponent of this place.
 fn word_of(s: Spelling) -> u16
     requires { IsSpelling s.mantissa s.place }
     ensures mantissa { mantissa result ≡ s.mantissa }

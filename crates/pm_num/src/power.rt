@@ -62,7 +62,7 @@ pub fn lower_of_ten(r: i8) -> i128
     }
 }
 
-/// `10^n`.
+// `10^n`.
 fn power_of_ten(n: u8) -> i128
     requires { n ≤ 12 }
     ensures value { result ≡ pos (10 ^ n) }

@@ -4,7 +4,7 @@ use crate::tests::{frac, slope, unsigned};
 use crate::{Linear11, NumFormat};
 use std::process::Abort;
 
-/// A format as a slow program reads it: each value is a whole number over one denominator.
+// A format as a slow program reads it: each value is a whole number over one denominator.
 #[derive(Clone, Copy)]
 enum Plain {
     /// Over 2^16.
@@ -18,7 +18,7 @@ enum Plain {
     },
 }
 
-/// A word as the search looks at it.
+// A word as the search looks at it.
 #[derive(Clone, Copy)]
 struct Candidate {
     word: u16,
@@ -35,7 +35,7 @@ impl Plain {
         }
     }
 
-    /// The word's value, and its exponent counted from -16.
+    // The word's value, and its exponent counted from -16.
     fn value(&self, word: u16) -> (i64, u32) {
         match *self {
             Plain::Linear11 => {
@@ -62,7 +62,7 @@ impl Plain {
         }
     }
 
-    /// How far the word's value is from `x`, by cross products.
+    // How far the word's value is from `x`, by cross products.
     fn candidate(&self, word: u16, x: (i32, i32)) -> Candidate {
         let (num, exponent) = self.value(word);
         let mine = i128::from(num) * i128::from(x.1);
@@ -77,8 +77,8 @@ impl Plain {
 }
 
 impl Candidate {
-    /// Whether this one is nearer, or as near and lower, or the same value with an exponent nearer
-    /// to 0, of two such the negative one.
+    // Whether this one is nearer, or as near and lower, or the same value with an exponent nearer
+    // to 0, of two such the negative one.
     fn is_better(&self, best: &Candidate) -> bool {
         let (size, other) = (self.exponent.abs_diff(16), best.exponent.abs_diff(16));
         if self.distance != best.distance {
@@ -91,7 +91,7 @@ impl Candidate {
     }
 }
 
-/// The word for `x`, found by a look at every word.
+// The word for `x`, found by a look at every word.
 fn search(plain: Plain, x: (i32, i32)) -> u16 {
     let mut best = plain.candidate(0, x);
     for index in 1..65536u32 {
@@ -111,7 +111,7 @@ fn agree<F: NumFormat>(rt: &impl Abort, format: &F, plain: Plain, numbers: &[(i3
     }
 }
 
-/// The same for 8 scattered numbers, `(k - center) / den` with k below 2^20.
+// The same for 8 scattered numbers, `(k - center) / den` with k below 2^20.
 fn agree_on_scattered<F: NumFormat>(
     rt: &impl Abort,
     format: &F,

@@ -4,24 +4,27 @@ use super::*;
 use std::cmp::Ordering;
 use std::process::Abort;
 
-/// Millionths that are within bounds.
+// Millionths that are within bounds.
 fn volts(rt: &impl Abort, millionths: i64) -> Frac {
     micro(millionths).expect(rt, "micro")
 }
 
+/// The fraction of these two numbers.
 pub fn frac(rt: &impl Abort, num: i128, den: i128) -> Frac {
     Frac::new(num, den).expect(rt, "fraction in bounds")
 }
 
+/// ULINEAR16 with this exponent.
 pub fn unsigned(rt: &impl Abort, n: i8) -> Ulinear16 {
     Ulinear16::new(n).expect(rt, "exponent")
 }
 
+/// DIRECT with these coefficients.
 pub fn slope(rt: &impl Abort, m: i16, b: i16, r: i8) -> Direct {
     Direct::new(m, b, r).expect(rt, "coefficients")
 }
 
-/// The numerator and the denominator of a word's value.
+// The numerator and the denominator of a word's value.
 fn parts<F: NumFormat>(format: &F, word: u16) -> (i128, i128) {
     let value = format.value_of(word);
     (value.num(), value.den())

@@ -40,7 +40,7 @@ impl Ulinear16 {
         }
     }
 
-    /// The numerator of the value of `word`.
+    // The numerator of the value of `word`.
     fn numerator(&self, word: u16) -> i128
         ensures value { result ≡ pos word *ℤ pos (upper 2 self.now.n) }
         ensures small { unsigned_abs result ≤ 2 ^ 55 }
@@ -48,7 +48,7 @@ impl Ulinear16 {
         product(i128::from(word), upper_of_two(self.n))
     }
 
-    /// The values of all words, evenly spaced.
+    // The values of all words, evenly spaced.
     fn grid(&self) -> Grid
         ensures { result
             ≡ record { den = lower 2 self.now.n; step = upper 2 self.now.n; offset = pos 0 } }

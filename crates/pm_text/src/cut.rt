@@ -3,7 +3,7 @@ ghost use Rattle.std.specs.List.{before_first, after_first};
 
 /// What stands before the first byte that is the mark, and what follows it: all bytes and none,
 /// where there is no mark.
-pub(crate) fn cut_at(bytes: &[u8], mark: u8) -> (&[u8], &[u8])
+pub fn cut_at(bytes: &[u8], mark: u8) -> (&[u8], &[u8])
     ensures before { result.0.now ≡ before_first (λ byte. byte == mark) bytes.now }
     ensures after { result.1.now ≡ after_first (λ byte. byte == mark) bytes.now }
 {

@@ -33,6 +33,7 @@ mod words;
 
 pub use byte_list::ByteList;
 pub use bytes::push_bytes;
+pub use cut::cut_at;
 pub use decoder::Decoder;
 pub use fault::TextFault;
 pub use fed::Fed;

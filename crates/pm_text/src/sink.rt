@@ -1,5 +1,5 @@
 ghost use Rattle.std.specs.Prelude.{◌≡◌, false, IsFalse, is_err, IfErr, OnOk, OnErr};
-ghost use Rattle.std.specs.Io.KnownBytes.{Appends};
+ghost use Rattle.std.specs.Io.KnownBytes.{Appends, Keeps};
 ghost use Rattle.pm_text.specs.Streams.{AppendsFront};
 
 use crate::fault::TextFault;
@@ -74,5 +74,17 @@ impl<W: Write> Sink<W> {
             }
         }
         Ok(())
+    }
+    /// Asks the writer to hand on whatever it still keeps to itself. X5 where it failed; then
+    /// nothing more may be written.
+    pub fn flush(&mut self) -> Result<(), TextFault>
+        requires { IsFalse self.old.failed }
+        ensures kept { Keeps (W.contents self.old.inner) (W.contents self.new.inner) }
+        ensures failed { self.new.failed ≡ is_err result }
+        ensures fault { IfErr result (λ e. e ≡ TextFault.Write) }
+    {
+        let result = self.inner.flush();
+        self.failed = result.is_err();
+        result.map_err(|_| TextFault::Write)
     }
 }

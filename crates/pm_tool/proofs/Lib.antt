@@ -1,10 +1,11 @@
-pub mod AskedLemmas
+pub mod EndLemmas
 pub mod GivenOptions
 pub mod OneText
-pub mod Origin
 pub mod OutcomeLemmas
 pub mod PartLemmas
 pub mod RangeLemmas
 pub mod ReadingLemmas
 pub mod RefusalLemmas
+pub mod ScriptLemmas
 pub mod WordLemmas
+pub mod Writing

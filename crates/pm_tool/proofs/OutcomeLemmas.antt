@@ -1,4 +1,4 @@
--- The text that is written of an input, by the frame that the input asks for.
+-- What the hearing of an input comes to, by what its reader gave.
 use Rattle.std.proofs.Common.{◌≡◌, ℕ, ◌<◌, ◌≤◌, true, false, List, [], ◌∷◌, ◌++◌, length, length-append, append-nil, Option, Some, None, IfSome, Result, Ok, Err, refl, sym, ap, ◌∙◌, arith, ltb, subst, IfErr, ◌⊎◌, inl, inr}
 use Rattle.std.proofs.lemmas.Bool.Decides.{nat_tests}
 use Rattle.std.specs.Io.KnownBytes.{Consumes}
@@ -7,31 +7,8 @@ use Rattle.pm_text.specs.declared.fault.TextFault.TheVariants.{Syntax, BadHex, T
 use Rattle.pm_text.specs.declared.text.TheConstants.{MAX_TEXT}
 use Rattle.pm_text.specs.Streams.{IsWholeText}
 use Rattle.pm_text.specs.Faults.{IsOfReading}
-use Rattle.pm_tool.specs.declared.heard.Heard.{Heard}
-use Rattle.pm_text.specs.Lines.{lines_of}
-use Rattle.pm_tool.specs.Asked.{frame_asked}
-use Rattle.pm_tool.specs.Hearing.{heard_text}
-use Rattle.pm_tool.specs.Base.{base}
-use Rattle.pm_tool.specs.Reply.{reply_of}
-use Rattle.pm_tool.specs.declared.heard.Ending.TheVariants.{Stop}
-use Rattle.pm_tool.specs.Outcome.{held_after, command_words, printed_text, text_of_asked, outcome_of, outcome_of_text, IsSettled}
-use Rattle.pm_tool.proofs.AskedLemmas.{asked-none, unskipped-nil}
-
--- an input with a frame has bytes
-pub asked-some : (input frame : List ℕ) → frame_asked input ≡ Ok frame → 0 < length input
-asked-some [] frame right = let none = asked-none [] (length (lines_of [])) (unskipped-nil 1) refl in absurd (cc)
-asked-some (x ∷ xs) frame right = omega arith
-
-pub printed-fault : (input : List ℕ) (fault : TextFault) → frame_asked input ≡ Err fault → printed_text input ≡ Err fault
-unfolding printed_text
-printed-fault input fault wrong = ap text_of_asked wrong
-
-pub printed-text : (input frame : List ℕ) (reply : Heard) (words text : List ℕ) → frame_asked input ≡ Ok frame
-    → reply ≡ reply_of base frame Stop → words ≡ command_words (held_after frame) → text ≡ heard_text reply words → printed_text input ≡ Ok text
-unfolding printed_text
-printed-text input frame reply words text right answered left written =
-    ap text_of_asked right ∙ ap (λ r. Ok (heard_text r (command_words (held_after frame)))) (sym answered)
-    ∙ ap (λ w. Ok (heard_text reply w)) (sym left) ∙ ap Ok (sym written)
+use Rattle.pm_tool.specs.Outcome.{outcome_of, outcome_of_text, IsSettled}
+use Rattle.pm_tool.specs.Script.{printed_text}
 
 -- an input that is too long
 outcome-long : (input : List ℕ) → MAX_TEXT < length input → outcome_of input ≡ Err TooLong

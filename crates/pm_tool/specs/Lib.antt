@@ -1,12 +1,11 @@
-pub mod Asked
 pub mod Base
 pub mod Commandline
 pub mod Digits
-pub mod Effect
-pub mod Hearing
-pub mod History
+pub mod Execution
+pub mod LineEvent
 pub mod NumberFaults
 pub mod NumberText
 pub mod Outcome
 pub mod Question
-pub mod Reply
+pub mod ReplyText
+pub mod Script

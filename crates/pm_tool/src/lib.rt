@@ -1,28 +1,20 @@
-//! The library under the program `pmb`: what each subcommand does, over any reader and any writer.
+//! The library under the program `pmb`: what the program does, over any reader and any two writers.
 //!
-//! `hear` lets a model converter hear the one frame of a text and writes its answer; `number`
-//! writes one word of a number format with its value. `chosen` says which of them a command line
-//! names. The program itself is a `main` of a few lines.
-//!
-//! The converter is a private part of this library so far, and takes VOUT_COMMAND alone. Its types
-//! are public, and the law of its whole past, `words_have_an_origin`.
+//! `run` is the whole program but for its `main`: it is handed the words of the command line and the
+//! streams, and answers the exit status. `hear` lets a model converter hear the frames of a text
+//! and writes its answers; `number` writes one word of a number format with its value. `chosen` says
+//! which of them a command line names.
 #![tactic(auto)]
 
-mod asking;
-mod base;
 mod commandline;
-mod config;
-mod converter;
-mod engine;
-mod heard;
-mod hearing;
-mod laws;
+mod execution;
 mod numbers;
+mod pieces;
+mod refusal;
+mod script;
 
 pub use commandline::{Chosen, chosen, status_of};
-pub use config::{Config, ConfigFault, OutputStart};
-pub use engine::hear;
-pub use heard::{DeviceFault, Ending, Heard};
-pub use laws::words_have_an_origin;
+pub use execution::run;
 pub use numbers::{NumberFault, number, number_has_one_text};
 pub use pm_text::{MAX_TEXT, Sink, Source, TextFault};
+pub use script::hear;

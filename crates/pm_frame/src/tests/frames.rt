@@ -1,239 +1,364 @@
-//! Frames to the address 58h, whose first byte is B0h where the host writes and B1h where it reads.
+//! Frames to the addresses 08h, 58h and 77h, the ends of the range among them.
 
 use crate::{Message, Payload};
 
-/// A packet that writes: its meaning, its bytes, and the page, the code and the payload that a view
-/// of them shows.
-pub(crate) type Write = (Message, &'static [u8], Option<u8>, u8, &'static [u8]);
+/// A packet that writes.
+pub(crate) struct WriteRow {
+    /// The device's address.
+    pub(crate) addr: u8,
+    /// Its meaning.
+    pub(crate) message: Message,
+    /// All its bytes.
+    pub(crate) bytes: &'static [u8],
+    /// What a view shows as its page.
+    pub(crate) page: Option<u8>,
+    /// What a view shows as its code.
+    pub(crate) code: u8,
+    /// What a view shows as its payload.
+    pub(crate) payload: &'static [u8],
+}
 
-pub(crate) const WRITES: [Write; 13] = [
-    (
-        Message::SendByte { code: 0x03 },
-        &[0xB0, 0x03, 0x46],
-        None,
-        0x03,
-        &[],
-    ),
-    (
-        Message::WriteByte {
+/// A packet that reads.
+pub(crate) struct ReadRow {
+    /// The device's address.
+    pub(crate) addr: u8,
+    /// Its meaning.
+    pub(crate) message: Message,
+    /// The bytes before the repeated start.
+    pub(crate) request: &'static [u8],
+    /// What a view shows as its page.
+    pub(crate) page: Option<u8>,
+    /// What a view shows as its code.
+    pub(crate) code: u8,
+    /// What a view shows as its payload.
+    pub(crate) payload: &'static [u8],
+    /// The payload of an answer to it.
+    pub(crate) answered: &'static [u8],
+    /// All bytes of that answer.
+    pub(crate) answer: &'static [u8],
+}
+
+/// Packets that write.
+pub(crate) const WRITES: [WriteRow; 17] = [
+    WriteRow {
+        addr: 0x58,
+        message: Message::SendByte { code: 0x03 },
+        bytes: &[0xB0, 0x03, 0x46],
+        page: None,
+        code: 0x03,
+        payload: &[],
+    },
+    WriteRow {
+        addr: 0x58,
+        message: Message::WriteByte {
             code: 0x10,
             byte: 0x80,
         },
-        &[0xB0, 0x10, 0x80, 0x34],
-        None,
-        0x10,
-        &[0x80],
-    ),
-    (
-        Message::WriteByte {
+        bytes: &[0xB0, 0x10, 0x80, 0x34],
+        page: None,
+        code: 0x10,
+        payload: &[0x80],
+    },
+    WriteRow {
+        addr: 0x58,
+        message: Message::WriteByte {
             code: 0x10,
             byte: 0x20,
         },
-        &[0xB0, 0x10, 0x20, 0x5D],
-        None,
-        0x10,
-        &[0x20],
-    ),
-    (
-        Message::WriteByte {
+        bytes: &[0xB0, 0x10, 0x20, 0x5D],
+        page: None,
+        code: 0x10,
+        payload: &[0x20],
+    },
+    WriteRow {
+        addr: 0x58,
+        message: Message::WriteByte {
             code: 0x10,
             byte: 0x40,
         },
-        &[0xB0, 0x10, 0x40, 0x7A],
-        None,
-        0x10,
-        &[0x40],
-    ),
-    (
-        Message::WriteByte {
+        bytes: &[0xB0, 0x10, 0x40, 0x7A],
+        page: None,
+        code: 0x10,
+        payload: &[0x40],
+    },
+    WriteRow {
+        addr: 0x58,
+        message: Message::WriteByte {
             code: 0x00,
             byte: 0x01,
         },
-        &[0xB0, 0x00, 0x01, 0xED],
-        None,
-        0x00,
-        &[0x01],
-    ),
-    (
-        Message::WriteWord {
+        bytes: &[0xB0, 0x00, 0x01, 0xED],
+        page: None,
+        code: 0x00,
+        payload: &[0x01],
+    },
+    WriteRow {
+        addr: 0x58,
+        message: Message::WriteByte {
+            code: 0x7E,
+            byte: 0x40,
+        },
+        bytes: &[0xB0, 0x7E, 0x40, 0x59],
+        page: None,
+        code: 0x7E,
+        payload: &[0x40],
+    },
+    WriteRow {
+        addr: 0x58,
+        message: Message::WriteWord {
             code: 0x21,
             word: 0x34CD,
         },
-        &[0xB0, 0x21, 0xCD, 0x34, 0x38],
-        None,
-        0x21,
-        &[0xCD, 0x34],
-    ),
-    (
-        Message::PagePlusWrite {
+        bytes: &[0xB0, 0x21, 0xCD, 0x34, 0x38],
+        page: None,
+        code: 0x21,
+        payload: &[0xCD, 0x34],
+    },
+    WriteRow {
+        addr: 0x58,
+        message: Message::PagePlusWrite {
             page: 0,
             code: 0x21,
             payload: Payload::Word(0x34CD),
         },
-        &[0xB0, 0x05, 0x04, 0x00, 0x21, 0xCD, 0x34, 0x5A],
-        Some(0),
-        0x21,
-        &[0xCD, 0x34],
-    ),
-    (
-        Message::PagePlusWrite {
+        bytes: &[0xB0, 0x05, 0x04, 0x00, 0x21, 0xCD, 0x34, 0x5A],
+        page: Some(0),
+        code: 0x21,
+        payload: &[0xCD, 0x34],
+    },
+    WriteRow {
+        addr: 0x58,
+        message: Message::PagePlusWrite {
             page: 1,
             code: 0x21,
             payload: Payload::Word(0x34CD),
         },
-        &[0xB0, 0x05, 0x04, 0x01, 0x21, 0xCD, 0x34, 0x4C],
-        Some(1),
-        0x21,
-        &[0xCD, 0x34],
-    ),
-    (
-        Message::PagePlusWrite {
+        bytes: &[0xB0, 0x05, 0x04, 0x01, 0x21, 0xCD, 0x34, 0x4C],
+        page: Some(1),
+        code: 0x21,
+        payload: &[0xCD, 0x34],
+    },
+    WriteRow {
+        addr: 0x58,
+        message: Message::PagePlusWrite {
             page: 0,
             code: 0x24,
             payload: Payload::Word(0x5000),
         },
-        &[0xB0, 0x05, 0x04, 0x00, 0x24, 0x00, 0x50, 0xA5],
-        Some(0),
-        0x24,
-        &[0x00, 0x50],
-    ),
-    (
-        Message::PagePlusWrite {
+        bytes: &[0xB0, 0x05, 0x04, 0x00, 0x24, 0x00, 0x50, 0xA5],
+        page: Some(0),
+        code: 0x24,
+        payload: &[0x00, 0x50],
+    },
+    WriteRow {
+        addr: 0x58,
+        message: Message::PagePlusWrite {
             page: 1,
             code: 0x01,
             payload: Payload::Byte(0xA8),
         },
-        &[0xB0, 0x05, 0x03, 0x01, 0x01, 0xA8, 0xB1],
-        Some(1),
-        0x01,
-        &[0xA8],
-    ),
-    (
-        Message::WriteByte {
-            code: 0x7E,
-            byte: 0x40,
-        },
-        &[0xB0, 0x7E, 0x40, 0x59],
-        None,
-        0x7E,
-        &[0x40],
-    ),
-    (
-        Message::PagePlusWrite {
+        bytes: &[0xB0, 0x05, 0x03, 0x01, 0x01, 0xA8, 0xB1],
+        page: Some(1),
+        code: 0x01,
+        payload: &[0xA8],
+    },
+    WriteRow {
+        addr: 0x58,
+        message: Message::PagePlusWrite {
             page: 0,
             code: 0x7A,
             payload: Payload::Byte(0x08),
         },
-        &[0xB0, 0x05, 0x03, 0x00, 0x7A, 0x08, 0x86],
-        Some(0),
-        0x7A,
-        &[0x08],
-    ),
-    (
-        Message::PagePlusWrite {
+        bytes: &[0xB0, 0x05, 0x03, 0x00, 0x7A, 0x08, 0x86],
+        page: Some(0),
+        code: 0x7A,
+        payload: &[0x08],
+    },
+    WriteRow {
+        addr: 0x58,
+        message: Message::PagePlusWrite {
             page: 0,
             code: 0x03,
             payload: Payload::Empty,
         },
-        &[0xB0, 0x05, 0x02, 0x00, 0x03, 0x50],
-        Some(0),
-        0x03,
-        &[],
-    ),
+        bytes: &[0xB0, 0x05, 0x02, 0x00, 0x03, 0x50],
+        page: Some(0),
+        code: 0x03,
+        payload: &[],
+    },
+    WriteRow {
+        addr: 0x08,
+        message: Message::SendByte { code: 0x03 },
+        bytes: &[0x10, 0x03, 0x5E],
+        page: None,
+        code: 0x03,
+        payload: &[],
+    },
+    WriteRow {
+        addr: 0x08,
+        message: Message::PagePlusWrite {
+            page: 255,
+            code: 0x21,
+            payload: Payload::Word(0x34CD),
+        },
+        bytes: &[0x10, 0x05, 0x04, 0xFF, 0x21, 0xCD, 0x34, 0xA0],
+        page: Some(255),
+        code: 0x21,
+        payload: &[0xCD, 0x34],
+    },
+    WriteRow {
+        addr: 0x77,
+        message: Message::WriteWord {
+            code: 0x26,
+            word: 0x8001,
+        },
+        bytes: &[0xEE, 0x26, 0x01, 0x80, 0x02],
+        page: None,
+        code: 0x26,
+        payload: &[0x01, 0x80],
+    },
+    WriteRow {
+        addr: 0x77,
+        message: Message::PagePlusWrite {
+            page: 7,
+            code: 0x01,
+            payload: Payload::Byte(0x80),
+        },
+        bytes: &[0xEE, 0x05, 0x03, 0x07, 0x01, 0x80, 0x45],
+        page: Some(7),
+        code: 0x01,
+        payload: &[0x80],
+    },
 ];
 
-/// A packet that reads: its meaning, the bytes of its request, the page, the code and the payload
-/// that a view of them shows, and the payload and the bytes of an answer to it.
-pub(crate) type Read = (
-    Message,
-    &'static [u8],
-    Option<u8>,
-    u8,
-    &'static [u8],
-    &'static [u8],
-    &'static [u8],
-);
-
-pub(crate) const READS: [Read; 8] = [
-    (
-        Message::ReadCommand { code: 0x20 },
-        &[0xB0, 0x20],
-        None,
-        0x20,
-        &[],
-        &[0x14],
-        &[0xB1, 0x14, 0xED],
-    ),
-    (
-        Message::ReadCommand { code: 0x7E },
-        &[0xB0, 0x7E],
-        None,
-        0x7E,
-        &[],
-        &[0x80],
-        &[0xB1, 0x80, 0x00],
-    ),
-    (
-        Message::ReadCommand { code: 0x19 },
-        &[0xB0, 0x19],
-        None,
-        0x19,
-        &[],
-        &[0x80],
-        &[0xB1, 0x80, 0xD3],
-    ),
-    (
-        Message::ReadCommand { code: 0x00 },
-        &[0xB0, 0x00],
-        None,
-        0x00,
-        &[],
-        &[0x01],
-        &[0xB1, 0x01, 0xC5],
-    ),
-    (
-        Message::ReadCommand { code: 0x21 },
-        &[0xB0, 0x21],
-        None,
-        0x21,
-        &[],
-        &[0xCD, 0x34],
-        &[0xB1, 0xCD, 0x34, 0x10],
-    ),
-    (
-        Message::PagePlusRead {
+/// Packets that read.
+pub(crate) const READS: [ReadRow; 11] = [
+    ReadRow {
+        addr: 0x58,
+        message: Message::ReadCommand { code: 0x20 },
+        request: &[0xB0, 0x20],
+        page: None,
+        code: 0x20,
+        payload: &[],
+        answered: &[0x14],
+        answer: &[0xB1, 0x14, 0xED],
+    },
+    ReadRow {
+        addr: 0x58,
+        message: Message::ReadCommand { code: 0x7E },
+        request: &[0xB0, 0x7E],
+        page: None,
+        code: 0x7E,
+        payload: &[],
+        answered: &[0x80],
+        answer: &[0xB1, 0x80, 0x00],
+    },
+    ReadRow {
+        addr: 0x58,
+        message: Message::ReadCommand { code: 0x21 },
+        request: &[0xB0, 0x21],
+        page: None,
+        code: 0x21,
+        payload: &[],
+        answered: &[0xCD, 0x34],
+        answer: &[0xB1, 0xCD, 0x34, 0x10],
+    },
+    ReadRow {
+        addr: 0x58,
+        message: Message::PagePlusRead {
             page: 0,
             code: 0x21,
         },
-        &[0xB0, 0x06, 0x02, 0x00, 0x21],
-        Some(0),
-        0x21,
-        &[],
-        &[0xCD, 0x34],
-        &[0xB1, 0x02, 0xCD, 0x34, 0xB9],
-    ),
-    (
-        Message::PagePlusRead {
+        request: &[0xB0, 0x06, 0x02, 0x00, 0x21],
+        page: Some(0),
+        code: 0x21,
+        payload: &[],
+        answered: &[0xCD, 0x34],
+        answer: &[0xB1, 0x02, 0xCD, 0x34, 0xB9],
+    },
+    ReadRow {
+        addr: 0x58,
+        message: Message::PagePlusRead {
             page: 0,
             code: 0x20,
         },
-        &[0xB0, 0x06, 0x02, 0x00, 0x20],
-        Some(0),
-        0x20,
-        &[],
-        &[0x14],
-        &[0xB1, 0x01, 0x14, 0x4E],
-    ),
-    (
-        Message::ReadCoefficients {
+        request: &[0xB0, 0x06, 0x02, 0x00, 0x20],
+        page: Some(0),
+        code: 0x20,
+        payload: &[],
+        answered: &[0x14],
+        answer: &[0xB1, 0x01, 0x14, 0x4E],
+    },
+    ReadRow {
+        addr: 0x58,
+        message: Message::ReadCoefficients {
             code: 0x21,
             side: 0x00,
         },
-        &[0xB0, 0x30, 0x02, 0x21, 0x00],
-        None,
-        0x30,
-        &[0x21, 0x00],
-        &[0x01, 0x00, 0x00, 0x00, 0x03],
-        &[0xB1, 0x05, 0x01, 0x00, 0x00, 0x00, 0x03, 0x6B],
-    ),
+        request: &[0xB0, 0x30, 0x02, 0x21, 0x00],
+        page: None,
+        code: 0x30,
+        payload: &[0x21, 0x00],
+        answered: &[0x01, 0x00, 0x00, 0x00, 0x03],
+        answer: &[0xB1, 0x05, 0x01, 0x00, 0x00, 0x00, 0x03, 0x6B],
+    },
+    ReadRow {
+        addr: 0x08,
+        message: Message::ReadCommand { code: 0x19 },
+        request: &[0x10, 0x19],
+        page: None,
+        code: 0x19,
+        payload: &[],
+        answered: &[0x80],
+        answer: &[0x11, 0x80, 0x34],
+    },
+    ReadRow {
+        addr: 0x08,
+        message: Message::PagePlusRead {
+            page: 255,
+            code: 0x79,
+        },
+        request: &[0x10, 0x06, 0x02, 0xFF, 0x79],
+        page: Some(255),
+        code: 0x79,
+        payload: &[],
+        answered: &[0x01, 0x80],
+        answer: &[0x11, 0x02, 0x01, 0x80, 0x27],
+    },
+    ReadRow {
+        addr: 0x77,
+        message: Message::ReadCommand { code: 0x00 },
+        request: &[0xEE, 0x00],
+        page: None,
+        code: 0x00,
+        payload: &[],
+        answered: &[0x01],
+        answer: &[0xEF, 0x01, 0x27],
+    },
+    ReadRow {
+        addr: 0x77,
+        message: Message::PagePlusRead {
+            page: 7,
+            code: 0x8B,
+        },
+        request: &[0xEE, 0x06, 0x02, 0x07, 0x8B],
+        page: Some(7),
+        code: 0x8B,
+        payload: &[],
+        answered: &[0xFF, 0x0F],
+        answer: &[0xEF, 0x02, 0xFF, 0x0F, 0x4D],
+    },
+    ReadRow {
+        addr: 0x77,
+        message: Message::ReadCoefficients {
+            code: 0x99,
+            side: 0x01,
+        },
+        request: &[0xEE, 0x30, 0x02, 0x99, 0x01],
+        page: None,
+        code: 0x30,
+        payload: &[0x99, 0x01],
+        answered: &[0xFF, 0xFF, 0x05, 0x00, 0x03],
+        answer: &[0xEF, 0x05, 0xFF, 0xFF, 0x05, 0x00, 0x03, 0x3E],
+    },
 ];

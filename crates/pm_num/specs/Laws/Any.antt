@@ -3,7 +3,7 @@ use Rattle.std.proofs.Common.{lit<}
 use Rattle.pm_num.specs.declared.any_format.AnyFormat.{AnyFormat}
 use Rattle.pm_num.specs.declared.any_format.AnyFormat.TheVariants.{Linear11, Ulinear16, Direct}
 use Rattle.pm_num.specs.Ratio.{IsBetween}
-use Rattle.pm_num.specs.Value.{exponent}
+use Rattle.pm_num.specs.Value.{exponent, linear11_least, linear11_greatest}
 use Rattle.pm_num.specs.Nearest.{IsValue}
 use Rattle.pm_num.specs.AnyFormat.{any_value, any_rank, any_lowest, any_highest}
 use Rattle.pm_num.specs.Laws.OneWord.{IsOneWord}
@@ -24,12 +24,12 @@ any-within (Ulinear16 f) w h = ulinear16-within f.n w h
 any-within (Direct f) w h = direct-within f.m f.b f.r w h
 
 pub any-least_met : (f : AnyFormat) → IsValue (any_value f) (any_lowest f)
-any-least_met Linear11 = (0x7C00, lit< tt, refl)
+any-least_met Linear11 = (linear11_least, lit< tt, refl)
 any-least_met (Ulinear16 f) = (0, lit< tt, refl)
 any-least_met (Direct f) = direct-least_met f.m f.b f.r
 
 pub any-greatest_met : (f : AnyFormat) → IsValue (any_value f) (any_highest f)
-any-greatest_met Linear11 = (0x7BFF, lit< tt, refl)
+any-greatest_met Linear11 = (linear11_greatest, lit< tt, refl)
 any-greatest_met (Ulinear16 f) = (0xFFFF, lit< tt, refl)
 any-greatest_met (Direct f) = direct-greatest_met f.m f.b f.r
 

@@ -5,7 +5,7 @@ use Rattle.std.proofs.lemmas.Nat.{pow-add, pow_pos}
 use Rattle.std.proofs.lemmas.Bool.Decides.{nat_tests}
 use Rattle.std.proofs.Math.Nat.{pow-le-pow_right}
 use Rattle.pm_num.specs.Ratio.{IsBetween}
-use Rattle.pm_num.specs.Value.{upper, lower, signed, exponent, mantissa, linear11_value}
+use Rattle.pm_num.specs.Value.{upper, lower, signed, exponent, mantissa, linear11_value, linear11_least, linear11_greatest}
 use Rattle.pm_num.specs.Nearest.{preference, linear11_rank}
 use Rattle.pm_num.specs.Formats.{IsExponent}
 use Rattle.pm_num.specs.Steps.{place_of, IsSpelling}
@@ -52,7 +52,7 @@ Over-linear11 w h =
     let k = ap (λ (n : ℕ). mantissa w *ℤ pos n) (place_power e (IsExponent-exponent w h)) in
     record { common = omega arith; den = lower-positive e; is = f ∙ k ∙ sym g }
 
-pub linear11-within : (w : ℕ) → w < 2 ^ 16 → IsBetween (linear11_value 0x7C00) (linear11_value 0x7BFF) (linear11_value w)
+pub linear11-within : (w : ℕ) → w < 2 ^ 16 → IsBetween (linear11_value linear11_least) (linear11_value linear11_greatest) (linear11_value w)
 linear11-within w h =
     let s = IsSpelling-word w h in
     let y = mantissa w in
@@ -61,8 +61,8 @@ linear11-within w h =
     let l = le-times (negsuc 1023) y p s.above in
     let g = le-times y (pos 1023) p s.below in
     record {
-      from_least = at_most_over (linear11_value 0x7C00) (linear11_value w) (2 ^ 16) _ (y *ℤ pos p) (Over-linear11 0x7C00 (lit< tt)) (Over-linear11 w h) (omega (arith, ints));
-      to_greatest = at_most_over (linear11_value w) (linear11_value 0x7BFF) (2 ^ 16) (y *ℤ pos p) _ (Over-linear11 w h) (Over-linear11 0x7BFF (lit< tt)) (omega (arith, ints));
+      from_least = at_most_over (linear11_value linear11_least) (linear11_value w) (2 ^ 16) _ (y *ℤ pos p) (Over-linear11 linear11_least (lit< tt)) (Over-linear11 w h) (omega (arith, ints));
+      to_greatest = at_most_over (linear11_value w) (linear11_value linear11_greatest) (2 ^ 16) (y *ℤ pos p) _ (Over-linear11 w h) (Over-linear11 linear11_greatest (lit< tt)) (omega (arith, ints));
     }
 
 preference-one : (e f : ℤ) → preference e ≡ preference f → e ≡ f

@@ -1,0 +1,19 @@
+use Rattle.std.proofs.Common.{sym, ◌∙◌, ap, length, arith}
+use Rattle.pm_device.proofs.StartLemmas.{sound}
+use Rattle.pm_device.proofs.OverLemmas.{length-each_output}
+use Rattle.pm_device.proofs.converter.Converter.new.Goals as goal
+
+pub start_settings-settings-requires : goal.start_settings-settings-requires
+start_settings-settings-requires c = sound c.args.c (sym c.config_fault.ensures ∙ c.in_default.is)
+
+pub invariant_of-result : goal.invariant_of-result
+invariant_of-result c = record {
+  sound = sound c.args.c (sym c.config_fault.ensures ∙ c.in_default.is);
+  shapes = c.formats_of-formats.ensures;
+  counted = c.start_settings-settings.ensures.count;
+  selected = omega (arith, (sound c.args.c (sym c.config_fault.ensures ∙ c.in_default.is)).some);
+  latches = ap length c.each_over-over.ensures ∙ length-each_output _;
+}
+
+pub returns-clause-sound : goal.returns-clause-sound
+returns-clause-sound c = sound c.args.c (sym c.config_fault.ensures ∙ c.in_default.is)

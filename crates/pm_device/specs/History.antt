@@ -1,0 +1,155 @@
+-- A converter's past, newest event first, and what it holds after it; and what one event makes of
+-- what it holds, where the status bits are latched.
+use Rattle.std.specs.Prelude.{◌≡◌, ℕ, ◌<◌, ◌^◌, Bool, false, ◌||◌, if◌then◌else◌, List, [], ◌∷◌, ◌++◌, map, slice_set, Some}
+use Rattle.std.specs.List.{range_with_len}
+use Rattle.pm_table.specs.declared.cell.Cell.{Cell}
+use Rattle.pm_table.specs.declared.cell.Cell.TheVariants.{Out, Protect}
+use Rattle.pm_table.specs.Cell.{cell_at}
+use Rattle.pm_frame.specs.declared.message.Message.{Message}
+use Rattle.pm_frame.specs.Layout.{AreBytes, IsWrite}
+use Rattle.pm_frame.specs.View.{message_code}
+use Rattle.pm_model.specs.Settings.{Words}
+use Rattle.pm_device.specs.declared.act.Act.{Act}
+use Rattle.pm_device.specs.declared.act.Act.TheVariants.{Put, Select, ClearFaults, ClearVout, ClearCml}
+use Rattle.pm_device.specs.declared.config.Config.{Config}
+use Rattle.pm_device.specs.declared.heard.Ending.TheVariants.{Stop}
+use Rattle.pm_device.specs.declared.heard.Heard.TheVariants.{Taken}
+use Rattle.pm_device.specs.declared.verdict.Verdict.TheVariants.{Ignores, Refuses, Takes, Answers}
+use Rattle.pm_device.specs.Held.{Held, Measured, CmlFaults, no_readings, no_faults, is_reading, with_reading}
+use Rattle.pm_device.specs.Start.{start_words}
+use Rattle.pm_device.specs.Verdict.{output_in, written_word}
+use Rattle.pm_device.specs.Effect.{Event, Hearing, Restarted, Reading, Outcome, Heard, Restarts, Measures, outcome_in, words_by, page_by}
+use Rattle.pm_device.specs.Status.{CmlBit, Command, Data, Pec, Other, has_bit, kept, is_over, over_at, vout_in, cml_in, clears, act_clears_cml, sets_cml}
+use Rattle.pm_device.specs.Reply.{reply_of}
+
+-- one bit for each of the eight places for an output
+unfoldable pub each_output : (ℕ → Bool) → List Bool
+each_output bit_of = map bit_of (range_with_len 0 8)
+
+-- the readings after what an event came to
+abbrev pub readings_by : Config → Measured → Outcome → Measured
+readings_by config readings (Measures output code word) =
+    if is_reading config.count output code then with_reading readings output code word else readings
+readings_by config readings (Heard verdict) = readings
+readings_by config readings Restarts = readings
+
+-- the readings after a past: a restart keeps them
+abbrev pub readings_in : Config → List Event → Measured
+readings_in config [] = no_readings
+readings_in config (Reading output code word ∷ past) =
+    readings_by config (readings_in config past) (Measures output code word)
+readings_in config (Hearing bytes ending ∷ past) = readings_in config past
+readings_in config (Restarted ∷ past) = readings_in config past
+
+-- what a converter holds after its past: words, page and readings one event after another, the
+-- status bits by looking back
+unfoldable pub now : Config → List Event → Held
+now config past = record {
+  config = config;
+  words = (kept config past).words;
+  page = (kept config past).page;
+  readings = readings_in config past;
+  over = each_output (vout_in config past);
+  faults = record {
+    command = cml_in config past Command;
+    «data» = cml_in config past Data;
+    pec = cml_in config past Pec;
+    other = cml_in config past Other;
+  };
+}
+
+-- what a converter that is made of a configuration holds
+unfoldable pub start_of : Config → Held
+start_of config = record {
+  config = config;
+  words = start_words config;
+  page = 0;
+  readings = no_readings;
+  over = each_output (is_over config (start_words config));
+  faults = no_faults;
+}
+
+-- an output's latch that is cleared, or set: what is above VOUT_MAX now shows at once
+abbrev pub cleared : Config → Words → List Bool → ℕ → List Bool
+cleared config words over output = slice_set over output (is_over config words output)
+
+abbrev pub latched : Config → Words → List Bool → ℕ → List Bool
+latched config words over output =
+    slice_set over output (over_at over output || is_over config words output)
+
+-- the latches of STATUS_VOUT after an act, which leaves these words
+abbrev pub over_by_act : Config → Words → List Bool → Act → List Bool
+over_by_act config words over (Put (Out output register) word) = latched config words over output
+over_by_act config words over (Put Protect word) = over
+over_by_act config words over (Select page) = over
+over_by_act config words over (ClearFaults output) = cleared config words over output
+over_by_act config words over (ClearVout output byte) =
+    if has_bit byte 0x08 then cleared config words over output else over
+over_by_act config words over (ClearCml byte) = over
+
+-- the latches after what an event came to
+abbrev pub over_by : Config → Words → List Bool → Outcome → List Bool
+over_by config words over (Heard (Takes act)) = over_by_act config words over act
+over_by config words over (Heard Ignores) = over
+over_by config words over (Heard (Refuses fault)) = over
+over_by config words over (Heard (Answers request)) = over
+over_by config words over Restarts = each_output (is_over config words)
+over_by config words over (Measures output code word) = over
+
+-- a bit of STATUS_CML after what an event came to
+abbrev pub fault_by : Outcome → CmlBit → Bool → Bool
+fault_by outcome bit before =
+    sets_cml bit outcome || (if clears (act_clears_cml bit) outcome then false else before)
+
+abbrev pub faults_by : CmlFaults → Outcome → CmlFaults
+faults_by faults outcome = record {
+  command = fault_by outcome Command faults.command;
+  «data» = fault_by outcome Data faults.data;
+  pec = fault_by outcome Pec faults.pec;
+  other = fault_by outcome Other faults.other;
+}
+
+-- what a converter holds after what an event came to
+unfoldable pub after : Held → Outcome → Held
+after held outcome =
+    let words = words_by held.config held.words outcome in
+    record {
+      config = held.config;
+      words = words;
+      page = page_by held.page outcome;
+      readings = readings_by held.config held.readings outcome;
+      over = over_by held.config words held.over outcome;
+      faults = faults_by held.faults outcome;
+    }
+
+-- what one event makes of what a converter holds
+unfoldable pub next : Held → Event → Held
+next held event = after held (outcome_in held event)
+
+-- what was heard is bytes, and what was measured are words
+abbrev pub AreHeard : List Event → Type 0
+AreHeard [] = Unit {0}
+AreHeard (Restarted ∷ past) = AreHeard past
+AreHeard (Hearing bytes ending ∷ past) = AreBytes bytes × AreHeard past
+AreHeard (Reading output code word ∷ past) = (word < 2 ^ 16) × AreHeard past
+
+-- no restart stands in a past
+abbrev pub IsUnbroken : List Event → Type 0
+IsUnbroken [] = Unit {0}
+IsUnbroken (Restarted ∷ past) = ⊥
+IsUnbroken (Hearing bytes ending ∷ past) = IsUnbroken past
+IsUnbroken (Reading output code word ∷ past) = IsUnbroken past
+
+-- a frame that was taken since the last restart carried this word for this very cell; where it
+-- named no page, its output is what PAGE was then
+pub record WasCarried (config : Config) (past : List Event) (cell : Cell) (word : ℕ) : Type 0 where
+  pub later : List Event
+  pub before : List Event
+  pub bytes : List ℕ
+  pub message : Message
+  pub heard : past ≡ later ++ Hearing bytes Stop ∷ before
+  pub since : IsUnbroken later
+  pub carries : IsWrite config.addr message bytes
+  pub taken : reply_of (now config before) bytes Stop ≡ Taken
+  pub names : cell_at (message_code message) (output_in (now config before).page message) ≡ Some cell
+  pub number : written_word message ≡ word

@@ -1,0 +1,7 @@
+pub mod Held
+pub mod Start
+pub mod Verdict
+pub mod Effect
+pub mod Status
+pub mod Reply
+pub mod History

@@ -1,0 +1,55 @@
+ghost use Rattle.std.specs.Prelude.{◌≡◌, ◌<◌, ◌^◌, IfSome};
+ghost use Rattle.pm_table.specs.Commands.{payload_length};
+ghost use Rattle.pm_device.specs.Verdict as spec;
+
+use pm_table::{Cell, Code, cell_of};
+
+/// What a write that is taken does.
+#[derive(Clone, Copy, Debug, PartialEq, Eq)]
+pub(crate) enum Act {
+    /// A cell gets a word.
+    Put(Cell, u16),
+    /// PAGE names another output.
+    Select(u8),
+    /// CLEAR_FAULTS of an output.
+    ClearFaults(u8),
+    /// The bits that are 1 in this byte are cleared in the STATUS_VOUT of an output.
+    ClearVout(u8, u8),
+    /// The bits that are 1 in this byte are cleared in STATUS_CML.
+    ClearCml(u8),
+}
+
+impl Act {
+    /// What the write of a code asks for, at an output and with the number that it carries; `None`
+    /// for a code that this converter has no act for. The number of a code of one byte is a byte.
+    #[tactic(auto, unfolding(pm_table::specs::Commands::line_of))]
+    pub(crate) fn of_code(code: u8, output: u8, word: u16) -> Option<Act>
+        requires { payload_length code ≡ 1 → word < 2 ^ 8 }
+        ensures value { result ≡ spec.act_in code output word }
+        ensures output { IfSome result (spec.ActsOn output) }
+    {
+        match code {
+            0x00 => Some(Act::Select(word as u8)),
+            0x03 => Some(Act::ClearFaults(output)),
+            0x7A => Some(Act::ClearVout(output, word as u8)),
+            0x7E => Some(Act::ClearCml(word as u8)),
+            _ => cell_of(Code(code), output).map(|cell| Act::Put(cell, word)),
+        }
+    }
+    /// Whether the act asks for a page from this count on.
+    pub(crate) fn selects_no_output(&self, count: u8) -> bool
+        ensures { result ≡ spec.selects_no_output count self.now }
+    {
+        matches!(self, Act::Select(page) if *page >= count)
+    }
+
+    /// Whether the cell accepts the word that it would get; every other act is accepted.
+    pub(crate) fn is_accepted(&self) -> bool
+        ensures { result ≡ spec.is_accepted self.now }
+    {
+        match self {
+            Act::Put(cell, word) => cell.accepts(*word),
+            _ => true,
+        }
+    }
+}

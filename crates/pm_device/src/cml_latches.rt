@@ -1,0 +1,88 @@
+ghost use Rattle.std.specs.Prelude.{◌≡◌};
+ghost use Rattle.pm_device.specs.Held.{no_faults};
+ghost use Rattle.pm_device.specs.Status.{cml_byte};
+ghost use Rattle.pm_device.specs.History.{faults_by};
+ghost use Rattle.pm_device.specs.Effect.{Heard as Came};
+ghost use Rattle.pm_device.specs.declared.act.Act.TheVariants as act;
+ghost use Rattle.pm_device.specs.declared.verdict.Verdict.TheVariants as verdict;
+
+use crate::heard::DeviceFault;
+use crate::status::StatusCml;
+use bitflags::Flags;
+use pm_frame::FrameFault;
+use std::marker::Model;
+
+/// The bits of STATUS_CML that are latched.
+#[derive(Debug, Drop)]
+pub(crate) struct CmlLatches {
+    command: bool,
+    unsupported: bool,
+    pec: bool,
+    other: bool,
+}
+
+impl Model for CmlLatches {
+    ghost use Rattle.pm_device.specs.Held.{CmlFaults};
+
+    ghost Value = { CmlFaults };
+
+    ghost view = { λ l. record {
+      command = l.command;
+      «data» = l.unsupported;
+      pec = l.pec;
+      other = l.other;
+    } };
+}
+
+impl CmlLatches {
+    /// No bit.
+    pub(crate) fn new() -> CmlLatches
+        ensures { result ≡ no_faults }
+    {
+        CmlLatches {
+            command: false,
+            unsupported: false,
+            pec: false,
+            other: false,
+        }
+    }
+
+    /// Sets the bit of a refusal: bit 7 of K2, K5, K6 and K7, bit 6 of K3 and K4, bit 5 of K1 where
+    /// the PEC is wrong, bit 1 of every other K1.
+    pub(crate) fn note(&mut self, fault: DeviceFault)
+        ensures { self.new ≡ faults_by self.old (Came (verdict.Refuses fault)) }
+    {
+        match fault {
+            DeviceFault::Frame(FrameFault::WrongPec(_)) => self.pec = true,
+            DeviceFault::Frame(_) => self.other = true,
+            DeviceFault::UnsupportedData | DeviceFault::BadPage => self.unsupported = true,
+            DeviceFault::UnsupportedCode
+            | DeviceFault::Protected
+            | DeviceFault::Nested
+            | DeviceFault::ReadOnly => self.command = true,
+        }
+    }
+
+    /// Clears the bits that are 1 in a byte.
+    pub(crate) fn clear(&mut self, byte: u8)
+        ensures { self.new ≡ faults_by self.old (Came (verdict.Takes (act.ClearCml byte))) }
+    {
+        let written = StatusCml::from_bits_retain(byte);
+        self.command = self.command && !written.contains(StatusCml::COMMAND);
+        self.unsupported = self.unsupported && !written.contains(StatusCml::DATA);
+        self.pec = self.pec && !written.contains(StatusCml::PEC);
+        self.other = self.other && !written.contains(StatusCml::OTHER_COMMUNICATION);
+    }
+
+    /// STATUS_CML.
+    pub(crate) fn status(&self) -> StatusCml
+        ensures { result.0 ≡ cml_byte self.now }
+    {
+        let mut status = StatusCml::empty();
+        status.set(StatusCml::COMMAND, self.command);
+        status.set(StatusCml::DATA, self.unsupported);
+        status.set(StatusCml::PEC, self.pec);
+        status.set(StatusCml::OTHER_COMMUNICATION, self.other);
+        status
+    }
+}

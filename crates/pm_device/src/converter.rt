@@ -1,0 +1,153 @@
+ghost use Rattle.std.specs.Prelude.{◌≡◌, ◌<◌, IfOk, OnOk};
+ghost use Rattle.std.specs.Result.{result_err};
+ghost use Rattle.pm_model.specs.Settings.{word_at, IsCell};
+ghost use Rattle.pm_model.specs.Commanded.{commanded};
+ghost use Rattle.pm_device.specs.Held.{is_reading, value_for};
+ghost use Rattle.pm_device.specs.Start.{IsSound, config_fault as spec_config_fault};
+ghost use Rattle.pm_device.specs.Effect.{Restarted, Reading};
+ghost use Rattle.pm_device.specs.Status.{is_on};
+ghost use Rattle.pm_device.specs.History.{next, start_of};
+
+use crate::cml_latches::CmlLatches;
+use crate::config::{Config, ConfigFault, config_fault};
+use crate::formats::{formats_of, start_settings};
+use crate::over::each_over;
+use crate::readings::Readings;
+use pm_model::{Formats, Plain};
+use pm_num::Frac;
+use pm_table::{Cell, Code, Reg};
+use std::marker::Model;
+
+mod acts;
+mod replies;
+mod status_registers;
+
+/// The bit of OPERATION that has an output on.
+const ON: u16 = 0x80;
+
+/// The model of a power converter with one to eight outputs.
+///
+/// It holds its configuration, the words of its cells, PAGE, the readings, and the status bits that
+/// are latched. Every frame that it hears either changes what its message asks for, or is refused
+/// and leaves every setting and PAGE as they were.
+#[derive(Debug, Drop)]
+pub struct Converter {
+    config: Config,
+    formats: Formats,
+    settings: Plain,
+    page: u8,
+    readings: Readings,
+    over: [bool; 8],
+    faults: CmlLatches,
+}
+
+impl Model for Converter {
+    ghost use Rattle.pm_device.specs.Held.{Held};
+
+    ghost Value = { Held };
+
+    ghost use Rattle.pm_device.specs.Start.{IsKept};
+
+    ghost view = { λ c. record {
+      config = c.config;
+      words = c.settings.words;
+      page = c.page;
+      readings = c.readings;
+      over = c.over;
+      faults = c.faults;
+    } };
+
+    ghost invariant = { λ c. IsKept c.config c.formats.each c.settings.count c.page c.over };
+}
+
+impl Converter {
+    /// A converter that starts: every cell has its start word, PAGE and the readings are 0, and no
+    /// status bit is latched but those whose cause holds. `Err` is the configuration's first fault,
+    /// in the order of [`ConfigFault`].
+    #[tactic(auto, unfolding(crate::specs::History::start_of))]
+    pub fn new(c: Config) -> Result<Converter, ConfigFault>
+        ensures made { IfOk result (λ made. made ≡ start_of c) }
+        ensures fault { result_err result ≡ spec_config_fault c }
+        ensures sound { OnOk result (IsSound c) }
+    {
+        if let Some(fault) = config_fault(&c) {
+            return Err(fault);
+        }
+        let formats = formats_of(&c);
+        let settings = start_settings(&c);
+        let over = each_over(&c, &formats, &settings);
+        Ok(Converter {
+            config: c,
+            formats,
+            settings,
+            page: 0,
+            readings: Readings::new(),
+            over,
+            faults: CmlLatches::new(),
+        })
+    }
+
+    /// Every cell has its start word again, PAGE is 0, and what is latched is clear, but for a status
+    /// bit whose cause holds. The readings stay.
+    #[tactic(auto, unfolding(crate::specs::History::next, crate::specs::History::after))]
+    pub fn restart(&mut self)
+        ensures { self.new ≡ next self.old Restarted }
+    {
+        self.settings = start_settings(&self.config);
+        self.page = 0;
+        self.over = each_over(&self.config, &self.formats, &self.settings);
+        self.faults = CmlLatches::new();
+    }
+
+    /// Gives a reading another word: READ_VOUT (8Bh) and READ_IOUT (8Ch) of an output, READ_VIN
+    /// (88h) and READ_TEMPERATURE_1 (8Dh) of the device, for which the output isn't looked at.
+    /// `false` where the output isn't there or the code is no READ code; then nothing changes.
+    #[tactic(auto, unfolding(crate::specs::History::next, crate::specs::History::after))]
+    pub fn set_reading(&mut self, output: u8, code: Code, word: u16) -> bool
+        ensures answer { result ≡ is_reading self.old.config.count output code.0 }
+        ensures after { self.new ≡ next self.old (Reading output code.0 word) }
+    {
+        self.readings.set(self.config.count, output, code, word)
+    }
+
+    /// The word of a cell that there is.
+    pub fn word(&self, cell: Cell) -> u16
+        requires { IsCell self.now.config.count cell }
+        ensures { result ≡ word_at self.now.words cell }
+    {
+        self.settings.get(cell)
+    }
+
+    /// The value of PAGE, which is an output that there is.
+    pub fn page(&self) -> u8
+        ensures page { result ≡ self.now.page }
+        ensures there { result < self.now.config.count }
+    {
+        self.page
+    }
+
+    /// How many outputs there are, 1 to 8: the configuration's count.
+    pub fn count(&self) -> u8
+        ensures count { result ≡ self.now.config.count }
+        ensures sound { IsSound self.now.config }
+    {
+        self.config.count
+    }
+
+    /// The voltage that an output which is there commands, in volts, on or off: the value of the
+    /// word that OPERATION selects, or that of VOUT_MAX where that is less.
+    pub fn commanded(&self, output: u8) -> Frac
+        requires { output < self.now.config.count }
+        ensures { result ≡ commanded (value_for self.now.config output) self.now.words output }
+    {
+        self.settings.commanded(&self.formats, output)
+    }
+
+    /// Whether OPERATION has an output which is there on.
+    pub fn is_on(&self, output: u8) -> bool
+        requires { output < self.now.config.count }
+        ensures { result ≡ is_on self.now output }
+    {
+        self.word(Cell::Out(output, Reg::Operation)) & ON == ON
+    }
+}

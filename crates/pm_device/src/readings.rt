@@ -1,0 +1,88 @@
+ghost use Rattle.std.specs.Prelude.{◌≡◌, if◌then◌else◌, slice_set};
+ghost use Rattle.pm_device.specs.Held.{no_readings, is_reading, reading_at, with_reading};
+
+use pm_table::Code;
+use std::marker::Model;
+
+/// What the READ codes answer: a word of each output's voltage and current, of the input voltage
+/// and of a temperature.
+#[derive(Debug, Drop)]
+pub(crate) struct Readings {
+    vout: [u16; 8],
+    iout: [u16; 8],
+    vin: u16,
+    temperature: u16,
+}
+
+impl Model for Readings {
+    ghost use Rattle.std.specs.Prelude.{◌≡◌, length};
+    ghost use Rattle.pm_device.specs.Held.{Measured};
+
+    ghost Value = { Measured };
+
+    ghost view = { λ r. record {
+      vout = r.vout;
+      iout = r.iout;
+      vin = r.vin;
+      temperature = r.temperature;
+    } };
+
+    ghost invariant = { λ r. (length r.vout ≡ 8) × (length r.iout ≡ 8) };
+}
+
+impl Readings {
+    /// The readings as they begin: each is 0.
+    pub(crate) fn new() -> Readings
+        ensures { result ≡ no_readings }
+    {
+        Readings {
+            vout: [0; 8],
+            iout: [0; 8],
+            vin: 0,
+            temperature: 0,
+        }
+    }
+
+    /// The word that a READ code answers at an output; 0 for every other code, and for an output
+    /// from 8 on.
+    pub(crate) fn get(&self, output: u8, code: u8) -> u16
+        ensures { result ≡ reading_at self.now output code }
+    {
+        let place = usize::from(output);
+        match code {
+            0x88 => self.vin,
+            0x8B => self.vout.get(place).copied().unwrap_or(0),
+            0x8C => self.iout.get(place).copied().unwrap_or(0),
+            0x8D => self.temperature,
+            _ => 0,
+        }
+    }
+
+    /// Gives a reading of a converter with so many outputs another word. `false` where there is no
+    /// such output or the code is no READ code; then nothing changes. The output means nothing for
+    /// a reading of the device.
+    pub(crate) fn set(&mut self, count: u8, output: u8, code: Code, word: u16) -> bool
+        ensures answer { result ≡ is_reading count output code.0 }
+        ensures after { self.new ≡ (if is_reading count output code.0
+            then with_reading self.old output code.0 word else self.old) }
+    {
+        let place = usize::from(output);
+        match code.0 {
+            0x88 => self.vin = word,
+            0x8D => self.temperature = word,
+            0x8B if output < count => set_word(&mut self.vout, place, word),
+            0x8C if output < count => set_word(&mut self.iout, place, word),
+            _ => return false,
+        }
+        true
+    }
+}
+
+// Writes the word at its place; nothing past the end.
+fn set_word(words: &mut [u16; 8], place: usize, word: u16)
+    ensures { words.new ≡ slice_set words.old place word }
+{
+    if place < words.len() {
+        words[place] = word;
+    }
+}

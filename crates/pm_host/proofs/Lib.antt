@@ -1,0 +1,11 @@
+pub mod AnswerLemmas
+pub mod CellLemmas
+pub mod Follows
+pub mod FrameLemmas
+pub mod Kept
+pub mod KnownLaws
+pub mod Left
+pub mod Once
+pub mod OpenJobs
+pub mod RangeLemmas
+pub mod Turns

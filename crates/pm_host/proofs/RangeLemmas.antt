@@ -1,0 +1,76 @@
+-- Whether a number lies in a format's range, as a test and as a fact.
+use Rattle.std.proofs.Common.{◌≡◌, ℕ, ◌+◌, ◌*◌, ◌^◌, ◌<◌, ◌≤◌, ℤ, pos, ◌*ℤ◌, ◌+ℤ◌, ◌≤ℤ◌, ◌<ℤ◌, T, ltb, Bool, true, false, not, List, Option, Some, None, refl, sym, ap, ◌∙◌, subst, arith, unsigned_abs}
+use Rattle.std.proofs.Math.Nat.{mul-le-mul_right}
+use Rattle.std.proofs.lemmas.Int.{ints, by_lt_z}
+use Rattle.std.proofs.lemmas.Bool.{lt-ltb, le-ltb, false_from_ne_true}
+use borrow.Author.Differences.{up, down, product_is, le_out, lt_out}
+use Rattle.pm_num.specs.declared.fault.NumFault.{NumFault}
+use Rattle.pm_num.specs.declared.fault.NumFault.TheVariants.{ZeroSlope, ExponentRange, BelowLeast, AboveGreatest, TooLarge}
+use Rattle.pm_num.specs.Nearest.{IsOutside}
+use Rattle.pm_num.specs.Ratio.{Ratio, AtMost, LessThan, IsBetween}
+use Rattle.pm_num.specs.NearestWord.{is_at_most}
+use Rattle.pm_host.specs.Refusals.{outside_fault}
+
+-- whole numbers times positive ones
+times-times : (a : ℤ) (m n : ℕ) → (a *ℤ pos m) *ℤ pos n ≡ a *ℤ pos (m * n)
+times-times a m n =
+    let e = ap (λ (k : ℕ). k * n) (product_is a (pos m)).0 in
+    let f = ap (λ (k : ℕ). k * n) (product_is a (pos m)).1 in
+    omega (arith, ints)
+
+times-swap : (a : ℤ) (m n : ℕ) → (a *ℤ pos m) *ℤ pos n ≡ (a *ℤ pos n) *ℤ pos m
+times-swap a m n = let e = times-times a m n in let f = times-times a n m in omega (arith, ints)
+
+le-times : (a b : ℤ) (n : ℕ) → a ≤ℤ b → (a *ℤ pos n) ≤ℤ (b *ℤ pos n)
+le-times a b n h =
+    let k : (up a + down b) * n ≤ (up b + down a) * n = mul-le-mul_right n (le_out a b h) in
+    omega (arith, ints)
+
+lt-times : (a b : ℤ) (n : ℕ) → a <ℤ b → (a *ℤ pos n +ℤ pos n) ≤ℤ (b *ℤ pos n)
+lt-times a b n h =
+    let j : up a + down b + 1 ≤ up b + down a = omega (arith, lt_out a b h) in
+    let k : (up a + down b + 1) * n ≤ (up b + down a) * n = mul-le-mul_right n j in
+    omega (arith, ints)
+
+le_from_times : (a b : ℤ) (n : ℕ) → 0 < n → (a *ℤ pos n) ≤ℤ (b *ℤ pos n) → a ≤ℤ b
+le_from_times a b n h le = by_lt_z b a (λ less. let k = lt-times b a n less in absurd (omega (arith, ints))) (λ p. p)
+
+-- what lies above the greatest isn't below the least
+pub AtMost-above : (l h x : Ratio) → 0 < h.den → AtMost l h → LessThan h x → AtMost l x
+AtMost-above l h x den le less =
+    let a = le-times (l.num *ℤ pos h.den) (h.num *ℤ pos l.den) x.den le in
+    let b = lt-times (h.num *ℤ pos x.den) (x.num *ℤ pos h.den) l.den less in
+    let c = times-swap l.num h.den x.den in
+    let d = times-swap h.num l.den x.den in
+    let e = times-swap x.num h.den l.den in
+    le_from_times (l.num *ℤ pos x.den) (x.num *ℤ pos l.den) h.den den (omega (arith, ints))
+
+-- the test
+from_T : (b : Bool) → T b → b ≡ true
+from_T true h = refl
+from_T false h = absurd h
+
+pub is_at_most-true : (p q : Ratio) → AtMost p q → is_at_most p q ≡ true
+is_at_most-true p q h = from_T _ h.le
+
+pub is_at_most-false : (p q : Ratio) → LessThan q p → is_at_most p q ≡ false
+is_at_most-false p q less = false_from_ne_true (is_at_most p q) (λ e.
+    let h : AtMost p q = record { le = subst T (sym e) tt } in absurd (omega (arith, ints)))
+
+pub too_large : (x : ℤ) → (unsigned_abs x ≤ 10 ^ 15 → ⊥) → ltb (10 ^ 15) (unsigned_abs x) ≡ true
+too_large x h = lt-ltb (10 ^ 15) (unsigned_abs x) (omega arith)
+
+pub not_too_large : (x : ℤ) → unsigned_abs x ≤ 10 ^ 15 → ltb (10 ^ 15) (unsigned_abs x) ≡ false
+not_too_large x h = le-ltb (10 ^ 15) (unsigned_abs x) h
+
+-- the refusal of a number outside a format, and of none inside
+pub outside_fault-none : (l h x : Ratio) → IsBetween l h x → outside_fault l h x ≡ None
+outside_fault-none l h x between = rw (is_at_most-true l x between.from_least, is_at_most-true x h between.to_greatest) refl
+
+pub outside_fault-some : (l h x : Ratio) (fault : NumFault) → 0 < h.den → AtMost l h → IsOutside l h x fault → outside_fault l h x ≡ Some fault
+outside_fault-some l h x BelowLeast den le less = rw (is_at_most-false l x less) refl
+outside_fault-some l h x AboveGreatest den le less =
+    rw (is_at_most-true l x (AtMost-above l h x den le less), is_at_most-false x h less) refl
+outside_fault-some l h x ZeroSlope den le less = absurd less
+outside_fault-some l h x ExponentRange den le less = absurd less
+outside_fault-some l h x TooLarge den le less = absurd less

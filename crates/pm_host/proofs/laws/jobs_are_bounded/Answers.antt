@@ -1,0 +1,5 @@
+use Rattle.pm_host.proofs.OpenJobs.{frames-bound}
+use Rattle.pm_host.proofs.laws.jobs_are_bounded.Goals as goal
+
+pub returns : goal.returns
+returns c = frames-bound

@@ -1,0 +1,25 @@
+use Rattle.std.proofs.Common.{None, sym, ap}
+use Rattle.pm_host.specs.Now.{now}
+use Rattle.pm_host.specs.Summary.{next, step_of}
+use Rattle.pm_host.proofs.Follows.{now-nil, turn-now, IsJob-told, now-format}
+use Rattle.pm_host.proofs.Kept.{next-keeps}
+use Rattle.pm_host.proofs.KnownLaws.{known_now-possible, known_now-standing, known_now-seen}
+use Rattle.pm_host.proofs.OpenJobs.{now-busy, now-sending, now-sound}
+use Rattle.pm_host.specs.Marks.{marks}
+use Rattle.pm_host.proofs.laws.transcripts_are_followed.Goals as goal
+
+pub returns : goal.returns
+unfolding now next step_of
+returns c = record {
+  none = now-nil;
+  more = λ setup entries entry made told. sym (ap (λ t. t.after) (turn-now setup entries entry made (IsJob-told setup entries told.1) told.0));
+  step = λ setup entries entry made told. ap (λ t. t.step) (turn-now setup entries entry made (IsJob-told setup entries told.1) told.0);
+  kept = next-keeps;
+  busy = now-busy;
+  sending = now-sending;
+  format = now-format;
+  standing = λ setup entries cell there. known_now-standing (marks setup entries) cell there;
+  possible = λ setup entries cell there. known_now-possible (marks setup entries) cell there;
+  seen = λ setup entries. known_now-seen (marks setup entries);
+  sound = now-sound;
+}

@@ -1,0 +1,14 @@
+pub mod Answers
+pub mod Cells
+pub mod Frames
+pub mod Known
+pub mod Marks
+pub mod Messages
+pub mod Now
+pub mod Possible
+pub mod Refusals
+pub mod Sound
+pub mod Standing
+pub mod Summary
+pub mod Told
+pub mod Transcript

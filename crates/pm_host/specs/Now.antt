@@ -1,0 +1,39 @@
+-- What the definitions say of a whole transcript, as one summary.
+use Rattle.std.specs.Prelude.{◌≡◌, ℕ, ◌+◌, ◌/◌, true, is_some, if◌then◌else◌, List, [], ◌∷◌, length, map, Option, Some, None, option_map}
+use Rattle.std.specs.List.{range_with_len}
+use Rattle.pm_host.specs.declared.stage.Stage.{Stage}
+use Rattle.pm_host.specs.declared.stage.Stage.TheVariants.{Writes, Reads, Checks, AsksMode, AsksCoefficients, Clears}
+use Rattle.pm_host.specs.Known.{known_now}
+use Rattle.pm_host.specs.Marks.{marks}
+use Rattle.pm_host.specs.Refusals.{may_come}
+use Rattle.pm_host.specs.Summary.{Summary}
+use Rattle.pm_host.specs.Transcript.{Setup, Job, Order, Check, Learn, Clear, Entry, open_job, told_since, is_write_turn, mode_told, coefficients_tries, format_of_output}
+
+-- where an open job stands, by what was told since it was accepted
+abbrev pub job_stage : Setup → Job → List Entry → Stage
+job_stage setup (Order cell word) told =
+    if is_write_turn told then Writes cell word (length told / 2)
+    else Reads cell word (length told / 2)
+job_stage setup (Check cell) told = Checks cell (length told)
+job_stage setup (Learn output) told =
+    if is_some (mode_told setup output told)
+    then AsksCoefficients output (coefficients_tries setup output told)
+    else AsksMode output (length told)
+job_stage setup (Clear output) told = Clears output (length told)
+
+unfoldable pub stage_of : Setup → List Entry → Option Stage
+stage_of setup entries =
+    option_map (λ job. job_stage setup job (told_since entries)) (open_job setup entries)
+
+unfoldable pub now : Setup → List Entry → Summary
+now setup entries = record {
+  setup = setup;
+  stage = stage_of setup entries;
+  formats = map (format_of_output setup entries) (range_with_len 0 8);
+  known = known_now (marks setup entries);
+}
+
+-- each entry of a transcript was one that might come
+abbrev pub AreTold : Setup → List Entry → Type 0
+AreTold setup [] = Unit {0}
+AreTold setup (entry ∷ before) = (may_come (now setup before) entry ≡ true) × AreTold setup before

@@ -1,0 +1,316 @@
+mod turns;
+
+ghost use Rattle.std.specs.Prelude.{◌≡◌, ◌<◌, ◌≤◌, true, false, Some, None, IfOk, OnOk, OnErr, MatchOption, IsNone, IsSomeAnd};
+ghost use Rattle.std.specs.Result.{result_err};
+ghost use Rattle.pm_table.specs.Address.{IsAddress};
+ghost use Rattle.pm_table.specs.Cell.{output_of, IsCell};
+ghost use Rattle.pm_num.specs.AnyFormat.{shape_of, shape_value, shape_rank};
+ghost use Rattle.pm_num.specs.Nearest.{IsNearest};
+ghost use Rattle.pm_num.specs.Ratio.{micros};
+ghost use Rattle.pm_host.specs.Messages.{IsFrameOf};
+ghost use Rattle.pm_host.specs.Possible.{has_room};
+ghost use Rattle.pm_host.specs.Refusals.{IsSetup, setup_fault, output_fault, cell_fault, order_fault, voltage_fault, micro_fault, micro_word, may_come, sends_read};
+ghost use Rattle.pm_host.specs.Summary.{start, next, step_of, possible_at, standing_at, format_at, sending_in, stage_message};
+ghost use Rattle.pm_host.specs.Told.{entry_told};
+ghost use Rattle.pm_host.specs.Transcript.{Setup, Accepted, Restarted, Order, Check, Learn, Clear};
+
+use crate::fault::HostFault;
+use crate::formats::{Formats, nearest_word};
+use crate::knowledge::Knowledge;
+use crate::possible::Possible;
+use crate::stage::Stage;
+use crate::standing::Standing;
+use crate::step::Step;
+use crate::told::Told;
+use pm_frame::Frame;
+use pm_num::AnyFormat;
+use pm_table::{Cell, Reg};
+use std::marker::Model;
+
+/// The host: it says which frame to send next, and is told what came of it. It believes a setting only
+/// after a good answer, one that has the layout of an answer to its own request, which the packet
+/// error code covers too.
+///
+/// At most one job is open. `order`, `order_micro`, `check`, `learn` and `clear` begin one and are
+/// refused (H3) until it has ended; from then on `sending` shows its frame, and each frame that was
+/// sent is followed by one call of `told`, until that answers `Step::Ended`. `restart`, `standing`,
+/// `possible` and `restart_seen` may come at any time. A refused call changes nothing. No call takes
+/// memory.
+#[derive(Drop)]
+pub struct Host {
+    addr: u8,
+    outputs: u8,
+    passes: u8,
+    stage: Option<Stage>,
+    frame: Frame,
+    formats: Formats,
+    knowledge: Knowledge,
+}
+
+impl Model for Host {
+    ghost use Rattle.pm_host.specs.Summary.{Summary};
+
+    ghost Value = { Summary };
+
+    ghost use Rattle.std.specs.Prelude.{IfSome};
+    ghost use Rattle.pm_host.specs.Messages.{IsFrameOf};
+    ghost use Rattle.pm_host.specs.Sound.{IsSound};
+    ghost use Rattle.pm_host.specs.Summary.{stage_message};
+
+    ghost view = { λ h. record {
+        setup = record { addr = h.addr; outputs = h.outputs; passes = h.passes };
+        stage = h.stage;
+        formats = h.formats;
+        known = h.knowledge } };
+
+    ghost invariant = { λ h. IsSound (record {
+        setup = record { addr = h.addr; outputs = h.outputs; passes = h.passes };
+        stage = h.stage;
+        formats = h.formats;
+        known = h.knowledge })
+        × IfSome h.stage (λ stage. IsFrameOf h.addr (stage_message stage) h.frame.items) };
+}
+
+impl Host {
+    /// A host for the device at this address, 08h to 77h, which has so many outputs, 1 to 8; a job
+    /// has so many passes or tries, 1 to 15. Nothing is known and no job is open. H1 where the
+    /// outputs aren't 1 to 8, otherwise H2 where the passes aren't 1 to 15.
+    pub fn new(addr: u8, outputs: u8, passes: u8) -> Result<Host, HostFault>
+        requires { IsAddress addr }
+        ensures made { let setup : Setup = record { addr = addr; outputs = outputs; passes = passes } in
+            IfOk result (λ host. host ≡ start setup) }
+        ensures setup { IfOk result (λ host. IsSetup host.setup) }
+        ensures fault { result_err result ≡ setup_fault outputs passes }
+    {
+        if !(1..=8).contains(&outputs) {
+            return Err(HostFault::OutputCount);
+        }
+        if !(1..=15).contains(&passes) {
+            return Err(HostFault::Passes);
+        }
+        Ok(Host {
+            addr,
+            outputs,
+            passes,
+            stage: None,
+            frame: Frame::new(),
+            formats: Formats::new(),
+            knowledge: Knowledge::new(),
+        })
+    }
+
+    /// Begins an order: at most `passes` passes, each of which sends the write once and then, whatever
+    /// the acknowledgement, reads the cell once. From now on the word is one that the cell may hold,
+    /// and no word of the cell is confirmed.
+    ///
+    /// A good answer with the ordered word ends it as `Done`. After the last pass the end is
+    /// `Differs(word)` where that pass's answer was good, otherwise `Unknown`.
+    ///
+    /// The first that applies refuses: H3 where a job is open, H4 where the output isn't there, H5
+    /// where the cell doesn't accept the word, H6 where the cell may hold any of 16 words and this is
+    /// another.
+    #[tactic(auto, unfolding(crate::specs::Summary::next))]
+    pub fn order(&mut self, cell: Cell, word: u16) -> Result<(), HostFault>
+        ensures fault { result_err result ≡ order_fault self.old cell word }
+        ensures ok { OnOk result (self.new ≡ next self.old (Accepted (Order cell word))) }
+        ensures err { OnErr result (self.new ≡ self.old) }
+    {
+        self.cell_is_free(cell)?;
+        if !cell.accepts(word) {
+            return Err(HostFault::BadWord);
+        }
+        if !self.knowledge.has_room(self.outputs, cell, word) {
+            return Err(HostFault::TooUncertain);
+        }
+        self.begin_write(cell, word, 0);
+        Ok(())
+    }
+
+    /// Begins an order for the word that is nearest to so many microvolts, in the format that the last
+    /// learn of the cell's output found.
+    ///
+    /// The first that applies refuses: H3 and H4 as in `order`, H5 where the cell isn't a voltage, H7
+    /// where the format isn't known, N5 where the number is beyond 10^15 in size, N3 or N4 where it
+    /// lies outside the format's range, H6 as in `order`.
+    pub fn order_micro(&mut self, cell: Cell, x: i64) -> Result<(), HostFault>
+        ensures fault { result_err result ≡ micro_fault self.old cell x }
+        ensures ok { OnOk result (IsSomeAnd (micro_word self.old cell x)
+            (λ word. self.new ≡ next self.old (Accepted (Order cell word)))) }
+        ensures nearest { OnOk result (IsSomeAnd (format_at self.old (output_of cell))
+            (λ shape. IsSomeAnd (micro_word self.old cell x)
+            (IsNearest (shape_value shape) (shape_rank shape) (micros x)))) }
+        ensures err { OnErr result (self.new ≡ self.old) }
+    {
+        let format = self.voltage_format(cell)?;
+        let word = nearest_word(&format, x)?;
+        self.order(cell, word)
+    }
+
+    /// Begins a check: the cell is read at most `passes` times. The first good answer ends it as
+    /// `Done`, and its word is confirmed; `Unknown` where none came. H3 where a job is open, otherwise
+    /// H4 where the output isn't there.
+    #[tactic(auto, unfolding(crate::specs::Summary::next))]
+    pub fn check(&mut self, cell: Cell) -> Result<(), HostFault>
+        ensures fault { result_err result ≡ cell_fault self.old cell }
+        ensures ok { OnOk result (self.new ≡ next self.old (Accepted (Check cell))) }
+        ensures err { OnErr result (self.new ≡ self.old) }
+    {
+        self.cell_is_free(cell)?;
+        self.go_on(Stage::Checks { cell, tries: 0 });
+        Ok(())
+    }
+
+    /// Begins a learn of the format of an output's voltages: VOUT_MODE is read at most `passes` times
+    /// and, where it says DIRECT, the coefficients of VOUT_COMMAND at most `passes` times. It ends as
+    /// `Learned`, or as `Unknown` where no good answer came or what came has no format; then a format
+    /// from before stays. H3 where a job is open, otherwise H4 where the output isn't there.
+    #[tactic(auto, unfolding(crate::specs::Summary::next))]
+    pub fn learn(&mut self, output: u8) -> Result<(), HostFault>
+        ensures fault { result_err result ≡ output_fault self.old output }
+        ensures ok { OnOk result (self.new ≡ next self.old (Accepted (Learn output))) }
+        ensures err { OnErr result (self.new ≡ self.old) }
+    {
+        self.output_is_free(output)?;
+        self.go_on(Stage::AsksMode { output, tries: 0 });
+        Ok(())
+    }
+
+    /// Begins a clear: CLEAR_FAULTS is sent for the output until one is acknowledged, at most `passes`
+    /// times. `Done` says no more than this acknowledgement, `Unknown` that none came. H3 where a job
+    /// is open, otherwise H4 where the output isn't there.
+    #[tactic(auto, unfolding(crate::specs::Summary::next))]
+    pub fn clear(&mut self, output: u8) -> Result<(), HostFault>
+        ensures fault { result_err result ≡ output_fault self.old output }
+        ensures ok { OnOk result (self.new ≡ next self.old (Accepted (Clear output))) }
+        ensures err { OnErr result (self.new ≡ self.old) }
+    {
+        self.output_is_free(output)?;
+        self.go_on(Stage::Clears { output, tries: 0 });
+        Ok(())
+    }
+
+    /// The frame to put on the wire, address first: a whole packet for a write, the request before the
+    /// repeated start for a read. `None` exactly where no job is open. It stays the same until `told`
+    /// or `restart` is called.
+    pub fn sending(&self) -> Option<&Frame>
+        ensures { MatchOption (sending_in self.now) (IsNone result)
+            (λ message. IsSomeAnd result
+            (λ frame. IsFrameOf self.now.setup.addr message frame.now.items)) }
+    {
+        match self.stage {
+            Some(_) => Some(&self.frame),
+            None => None,
+        }
+    }
+
+    /// Whether what `sending` shows is a request, whose answer `told` wants as `Got`, and not a write;
+    /// false where nothing is being sent.
+    pub fn sending_reads(&self) -> bool
+        ensures { result ≡ sends_read self.now }
+    {
+        match &self.stage {
+            Some(stage) => stage.message().is_read(),
+            None => false,
+        }
+    }
+
+    /// What became of the frame that `sending` showed: `Finished` for a write, `Got` for a request,
+    /// with whatever came back. `Step::Next` asks to send what `sending` shows now; `Step::Ended` says
+    /// how the job ended, and that nothing is being sent.
+    #[tactic(auto, unfolding(crate::specs::Summary::next, crate::specs::Summary::step_of))]
+    pub fn told(&mut self, told: Told<'_>) -> Step
+        requires { may_come self.old (entry_told told) ≡ true }
+        ensures after { self.new ≡ next self.old (entry_told told.entry) }
+        ensures step { result ≡ step_of self.old (entry_told told.entry) }
+    {
+        let Some(stage) = self.stage else {
+            unreachable!()
+        };
+        self.stage = None;
+        match told {
+            Told::Finished { acked } => self.finished(stage, acked),
+            Told::Got(bytes) => self.answered(stage, bytes),
+        }
+    }
+
+    /// Drops the open job and all that is known of cells and formats, as after `new`.
+    #[tactic(auto, unfolding(crate::specs::Summary::next))]
+    pub fn restart(&mut self)
+        ensures { self.new ≡ next self.old Restarted }
+    {
+        self.stage = None;
+        self.formats = Formats::new();
+        self.knowledge = Knowledge::new();
+    }
+
+    /// What is known of a cell's word: confirmed where a good answer for the cell came after every write
+    /// of it that began to be sent. The cell's output is there.
+    pub fn standing(&self, cell: Cell) -> Standing
+        requires { IsCell self.now.setup.outputs cell }
+        ensures { result ≡ standing_at self.now cell }
+    {
+        self.knowledge.standing(self.outputs, cell)
+    }
+
+    /// The words that a cell may hold: the word of its last good answer, and those that were put on the
+    /// wire for it since. Any word where there was no good answer for it since the host started or saw
+    /// a restart of the device. The cell's output is there.
+    pub fn possible(&self, cell: Cell) -> Possible
+        requires { IsCell self.now.setup.outputs cell }
+        ensures { result ≡ possible_at self.now cell }
+    {
+        self.knowledge.possible(self.outputs, cell)
+    }
+
+    /// Whether a restart of the device was seen since the host started: a good answer came whose word
+    /// its cell couldn't hold. Cells that were confirmed before stay so, but any word is possible for
+    /// each but the one that was read.
+    pub fn restart_seen(&self) -> bool
+        ensures { result ≡ self.now.known.seen }
+    {
+        self.knowledge.restart_seen()
+    }
+
+    // Refuses where a job is open, or the output isn't there.
+    fn output_is_free(&self, output: u8) -> Result<(), HostFault>
+        ensures fault { result_err result ≡ output_fault self.now output }
+        ensures idle { OnOk result (self.now.stage ≡ None) }
+        ensures there { OnOk result (output < self.now.setup.outputs) }
+        ensures some { 1 ≤ self.now.setup.passes }
+    {
+        if self.stage.is_some() {
+            return Err(HostFault::Busy);
+        }
+        if output >= self.outputs {
+            return Err(HostFault::UnknownOutput);
+        }
+        Ok(())
+    }
+
+    // Refuses where a job is open, or the cell isn't there.
+    fn cell_is_free(&self, cell: Cell) -> Result<(), HostFault>
+        ensures fault { result_err result ≡ cell_fault self.now cell }
+        ensures idle { OnOk result (self.now.stage ≡ None) }
+        ensures there { OnOk result (IsCell self.now.setup.outputs cell) }
+        ensures some { 1 ≤ self.now.setup.passes }
+    {
+        match cell {
+            Cell::Out(output, _) => self.output_is_free(output),
+            Cell::Protect if self.stage.is_some() => Err(HostFault::Busy),
+            Cell::Protect => Ok(()),
+        }
+    }
+
+    // The format of the cell's output, where the cell is a voltage that may be ordered now.
+    fn voltage_format(&self, cell: Cell) -> Result<AnyFormat, HostFault>
+        ensures fault { result_err result ≡ voltage_fault self.now cell }
+        ensures format { IfOk result (λ format.
+            format_at self.now (output_of cell) ≡ Some (shape_of format)) }
+    {
+        self.cell_is_free(cell)?;
+        match cell {
+            Cell::Protect | Cell::Out(_, Reg::Operation) => Err(HostFault::BadWord),
+            Cell::Out(output, _) => self.formats.get(output).ok_or(HostFault::FormatUnknown),
+        }
+    }
+}

@@ -1,0 +1,257 @@
+//! What one turn makes of an open job.
+
+ghost use Rattle.std.specs.Prelude.{◌≡◌, ◌≢◌, ◌+◌, ◌<◌, ◌≤◌, true, false, Some, None, option_map};
+ghost use Rattle.std.specs.Result.{ForOk};
+ghost use Rattle.pm_num.specs.AnyFormat.{shape_of};
+ghost use Rattle.pm_table.specs.Cell.{cell_accepts, IsCell};
+ghost use Rattle.pm_table.specs.VoutMode.{IsMode};
+ghost use Rattle.pm_frame.specs.Layout.{is_read_message};
+ghost use Rattle.pm_host.specs.Marks.{Good};
+ghost use Rattle.pm_host.specs.Possible.{has_room, only};
+ghost use Rattle.pm_host.specs.Sound.{IsOrdering, IsChecking, IsAsking, IsStage, HasWord};
+ghost use Rattle.pm_host.specs.Summary.{possible_at, stage_message, goes_on, ends, another as spec_another, marked, writes, read_back as spec_read_back, checked as spec_checked, learned as spec_learned, mode_taken, mode_answered, coefficients_answered, finished as spec_finished, answered as spec_answered};
+
+use crate::answers::{good_byte, good_coefficients, good_word};
+use crate::host::Host;
+use crate::messages::cell_read;
+use crate::stage::{Stage, mode_read};
+use crate::step::{JobEnd, Step};
+use pm_frame::write_part;
+use pm_num::AnyFormat;
+use pm_table::{Cell, Coefficients, TableFault, VoutMode, format_of};
+
+// What stands for coefficients where a format has none.
+const NO_COEFFICIENTS: Coefficients = Coefficients { m: 0, b: 0, r: 0 };
+
+impl Host {
+    /// The job goes on at this stage, whose frame is sent next.
+    pub(super) fn go_on(&mut self, stage: Stage) -> Step
+        requires stage { IsStage self.old (Some stage) }
+        requires word { HasWord stage }
+        ensures after { self.new ≡ (goes_on self.old stage).after }
+        ensures step { result ≡ Step.Next }
+    {
+        self.frame = write_part(self.addr, &stage.message());
+        self.stage = Some(stage);
+        Step::Next
+    }
+
+    /// The job has ended.
+    pub(super) fn end(&mut self, end: JobEnd) -> Step
+        ensures after { self.new ≡ (ends self.old end).after }
+        ensures step { result ≡ Step.Ended end }
+    {
+        self.stage = None;
+        Step::Ended(end)
+    }
+
+    /// The job goes on at the stage after these tries, where one is left.
+    pub(super) fn another(&mut self, tries: u8, stage: Stage) -> Step
+        requires few { self.old.setup.passes ≤ 15 }
+        requires stage { tries + 1 ≢ self.old.setup.passes → IsStage self.old (Some stage) }
+        requires word { HasWord stage }
+        requires left { tries < self.old.setup.passes }
+        ensures after { self.new ≡ (spec_another self.old tries stage).after }
+        ensures step { result ≡ (spec_another self.old tries stage).step }
+    {
+        if tries + 1 == self.passes {
+            return self.end(JobEnd::Unknown);
+        }
+        self.go_on(stage)
+    }
+
+    /// The write of an order begins to be sent.
+    pub(super) fn begin_write(&mut self, cell: Cell, word: u16, pass: u8) -> Step
+        requires idle { self.old.stage ≡ None }
+        requires there { IsCell self.old.setup.outputs cell }
+        requires accepted { cell_accepts cell word ≡ true }
+        requires room { has_room word (possible_at self.old cell) ≡ true }
+        requires left { pass < self.old.setup.passes }
+        ensures after { self.new ≡ (writes self.old cell word pass).after }
+        ensures step { result ≡ Step.Next }
+    {
+        self.knowledge.put(self.outputs, cell, word);
+        self.go_on(Stage::Writes { cell, word, pass })
+    }
+
+    /// A good answer for a cell.
+    pub(super) fn note(&mut self, cell: Cell, word: u16)
+        requires idle { self.old.stage ≡ None }
+        requires there { IsCell self.old.setup.outputs cell }
+        ensures after { self.new ≡ marked self.old (Good cell word) }
+        ensures alone { possible_at self.new cell ≡ only word }
+    {
+        self.knowledge.good(self.outputs, cell, word);
+    }
+
+    /// An order read its cell back.
+    pub(super) fn read_back(&mut self, cell: Cell, word: u16, pass: u8, read: Option<u16>) -> Step
+        requires few { self.old.setup.passes ≤ 15 }
+        requires idle { self.old.stage ≡ None }
+        requires ordering { IsOrdering self.old cell word pass }
+        ensures after { self.new ≡ (spec_read_back self.old cell word pass read).after }
+        ensures step { result ≡ (spec_read_back self.old cell word pass read).step }
+    {
+        if let Some(read) = read {
+            self.note(cell, read);
+            if read == word {
+                return self.end(JobEnd::Done);
+            }
+        }
+        if pass + 1 == self.passes {
+            return self.end(match read {
+                Some(read) => JobEnd::Differs(read),
+                None => JobEnd::Unknown,
+            });
+        }
+        self.begin_write(cell, word, pass + 1)
+    }
+
+    /// A check read its cell.
+    pub(super) fn checked(&mut self, cell: Cell, tries: u8, read: Option<u16>) -> Step
+        requires few { self.old.setup.passes ≤ 15 }
+        requires idle { self.old.stage ≡ None }
+        requires checking { IsChecking self.old cell tries }
+        ensures after { self.new ≡ (spec_checked self.old cell tries read).after }
+        ensures step { result ≡ (spec_checked self.old cell tries read).step }
+    {
+        match read {
+            Some(read) => {
+                self.note(cell, read);
+                self.end(JobEnd::Done)
+            }
+            None => self.another(
+                tries,
+                Stage::Checks {
+                    cell,
+                    tries: tries + 1,
+                },
+            ),
+        }
+    }
+
+    /// A learn read VOUT_MODE.
+    pub(super) fn mode_told(&mut self, output: u8, tries: u8, byte: Option<u8>) -> Step
+        requires few { self.old.setup.passes ≤ 15 }
+        requires idle { self.old.stage ≡ None }
+        requires asking { IsAsking self.old output tries }
+        ensures after { self.new ≡ (mode_answered self.old output tries byte).after }
+        ensures step { result ≡ (mode_answered self.old output tries byte).step }
+    {
+        match byte {
+            Some(byte) => self.mode_known(output, VoutMode::read(byte)),
+            None => self.another(
+                tries,
+                Stage::AsksMode {
+                    output,
+                    tries: tries + 1,
+                },
+            ),
+        }
+    }
+
+    /// A learn knows what VOUT_MODE says.
+    pub(super) fn mode_known(&mut self, output: u8, mode: Result<VoutMode, TableFault>) -> Step
+        requires idle { self.old.stage ≡ None }
+        requires there { output < self.old.setup.outputs }
+        requires some { 1 ≤ self.old.setup.passes }
+        requires mode { ForOk mode IsMode }
+        ensures after { self.new ≡ (mode_taken self.old output mode).after }
+        ensures step { result ≡ (mode_taken self.old output mode).step }
+    {
+        match mode {
+            Ok(VoutMode::Direct) => self.go_on(Stage::AsksCoefficients { output, tries: 0 }),
+            Ok(mode) => self.learned(output, format_of(mode, NO_COEFFICIENTS).ok()),
+            Err(_) => self.end(JobEnd::Unknown),
+        }
+    }
+
+    /// A learn read COEFFICIENTS.
+    pub(super) fn coefficients_told(&mut self, output: u8, tries: u8, told: Option<Coefficients>) -> Step
+        requires few { self.old.setup.passes ≤ 15 }
+        requires idle { self.old.stage ≡ None }
+        requires asking { IsAsking self.old output tries }
+        ensures after { self.new ≡ (coefficients_answered self.old output tries told).after }
+        ensures step { result ≡ (coefficients_answered self.old output tries told).step }
+    {
+        match told {
+            Some(told) => self.learned(output, format_of(VoutMode::Direct, told).ok()),
+            None => self.another(
+                tries,
+                Stage::AsksCoefficients {
+                    output,
+                    tries: tries + 1,
+                },
+            ),
+        }
+    }
+
+    /// A learn ends, with a format or with none.
+    pub(super) fn learned(&mut self, output: u8, format: Option<AnyFormat>) -> Step
+        requires idle { self.old.stage ≡ None }
+        requires there { output < self.old.setup.outputs }
+        ensures after { self.new ≡ (spec_learned self.old output (option_map shape_of format)).after }
+        ensures step { result ≡ (spec_learned self.old output (option_map shape_of format)).step }
+    {
+        match format {
+            Some(format) => {
+                self.formats.learn(output, format);
+                self.end(JobEnd::Learned)
+            }
+            None => self.end(JobEnd::Unknown),
+        }
+    }
+
+    /// A write was sent.
+    pub(super) fn finished(&mut self, stage: Stage, acked: bool) -> Step
+        requires few { self.old.setup.passes ≤ 15 }
+        requires idle { self.old.stage ≡ None }
+        requires stage { IsStage self.old (Some stage) }
+        requires writes { is_read_message (stage_message stage) ≡ false }
+        ensures after { self.new ≡ (spec_finished self.old (Some stage) acked).after }
+        ensures step { result ≡ (spec_finished self.old (Some stage) acked).step }
+    {
+        match stage {
+            Stage::Writes { cell, word, pass } => self.go_on(Stage::Reads { cell, word, pass }),
+            Stage::Clears { .. } if acked => self.end(JobEnd::Done),
+            Stage::Clears { output, tries } => self.another(
+                tries,
+                Stage::Clears {
+                    output,
+                    tries: tries + 1,
+                },
+            ),
+            _ => unreachable!(),
+        }
+    }
+
+    /// Bytes came back for a request.
+    pub(super) fn answered(&mut self, stage: Stage, bytes: &[u8]) -> Step
+        requires few { self.old.setup.passes ≤ 15 }
+        requires idle { self.old.stage ≡ None }
+        requires stage { IsStage self.old (Some stage) }
+        requires reads { is_read_message (stage_message stage) ≡ true }
+        ensures after { self.new ≡ (spec_answered self.old (Some stage) bytes.now).after }
+        ensures step { result ≡ (spec_answered self.old (Some stage) bytes.now).step }
+    {
+        match stage {
+            Stage::Reads { cell, word, pass } => {
+                let read = good_word(self.addr, &cell_read(cell), bytes);
+                self.read_back(cell, word, pass, read)
+            }
+            Stage::Checks { cell, tries } => {
+                let read = good_word(self.addr, &cell_read(cell), bytes);
+                self.checked(cell, tries, read)
+            }
+            Stage::AsksMode { output, tries } => {
+                let byte = good_byte(self.addr, &mode_read(output), bytes);
+                self.mode_told(output, tries, byte)
+            }
+            Stage::AsksCoefficients { output, tries } => {
+                let told = good_coefficients(self.addr, bytes);
+                self.coefficients_told(output, tries, told)
+            }
+            _ => unreachable!(),
+        }
+    }
+}

@@ -1,0 +1,117 @@
+ghost use Rattle.std.specs.Prelude.{◌≡◌, ◌≤◌, ◌<◌, true, not, length, replicate};
+ghost use Rattle.pm_table.specs.Cell.{IsCell};
+ghost use Rattle.pm_host.specs.Cells.{places};
+ghost use Rattle.pm_host.specs.Possible.{is_possible, has_room, only};
+ghost use Rattle.pm_host.specs.Known.{known_possible, known_standing, known_after, nothing_known, all_any, all_unknown};
+ghost use Rattle.pm_host.specs.Marks.{Put, Good};
+
+use crate::places::{PLACES, place};
+use crate::possible::Possible;
+use crate::standing::Standing;
+use pm_table::Cell;
+use std::array;
+use std::marker::Model;
+
+/// What the host knows of each cell.
+#[derive(Drop)]
+pub(crate) struct Knowledge {
+    possible: [Possible; PLACES],
+    standing: [Standing; PLACES],
+    seen: bool,
+}
+
+impl Model for Knowledge {
+    ghost use Rattle.std.specs.Prelude.{◌≡◌, length};
+    ghost use Rattle.pm_host.specs.Cells.{places};
+    ghost use Rattle.pm_host.specs.Known.{Known};
+
+    ghost Value = { Known };
+
+    ghost view = { λ k. record { possible = k.possible; standing = k.standing; seen = k.seen } };
+
+    ghost invariant = { λ k. (length k.possible ≡ places) × (length k.standing ≡ places) };
+}
+
+impl Knowledge {
+    /// Nothing.
+    pub(crate) fn new() -> Knowledge
+        ensures { result ≡ nothing_known }
+    {
+        Knowledge {
+            possible: all_possible(),
+            standing: [Standing::Unknown; PLACES],
+            seen: false,
+        }
+    }
+
+    /// The words that a cell may hold.
+    pub(crate) fn possible(&self, outputs: u8, cell: Cell) -> Possible
+        requires few { outputs ≤ 8 }
+        requires there { IsCell outputs cell }
+        ensures { result ≡ known_possible self.now cell }
+    {
+        self.possible[place(outputs, cell)].copy()
+    }
+
+    /// Whether a word may be put on the wire for a cell.
+    pub(crate) fn has_room(&self, outputs: u8, cell: Cell, word: u16) -> bool
+        requires few { outputs ≤ 8 }
+        requires there { IsCell outputs cell }
+        ensures { result ≡ has_room word (known_possible self.now cell) }
+    {
+        self.possible[place(outputs, cell)].has_room(word)
+    }
+
+    /// What is known of a cell's word.
+    pub(crate) fn standing(&self, outputs: u8, cell: Cell) -> Standing
+        requires few { outputs ≤ 8 }
+        requires there { IsCell outputs cell }
+        ensures { result ≡ known_standing self.now cell }
+    {
+        self.standing[place(outputs, cell)]
+    }
+
+    /// Whether a restart of the device was seen.
+    pub(crate) fn restart_seen(&self) -> bool
+        ensures { result ≡ self.now.seen }
+    {
+        self.seen
+    }
+
+    /// A write of the cell begins to be sent.
+    pub(crate) fn put(&mut self, outputs: u8, cell: Cell, word: u16)
+        requires few { outputs ≤ 8 }
+        requires there { IsCell outputs cell }
+        requires room { has_room word (known_possible self.old cell) ≡ true }
+        ensures after { self.new ≡ known_after self.old (Put cell word) }
+        ensures listed { is_possible word (known_possible self.new cell) ≡ true }
+        ensures unknown { known_standing self.new cell ≡ Standing.Unknown }
+    {
+        let place = place(outputs, cell);
+        self.possible[place].join(word);
+        self.standing[place] = Standing::Unknown;
+    }
+
+    /// A good answer for the cell.
+    pub(crate) fn good(&mut self, outputs: u8, cell: Cell, word: u16)
+        requires few { outputs ≤ 8 }
+        requires there { IsCell outputs cell }
+        ensures after { self.new ≡ known_after self.old (Good cell word) }
+        ensures alone { known_possible self.new cell ≡ only word }
+    {
+        let place = place(outputs, cell);
+        if !self.possible[place].allows(word) {
+            self.possible = all_possible();
+            self.seen = true;
+        }
+        self.possible[place] = Possible::only(word);
+        self.standing[place] = Standing::Confirmed(word);
+    }
+}
+
+// Any word for each cell.
+fn all_possible() -> [Possible; PLACES]
+    ensures { result ≡ all_any }
+{
+    array::from_fn(|_| Possible::Any)
+}

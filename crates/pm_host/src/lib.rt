@@ -1,0 +1,48 @@
+//! The host core of PMBus 1.3 Part II, for one power converter with one to eight outputs: what
+//! firmware links that sets supply voltages.
+//!
+//! A [`Host`] says which frame to send next and is told what came of it. An order writes a word and
+//! reads it back, a check reads one, a learn reads the format of an output's voltages, a clear clears
+//! its latched faults. It trusts no acknowledgement: a setting is confirmed by a good answer alone,
+//! and until then the host keeps the exact list of words that the setting may hold.
+//!
+//! It has no bus, no clock and no memory of its own: the caller sends the frames, and decides how long
+//! to wait for an answer. It reads no telemetry and no status, and selects no output by PAGE.
+//!
+//! An order, at a device with address 58h, two outputs and at most two passes, and the bytes that go
+//! over the wire:
+//!
+//! ```text
+//! let mut host = Host::new(0x58, 2, 2)?;
+//! host.order(Cell::Out(0, Reg::VoutCommand), 0x34CD)?;
+//! host.sending();                                // B0 05 04 00 21 CD 34 5A, a write
+//! host.told(Told::Finished { acked: false });    // Step::Next
+//! host.sending();                                // B0 06 02 00 21, a request
+//! host.told(Told::Got(&[0xB1, 0x02, 0xCD, 0x34, 0xB9])); // Step::Ended(JobEnd::Done)
+//! host.standing(Cell::Out(0, Reg::VoutCommand)); // Standing::Confirmed(0x34CD)
+//! ```
+#![tactic(auto)]
+
+mod answers;
+mod fault;
+mod formats;
+mod host;
+mod knowledge;
+mod laws;
+mod messages;
+mod places;
+mod possible;
+mod stage;
+mod standing;
+mod step;
+mod told;
+
+pub use fault::HostFault;
+pub use host::Host;
+pub use laws::{
+    frames_are_named, jobs_are_bounded, open_orders_are_uncertain, transcripts_are_followed,
+};
+pub use possible::Possible;
+pub use standing::Standing;
+pub use step::{JobEnd, Step};
+pub use told::Told;

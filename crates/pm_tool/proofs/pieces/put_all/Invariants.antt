@@ -1,0 +1,11 @@
+use Rattle.std.proofs.Common.{◌≡◌, false, take}
+use Rattle.std.specs.Prelude.{flat_map}
+use Rattle.std.specs.Io.KnownBytes.{Appends}
+use Rattle.pm_tool.proofs.pieces.put_all.Given as goal
+
+-- the pieces so far were written, and no call failed
+abbrev pub invariant-pieces : goal.invariant-pieces
+invariant-pieces g l = record {
+  written : Appends (g.W.Write.contents l.fn.sink.inner) (g.W.Write.contents l.sink.inner) (flat_map (λ piece. piece.now) (take l.piece-index l.pieces));
+  sound : l.sink.failed ≡ false;
+}

@@ -1,0 +1,28 @@
+use Rattle.std.proofs.Common.{◌≡◌, ◌∙◌, ◌<◌, [], ◌∷◌, ◌++◌, length, ap, arith}
+use Rattle.pm_text.specs.Lines.{unskipped_from}
+use Rattle.pm_tool.specs.LineEvent.{event_of}
+use Rattle.pm_tool.specs.Script.{events_in}
+use Rattle.pm_tool.proofs.ScriptLemmas.{events-more, held-more, lines-more, prepended, unskipped-some}
+use Rattle.pm_tool.proofs.script.answer_lines.Goals as goal
+
+pub returns-in_err-event-clause-memory : goal.returns-in_err-event-clause-memory
+returns-in_err-event-clause-memory c = λ _.
+    let (done, are, text, held, within) = c.lines.invariant in
+    unskipped-some c.args.input.now (omega (arith, ap length c.in-Some.ensures.unskipped))
+
+pub returns-in_err-push_event-clause-memory : goal.returns-in_err-push_event-clause-memory
+returns-in_err-push_event-clause-memory c = λ _.
+    let (done, are, text, held, within) = c.lines.invariant in
+    unskipped-some c.args.input.now (omega (arith, ap length c.in-Some.ensures.unskipped))
+
+pub lines-preserved : goal.lines-preserved
+lines-preserved c =
+    let (done, are, text, held, within) = c.lines.invariant in
+    let event = event_of c.in_ok-event.event c.read_event.new.frame.items in
+    let same = ap (event_of c.in_ok-event.event) c.deref.ensures.value in (
+      done ++ event ∷ [],
+      are ∙ ap (λ ls. prepended done (events_in ls)) c.in-Some.ensures.unskipped ∙ events-more done _ _ event c.in_ok-event.ensures.event,
+      lines-more _ c.lines.converter done event _ c.lines.text.items _ text held same c.in_ok-push_event.ensures.text,
+      held-more _ c.lines.converter _ done event _ held same c.in_ok-push_event.ensures.after,
+      omega (arith, ap length c.in-Some.ensures.unskipped),
+    )

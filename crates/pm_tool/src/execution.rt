@@ -1,0 +1,181 @@
+ghost use Rattle.std.specs.Prelude.{◌≡◌, ◌⊎◌, IsFalse, Some, codes};
+ghost use Rattle.std.specs.Io.KnownBytes.{Keeps};
+ghost use Rattle.clap.specs.Words.{kind_of};
+ghost use Rattle.pm_tool.specs.Execution.{End, HearEnds, IsDone, IsEnd, NumberEnds, RunEnds, Says, UsageEnds};
+ghost use Rattle.pm_tool.specs.Execution.{CutShort, Printed, arguments_of, no_words_end, refusal_line, said_by, status_of, wants_memory};
+ghost use Rattle.pm_tool.specs.Question.{question, text_at};
+
+use crate::commandline::{Chosen, chosen};
+use crate::numbers::number;
+use crate::refusal::say;
+use crate::script::hear;
+use clap::error::ErrorKind;
+use pm_text::{Sink, Source, TextFault};
+use std::alloc::Global;
+use std::io::{self, Read, Write};
+
+/// Runs the program: does what the words of the command line ask, over any reader and any two
+/// writers, and answers the exit status. The words are those of the arguments, the program's name
+/// first, or the error's kind where they couldn't be had as texts. None of the streams may have
+/// failed before.
+///
+/// Status 0: the text was written to the output, or help that was asked for. Status 1: a refused
+/// input, a failed stream or want of memory, and 2: a faulty command line; each with one line on
+/// the third stream, where that can be written, but for the parser's own texts.
+pub fn run<R: Read, W: Write, E: Write>(
+    alloc: Global,
+    words: Result<&[&str], io::ErrorKind>,
+    input: &mut Source<R>,
+    output: &mut Sink<W>,
+    errors: &mut Sink<E>,
+) -> u8
+    requires input { IsFalse input.old.failed }
+    requires output { IsFalse output.old.failed }
+    requires errors { IsFalse errors.old.failed }
+    ensures { (end : End) × RunEnds R.remaining input.old input.new (arguments_of words.entry) end
+        × IsEnd W.contents E.contents output.old output.new errors.old errors.new result end }
+{
+    let words = match words {
+        Ok(words) => words,
+        Err(kind) => return no_words(kind, errors),
+    };
+    match chosen(alloc, words) {
+        Ok(Chosen::Hear) => run_hear(alloc, input, output, errors),
+        Ok(
+            Chosen::Number {
+                format,
+                word,
+                micro,
+            },
+        ) => run_number(alloc, output, errors, format, word, micro),
+        Err(error) => show_usage(alloc, &error, output, errors),
+    }
+}
+
+/// `pmb hear`.
+fn run_hear<R: Read, W: Write, E: Write>(
+    alloc: Global,
+    input: &mut Source<R>,
+    output: &mut Sink<W>,
+    errors: &mut Sink<E>,
+) -> u8
+    requires input { IsFalse input.old.failed }
+    requires output { IsFalse output.old.failed }
+    requires errors { IsFalse errors.old.failed }
+    ensures { (end : End) × HearEnds R.remaining input.old input.new end
+        × IsEnd W.contents E.contents output.old output.new errors.old errors.new result end }
+{
+    match hear(alloc, input, output) {
+        Ok(()) => done(output, errors),
+        Err(fault) => {
+            say(errors, fault.words(), fault.line());
+            1
+        }
+    }
+}
+
+/// The status of a run whose text was written whole: it is done once the writer handed it on.
+fn done<W: Write, E: Write>(output: &mut Sink<W>, errors: &mut Sink<E>) -> u8
+    requires output { IsFalse output.old.failed }
+    requires errors { IsFalse errors.old.failed }
+    ensures kept { Keeps (W.contents output.old.inner) (W.contents output.new.inner) }
+    ensures done { IsDone E.contents output.new errors.old errors.new result }
+{
+    match output.flush() {
+        Ok(()) => 0,
+        Err(_) => {
+            say(errors, TextFault::Write.words(), None);
+            1
+        }
+    }
+}
+
+// `pmb number`, with the texts of its three options.
+fn run_number<W: Write, E: Write>(
+    alloc: Global,
+    output: &mut Sink<W>,
+    errors: &mut Sink<E>,
+    format: &str,
+    word: Option<&str>,
+    micro: Option<&str>,
+) -> u8
+    requires output { IsFalse output.old.failed }
+    requires errors { IsFalse errors.old.failed }
+    ensures { (end : End)
+        × NumberEnds (question format.now (text_at word.entry) (text_at micro.entry)) end
+        × IsEnd W.contents E.contents output.old output.new errors.old errors.new result end }
+{
+    match number(alloc, output, format, word, micro) {
+        Ok(()) => done(output, errors),
+        Err(fault) => {
+            say(errors, fault.words(), None);
+            fault.status()
+        }
+    }
+}
+
+// What the parser says in place of a choice: help on the output, a fault on the third stream.
+fn show_usage<W: Write, E: Write>(
+    alloc: Global,
+    error: &clap::Error,
+    output: &mut Sink<W>,
+    errors: &mut Sink<E>,
+) -> u8
+    requires output { IsFalse output.old.failed }
+    requires errors { IsFalse errors.old.failed }
+    ensures { (end : End) × (UsageEnds (kind_of error.now) end ⊎ (end ≡ wants_memory))
+        × IsEnd W.contents E.contents output.old output.new errors.old errors.new result end }
+{
+    let Ok(text) = format!(in alloc; "{error}") else {
+        return refuse_memory(errors);
+    };
+    match error.kind() {
+        ErrorKind::OutOfMemory => refuse_memory(errors),
+        ErrorKind::DisplayHelp => print_whole(text.as_bytes(), output, errors),
+        _ => {
+            let _ = errors.put(text.as_bytes());
+            2
+        }
+    }
+}
+
+// Prints a whole text.
+fn print_whole<W: Write, E: Write>(text: &[u8], output: &mut Sink<W>, errors: &mut Sink<E>) -> u8
+    requires output { IsFalse output.old.failed }
+    requires errors { IsFalse errors.old.failed }
+    ensures { (end : End) × ((end ≡ Printed 0 text.now) ⊎ (end ≡ CutShort text.now))
+        × IsEnd W.contents E.contents output.old output.new errors.old errors.new result end }
+{
+    match output.put(text) {
+        Ok(()) => done(output, errors),
+        Err(_) => {
+            say(errors, TextFault::Write.words(), None);
+            1
+        }
+    }
+}
+
+// Says that the arguments couldn't be had as texts, for want of memory or since they are none.
+fn no_words<E: Write>(kind: io::ErrorKind, errors: &mut Sink<E>) -> u8
+    requires { IsFalse errors.old.failed }
+    ensures status { result ≡ status_of (no_words_end kind) }
+    ensures said { Says E.contents errors.old errors.new (said_by (no_words_end kind)) }
+{
+    match kind {
+        io::ErrorKind::OutOfMemory => refuse_memory(errors),
+        _ => {
+            say(errors, "bad arguments", None);
+            2
+        }
+    }
+}
+
+// Says that memory was refused.
+fn refuse_memory<E: Write>(errors: &mut Sink<E>) -> u8
+    requires { IsFalse errors.old.failed }
+    ensures status { result ≡ status_of wants_memory }
+    ensures said { Says E.contents errors.old errors.new (said_by wants_memory) }
+{
+    say(errors, TextFault::Memory.words(), None);
+    1
+}

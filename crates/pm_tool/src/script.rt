@@ -1,0 +1,193 @@
+//! The frames of a text, as a converter hears them one after another.
+ghost use Rattle.std.specs.Prelude.{◌≡◌, ◌≢◌, ◌⊎◌, ◌<◌, ◌≤◌, ◌^◌, ◌+◌, ◌++◌, ◌↔◌, ℕ, List, length, is_err};
+ghost use Rattle.std.specs.Prelude.{Ok, Err, IfOk, IfErr, OnOk, OnErr, IsErrOf, IfSome, IsTrue, IsFalse};
+ghost use Rattle.std.specs.Io.KnownBytes.{Consumes, Appends};
+ghost use Rattle.pm_text.specs.Faults.{IsOfText};
+ghost use Rattle.pm_text.specs.Lines.{unskipped_from};
+ghost use Rattle.pm_text.specs.Streams.{IsWholeText, AppendsFront};
+ghost use Rattle.pm_text.specs.declared.text.TheConstants.{MAX_TEXT};
+ghost use Rattle.pm_device.specs.Effect.{Event};
+ghost use Rattle.pm_device.specs.History.{next, start_of};
+ghost use Rattle.pm_tool.specs.Base.{base};
+ghost use Rattle.pm_tool.specs.LineEvent.{event_of};
+ghost use Rattle.pm_tool.specs.Outcome.{outcome_of, IsSettled};
+ghost use Rattle.pm_tool.specs.ReplyText.{as_line};
+ghost use Rattle.pm_tool.specs.Script.{events_in, event_lines, event_words, held_after, output_at, output_lines, printed_text};
+
+mod base;
+mod line;
+mod reply_text;
+
+use base::base_config;
+use line::{LineEvent, read_event};
+use pm_device::Converter;
+use pm_table::{Cell, Reg};
+use pm_text::{Lines, Sink, Source, TextFault, read_text};
+use reply_text::{output_line, push_reply};
+use std::alloc::{AllocError, Global};
+use std::io::{Read, Write};
+
+/// Reads a text, lets a fresh converter of the base configuration hear its frames, and writes a line
+/// for each answer and then each output's word of VOUT_COMMAND.
+///
+/// A line of the text is a frame in hexadecimal, which a stop ends; a frame and `/`, where a
+/// repeated start follows it; or `restart`, at which the converter starts again. The whole text is
+/// read and checked before anything is written. Neither stream may have failed before.
+///
+/// # Errors
+///
+/// X3 where the text has more than 1,048,576 bytes; X4 where the reader failed; X1 or X2 for the
+/// text's first faulty line; X5 where the writer failed, and then only a front of the text is
+/// written; X6 where memory was refused. On any other refusal than X5 nothing was written.
+pub fn hear<R: Read, W: Write>(
+    alloc: Global,
+    reader: &mut Source<R>,
+    writer: &mut Sink<W>,
+) -> Result<(), TextFault>
+    requires reader { IsFalse reader.old.failed }
+    requires writer { IsFalse writer.old.failed }
+
+    // The reader was read to its end, and the text of all that it gave was written.
+    ensures ok { OnOk result ((input : List ℕ) × (text : List ℕ)
+        × IsWholeText (R.remaining reader.old.inner) (R.remaining reader.new.inner) input
+        × (printed_text input ≡ Ok text)
+        × Appends (W.contents writer.old.inner) (W.contents writer.new.inner) text) }
+
+    // A faulty line is the first of all that the reader gave.
+    ensures syntax { (line : ℕ) → IsErrOf result (TextFault.Syntax line) → (input : List ℕ)
+        × IsWholeText (R.remaining reader.old.inner) (R.remaining reader.new.inner) input
+        × (printed_text input ≡ Err (TextFault.Syntax line)) }
+    ensures bad_hex { (line : ℕ) → IsErrOf result (TextFault.BadHex line) → (input : List ℕ)
+        × IsWholeText (R.remaining reader.old.inner) (R.remaining reader.new.inner) input
+        × (printed_text input ≡ Err (TextFault.BadHex line)) }
+
+    // The reader gave more than a text may have.
+    ensures too_long { IsErrOf result TextFault.TooLong → (front : List ℕ)
+        × (MAX_TEXT < length front)
+        × Consumes (R.remaining reader.old.inner) (R.remaining reader.new.inner) front }
+
+    // Memory is wanted only where the reader gave bytes, and no more than a text may have.
+    ensures memory { IsErrOf result TextFault.Memory → (front : List ℕ)
+        × (0 < length front) × (length front ≤ MAX_TEXT)
+        × Consumes (R.remaining reader.old.inner) (R.remaining reader.new.inner) front }
+
+    // A failed write leaves a front of the text, and not all of it.
+    ensures cut_short { IsErrOf result TextFault.Write → (input : List ℕ) × (text : List ℕ)
+        × IsWholeText (R.remaining reader.old.inner) (R.remaining reader.new.inner) input
+        × (printed_text input ≡ Ok text)
+        × AppendsFront (W.contents writer.old.inner) (W.contents writer.new.inner) text }
+    ensures unwritten { IfErr result (λ fault. fault ≢ TextFault.Write → writer.new ≡ writer.old) }
+
+    // The streams say whether they failed.
+    ensures read { IsErrOf result TextFault.Read ↔ IsTrue reader.new.failed }
+    ensures write { IsErrOf result TextFault.Write ↔ IsTrue writer.new.failed }
+
+    // What comes of it follows from the bytes, however they are cut.
+    ensures same { IfSome (R.remaining reader.old.inner)
+        (λ input. IsSettled result → result ≡ outcome_of input) }
+{
+    let input = read_text(alloc, reader)?;
+    let (lines, converter) = answers_to(alloc, &input)?;
+    put_text(writer, &lines, &converter)
+}
+
+// The lines of a fresh converter's answers to a text, and the converter as it is then.
+fn answers_to(alloc: Global, input: &[u8]) -> Result<(Vec<u8>, Converter), TextFault>
+    requires { length input.now + 1 < 2 ^ 64 }
+    ensures text { IfOk result (λ answers.
+        printed_text input.now ≡ Ok (answers.0.items ++ output_lines answers.1)) }
+    ensures fault { IfErr result (λ e. (e ≡ TextFault.Memory) ⊎ (printed_text input.now ≡ Err e)) }
+    ensures faults { IfErr result IsOfText }
+    ensures memory { IsErrOf result TextFault.Memory → 0 < length input.now }
+{
+    let mut converter = base_converter();
+    let lines = answer_lines(alloc, input, &mut converter)?;
+    Ok((lines, converter))
+}
+
+// A fresh converter of the base configuration.
+#[tactic(auto, unfolding(crate::specs::Base::base, pm_device::specs::Start::config_fault))]
+fn base_converter() -> Converter
+    ensures { result ≡ start_of base }
+{
+    let Ok(converter) = Converter::new(base_config()) else {
+        unreachable!()
+    };
+    converter
+}
+
+// The lines that a converter's answers to a text's events make, which it has heard then.
+fn answer_lines(
+    alloc: Global,
+    input: &[u8],
+    converter: &mut Converter,
+) -> Result<Vec<u8>, TextFault>
+    requires { length input.now + 1 < 2 ^ 64 }
+    ensures lines { IfOk result (λ text. (events : List Event)
+        × (events_in (unskipped_from 1 input.now) ≡ Ok events)
+        × (text.items ≡ event_lines converter.old events)
+        × (converter.new ≡ held_after converter.old events)) }
+    ensures fault { IfErr result (λ e. (e ≡ TextFault.Memory)
+        ⊎ (events_in (unskipped_from 1 input.now) ≡ Err e)) }
+    ensures faults { IfErr result IsOfText }
+    ensures memory { IsErrOf result TextFault.Memory → 0 < length input.now }
+{
+    let mut text = Vec::new(alloc);
+    let mut frame = Vec::new(alloc);
+    let mut lines = Lines::new(input);
+    'lines: while let Some(line) = lines.next_line() {
+        let event = read_event(line, &mut frame)?;
+        push_event(&mut text, converter, event, &frame)?;
+    }
+    Ok(text)
+}
+
+// Lets the converter hear a frame, or start again, and puts the line of it behind a text.
+fn push_event(
+    text: &mut Vec<u8>,
+    converter: &mut Converter,
+    event: LineEvent,
+    frame: &[u8],
+) -> Result<(), AllocError>
+    ensures text { OnOk result (text.new.items
+        ≡ text.old.items ++ as_line (event_words converter.old (event_of event frame.now))) }
+    ensures after { converter.new ≡ next converter.old (event_of event frame.now) }
+{
+    match event {
+        LineEvent::Frame(ending) => push_reply(text, &converter.hear(frame, ending)),
+        LineEvent::Restart => {
+            converter.restart();
+            text.extend_from_slice(b"restarted\n")
+        }
+    }
+}
+
+// Writes the lines of the answers, and then the line of each output. Takes no memory.
+fn put_text<W: Write>(
+    writer: &mut Sink<W>,
+    lines: &[u8],
+    converter: &Converter,
+) -> Result<(), TextFault>
+    requires { IsFalse writer.old.failed }
+    ensures all { OnOk result (Appends (W.contents writer.old.inner) (W.contents writer.new.inner)
+        (lines.now ++ output_lines converter.now)) }
+    ensures front { OnErr result (AppendsFront (W.contents writer.old.inner)
+        (W.contents writer.new.inner) (lines.now ++ output_lines converter.now)) }
+    ensures failed { writer.new.failed ≡ is_err result }
+    ensures fault { IfErr result (λ e. e ≡ TextFault.Write) }
+{
+    writer.put(lines)?;
+    'outputs: for output in 0..converter.count() {
+        writer.put(&line_at(converter, output))?;
+    }
+    Ok(())
+}
+
+// The line of an output that is there.
+fn line_at(converter: &Converter, output: u8) -> [u8; 27]
+    requires { output < converter.now.config.count }
+    ensures { result ≡ output_at converter.now output }
+{
+    let _count = converter.count();
+    output_line(output, converter.word(Cell::Out(output, Reg::VoutCommand)))
+}
