@@ -1,6 +1,8 @@
 pub mod BodyLemmas
 pub mod CountLemmas
+pub mod DecodeLemmas
 pub mod GatheredLemmas
+pub mod Joins
 pub mod LineLemmas
 pub mod MarkLemmas
 pub mod OpenLineLemmas

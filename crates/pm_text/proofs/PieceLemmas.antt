@@ -25,7 +25,7 @@ first_front (x ∷ xs) = by (is_line_feed x) (first_front xs)
     by false tail = (tail.0, ap (λ l. x ∷ l) tail.1)
 
 -- what a call takes is a front of its piece
-taken_front : (old : Holding) (piece : List ℕ) → old.standing ≡ Open → (rest : List ℕ) × (piece ≡ taken_of old piece ++ rest)
+pub taken_front : (old : Holding) (piece : List ℕ) → old.standing ≡ Open → (rest : List ℕ) × (piece ≡ taken_of old piece ++ rest)
 taken_front old piece open' =
     let room = take (MAX_TEXT - old.kept.taken) piece in
     let left = drop (MAX_TEXT - old.kept.taken) piece in
@@ -36,7 +36,7 @@ taken_front old piece open' =
     ∙ append_assoc (first_line room) front.0 left ∙ ap (λ l. l ++ (front.0 ++ left)) (sym taken))
 
 -- a front is what stands before its length
-front_taken : (front all rest : List ℕ) (n : ℕ) → all ≡ front ++ rest → n ≡ length front → take n all ≡ front
+pub front_taken : (front all rest : List ℕ) (n : ℕ) → all ≡ front ++ rest → n ≡ length front → take n all ≡ front
 front_taken front all rest n whole count = ap (λ k. take k all) count ∙ ap (take (length front)) whole ∙ take-append_seam front rest
 
 -- what a decoder holds that took these bytes and takes more

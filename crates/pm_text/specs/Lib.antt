@@ -11,3 +11,5 @@ pub mod Pieces
 pub mod ShownLines
 pub mod Streams
 pub mod Trace
+pub mod TraceText
+pub mod Written

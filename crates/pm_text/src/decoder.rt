@@ -5,6 +5,7 @@ use crate::fed::Fed;
 use crate::gathered::Gathered;
 use crate::shown::Shown;
 use crate::standing::Standing;
+use crate::tally::Tally;
 use crate::text::MAX_TEXT;
 use std::alloc::Global;
 use std::marker::Model;
@@ -34,10 +35,11 @@ impl Model for Decoder {
 }
 
 impl Decoder {
-    ghost use Rattle.std.specs.Prelude.{[], ◌⊎◌, ◌≤◌, ◌<◌, length, None, Some, IfOk, IfErr, OnOk, OnErr, IsOk, option_map};
+    ghost use Rattle.std.specs.Prelude.{[], ◌⊎◌, ◌≤◌, ◌<◌, ◌^◌, length, None, Some, IfOk, IfErr, OnOk, OnErr, IsOk, option_map};
     ghost use Rattle.pm_text.specs.Counts.{lines_in};
     ghost use Rattle.pm_text.specs.Decoding.{IsFresh, Feeds, Finishes, Fails, CarriesNew, refusal_of, taken_of, told, told_by, some_told};
     ghost use Rattle.pm_text.specs.ShownLines.{told_in};
+    ghost use Rattle.pm_text.specs.declared.text.TheConstants.{MAX_TEXT};
 
     /// A decoder that took no byte. Takes no memory.
     pub fn new(alloc: Global) -> Decoder
@@ -70,6 +72,7 @@ impl Decoder {
     pub fn feed(&mut self, piece: &[u8]) -> Result<Fed, TextFault>
         ensures fed { IfOk result (λ fed. Feeds self.old piece.now fed self.new) }
         ensures within { IfOk result (λ fed. fed.taken ≤ length piece.now) }
+        ensures room { self.new.kept.taken ≤ MAX_TEXT }
         ensures failed { IfErr result (λ fault. Fails self.old fault self.new) }
 
         // X3 and a repeated refusal come exactly where they are due, and X6 only for a new code.
@@ -152,5 +155,13 @@ impl Decoder {
             self.now.kept.counts.faults, self.now.kept.counts.bad) }
     {
         self.gathered.tally.lines()
+    }
+
+    /// The counts, with those of the codes.
+    pub(crate) fn tally(&self) -> &Tally
+        ensures tally { result.now ≡ self.now.kept.counts }
+        ensures few { lines_in result.now < 2 ^ 64 }
+    {
+        &self.gathered.tally
     }
 }

@@ -74,6 +74,14 @@ impl Tally {
         Ok(())
     }
 
+    /// The codes that were carried, in the order of first appearance, each with the number of its
+    /// lines.
+    pub(crate) fn codes(&self) -> &IndexMap<u8, u64>
+        ensures { result.now.entries ≡ self.now.codes }
+    {
+        &self.codes
+    }
+
     /// How many lines were counted, accepted, faulty and bad.
     pub(crate) fn lines(&self) -> (u64, u64, u64, u64)
         requires { lines_in self.now < 2 ^ 64 }
