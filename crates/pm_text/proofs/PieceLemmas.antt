@@ -115,6 +115,11 @@ counts_now : (bytes : List ℕ) → (now bytes).counts ≡ counts_of (said bytes
 unfolding now
 counts_now bytes = refl
 
+-- the counts at the end are those of the whole trace
+pub counts-end : (bytes : List ℕ) → (kept_at_end (now bytes)).counts ≡ counts_of (trace_of bytes)
+counts-end bytes =
+    counts_kept bytes ∙ ap (λ c. counts_with c (told_at_end (now bytes))) (counts_now bytes) ∙ sym (counts-at_end bytes)
+
 ends : (bytes : List ℕ) (old new : Holding) (ended : Bool) → Took bytes old → Finishes old ended new → Ends bytes new
 ends bytes old new ended took finishes =
     let shown : new.shown ≡ told_at_end (now bytes) =
@@ -124,8 +129,7 @@ ends bytes old new ended took finishes =
     record {
       lines = trace_of-end bytes ∙ ap (λ o. said bytes ++ some_told o) (sym shown);
       counts =
-          ap (λ k. k.counts) kept ∙ counts_kept bytes ∙ ap (λ c. counts_with c (told_at_end (now bytes))) (counts_now bytes)
-          ∙ sym (counts-at_end bytes);
+          ap (λ k. k.counts) kept ∙ counts-end bytes;
     }
 
 -- pieces one after another, and the end

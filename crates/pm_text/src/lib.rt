@@ -51,6 +51,6 @@ pub use shown::Shown;
 pub use sink::Sink;
 pub use source::Source;
 pub use text::{MAX_TEXT, read_text};
-pub use trace_line::TraceLine;
+pub use trace_line::{TraceLine, read_trace_line, render_line};
 pub use traces::decode;
 pub use words::Words;

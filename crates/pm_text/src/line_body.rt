@@ -28,6 +28,7 @@ impl LineBody {
     ghost use Rattle.pm_text.specs.OpenLines.{body_of, body_takes, body_parts, body_goes_on, body_read, is_skipped_kind, is_empty_kind};
     ghost use Rattle.pm_text.specs.OpenLines.{body_with, body_judged};
     ghost use Rattle.pm_text.specs.ShownLines.{judged_in};
+    ghost use Rattle.pm_text.specs.Trace.{line_read};
 
     /// A line without bytes.
     #[tactic(auto, unfolding(crate::specs::OpenLines::body_of))]
@@ -43,6 +44,17 @@ impl LineBody {
             has_more: false,
             is_bad: false,
         }
+    }
+
+    /// A line of these bytes.
+    pub(crate) fn of(line: &[u8]) -> LineBody
+        ensures { body_read result ≡ line_read line.now }
+    {
+        let mut body = LineBody::new();
+        for byte in line {
+            body.take(*byte);
+        }
+        body
     }
 
     /// Leaves no byte.

@@ -7,7 +7,7 @@ ghost use Rattle.pm_text.specs.declared.text.TheConstants.{MAX_TEXT};
 ghost use Rattle.pm_text.specs.Counts.{counts_of};
 ghost use Rattle.pm_text.specs.Decoding.{said, told, some_told, told_at_end, kept_at_end, IsFresh};
 ghost use Rattle.pm_text.specs.Faults.{IsOfDecode};
-ghost use Rattle.pm_text.specs.Written.{Pushes, Written};
+ghost use Rattle.pm_text.specs.Written.{PushesFront, Written};
 ghost use Rattle.pm_text.specs.Streams.{AppendsFront, IsWholeText};
 ghost use Rattle.pm_text.specs.Trace.{trace_of};
 ghost use Rattle.pm_text.specs.TraceText.{trace_text, told_lines, counts_text, end_of};
@@ -123,35 +123,34 @@ fn decode_pieces<R: Read, W: Write>(
             return Ok(());
         }
         text.clear();
-        let pushed = push_lines(&mut text, decoder, &piece[..count]);
-        if let Err(TextFault::Memory) = pushed {
-            return Err(TextFault::Memory);
-        }
+        let is_whole = push_lines(&mut text, decoder, &piece[..count])?;
         writer.put(text.as_str().as_bytes())?;
-        pushed?;
+        if !is_whole {
+            return Err(TextFault::TooLong);
+        }
     }
 }
 
 // Feeds a piece on until it is taken whole, and puts what the lines say behind the text that end.
-// X3 where the piece has a byte too many: then what ended before it stands in the text.
-fn push_lines(text: &mut String, decoder: &mut Decoder, piece: &[u8]) -> Result<(), TextFault>
+// False where the piece has a byte more than a text may have: then what ended before it stands in
+// the text.
+fn push_lines(text: &mut String, decoder: &mut Decoder, piece: &[u8]) -> Result<bool, TextFault>
     requires open { decoder.old.standing ≡ Standing.Open }
     requires room { decoder.old.kept.taken ≤ MAX_TEXT }
-    ensures ok { OnOk result (Pushes (string_bytes text.old) (string_bytes text.new)
+    ensures pushed { IfOk result (PushesFront (string_bytes text.old) (string_bytes text.new)
         decoder.old decoder.new piece.now) }
-    ensures too_long { IsErrOf result TextFault.TooLong → (front : List ℕ) × (rest : List ℕ)
-        × (piece.now ≡ front ++ rest) × (0 < length rest)
-        × (decoder.old.kept.taken + length front ≡ MAX_TEXT)
-        × (string_bytes text.new ≡ string_bytes text.old ++ told_lines (told decoder.old.kept front)) }
-    ensures faults { IfErr result (λ fault. (fault ≡ TextFault.TooLong) ⊎ (fault ≡ TextFault.Memory)) }
+    ensures fault { IfErr result (λ fault. fault ≡ TextFault.Memory) }
 {
     let mut rest = piece;
     'pieces: while !rest.is_empty() {
-        let fed = decoder.feed(rest)?;
-        rest = past(rest, fed.taken);
+        match decoder.feed(rest) {
+            Ok(fed) => rest = past(rest, fed.taken),
+            Err(TextFault::TooLong) => return Ok(false),
+            Err(fault) => return Err(fault),
+        }
         push_shown(text, decoder)?;
     }
-    Ok(())
+    Ok(true)
 }
 
 // What follows so many bytes.
