@@ -39,3 +39,12 @@ IsOfText TooLong = ⊥
 IsOfText Read = ⊥
 IsOfText Write = ⊥
 IsOfText Memory = ⊤
+
+-- the faults of a trace as a whole
+abbrev pub IsOfDecode : TextFault → Type 0
+IsOfDecode (Syntax line) = ⊥
+IsOfDecode (BadHex line) = ⊥
+IsOfDecode TooLong = ⊤
+IsOfDecode Read = ⊤
+IsOfDecode Write = ⊤
+IsOfDecode Memory = ⊤

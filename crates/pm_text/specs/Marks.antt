@@ -1,0 +1,30 @@
+-- A list that is cut at its marks: the pieces that end at a mark, and what stands since the last
+-- mark; what stands before the first mark, and behind it.
+use Rattle.std.specs.Prelude.{ℕ, Bool, cond, List, [], ◌∷◌}
+use Rattle.std.specs.List.{list_any}
+
+-- the first of the pieces begins with this byte
+abbrev pub onto_next : ℕ → List (List ℕ) → List (List ℕ)
+onto_next byte [] = []
+onto_next byte (piece ∷ pieces) = (byte ∷ piece) ∷ pieces
+
+-- the pieces that end at a mark, without the marks
+abbrev pub ended : (ℕ → Bool) → List ℕ → List (List ℕ)
+ended mark [] = []
+ended mark (byte ∷ bytes) =
+    cond (mark byte) ([] ∷ ended mark bytes) (onto_next byte (ended mark bytes))
+
+-- what stands since the last mark: all, where there is none
+abbrev pub since : (ℕ → Bool) → List ℕ → List ℕ
+since mark [] = []
+since mark (byte ∷ bytes) = cond (list_any mark (byte ∷ bytes)) (since mark bytes) (byte ∷ bytes)
+
+-- what stands before the first mark: all, where there is none
+abbrev pub before : (ℕ → Bool) → List ℕ → List ℕ
+before mark [] = []
+before mark (byte ∷ bytes) = cond (mark byte) [] (byte ∷ before mark bytes)
+
+-- what stands behind the first mark: nothing, where there is none
+abbrev pub after : (ℕ → Bool) → List ℕ → List ℕ
+after mark [] = []
+after mark (byte ∷ bytes) = cond (mark byte) bytes (after mark bytes)

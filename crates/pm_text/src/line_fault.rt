@@ -1,0 +1,8 @@
+/// Why a trace line can't be read.
+#[derive(Clone, Copy, Debug, PartialEq, Eq)]
+pub(crate) enum LineFault {
+    /// It has a second slash, or a part that is too long.
+    Syntax,
+    /// It has a word that isn't an even number of hexadecimal digits.
+    BadHex,
+}
