@@ -2,7 +2,10 @@ mod Deliveries
 mod Ends
 mod Exchanges
 mod Frames
+mod Learned
+mod LearnedLives
 mod Lives
 mod ReadBack
 mod Runs
+mod TrueHost
 mod Undisturbed

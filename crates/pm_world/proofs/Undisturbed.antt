@@ -104,7 +104,7 @@ read-fits fits setup (Out output register) there = fits setup _ (reads_output ou
 read-fits fits setup Protect there = fits setup _ reads_protect
 
 -- one delivery
-taken-free : (s : State) (event : Event) → IsTaken s event → event_cause s event ≡ None
+pub taken-free : (s : State) (event : Event) → IsTaken s event → event_cause s event ≡ None
 unfolding cause_of
 taken-free s event taken = (or-none (rule (nat_le event_limit s.taken) Full) (event_cause s event) taken.free).1
 
@@ -123,7 +123,7 @@ told-nothing : (s : State) (arrival : Arrival) (sending : Option Message) → (d
 told-nothing s arrival None = refl
 told-nothing s arrival (Some message) = refl
 
-next-deliver-host : (s : State) (arrival : Arrival) → (next s (Deliver arrival)).host ≡ s.host
+pub next-deliver-host : (s : State) (arrival : Arrival) → (next s (Deliver arrival)).host ≡ s.host
 unfolding next
 next-deliver-host s arrival = ap (host_after s.host) (told-nothing s arrival (sending_in s.host))
 
@@ -314,16 +314,16 @@ now-are : HonestLaws → (config : Config) (passes : ℕ) (events : List Event) 
 unfolding now state_of
 now-are laws config passes events = laws.words config (life config passes events).past
 
-now-sound : HonestLaws → (config : Config) (passes : ℕ) (events : List Event) → IsSound config → IsSetup (setup_of config passes) → AreTaken config passes events → IsSoundHost (now config passes events).host
+pub now-sound : HonestLaws → (config : Config) (passes : ℕ) (events : List Event) → IsSound config → IsSetup (setup_of config passes) → AreTaken config passes events → IsSoundHost (now config passes events).host
 unfolding now state_of
 now-sound laws config passes events sound made taken = laws.sound (setup_of config passes) (life config passes events).entries made (laws.told config passes events sound made taken)
 
 -- what no event changes
-now-config : (config : Config) (passes : ℕ) (events : List Event) → config ≡ (now config passes events).device.config
+pub now-config : (config : Config) (passes : ℕ) (events : List Event) → config ≡ (now config passes events).device.config
 unfolding now state_of device_now
 now-config config passes events = refl
 
-now-setup : (config : Config) (passes : ℕ) (events : List Event) → (now config passes events).host.setup ≡ setup_of config passes
+pub now-setup : (config : Config) (passes : ℕ) (events : List Event) → (now config passes events).host.setup ≡ setup_of config passes
 unfolding now state_of host_now
 now-setup config passes events = refl
 
@@ -360,7 +360,7 @@ deliver-entries config passes before arrival =
     ap (λ t. option_to_list t ++ (life config passes before).entries)
     (told-nothing (state_of config passes (length before) (life config passes before)) arrival (sending_in (state_of config passes (length before) (life config passes before)).host))
 
-share-entries : (config : Config) (passes : ℕ) (before : List Event) (event : Event) (entry : host.Entry) → (share_of (now config passes before) event).told ≡ Some entry →
+pub share-entries : (config : Config) (passes : ℕ) (before : List Event) (event : Event) (entry : host.Entry) → (share_of (now config passes before) event).told ≡ Some entry →
     (life config passes (event ∷ before)).entries ≡ entry ∷ (life config passes before).entries
 unfolding life now
 share-entries config passes before event entry told = ap (λ t. option_to_list t ++ (life config passes before).entries) told

@@ -49,3 +49,17 @@ returns-clause-through c =
     let es = taken_events c.args.events.now c.run_up-stop.result in
     c.honest_orders_go_through.ensures c.args.c c.args.passes es new.sound.0 new.sound.1
     (c.lives_are_followed.ensures.from_start c.args.c c.args.passes es new.sound.0 new.sound.1 (subst (λ (s : State). AreTakenFrom s es) new.made c.run_up-stop.ensures.all)).0
+
+pub returns-clause-formats : goal.returns-clause-formats
+returns-clause-formats c =
+    let new = c.in-Ok.ensures {u = tt} in
+    let es = taken_events c.args.events.now c.run_up-stop.result in
+    c.learned_formats_are_true.ensures.agree c.args.c c.args.passes es new.sound.0 c.spell.ensures new.sound.1
+    (c.lives_are_followed.ensures.from_start c.args.c c.args.passes es new.sound.0 new.sound.1 (subst (λ (s : State). AreTakenFrom s es) new.made c.run_up-stop.ensures.all)).0
+
+pub returns-clause-nearest : goal.returns-clause-nearest
+returns-clause-nearest c =
+    let new = c.in-Ok.ensures {u = tt} in
+    let es = taken_events c.args.events.now c.run_up-stop.result in
+    c.learned_formats_are_true.ensures.nearest c.args.c c.args.passes es new.sound.0 c.spell.ensures new.sound.1
+    (c.lives_are_followed.ensures.from_start c.args.c c.args.passes es new.sound.0 new.sound.1 (subst (λ (s : State). AreTakenFrom s es) new.made c.run_up-stop.ensures.all)).0
