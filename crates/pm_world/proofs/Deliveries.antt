@@ -1,5 +1,5 @@
 -- What a hearing of the write of a cell leaves of the words of the cells.
-use Rattle.std.proofs.Common.{◌≡◌, ℕ, ◌<◌, Bool, true, false, cond, ◌&&◌, ◌||◌, List, [], ◌∷◌, ◌++◌, length, drop, Option, Some, None, refl, sym, ◌∙◌, ap, subst, ◌⊎◌, inl, inr}
+use Rattle.std.proofs.Common.{◌≡◌, ℕ, Bool, true, ◌&&◌, ◌||◌, List, [], ◌∷◌, ◌++◌, length, drop, Option, Some, None, refl, sym, ◌∙◌, ap, ◌⊎◌, inl, inr}
 use Rattle.std.specs.Prelude.{if◌then◌else◌, nat_lt, nat_eq}
 use Rattle.std.specs.List.{starts_with}
 use Rattle.std.proofs.lemmas.Bool.{lt-ltb, or_cases}
@@ -20,7 +20,7 @@ use Rattle.pm_frame.specs.declared.message.Payload.{Payload}
 use Rattle.pm_frame.specs.Betrayal.{is_betrayed}
 use Rattle.pm_frame.specs.Fault.{write_fault}
 use Rattle.pm_frame.specs.Layout.{IsWrite, fits_layout}
-use Rattle.pm_model.specs.Settings.{Words, word_at, with_word}
+use Rattle.pm_model.specs.Settings.{word_at, with_word}
 use Rattle.pm_device.specs.declared.heard.Ending.{Ending}
 use Rattle.pm_device.specs.declared.heard.Ending.TheVariants.{Stop, Restart}
 use Rattle.pm_device.specs.Held.{Held}
@@ -37,13 +37,13 @@ pub record WriteLaws : Type 0 where
   pub request : (held : Held) (bytes : List ℕ) → words_after held (Hearing bytes Restart) ≡ held.words
   pub faulty : (held : Held) (bytes : List ℕ) → (write_fault held.config.addr bytes ≡ None → ⊥) → words_after held (Hearing bytes Stop) ≡ held.words
   pub carried : (held : Held) (output code : ℕ) (payload : Payload) (cell : Cell) (bytes : List ℕ) →
-    IsWrite held.config.addr (PagePlusWrite output code payload) bytes → cell_at code output ≡ Some cell →
-    words_after held (Hearing bytes Stop)
-    ≡ (if nat_lt output held.config.count && is_allowed (word_at held.words Protect) code && cell_accepts cell (payload_word payload)
-    then with_word held.words cell (payload_word payload) else held.words)
+      IsWrite held.config.addr (PagePlusWrite output code payload) bytes → cell_at code output ≡ Some cell →
+      words_after held (Hearing bytes Stop)
+      ≡ (if nat_lt output held.config.count && is_allowed (word_at held.words Protect) code && cell_accepts cell (payload_word payload)
+      then with_word held.words cell (payload_word payload) else held.words)
   pub plain : (held : Held) (byte : ℕ) (bytes : List ℕ) → IsWrite held.config.addr (WriteByte 0x10 byte) bytes →
-    words_after held (Hearing bytes Stop)
-    ≡ (if is_allowed (word_at held.words Protect) 0x10 && cell_accepts Protect byte then with_word held.words Protect byte else held.words)
+      words_after held (Hearing bytes Stop)
+      ≡ (if is_allowed (word_at held.words Protect) 0x10 && cell_accepts Protect byte then with_word held.words Protect byte else held.words)
 
 -- a write that a converter takes: its cell is there and accepts the word, and WRITE_PROTECT allows its
 -- code

@@ -1,22 +1,16 @@
 -- The formats that a host learns are the converter's.
-use Rattle.std.proofs.Common.{◌≡◌, ℕ, zero, suc, ◌+◌, ◌*◌, ◌%◌, ◌^◌, ◌<◌, ◌≤◌, Bool, true, false, not, cond, ◌&&◌, ◌||◌, eqb, List, [], ◌∷◌, ◌++◌, map, take, length, get_or, set, replicate, Option, Some, None, Result, Ok, Err, is_none, option_map, option_and_then, refl, sym, ◌∙◌, ap, subst, ◌⊎◌, inl, inr, arith}
-use Rattle.std.specs.Prelude.{bytes_eq, nat_lt, nat_le, slice_index_or}
+use Rattle.std.proofs.Common.{◌≡◌, ℕ, zero, suc, ◌^◌, ◌<◌, Bool, true, false, not, cond, ◌&&◌, ◌||◌, List, [], ◌∷◌, map, take, length, get_or, Option, Some, None, Ok, is_none, option_map, refl, sym, ◌∙◌, ap, subst, inl, inr, arith}
+use Rattle.std.specs.Prelude.{bytes_eq, nat_lt, slice_index_or}
 use Rattle.std.specs.List.{list_any}
 use Rattle.std.specs.Option.{option_or}
-use Rattle.std.specs.Result.{result_ok}
-use Rattle.std.proofs.lemmas.Bool.{cases_eq, cases_lt, and_parts, or_cases, or_left, or_right, ltb-true}
-use Rattle.std.proofs.lemmas.List.{get_or-set_same, get_or-set_other, get_or-replicate, get_or_past, length-replicate}
+use Rattle.std.proofs.lemmas.Bool.{and_parts, or_cases, or_left, or_right, ltb-true}
 use Rattle.std.proofs.lemmas.Option.{none-some, same_Some}
 use Rattle.std.proofs.lemmas.Slice.Eq.{bytes_eq-Decides}
-use Rattle.pm_num.specs.AnyFormat.{Shape, InUlinear16}
-use Rattle.pm_table.specs.declared.cell.Cell.{Cell}
+use Rattle.pm_num.specs.AnyFormat.{Shape}
 use Rattle.pm_table.specs.declared.coefficients.Coefficients.{Coefficients}
-use Rattle.pm_table.specs.declared.fault.TableFault.{TableFault}
-use Rattle.pm_table.specs.declared.vout_mode.VoutMode.{VoutMode}
-use Rattle.pm_table.specs.declared.vout_mode.VoutMode.TheVariants.{Linear, Direct}
+use Rattle.pm_table.specs.declared.vout_mode.VoutMode.TheVariants.{Direct}
 use Rattle.pm_table.specs.Coefficients.{coefficients_of, coefficient_bytes}
 use Rattle.pm_table.specs.Commands.{line_of}
-use Rattle.pm_table.specs.Format.{shape_in}
 use Rattle.pm_table.specs.VoutMode.{mode_of}
 use Rattle.pm_frame.specs.declared.fault.FrameFault.{FrameFault}
 use Rattle.pm_frame.specs.declared.message.Message.{Message}
@@ -30,18 +24,15 @@ use Rattle.pm_device.specs.declared.config.OutputStart.{OutputStart}
 use Rattle.pm_device.specs.declared.heard.Ending.{Ending}
 use Rattle.pm_device.specs.declared.heard.Ending.TheVariants.{Stop, Restart}
 use Rattle.pm_device.specs.declared.heard.Heard.TheVariants.{Answer}
-use Rattle.pm_device.specs.Held.{Held, mode_for, shape_made, shape_for}
+use Rattle.pm_device.specs.Held.{Held, mode_for, shape_for}
 use Rattle.pm_device.specs.Reply.{register_bytes, reply_of}
-use Rattle.pm_device.specs.Start.{IsSound, has_direct, is_direct}
+use Rattle.pm_device.specs.Start.{has_direct, is_direct}
 use Rattle.pm_host.specs.declared.stage.Stage.{Stage}
 use Rattle.pm_host.specs.declared.stage.Stage.TheVariants.{Writes, Reads, Checks, AsksMode, AsksCoefficients, Clears}
-use Rattle.pm_host.specs.declared.step.JobEnd.{JobEnd}
-use Rattle.pm_host.specs.Answers.{good_payload, good_word, good_mode, good_coefficients, word_in}
+use Rattle.pm_host.specs.Answers.{good_payload, good_mode, good_coefficients, word_in}
 use Rattle.pm_host.specs.Frames.{CanSend, reads_mode, reads_coefficients}
 use Rattle.pm_host.specs.Messages.{mode_read, coefficients_read}
-use Rattle.pm_host.specs.Sound.{IsStage, IsAsking, IsSound as IsSoundHost}
-use Rattle.pm_host.specs.Summary.{Summary, Turn, start, turn, begins, finished, answered, read_back, read_another, checked, learned, mode_taken, mode_answered, coefficients_answered, another, ends, idle, marked, no_formats, format_at}
-use Rattle.pm_host.specs.Marks.{Good}
+use Rattle.pm_host.specs.Summary.{Summary}
 use Rattle.pm_host.specs.Transcript as host
 use Rattle.pm_world.specs.declared.event.Arrival.{Arrival}
 use Rattle.pm_world.specs.declared.event.Back.{Back}
@@ -58,11 +49,11 @@ pub record DamageLaws : Type 0 where
   pub betrayed : (addr : ℕ) (request : Message) (bytes : List ℕ) → is_betrayed (sent addr request) bytes ≡ true → answer_fault addr request bytes ≡ None → ⊥
   pub read : ReadLaws
   pub mode : (held : Held) (output : ℕ) (bytes : List ℕ) → IsRequest held.config.addr (PagePlusRead output 0x20) bytes → output < held.config.count →
-    (frame : List ℕ) × (reply_of held bytes Restart ≡ Answer (record { items = frame }))
-    × IsAnswer held.config.addr (PagePlusRead output 0x20) (register_bytes 0x20 (mode_for held.config output)) frame
+      (frame : List ℕ) × (reply_of held bytes Restart ≡ Answer (record { items = frame }))
+      × IsAnswer held.config.addr (PagePlusRead output 0x20) (register_bytes 0x20 (mode_for held.config output)) frame
   pub coefficients : (held : Held) (bytes : List ℕ) → IsRequest held.config.addr (ReadCoefficients 0x21 0x00) bytes → has_direct held.config ≡ true →
-    (frame : List ℕ) × (reply_of held bytes Restart ≡ Answer (record { items = frame }))
-    × IsAnswer held.config.addr (ReadCoefficients 0x21 0x00) (coefficient_bytes held.config.coefficients) frame
+      (frame : List ℕ) × (reply_of held bytes Restart ≡ Answer (record { items = frame }))
+      × IsAnswer held.config.addr (ReadCoefficients 0x21 0x00) (coefficient_bytes held.config.coefficients) frame
   pub fits : (setup : host.Setup) (message : Message) → CanSend setup message → fits_layout message ≡ true
 
 -- a good answer has no fault

@@ -1,5 +1,5 @@
 -- The formats that a host learns in a life.
-use Rattle.std.proofs.Common.{◌≡◌, ℕ, ℤ, ◌<◌, ◌≤◌, Bool, true, false, List, [], ◌∷◌, ◌++◌, Option, Some, None, IsSome, option_and_then, unwrap_or, refl, sym, ◌∙◌, ap, subst, arith}
+use Rattle.std.proofs.Common.{◌≡◌, ℕ, ℤ, ◌<◌, List, [], ◌∷◌, Option, Some, None, IsSome, option_and_then, unwrap_or, refl, sym, ◌∙◌, ap, subst, arith}
 use Rattle.pm_num.specs.AnyFormat.{Shape, shape_value, shape_rank}
 use Rattle.pm_num.specs.NearestWord.{nearest_word}
 use Rattle.pm_num.specs.Ratio.{micros}
@@ -9,8 +9,8 @@ use Rattle.pm_device.specs.declared.config.Config.{Config}
 use Rattle.pm_device.specs.Held.{shape_for, value_for}
 use Rattle.pm_device.specs.Start.{IsSound}
 use Rattle.pm_host.specs.Now.{now as host_now}
-use Rattle.pm_host.specs.Refusals.{IsSetup, micro_word}
-use Rattle.pm_host.specs.Summary.{Summary, format_at}
+use Rattle.pm_host.specs.Refusals.{IsSetup}
+use Rattle.pm_host.specs.Summary.{format_at}
 use Rattle.pm_host.specs.Transcript.{format_of_output}
 use Rattle.pm_host.specs.Transcript as host
 use Rattle.pm_world.specs.declared.event.Event.{Event}
@@ -18,10 +18,11 @@ use Rattle.pm_world.specs.declared.event.Event.TheVariants.{OrderMicro}
 use Rattle.pm_world.specs.Honest.{IsSpelled, FormatsAgree, OrdersNearest, MicrosAreNearest}
 use Rattle.pm_world.specs.Life.{life, now, state_of, AreTaken}
 use Rattle.pm_world.specs.Setup.{setup_of, start}
-use Rattle.pm_world.specs.State.{State, IsTaken, next, share_of}
+use Rattle.pm_world.specs.State.{State, next}
 use Rattle.pm_world.proofs.Learned.{DamageLaws, IsTrueHost}
 use Rattle.pm_world.proofs.TrueHost.{Stands, agree-none, next-true}
-use Rattle.pm_world.proofs.Undisturbed.{HonestLaws, now-config, now-setup, now-sound, taken-free, taken-before, share-entries}
+use Rattle.pm_world.proofs.Sending.{taken-free}
+use Rattle.pm_world.proofs.Undisturbed.{HonestLaws, now-config, now-setup, now-sound, taken-before, share-entries}
 
 pub record FormatLaws : Type 0 where
   pub lives : HonestLaws

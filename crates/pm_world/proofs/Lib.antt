@@ -7,5 +7,6 @@ mod LearnedLives
 mod Lives
 mod ReadBack
 mod Runs
+mod Sending
 mod TrueHost
 mod Undisturbed

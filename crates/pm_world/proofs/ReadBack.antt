@@ -1,5 +1,5 @@
 -- What comes back of an undisturbed read of a cell.
-use Rattle.std.proofs.Common.{◌≡◌, ℕ, ◌+◌, ◌*◌, ◌<◌, Bool, true, false, cond, List, [], ◌∷◌, Option, Some, None, is_none, option_map, refl, sym, ◌∙◌, ap}
+use Rattle.std.proofs.Common.{◌≡◌, ℕ, ◌<◌, true, cond, List, [], ◌∷◌, Some, None, is_none, option_map, refl, ◌∙◌, ap}
 use Rattle.pm_table.specs.declared.cell.Cell.{Cell}
 use Rattle.pm_table.specs.declared.cell.Cell.TheVariants.{Out, Protect}
 use Rattle.pm_table.specs.Cell.{cell_at, cell_accepts, cell_code, register_code, IsCell}
@@ -22,12 +22,12 @@ use Rattle.pm_world.proofs.Deliveries.{register_cell}
 -- the laws of answers
 pub record ReadLaws : Type 0 where
   pub cell : (held : Held) (output code : ℕ) (cell : Cell) (bytes : List ℕ) → IsRequest held.config.addr (PagePlusRead output code) bytes →
-    output < held.config.count → cell_at code output ≡ Some cell →
-    (frame : List ℕ) × (reply_of held bytes Restart ≡ Answer (record { items = frame }))
-    × IsAnswer held.config.addr (PagePlusRead output code) (register_bytes code (word_at held.words cell)) frame
+      output < held.config.count → cell_at code output ≡ Some cell →
+      (frame : List ℕ) × (reply_of held bytes Restart ≡ Answer (record { items = frame }))
+      × IsAnswer held.config.addr (PagePlusRead output code) (register_bytes code (word_at held.words cell)) frame
   pub protect : (held : Held) (bytes : List ℕ) → IsRequest held.config.addr (ReadCommand 0x10) bytes →
-    (frame : List ℕ) × (reply_of held bytes Restart ≡ Answer (record { items = frame }))
-    × IsAnswer held.config.addr (ReadCommand 0x10) (register_bytes 0x10 (word_at held.words Protect)) frame
+      (frame : List ℕ) × (reply_of held bytes Restart ≡ Answer (record { items = frame }))
+      × IsAnswer held.config.addr (ReadCommand 0x10) (register_bytes 0x10 (word_at held.words Protect)) frame
   pub number : (cell : Cell) (word : ℕ) → cell_accepts cell word ≡ true → payload_word (payload_in (register_bytes (cell_code cell) word)) ≡ word
   pub spelled : (addr : ℕ) (request : Message) (payload bytes : List ℕ) → IsAnswer addr request payload bytes → answer_fault addr request bytes ≡ None
   pub places : (addr : ℕ) (request : Message) (payload bytes : List ℕ) → IsAnswer addr request payload bytes → answer_payload request bytes ≡ payload

@@ -1,8 +1,8 @@
 -- A host whose known formats are the converter's, event by event.
-use Rattle.std.proofs.Common.{◌≡◌, ℕ, ℤ, ◌+◌, ◌*◌, ◌<◌, ◌≤◌, Bool, true, false, cond, ◌&&◌, eqb, List, [], ◌∷◌, ◌++◌, length, get_or, set, replicate, Option, Some, None, Result, Ok, Err, option_map, option_and_then, refl, sym, ◌∙◌, ap, subst, ◌⊎◌, inl, inr, arith}
+use Rattle.std.proofs.Common.{◌≡◌, ℕ, ◌+◌, ◌<◌, Bool, true, false, cond, eqb, List, length, get_or, set, replicate, Option, Some, None, Result, Ok, Err, option_map, option_and_then, refl, sym, ◌∙◌, ap, subst, inl, inr, arith}
 use Rattle.std.specs.Result.{result_ok}
 use Rattle.std.proofs.lemmas.Bool.{cases_eq, cases_lt}
-use Rattle.std.proofs.lemmas.List.{get_or-set_same, get_or-set_other, get_or-replicate, get_or_past, length-replicate}
+use Rattle.std.proofs.lemmas.List.{get_or-set_same, get_or-set_other, get_or-replicate, get_or_past}
 use Rattle.std.proofs.lemmas.Option.{none-some, same_Some}
 use Rattle.pm_num.specs.AnyFormat.{Shape, InUlinear16}
 use Rattle.pm_table.specs.declared.cell.Cell.{Cell}
@@ -26,7 +26,7 @@ use Rattle.pm_host.specs.Answers.{good_payload, good_word, good_mode, good_coeff
 use Rattle.pm_table.specs.Coefficients.{coefficients_of}
 use Rattle.pm_host.specs.Messages.{mode_read, coefficients_read}
 use Rattle.pm_host.specs.Sound.{IsStage, IsSound as IsSoundHost}
-use Rattle.pm_host.specs.Summary.{Summary, Turn, next as host_next, turn, begins, finished, answered, read_back, read_another, checked, learned, mode_taken, mode_answered, coefficients_answered, another, ends, goes_on, writes, idle, marked, no_formats, sending_in, stage_message}
+use Rattle.pm_host.specs.Summary.{Summary, Turn, next as host_next, begins, finished, answered, read_back, checked, learned, mode_taken, mode_answered, coefficients_answered, another, ends, goes_on, writes, idle, marked, no_formats, stage_message}
 use Rattle.pm_host.specs.Marks.{Good}
 use Rattle.pm_host.specs.Transcript as host
 use Rattle.pm_world.specs.declared.event.Event.{Event}
@@ -37,7 +37,7 @@ use Rattle.pm_world.specs.Honest.{IsSpelled}
 use Rattle.pm_world.specs.Legal.{frame_of, heard_bytes, heard_ending, answer_in, back_bytes}
 use Rattle.pm_world.specs.State.{State, micro_job, exchanged, host_after, next, event_cause, exchange_cause, answer_to}
 use Rattle.pm_world.proofs.Learned.{DamageLaws, ToldTrue, AsksSo, Agree, IsTrueHost, from_some, good-faultless, legal-good, exchange-legal, mode-true, coefficients-true}
-use Rattle.pm_world.proofs.Undisturbed.{next-deliver-host}
+use Rattle.pm_world.proofs.Sending.{next-deliver-host}
 
 -- one more format
 agree-set : (config : Config) (formats : List (Option Shape)) (output : ℕ) (shape : Shape) → Agree config formats → output < length formats → shape ≡ shape_for config output → Agree config (set formats output (Some shape))

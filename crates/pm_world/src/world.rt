@@ -17,14 +17,12 @@ ghost use Rattle.pm_device.specs.Effect as heard;
 ghost use Rattle.pm_world.specs.declared.event.Event.TheVariants as event;
 
 use crate::event::{Arrival, Back, Event};
+use crate::honest::{frames_are_few, honest_orders_go_through, learned_formats_are_true, spell};
+use crate::laws::lives_are_followed;
 use crate::legal::{
     answer_in, back_bytes, heard_bytes, heard_ending, is_heard_whole, is_legal_hearing,
     is_legal_return,
 };
-use crate::honest::{
-    frames_are_few, honest_orders_go_through, learned_formats_are_true, spell,
-};
-use crate::laws::lives_are_followed;
 use crate::stop::{Cause, SetupFault, Stop};
 use pm_device::{Config, Converter, Ending};
 use pm_frame::read_request;
@@ -54,10 +52,11 @@ impl Model for World {
     ghost use Rattle.pm_world.specs.Setup.{IsMatched};
 
     ghost view = { λ w. record {
-        device = w.device;
-        host = w.host;
-        end = w.end;
-        taken = w.taken } };
+      device = w.device;
+      host = w.host;
+      end = w.end;
+      taken = w.taken;
+    } };
 
     ghost invariant = { λ w. (w.addr ≡ w.device.config.addr)
         × IsMatched w.host.setup w.device.config w.taken };

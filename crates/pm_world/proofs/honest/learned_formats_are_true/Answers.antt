@@ -1,4 +1,3 @@
-use Rattle.pm_world.proofs.Learned.{DamageLaws}
 use Rattle.pm_world.proofs.LearnedLives.{FormatLaws, formats-agree, micros-nearest}
 use Rattle.pm_world.proofs.Undisturbed.{HonestLaws}
 use Rattle.pm_world.proofs.honest.learned_formats_are_true.Goals as goal
