@@ -11,7 +11,7 @@ use Rattle.pm_device.specs.Held.{value_for}
 use Rattle.pm_world.specs.Retelling.{IsOrderRun, IsOwnWord, CommandsOwn}
 use Rattle.pm_world.specs.Setup.{start}
 use Rattle.pm_world.specs.State.{State, cause_of}
-use Rattle.pm_world.specs.Life.{now, taken_events, after_all, AreTaken, AreTakenFrom, StopsAt, StopsFrom}
+use Rattle.pm_world.specs.Life.{now, taken_events, after_all, AreTakenFrom, StopsAt, StopsFrom}
 use Rattle.pm_world.proofs.world.World.run.Goals as goal
 
 -- the life of the taken events, from what they made of the start
