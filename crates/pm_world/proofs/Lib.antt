@@ -3,11 +3,15 @@ mod Ends
 mod Exchanges
 mod Frames
 mod Hearings
+mod Learned
+mod LearnedLives
+mod Lives
 mod OpenOrders
 mod OrderEvents
 mod OwnWords
-mod Retellings
-mod Lives
 mod ReadBack
+mod Retellings
 mod Runs
+mod Sending
+mod TrueHost
 mod Undisturbed

@@ -1,22 +1,27 @@
 -- What undisturbed frames come to in a world: this project's own choice of how an order, a check, a
 -- learn and a clear go.
-use Rattle.std.specs.Prelude.{◌≡◌, ◌≤◌, ◌*◌, ℕ, Bool, true, false, List, [], ◌∷◌, ◌++◌, map, Option, Some}
+use Rattle.std.specs.Prelude.{◌≡◌, ◌<◌, ◌≤◌, ◌*◌, ◌^◌, ℕ, ℤ, Bool, true, false, List, [], ◌∷◌, ◌++◌, map, Some}
 use Rattle.std.specs.List.{list_any}
+use Rattle.pm_num.specs.AnyFormat.{Shape, shape_rank}
+use Rattle.pm_num.specs.NearestWord.{nearest_word}
+use Rattle.pm_num.specs.Ratio.{micros}
 use Rattle.pm_table.specs.declared.cell.Cell.{Cell}
 use Rattle.pm_table.specs.declared.cell.Cell.TheVariants.{Protect}
-use Rattle.pm_table.specs.Cell.{cell_code}
+use Rattle.pm_table.specs.Cell.{cell_code, output_of}
+use Rattle.pm_table.specs.Coefficients.{coefficients_of, coefficient_bytes}
 use Rattle.pm_table.specs.Protection.{is_allowed}
 use Rattle.pm_model.specs.Settings.{word_at}
 use Rattle.pm_device.specs.declared.config.Config.{Config}
+use Rattle.pm_device.specs.Held.{mode_for, shape_for, value_for}
 use Rattle.pm_host.specs.declared.standing.Standing.TheVariants.{Confirmed}
 use Rattle.pm_host.specs.declared.step.JobEnd.TheVariants.{Done}
 use Rattle.pm_host.specs.Answers.{good_word}
 use Rattle.pm_host.specs.Frames.{frames_of}
-use Rattle.pm_host.specs.Summary.{standing_at}
-use Rattle.pm_host.specs.Transcript.{Accepted, Finished, Got}
+use Rattle.pm_host.specs.Summary.{format_at, standing_at}
+use Rattle.pm_host.specs.Transcript.{Accepted, Finished, Got, format_of_output}
 use Rattle.pm_host.specs.Transcript as host
 use Rattle.pm_world.specs.declared.event.Event.{Event}
-use Rattle.pm_world.specs.declared.event.Event.TheVariants.{Order, Deliver, Finish, Exchange}
+use Rattle.pm_world.specs.declared.event.Event.TheVariants.{Order, OrderMicro, Deliver, Finish, Exchange}
 use Rattle.pm_world.specs.declared.event.Arrival.{Arrival}
 use Rattle.pm_world.specs.declared.event.Arrival.TheVariants.{Whole, Cut, Bytes}
 use Rattle.pm_world.specs.declared.event.Back.TheVariants as back
@@ -64,3 +69,30 @@ OrdersGoThrough config passes events =
     is_allowed (word_at (now config passes before).device.words Protect) (cell_code cell) ≡ true →
     list_any is_whole arrivals ≡ true →
     WentThrough config passes cell word acked before (honest cell word arrivals acked before)
+
+-- the numbers of a configuration are those that its bytes on the bus spell
+pub record IsSpelled (config : Config) : Type 0 where
+  pub modes : (output : ℕ) → output < 8 → mode_for config output < 2 ^ 8
+  pub coefficients : coefficients_of (coefficient_bytes config.coefficients) ≡ config.coefficients
+
+-- The formats that a host holds are the converter's, and what it learned since its start it holds: the
+-- format of an output's last learn that ended Learned.
+pub record FormatsAgree (config : Config) (passes : ℕ) (events : List Event) : Type 0 where
+  pub held : (output : ℕ) (shape : Shape) →
+      format_at (now config passes events).host output ≡ Some shape → shape ≡ shape_for config output
+  pub learned : (output : ℕ) (shape : Shape) → output < config.count →
+      format_of_output (setup_of config passes) (life config passes events).entries output ≡ Some shape →
+      format_at (now config passes events).host output ≡ Some shape
+
+-- An order in microvolts came to the order of the nearest word in the converter's format.
+pub record OrdersNearest (config : Config) (passes : ℕ) (cell : Cell) (microvolts : ℤ) (before : List Event) : Type 0 where
+  pub word : ℕ
+  pub nearest : nearest_word (value_for config (output_of cell)) (shape_rank (shape_for config (output_of cell)))
+      (micros microvolts) ≡ Some word
+  pub ordered : (life config passes (OrderMicro cell microvolts ∷ before)).entries
+      ≡ Accepted (host.Order cell word) ∷ (life config passes before).entries
+
+-- each order in microvolts among the events did
+abbrev pub MicrosAreNearest : Config → ℕ → List Event → Type 0
+MicrosAreNearest config passes events = (later before : List Event) (cell : Cell) (microvolts : ℤ) →
+    events ≡ later ++ OrderMicro cell microvolts ∷ before → OrdersNearest config passes cell microvolts before

@@ -10,7 +10,7 @@ mod stop;
 mod world;
 
 pub use event::{Arrival, Back, Event};
-pub use honest::{frames_are_few, honest_orders_go_through};
+pub use honest::{frames_are_few, honest_orders_go_through, learned_formats_are_true};
 pub use laws::lives_are_followed;
 pub use orders::lives_are_orders;
 pub use stop::{Cause, SetupFault, Stop};

@@ -23,7 +23,8 @@ use pm_model::{orders_stay_in_their_cells, settings_are_a_map};
 /// However frames are delivered, lost, cut, damaged, repeated or falsely acknowledged, and whenever an
 /// end restarts: the converter's words are those of a run of the order machine that retells the events
 /// (`orders`). So each cell that is there has its start word, or the word of an order that was taken for
-/// that very cell (`own`).
+/// that very cell (`own`), and each output commands the value of a word of its own, or where that is
+/// above the value of its own VOUT_MAX, the latter (`commanded`).
 pub fn lives_are_orders()
     ensures orders { (config : Config) (passes : ℕ) (events : List Event) →
         IsSound config → IsSetup (setup_of config passes) → AreTaken config passes events →

@@ -6,7 +6,7 @@ ghost use Rattle.pm_frame.specs.Fault.{whole_answer};
 ghost use Rattle.pm_frame.specs.Layout.{IsRequest};
 ghost use Rattle.pm_device.specs.Start.{IsSound};
 ghost use Rattle.pm_host.specs.Refusals.{IsSetup};
-ghost use Rattle.pm_world.specs.Honest.{AreFewFrames, OrdersGoThrough};
+ghost use Rattle.pm_world.specs.Honest.{AreFewFrames, FormatsAgree, MicrosAreNearest, OrdersGoThrough};
 ghost use Rattle.pm_world.specs.Setup.{setup_of, start, setup_fault};
 ghost use Rattle.pm_world.specs.Life.{now, taken_events, after_all, AreTaken, AreTakenFrom, StopsAt, StopsFrom};
 ghost use Rattle.pm_world.specs.State.{Steps, Acts, shared, tells, hears, end_by as spec_end_by};
@@ -23,7 +23,7 @@ ghost use Rattle.pm_device.specs.Held.{value_for};
 ghost use Rattle.pm_world.specs.Retelling.{IsOrderRun, IsOwnWord, CommandsOwn};
 
 use crate::event::{Arrival, Back, Event};
-use crate::honest::{frames_are_few, honest_orders_go_through};
+use crate::honest::{frames_are_few, honest_orders_go_through, learned_formats_are_true, spell};
 use crate::laws::lives_are_followed;
 use crate::legal::{
     answer_in, back_bytes, heard_bytes, heard_ending, is_heard_whole, is_legal_hearing,
@@ -111,7 +111,8 @@ impl World {
     /// them (`now`), each of them was taken (`all`), and the run stops exactly at the first event
     /// that has a cause, with that cause (`stop`). No job sends more than twice as many frames as it
     /// has passes (`few`), and an undisturbed order that WRITE_PROTECT allows ends done, confirmed and
-    /// held (`through`).
+    /// held (`through`). A format that the host learned is the converter's (`formats`), and an order in
+    /// microvolts is that of the nearest word in it (`nearest`).
     pub fn run(c: Config, passes: u8, events: &[Event]) -> Result<(World, Option<Stop>), SetupFault>
         ensures fault { result_err result ≡ setup_fault c passes }
         ensures now { IfOk result (λ run.
@@ -129,11 +130,17 @@ impl World {
         ensures few { IfOk result (λ run. AreFewFrames c passes (taken_events events.now run.1)) }
         ensures through { IfOk result (λ run.
             OrdersGoThrough c passes (taken_events events.now run.1)) }
+        ensures formats { IfOk result (λ run.
+            FormatsAgree c passes (taken_events events.now run.1)) }
+        ensures nearest { IfOk result (λ run.
+            MicrosAreNearest c passes (taken_events events.now run.1)) }
     {
         lives_are_orders();
         lives_are_followed();
         frames_are_few();
         honest_orders_go_through();
+        learned_formats_are_true();
+        spell(c);
         let mut world = match World::new(c, passes) {
             Ok(world) => world,
             Err(fault) => return Err(fault),

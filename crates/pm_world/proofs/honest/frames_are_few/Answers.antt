@@ -1,9 +1,7 @@
 use Rattle.std.proofs.Common.{ℕ, ◌*◌, ◌≤◌, List, [], ◌∷◌}
 use Rattle.pm_device.specs.declared.config.Config.{Config}
-use Rattle.pm_device.specs.Start.{IsSound}
 use Rattle.pm_host.specs.Frames.{frames_of}
 use Rattle.pm_host.specs.Now.{AreTold}
-use Rattle.pm_host.specs.Refusals.{IsSetup}
 use Rattle.pm_host.specs.Transcript as host
 use Rattle.pm_world.specs.declared.event.Event.{Event}
 use Rattle.pm_world.specs.Honest.{AreFewFrames}

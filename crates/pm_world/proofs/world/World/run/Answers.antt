@@ -11,7 +11,7 @@ use Rattle.pm_device.specs.Held.{value_for}
 use Rattle.pm_world.specs.Retelling.{IsOrderRun, IsOwnWord, CommandsOwn}
 use Rattle.pm_world.specs.Setup.{start}
 use Rattle.pm_world.specs.State.{State, cause_of}
-use Rattle.pm_world.specs.Life.{now, taken_events, after_all, AreTaken, AreTakenFrom, StopsAt, StopsFrom}
+use Rattle.pm_world.specs.Life.{now, taken_events, after_all, AreTakenFrom, StopsAt, StopsFrom}
 use Rattle.pm_world.proofs.world.World.run.Goals as goal
 
 -- the life of the taken events, from what they made of the start
@@ -81,4 +81,18 @@ returns-clause-through c =
     let new = c.in-Ok.ensures {u = tt} in
     let es = taken_events c.args.events.now c.run_up-stop.result in
     c.honest_orders_go_through.ensures c.args.c c.args.passes es new.sound.0 new.sound.1
+    (c.lives_are_followed.ensures.from_start c.args.c c.args.passes es new.sound.0 new.sound.1 (subst (λ (s : State). AreTakenFrom s es) new.made c.run_up-stop.ensures.all)).0
+
+pub returns-clause-formats : goal.returns-clause-formats
+returns-clause-formats c =
+    let new = c.in-Ok.ensures {u = tt} in
+    let es = taken_events c.args.events.now c.run_up-stop.result in
+    c.learned_formats_are_true.ensures.agree c.args.c c.args.passes es new.sound.0 c.spell.ensures new.sound.1
+    (c.lives_are_followed.ensures.from_start c.args.c c.args.passes es new.sound.0 new.sound.1 (subst (λ (s : State). AreTakenFrom s es) new.made c.run_up-stop.ensures.all)).0
+
+pub returns-clause-nearest : goal.returns-clause-nearest
+returns-clause-nearest c =
+    let new = c.in-Ok.ensures {u = tt} in
+    let es = taken_events c.args.events.now c.run_up-stop.result in
+    c.learned_formats_are_true.ensures.nearest c.args.c c.args.passes es new.sound.0 c.spell.ensures new.sound.1
     (c.lives_are_followed.ensures.from_start c.args.c c.args.passes es new.sound.0 new.sound.1 (subst (λ (s : State). AreTakenFrom s es) new.made c.run_up-stop.ensures.all)).0

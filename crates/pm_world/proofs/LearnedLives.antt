@@ -1,0 +1,97 @@
+-- The formats that a host learns in a life.
+use Rattle.std.proofs.Common.{◌≡◌, ℕ, ℤ, ◌<◌, List, [], ◌∷◌, Option, Some, None, IsSome, option_and_then, unwrap_or, refl, sym, ◌∙◌, ap, subst, arith}
+use Rattle.pm_num.specs.AnyFormat.{Shape, shape_value, shape_rank}
+use Rattle.pm_num.specs.NearestWord.{nearest_word}
+use Rattle.pm_num.specs.Ratio.{micros}
+use Rattle.pm_table.specs.declared.cell.Cell.{Cell}
+use Rattle.pm_table.specs.Cell.{output_of}
+use Rattle.pm_device.specs.declared.config.Config.{Config}
+use Rattle.pm_device.specs.Held.{shape_for, value_for}
+use Rattle.pm_device.specs.Start.{IsSound}
+use Rattle.pm_host.specs.Now.{now as host_now}
+use Rattle.pm_host.specs.Refusals.{IsSetup}
+use Rattle.pm_host.specs.Summary.{format_at}
+use Rattle.pm_host.specs.Transcript.{format_of_output}
+use Rattle.pm_host.specs.Transcript as host
+use Rattle.pm_world.specs.declared.event.Event.{Event}
+use Rattle.pm_world.specs.declared.event.Event.TheVariants.{OrderMicro}
+use Rattle.pm_world.specs.Honest.{IsSpelled, FormatsAgree, OrdersNearest, MicrosAreNearest}
+use Rattle.pm_world.specs.Life.{life, now, state_of, AreTaken}
+use Rattle.pm_world.specs.Setup.{setup_of, start}
+use Rattle.pm_world.specs.State.{State, next}
+use Rattle.pm_world.proofs.Learned.{DamageLaws, IsTrueHost}
+use Rattle.pm_world.proofs.TrueHost.{Stands, agree-none, next-true}
+use Rattle.pm_world.proofs.Sending.{taken-free}
+use Rattle.pm_world.proofs.Undisturbed.{HonestLaws, now-config, now-setup, now-sound, taken-before, share-entries}
+
+pub record FormatLaws : Type 0 where
+  pub lives : HonestLaws
+  pub damage : DamageLaws
+  pub none : (config : Config) (passes : ℕ) → IsSetup (setup_of config passes) → now config passes [] ≡ start config passes
+  pub format : (setup : host.Setup) (entries : List host.Entry) (output : ℕ) → output < 8 → format_at (host_now setup entries) output ≡ format_of_output setup entries output
+
+stands : FormatLaws → (config : Config) (passes : ℕ) (events : List Event) → IsSound config → IsSpelled config → IsSetup (setup_of config passes) → AreTaken config passes events → Stands (now config passes events)
+stands laws config passes events sound spelled made taken =
+    let same = now-config config passes events in
+    let setup = now-setup config passes events in
+    record {
+      addr = ap (λ (u : host.Setup). u.addr) setup ∙ ap (λ (k : Config). k.addr) same;
+      outputs = ap (λ (u : host.Setup). u.outputs) setup ∙ ap (λ (k : Config). k.count) same;
+      sound = subst IsSound same sound;
+      host = now-sound laws.lives config passes events sound made taken;
+      spelled = subst IsSpelled same spelled;
+    }
+
+true-start : (config : Config) (passes : ℕ) → IsTrueHost config (start config passes).host
+unfolding start
+true-start config passes = record { formats = agree-none config; asks = tt }
+
+pub true-host : FormatLaws → (config : Config) (passes : ℕ) (events : List Event) → IsSound config → IsSpelled config → IsSetup (setup_of config passes) → AreTaken config passes events →
+    IsTrueHost config (now config passes events).host
+true-host laws config passes [] sound spelled made taken = subst (λ (s : State). IsTrueHost config s.host) (sym (laws.none config passes made)) (true-start config passes)
+true-host laws config passes (event ∷ before) sound spelled made taken =
+    let s = now config passes before in
+    let same = now-config config passes before in
+    let so_far = true-host laws config passes before sound spelled made taken.1 in
+    subst (λ (t : State). IsTrueHost config t.host) (sym (laws.lives.more config passes before event sound made taken))
+    (subst (λ (k : Config). IsTrueHost k (next s event).host) (sym same)
+    (next-true laws.damage s event (stands laws config passes before sound spelled made taken.1) (subst (λ (k : Config). IsTrueHost k s.host) same so_far) (taken-free s event taken.0)))
+
+pub formats-agree : FormatLaws → (config : Config) (passes : ℕ) (events : List Event) → IsSound config → IsSpelled config → IsSetup (setup_of config passes) → AreTaken config passes events →
+    FormatsAgree config passes events
+unfolding now state_of
+formats-agree laws config passes events sound spelled made taken = record {
+  held = (true-host laws config passes events sound spelled made taken).formats;
+  learned = λ output shape there found. laws.format (setup_of config passes) (life config passes events).entries output (let few = sound.few in omega arith) ∙ found;
+}
+
+-- the word of an order in microvolts
+some-of : (o : Option ℕ) → IsSome o → (word : ℕ) × (o ≡ Some word)
+some-of None h = cc
+some-of (Some word) h = (word, refl)
+
+nearest-found : (config : Config) (output : ℕ) (x : ℤ) (format : Option Shape) → ((shape : Shape) → format ≡ Some shape → shape ≡ shape_for config output) →
+    IsSome (option_and_then (λ shape. nearest_word (shape_value shape) (shape_rank shape) (micros x)) format) →
+    (word : ℕ) × (option_and_then (λ shape. nearest_word (shape_value shape) (shape_rank shape) (micros x)) format ≡ Some word)
+    × (nearest_word (value_for config output) (shape_rank (shape_for config output)) (micros x) ≡ Some word)
+nearest-found config output x None agree some = cc
+nearest-found config output x (Some shape) agree some =
+    let found = some-of (nearest_word (shape_value shape) (shape_rank shape) (micros x)) some in
+    (found.0, found.1, subst (λ (t : Shape). nearest_word (shape_value t) (shape_rank t) (micros x) ≡ Some found.0) (agree shape refl) found.1)
+
+orders-nearest : FormatLaws → (config : Config) (passes : ℕ) (before : List Event) (cell : Cell) (x : ℤ) → IsSound config → IsSpelled config → IsSetup (setup_of config passes) →
+    AreTaken config passes (OrderMicro cell x ∷ before) → OrdersNearest config passes cell x before
+orders-nearest laws config passes before cell x sound spelled made taken =
+    let s = now config passes before in
+    let found = nearest-found config (output_of cell) x (format_at s.host (output_of cell)) (λ shape h. (true-host laws config passes before sound spelled made taken.1).formats (output_of cell) shape h) taken.0.word in
+    record {
+      word = found.0;
+      nearest = found.2;
+      ordered = share-entries config passes before (OrderMicro cell x) (host.Accepted (host.Order cell found.0))
+          (ap (λ (w : Option ℕ). Some (host.Accepted (host.Order cell (unwrap_or w 0)))) found.1);
+    }
+
+pub micros-nearest : FormatLaws → (config : Config) (passes : ℕ) (events : List Event) → IsSound config → IsSpelled config → IsSetup (setup_of config passes) → AreTaken config passes events →
+    MicrosAreNearest config passes events
+micros-nearest laws config passes events sound spelled made taken = λ later before cell x is.
+    orders-nearest laws config passes before cell x sound spelled made (taken-before config passes later (OrderMicro cell x ∷ before) (subst (AreTaken config passes) is taken))

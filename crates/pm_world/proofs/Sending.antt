@@ -1,0 +1,209 @@
+-- A world while the write of an order is being sent.
+use Rattle.std.proofs.Common.{◌≡◌, ℕ, ◌<◌, ◌≤◌, Bool, true, false, not, cond, ◌||◌, eqb, List, [], ◌∷◌, ◌++◌, map, length, Option, Some, None, option_map, refl, sym, ◌∙◌, ap, subst, ◌⊎◌, inl, inr, arith}
+use Rattle.std.specs.Prelude.{if◌then◌else◌, option_to_list, nat_le}
+use Rattle.std.specs.List.{list_any}
+use Rattle.std.proofs.lemmas.Bool.{eq-eqb, cond-true}
+use Rattle.std.proofs.lemmas.List.{get_or-set_same}
+use Rattle.std.proofs.lemmas.List.FromFn.{length-map-range_with_len}
+use Rattle.pm_table.specs.declared.cell.Reg.{Reg}
+use Rattle.pm_table.specs.declared.cell.Reg.TheVariants.{Operation, VoutCommand, VoutMax, MarginHigh, MarginLow}
+use Rattle.pm_table.specs.declared.cell.Cell.{Cell}
+use Rattle.pm_table.specs.declared.cell.Cell.TheVariants.{Out, Protect}
+use Rattle.pm_table.specs.Cell.{cell_accepts, cell_code, is_protection, register_number, IsCell, same_cell}
+use Rattle.pm_table.specs.Commands.{line_of}
+use Rattle.pm_table.specs.Protection.{is_allowed}
+use Rattle.pm_frame.specs.declared.message.Message.{Message}
+use Rattle.pm_frame.specs.Layout.{fits_layout, is_read_message}
+use Rattle.pm_model.specs.Settings.{Words, AreWords, word_at, with_word}
+use Rattle.pm_device.specs.declared.config.Config.{Config}
+use Rattle.pm_device.specs.declared.heard.Ending.TheVariants.{Stop, Restart}
+use Rattle.pm_device.specs.Held.{Held}
+use Rattle.pm_device.specs.Start.{IsSound}
+use Rattle.pm_device.specs.Effect as device
+use Rattle.pm_device.specs.Effect.{words_after}
+use Rattle.pm_device.specs.History.{now as device_now, next as device_next, after as device_outcome}
+use Rattle.pm_device.specs.Reply.{reply_of}
+use Rattle.pm_host.specs.declared.stage.Stage.TheVariants.{Writes, Reads}
+use Rattle.pm_host.specs.declared.standing.Standing.{Standing}
+use Rattle.pm_host.specs.declared.standing.Standing.TheVariants.{Confirmed, Unknown}
+use Rattle.pm_host.specs.declared.step.JobEnd.TheVariants.{Done}
+use Rattle.pm_host.specs.Answers.{good_word}
+use Rattle.pm_host.specs.Cells.{cell_in, place_of, places, table}
+use Rattle.pm_host.specs.Frames.{CanSend, writes_output, writes_protect, reads_output, reads_protect}
+use Rattle.pm_host.specs.Known.{known_now}
+use Rattle.pm_host.specs.Marks.{Good, marks}
+use Rattle.pm_host.specs.Messages.{cell_write, cell_read}
+use Rattle.pm_host.specs.Now.{now as host_now, AreTold}
+use Rattle.pm_host.specs.Refusals.{IsSetup}
+use Rattle.pm_host.specs.Sound.{IsOrdering, IsStage, IsSound as IsSoundHost}
+use Rattle.pm_host.specs.Summary.{Summary, Turn, next as host_next, step_of, turn, finished, answered, read_back, idle, marked, ends, sending_in, stage_message, standing_at}
+use Rattle.pm_host.specs.Standing.{standing_of}
+use Rattle.pm_host.specs.Transcript as host
+use Rattle.pm_world.specs.declared.event.Event.{Event}
+use Rattle.pm_world.specs.declared.event.Event.TheVariants.{Order, Deliver, Finish, Exchange}
+use Rattle.pm_world.specs.declared.event.Arrival.{Arrival}
+use Rattle.pm_world.specs.declared.event.Arrival.TheVariants.{Whole, Cut, Bytes}
+use Rattle.pm_world.specs.declared.event.Back.TheVariants as back
+use Rattle.pm_world.specs.declared.stop.Cause.TheVariants.{Full, WrongKind, NotBetrayed}
+use Rattle.pm_world.specs.Honest.{honest, is_whole, WentThrough}
+use Rattle.pm_world.specs.Legal.{frame_of, heard_bytes, heard_ending, is_legal_hearing, answer_in}
+use Rattle.pm_world.specs.Life.{life, now, state_of, AreTaken}
+use Rattle.pm_world.specs.Setup.{setup_of}
+use Rattle.pm_world.specs.State.{State, share_of, delivered, exchanged, next, device_after, host_after, end_after, end_by, event_cause, event_limit, cause_of, delivery_cause, rule, hearing, IsTaken}
+use Rattle.pm_world.proofs.Deliveries.{WriteLaws, CanTake, whole-write, legal-write}
+use Rattle.pm_world.proofs.Lives.{or-none, rule-none}
+use Rattle.pm_world.proofs.ReadBack.{ReadLaws, read-word}
+
+-- a cell that was written has the new word, and every other cell its old one
+pub record MapLaws : Type 0 where
+  pub read : (words : Words) (cell other : Cell) (word : ℕ) → AreWords words → IsCell 8 cell → IsCell 8 other →
+      word_at (with_word words cell word) other ≡ (if same_cell cell other then word else word_at words other)
+
+-- a word that WRITE_PROTECT may hold allows its own code
+four : (a b c d : Bool) → (a || b || c || d) ≡ true → cond d true (cond c true (cond b true (cond a true false))) ≡ true
+four a b c true h = refl
+four a b true false h = refl
+four a true false false h = refl
+four true false false false h = refl
+four false false false false h = cc
+
+protect-allowed : (word : ℕ) → is_protection word ≡ true → is_allowed word 0x10 ≡ true
+unfolding line_of
+protect-allowed word h = four (eqb word 0x00) (eqb word 0x20) (eqb word 0x40) (eqb word 0x80) h
+
+same_cell-itself : (cell : Cell) → same_cell cell cell ≡ true
+same_cell-itself (Out output register) = rw (eq-eqb output output refl, eq-eqb (register_number register) (register_number register) refl) refl
+same_cell-itself Protect = refl
+
+-- after a write the cell has its word, and its code stays allowed
+wrote-held : MapLaws → (words : Words) (cell : Cell) (word : ℕ) → AreWords words → IsCell 8 cell → word_at (with_word words cell word) cell ≡ word
+wrote-held laws words cell word are there = laws.read words cell cell word are there there ∙ cond-true (same_cell cell cell) word (word_at words cell) (same_cell-itself cell)
+
+wrote-allowed : MapLaws → (words : Words) (cell : Cell) (word : ℕ) → AreWords words → IsCell 8 cell → cell_accepts cell word ≡ true →
+    is_allowed (word_at words Protect) (cell_code cell) ≡ true → is_allowed (word_at (with_word words cell word) Protect) (cell_code cell) ≡ true
+wrote-allowed laws words (Out output register) word are there accepted allowed =
+    ap (λ p. is_allowed p (cell_code (Out output register))) (laws.read words (Out output register) Protect word are there tt) ∙ allowed
+wrote-allowed laws words Protect word are there accepted allowed =
+    ap (λ p. is_allowed p (cell_code Protect)) (laws.read words Protect Protect word are tt tt) ∙ protect-allowed word accepted
+
+pub eight : (count : ℕ) (cell : Cell) → count ≤ 8 → IsCell count cell → IsCell 8 cell
+eight count (Out output register) few there = omega (arith, few, there)
+eight count Protect few there = tt
+
+pub write-fits : ((setup : host.Setup) (message : Message) → CanSend setup message → fits_layout message ≡ true) →
+    (setup : host.Setup) (cell : Cell) (word : ℕ) → IsCell setup.outputs cell → cell_accepts cell word ≡ true → fits_layout (cell_write cell word) ≡ true
+write-fits fits setup (Out output register) word there accepted = fits setup _ (writes_output output register word there accepted)
+write-fits fits setup Protect word there accepted = fits setup _ (writes_protect word accepted)
+
+pub read-fits : ((setup : host.Setup) (message : Message) → CanSend setup message → fits_layout message ≡ true) →
+    (setup : host.Setup) (cell : Cell) → IsCell setup.outputs cell → fits_layout (cell_read cell) ≡ true
+read-fits fits setup (Out output register) there = fits setup _ (reads_output output register there)
+read-fits fits setup Protect there = fits setup _ reads_protect
+
+-- one delivery
+pub taken-free : (s : State) (event : Event) → IsTaken s event → event_cause s event ≡ None
+unfolding cause_of
+taken-free s event taken = (or-none (rule (nat_le event_limit s.taken) Full) (event_cause s event) taken.free).1
+
+not-not : (b : Bool) → not b ≡ false → b ≡ true
+not-not true h = refl
+not-not false h = cc
+
+delivery-legal : (s : State) (arrival : Arrival) (message : Message) → sending_in s.host ≡ Some message → event_cause s (Deliver arrival) ≡ None →
+    is_legal_hearing (frame_of s.host.setup.addr message) (heard_bytes (frame_of s.host.setup.addr message) arrival) (heard_ending message arrival) ≡ true
+delivery-legal s arrival message sending free =
+    let none : delivery_cause s arrival (Some message) ≡ None = ap (delivery_cause s arrival) (sym sending) ∙ free in
+    let legal = is_legal_hearing (frame_of s.host.setup.addr message) (heard_bytes (frame_of s.host.setup.addr message) arrival) (heard_ending message arrival) in
+    not-not legal (rule-none (not legal) NotBetrayed (or-none (rule (is_read_message message) WrongKind) (rule (not legal) NotBetrayed) none).1)
+
+pub told-nothing : (s : State) (arrival : Arrival) (sending : Option Message) → (delivered s arrival sending).told ≡ None
+told-nothing s arrival None = refl
+told-nothing s arrival (Some message) = refl
+
+pub next-deliver-host : (s : State) (arrival : Arrival) → (next s (Deliver arrival)).host ≡ s.host
+unfolding next
+next-deliver-host s arrival = ap (host_after s.host) (told-nothing s arrival (sending_in s.host))
+
+next-deliver-words : (s : State) (arrival : Arrival) (message : Message) → sending_in s.host ≡ Some message →
+    (next s (Deliver arrival)).device.words ≡ words_after s.device (hearing s.host.setup.addr message arrival)
+unfolding next device_next device_outcome
+next-deliver-words s arrival message sending = ap (λ o. (device_after s.device (delivered s arrival o).heard).words) sending
+
+write-stop : (cell : Cell) (word : ℕ) → heard_ending (cell_write cell word) Whole ≡ Stop
+write-stop (Out output register) word = refl
+write-stop Protect word = refl
+
+-- what holds of a world while the write of an order is being sent
+pub record Sends (s : State) (cell : Cell) (word : ℕ) (whole : Bool) : Type 0 where
+  pub stage : s.host.stage ≡ Some (Writes cell word 0)
+  pub allowed : is_allowed (word_at s.device.words Protect) (cell_code cell) ≡ true
+  pub held : whole ≡ true → word_at s.device.words cell ≡ word
+
+-- what holds of it throughout
+pub record Fixed (s : State) (cell : Cell) (word : ℕ) : Type 0 where
+  pub addr : s.host.setup.addr ≡ s.device.config.addr
+  pub there : IsCell s.device.config.count cell
+  pub few : s.device.config.count ≤ 8
+  pub accepted : cell_accepts cell word ≡ true
+  pub write_fits : fits_layout (cell_write cell word) ≡ true
+  pub read_fits : fits_layout (cell_read cell) ≡ true
+  pub are : AreWords s.device.words
+
+can-take : (s : State) (cell : Cell) (word : ℕ) (whole : Bool) → Fixed s cell word → Sends s cell word whole → CanTake s.device cell word
+can-take s cell word whole fixed sends = record { there = fixed.there; accepted = fixed.accepted; allowed = sends.allowed; fits = fixed.write_fits }
+
+sends-words : MapLaws → (s t : State) (cell : Cell) (word : ℕ) (whole : Bool) → Fixed s cell word → Sends s cell word whole → t.host ≡ s.host →
+    (t.device.words ≡ s.device.words) ⊎ (t.device.words ≡ with_word s.device.words cell word) → Sends t cell word whole
+sends-words laws s t cell word whole fixed sends host (inl same) = record {
+  stage = ap (λ (h : Summary). h.stage) host ∙ sends.stage;
+  allowed = ap (λ w. is_allowed (word_at w Protect) (cell_code cell)) same ∙ sends.allowed;
+  held = λ h. ap (λ w. word_at w cell) same ∙ sends.held h;
+}
+sends-words laws s t cell word whole fixed sends host (inr wrote) = record {
+  stage = ap (λ (h : Summary). h.stage) host ∙ sends.stage;
+  allowed = ap (λ w. is_allowed (word_at w Protect) (cell_code cell)) wrote
+      ∙ wrote-allowed laws s.device.words cell word fixed.are (eight s.device.config.count cell fixed.few fixed.there) fixed.accepted sends.allowed;
+  held = λ h. ap (λ w. word_at w cell) wrote ∙ wrote-held laws s.device.words cell word fixed.are (eight s.device.config.count cell fixed.few fixed.there);
+}
+
+sends-whole : MapLaws → (s t : State) (cell : Cell) (word : ℕ) (whole : Bool) → Fixed s cell word → Sends s cell word whole → t.host ≡ s.host →
+    t.device.words ≡ with_word s.device.words cell word → Sends t cell word true
+sends-whole laws s t cell word whole fixed sends host wrote = record {
+  stage = ap (λ (h : Summary). h.stage) host ∙ sends.stage;
+  allowed = ap (λ w. is_allowed (word_at w Protect) (cell_code cell)) wrote
+      ∙ wrote-allowed laws s.device.words cell word fixed.are (eight s.device.config.count cell fixed.few fixed.there) fixed.accepted sends.allowed;
+  held = λ h. ap (λ w. word_at w cell) wrote ∙ wrote-held laws s.device.words cell word fixed.are (eight s.device.config.count cell fixed.few fixed.there);
+}
+
+sending-write : (s : State) (cell : Cell) (word : ℕ) → s.host.stage ≡ Some (Writes cell word 0) → sending_in s.host ≡ Some (cell_write cell word)
+sending-write s cell word stage = ap (option_map stage_message) stage
+
+-- a delivery leaves the words or sets that one
+delivered-words : WriteLaws → (s : State) (cell : Cell) (word : ℕ) (whole : Bool) (arrival : Arrival) → Fixed s cell word → Sends s cell word whole → event_cause s (Deliver arrival) ≡ None →
+    ((next s (Deliver arrival)).device.words ≡ s.device.words) ⊎ ((next s (Deliver arrival)).device.words ≡ with_word s.device.words cell word)
+delivered-words laws s cell word whole arrival fixed sends free =
+    let message = cell_write cell word in
+    let sending = sending-write s cell word sends.stage in
+    let legal = subst (λ a. is_legal_hearing (frame_of a message) (heard_bytes (frame_of a message) arrival) (heard_ending message arrival) ≡ true) fixed.addr (delivery-legal s arrival message sending free) in
+    let after : (next s (Deliver arrival)).device.words ≡ words_after s.device (hearing s.device.config.addr message arrival) =
+    next-deliver-words s arrival message sending ∙ ap (λ a. words_after s.device (hearing a message arrival)) fixed.addr in
+    elim (legal-write laws s.device cell word (heard_bytes (frame_of s.device.config.addr message) arrival) (heard_ending message arrival) (can-take s cell word whole fixed sends) legal) [
+      | inl same ↦ inl (after ∙ same)
+      | inr wrote ↦ inr (after ∙ wrote)
+    ]
+
+pub deliver-sends : WriteLaws → MapLaws → (s : State) (cell : Cell) (word : ℕ) (whole : Bool) (arrival : Arrival) → Fixed s cell word → Sends s cell word whole → event_cause s (Deliver arrival) ≡ None →
+    Sends (next s (Deliver arrival)) cell word (is_whole arrival || whole)
+deliver-sends laws map_laws s cell word whole Whole fixed sends free =
+    let message = cell_write cell word in
+    sends-whole map_laws s (next s (Deliver Whole)) cell word whole fixed sends (next-deliver-host s Whole)
+    (next-deliver-words s Whole message (sending-write s cell word sends.stage)
+    ∙ (ap (λ a. words_after s.device (hearing a message Whole)) fixed.addr
+    ∙ (ap (λ e. words_after s.device (device.Hearing (frame_of s.device.config.addr message) e)) (write-stop cell word)
+    ∙ whole-write laws s.device cell word (can-take s cell word whole fixed sends))))
+deliver-sends laws map_laws s cell word whole (Cut count) fixed sends free =
+    sends-words map_laws s (next s (Deliver (Cut count))) cell word whole fixed sends (next-deliver-host s (Cut count))
+    (delivered-words laws s cell word whole (Cut count) fixed sends free)
+deliver-sends laws map_laws s cell word whole (Bytes bytes ending) fixed sends free =
+    sends-words map_laws s (next s (Deliver (Bytes bytes ending))) cell word whole fixed sends (next-deliver-host s (Bytes bytes ending))
+    (delivered-words laws s cell word whole (Bytes bytes ending) fixed sends free)

@@ -1,0 +1,223 @@
+-- A host whose known formats are the converter's, event by event.
+use Rattle.std.proofs.Common.{◌≡◌, ℕ, ◌+◌, ◌<◌, Bool, true, false, cond, eqb, List, length, get_or, set, replicate, Option, Some, None, Result, Ok, Err, option_map, option_and_then, refl, sym, ◌∙◌, ap, subst, inl, inr, arith}
+use Rattle.std.specs.Result.{result_ok}
+use Rattle.std.proofs.lemmas.Bool.{cases_eq, cases_lt}
+use Rattle.std.proofs.lemmas.List.{get_or-set_same, get_or-set_other, get_or-replicate, get_or_past}
+use Rattle.std.proofs.lemmas.Option.{none-some, same_Some}
+use Rattle.pm_num.specs.AnyFormat.{Shape, InUlinear16}
+use Rattle.pm_table.specs.declared.cell.Cell.{Cell}
+use Rattle.pm_table.specs.declared.coefficients.Coefficients.{Coefficients}
+use Rattle.pm_table.specs.declared.fault.TableFault.{TableFault}
+use Rattle.pm_table.specs.declared.vout_mode.VoutMode.{VoutMode}
+use Rattle.pm_table.specs.declared.vout_mode.VoutMode.TheVariants.{Linear, Direct}
+use Rattle.pm_table.specs.Format.{shape_in}
+use Rattle.pm_table.specs.VoutMode.{mode_of}
+use Rattle.pm_frame.specs.declared.message.Message.{Message}
+use Rattle.pm_frame.specs.Layout.{is_read_message}
+use Rattle.pm_device.specs.declared.config.Config.{Config}
+use Rattle.pm_device.specs.declared.heard.Ending.TheVariants.{Restart}
+use Rattle.pm_device.specs.Held.{mode_for, shape_made, shape_for}
+use Rattle.pm_device.specs.Reply.{reply_of}
+use Rattle.pm_device.specs.Start.{IsSound}
+use Rattle.pm_host.specs.declared.stage.Stage.{Stage}
+use Rattle.pm_host.specs.declared.stage.Stage.TheVariants.{Writes, Reads, Checks, AsksMode, AsksCoefficients, Clears}
+use Rattle.pm_host.specs.declared.step.JobEnd.TheVariants as job_end
+use Rattle.pm_host.specs.Answers.{good_payload, good_word, good_mode, good_coefficients, word_in}
+use Rattle.pm_table.specs.Coefficients.{coefficients_of}
+use Rattle.pm_host.specs.Messages.{mode_read, coefficients_read}
+use Rattle.pm_host.specs.Sound.{IsStage, IsSound as IsSoundHost}
+use Rattle.pm_host.specs.Summary.{Summary, Turn, next as host_next, begins, finished, answered, read_back, checked, learned, mode_taken, mode_answered, coefficients_answered, another, ends, goes_on, writes, idle, marked, no_formats, stage_message}
+use Rattle.pm_host.specs.Marks.{Good}
+use Rattle.pm_host.specs.Transcript as host
+use Rattle.pm_world.specs.declared.event.Event.{Event}
+use Rattle.pm_world.specs.declared.event.Event.TheVariants.{Order, OrderMicro, Check, Learn, Clear, Deliver, Finish, Exchange, RestartDevice, RestartHost, Reading}
+use Rattle.pm_world.specs.declared.event.Arrival.{Arrival}
+use Rattle.pm_world.specs.declared.event.Back.{Back}
+use Rattle.pm_world.specs.Honest.{IsSpelled}
+use Rattle.pm_world.specs.Legal.{frame_of, heard_bytes, heard_ending, answer_in, back_bytes}
+use Rattle.pm_world.specs.State.{State, micro_job, exchanged, host_after, next, event_cause, exchange_cause, answer_to}
+use Rattle.pm_world.proofs.Learned.{DamageLaws, ToldTrue, AsksSo, Agree, IsTrueHost, from_some, good-faultless, legal-good, exchange-legal, mode-true, coefficients-true}
+use Rattle.pm_world.proofs.Sending.{next-deliver-host}
+
+-- one more format
+agree-set : (config : Config) (formats : List (Option Shape)) (output : ℕ) (shape : Shape) → Agree config formats → output < length formats → shape ≡ shape_for config output → Agree config (set formats output (Some shape))
+agree-set config formats output shape agree inside is other found h =
+    elim (cases_eq other output) [
+      | inl e ↦
+          let at : get_or (set formats output (Some shape)) other None ≡ Some shape = ap (λ k. get_or (set formats output (Some shape)) k None) e ∙ get_or-set_same formats output (Some shape) None inside in
+          same_Some found shape (sym h ∙ at) ∙ (is ∙ ap (shape_for config) (sym e))
+      | inr apart ↦ agree other found (sym (get_or-set_other formats output other (Some shape) None apart) ∙ h)
+    ]
+
+pub agree-none : (config : Config) → Agree config no_formats
+unfolding no_formats
+agree-none config other found h =
+    elim (cases_lt other 8) [
+      | inl inside ↦ absurd (none-some found (sym (get_or-replicate {A = Option Shape} 8 other None None inside) ∙ h))
+      | inr past ↦ absurd (none-some found (sym (get_or_past {X = Option Shape} (replicate 8 None) other None past) ∙ h))
+    ]
+
+either : (config : Config) (b : Bool) (t u : Turn) → IsTrueHost config t.after → IsTrueHost config u.after → IsTrueHost config (cond b t u).after
+either config true t u p q = p
+either config false t u p q = q
+
+another-true : (config : Config) (s : Summary) (tries : ℕ) (stage : Stage) → Agree config s.formats → AsksSo config (Some stage) → IsTrueHost config (another s tries stage).after
+another-true config s tries stage agree asks =
+    either config (eqb (tries + 1) s.setup.passes) (ends s job_end.Unknown) (goes_on s stage) (record { formats = agree; asks = tt }) (record { formats = agree; asks = asks })
+
+read_back-true : (config : Config) (s : Summary) (cell : Cell) (word pass : ℕ) (read : Option ℕ) → Agree config s.formats → IsTrueHost config (read_back s cell word pass read).after
+read_back-true config s cell word pass None agree =
+    either config (eqb (pass + 1) s.setup.passes) (ends s job_end.Unknown) (writes s cell word (pass + 1)) (record { formats = agree; asks = tt }) (record { formats = agree; asks = tt })
+read_back-true config s cell word pass (Some read) agree =
+    let after = marked s (Good cell read) in
+    either config (eqb read word) (ends after job_end.Done) (cond (eqb (pass + 1) s.setup.passes) (ends after (job_end.Differs read)) (writes after cell word (pass + 1)))
+    (record { formats = agree; asks = tt })
+    (either config (eqb (pass + 1) s.setup.passes) (ends after (job_end.Differs read)) (writes after cell word (pass + 1)) (record { formats = agree; asks = tt }) (record { formats = agree; asks = tt }))
+
+checked-true : (config : Config) (s : Summary) (cell : Cell) (tries : ℕ) (read : Option ℕ) → Agree config s.formats → IsTrueHost config (checked s cell tries read).after
+checked-true config s cell tries None agree = another-true config s tries (Checks cell (tries + 1)) agree tt
+checked-true config s cell tries (Some read) agree = record { formats = agree; asks = tt }
+
+learned-true : (config : Config) (s : Summary) (output : ℕ) (shape : Option Shape) → Agree config s.formats → output < length s.formats →
+    ((found : Shape) → shape ≡ Some found → found ≡ shape_for config output) → IsTrueHost config (learned s output shape).after
+learned-true config s output None agree inside is = record { formats = agree; asks = tt }
+learned-true config s output (Some shape) agree inside is = record { formats = agree-set config s.formats output shape agree inside (is shape refl); asks = tt }
+
+-- the format that a mode and the coefficients make
+mode-shape : (config : Config) (output : ℕ) (mode : VoutMode) (shape : Shape) → shape_made config output ≡ Some (shape_for config output) → mode_of (mode_for config output) ≡ Ok mode →
+    result_ok (shape_in mode config.coefficients) ≡ Some shape → shape ≡ shape_for config output
+mode-shape config output mode shape made is found =
+    same_Some shape (shape_for config output)
+    (sym found ∙ (ap (λ m. option_and_then (λ (v : VoutMode). result_ok (shape_in v config.coefficients)) (result_ok m)) (sym is) ∙ made))
+
+mode_taken-true : (config : Config) (s : Summary) (output : ℕ) (mode : Result VoutMode TableFault) → Agree config s.formats → output < length s.formats →
+    shape_made config output ≡ Some (shape_for config output) → mode_of (mode_for config output) ≡ mode → IsTrueHost config (mode_taken s output mode).after
+mode_taken-true config s output (Err fault) agree inside made is = learned-true config s output None agree inside (λ found h. absurd (none-some found h))
+mode_taken-true config s output (Ok (Linear exponent)) agree inside made is =
+    learned-true config s output (Some (InUlinear16 exponent)) agree inside (λ found h. mode-shape config output (Linear exponent) found made is h)
+mode_taken-true config s output (Ok Direct) agree inside made is = record { formats = agree; asks = is }
+
+mode_answered-true : (config : Config) (s : Summary) (output tries : ℕ) (byte : Option ℕ) → Agree config s.formats → output < length s.formats →
+    shape_made config output ≡ Some (shape_for config output) → ((b : ℕ) → byte ≡ Some b → b ≡ mode_for config output) → IsTrueHost config (mode_answered s output tries byte).after
+mode_answered-true config s output tries None agree inside made is = another-true config s tries (AsksMode output (tries + 1)) agree tt
+mode_answered-true config s output tries (Some byte) agree inside made is = mode_taken-true config s output (mode_of byte) agree inside made (ap mode_of (sym (is byte refl)))
+
+coefficients_answered-true : (config : Config) (s : Summary) (output tries : ℕ) (k : Option Coefficients) → Agree config s.formats → output < length s.formats →
+    shape_made config output ≡ Some (shape_for config output) → mode_of (mode_for config output) ≡ Ok Direct → ((c : Coefficients) → k ≡ Some c → c ≡ config.coefficients) →
+    IsTrueHost config (coefficients_answered s output tries k).after
+coefficients_answered-true config s output tries None agree inside made direct is = another-true config s tries (AsksCoefficients output (tries + 1)) agree direct
+coefficients_answered-true config s output tries (Some k) agree inside made direct is =
+    learned-true config s output (result_ok (shape_in Direct k)) agree inside
+    (λ found h. mode-shape config output Direct found made direct (ap (λ (c : Coefficients). result_ok (shape_in Direct c)) (sym (is k refl)) ∙ h))
+
+-- a learn asks for an output that is there
+abbrev Inside : ℕ → Option Stage → Type 0
+Inside count None = Unit {0}
+Inside count (Some (Writes cell word pass)) = Unit {0}
+Inside count (Some (Reads cell word pass)) = Unit {0}
+Inside count (Some (Checks cell tries)) = Unit {0}
+Inside count (Some (AsksMode output tries)) = output < count
+Inside count (Some (AsksCoefficients output tries)) = output < count
+Inside count (Some (Clears output tries)) = Unit {0}
+
+stage-inside : (s : Summary) (stage : Option Stage) → IsStage s stage → Inside s.setup.outputs stage
+stage-inside s None is = tt
+stage-inside s (Some (Writes cell word pass)) is = tt
+stage-inside s (Some (Reads cell word pass)) is = tt
+stage-inside s (Some (Checks cell tries)) is = tt
+stage-inside s (Some (AsksMode output tries)) is = is.there
+stage-inside s (Some (AsksCoefficients output tries)) is = is.there
+stage-inside s (Some (Clears output tries)) is = tt
+
+-- an entry
+answered-true : (config : Config) (s : Summary) (stage : Option Stage) (bytes : List ℕ) → IsSound config → length s.formats ≡ 8 → Agree config s.formats → AsksSo config stage → Inside config.count stage →
+    ToldTrue config s.setup.addr stage bytes → IsTrueHost config (answered s stage bytes).after
+answered-true config s None bytes sound long agree asks inside told = record { formats = agree; asks = tt }
+answered-true config s (Some (Writes cell word pass)) bytes sound long agree asks inside told = record { formats = agree; asks = tt }
+answered-true config s (Some (Reads cell word pass)) bytes sound long agree asks inside told = read_back-true config s cell word pass (good_word s.setup.addr cell bytes) agree
+answered-true config s (Some (Checks cell tries)) bytes sound long agree asks inside told = checked-true config s cell tries (good_word s.setup.addr cell bytes) agree
+answered-true config s (Some (AsksMode output tries)) bytes sound long agree asks inside told =
+    mode_answered-true config s output tries (good_mode s.setup.addr output bytes) agree (let few = sound.few in omega arith) (sound.formats output inside) told
+answered-true config s (Some (AsksCoefficients output tries)) bytes sound long agree asks inside told =
+    coefficients_answered-true config s output tries (good_coefficients s.setup.addr bytes) agree (let few = sound.few in omega arith) (sound.formats output inside) asks told
+answered-true config s (Some (Clears output tries)) bytes sound long agree asks inside told = record { formats = agree; asks = tt }
+
+finished-true : (config : Config) (s : Summary) (stage : Option Stage) (acked : Bool) → Agree config s.formats → AsksSo config stage → IsTrueHost config (finished s stage acked).after
+finished-true config s None acked agree asks = record { formats = agree; asks = tt }
+finished-true config s (Some (Writes cell word pass)) acked agree asks = record { formats = agree; asks = tt }
+finished-true config s (Some (Reads cell word pass)) acked agree asks = record { formats = agree; asks = tt }
+finished-true config s (Some (Checks cell tries)) acked agree asks = record { formats = agree; asks = tt }
+finished-true config s (Some (AsksMode output tries)) acked agree asks = record { formats = agree; asks = tt }
+finished-true config s (Some (AsksCoefficients output tries)) acked agree asks = record { formats = agree; asks = asks }
+finished-true config s (Some (Clears output tries)) acked agree asks =
+    either config acked (ends s job_end.Done) (another s tries (Clears output (tries + 1))) (record { formats = agree; asks = tt }) (another-true config s tries (Clears output (tries + 1)) agree tt)
+
+begins-true : (config : Config) (s : Summary) (job : host.Job) → Agree config s.formats → IsTrueHost config (begins s job).after
+begins-true config s (host.Order cell word) agree = record { formats = agree; asks = tt }
+begins-true config s (host.Check cell) agree = record { formats = agree; asks = tt }
+begins-true config s (host.Learn output) agree = record { formats = agree; asks = tt }
+begins-true config s (host.Clear output) agree = record { formats = agree; asks = tt }
+
+-- what holds of a world throughout
+pub record Stands (s : State) : Type 0 where
+  pub addr : s.host.setup.addr ≡ s.device.config.addr
+  pub outputs : s.host.setup.outputs ≡ s.device.config.count
+  pub sound : IsSound s.device.config
+  pub host : IsSoundHost s.host
+  pub spelled : IsSpelled s.device.config
+
+good-same : DamageLaws → (s : State) (arrival : Arrival) (back : Back) (request : Message) (bytes payload : List ℕ) → s.host.setup.addr ≡ s.device.config.addr → is_read_message request ≡ true →
+    exchange_cause s arrival back (Some request) ≡ None → bytes ≡ back_bytes (answer_to s.device s.host.setup.addr request arrival) back → good_payload s.device.config.addr request bytes ≡ Some payload →
+    bytes ≡ answer_in (reply_of s.device (frame_of s.device.config.addr request) Restart)
+good-same laws s arrival back request bytes payload addr reads free is good =
+    let a = s.host.setup.addr in
+    is
+    ∙ (legal-good laws s.device a request (heard_bytes (frame_of a request) arrival) (heard_ending request arrival) (back_bytes (answer_to s.device a request arrival) back) reads
+    (exchange-legal s arrival back request free)
+    (good-faultless a request _ payload (subst (λ b. good_payload a request b ≡ Some payload) is (ap (λ x. good_payload x request bytes) addr ∙ good)))
+    ∙ ap (λ x. answer_in (reply_of s.device (frame_of x request) Restart)) addr)
+
+told-true : DamageLaws → (s : State) (arrival : Arrival) (back : Back) (stage : Stage) → Stands s → AsksSo s.device.config (Some stage) → Inside s.device.config.count (Some stage) →
+    exchange_cause s arrival back (Some (stage_message stage)) ≡ None →
+    ToldTrue s.device.config s.device.config.addr (Some stage) (back_bytes (answer_to s.device s.host.setup.addr (stage_message stage) arrival) back)
+told-true laws s arrival back (Writes cell word pass) stands asks inside free = tt
+told-true laws s arrival back (Reads cell word pass) stands asks inside free = tt
+told-true laws s arrival back (Checks cell tries) stands asks inside free = tt
+told-true laws s arrival back (AsksMode output tries) stands asks inside free = λ byte good.
+    mode-true laws s.device s.host.setup output _ byte stands.spelled (let few = stands.sound.few in omega arith) inside (subst (λ n. output < n) (sym stands.outputs) inside)
+    (λ g. good-same laws s arrival back (mode_read output) _ (from_some word_in (good_payload s.device.config.addr (mode_read output) _) byte g).0 stands.addr refl free refl
+    (from_some word_in (good_payload s.device.config.addr (mode_read output) _) byte g).1) good
+told-true laws s arrival back (AsksCoefficients output tries) stands asks inside free = λ k good.
+    coefficients-true laws s.device s.host.setup output _ k stands.spelled inside asks
+    (λ g. good-same laws s arrival back coefficients_read _ (from_some coefficients_of (good_payload s.device.config.addr coefficients_read _) k g).0 stands.addr refl free refl
+    (from_some coefficients_of (good_payload s.device.config.addr coefficients_read _) k g).1) good
+told-true laws s arrival back (Clears output tries) stands asks inside free = tt
+
+exchange-true : DamageLaws → (s : State) (arrival : Arrival) (back : Back) (stage : Option Stage) → Stands s → IsTrueHost s.device.config s.host → s.host.stage ≡ stage →
+    exchange_cause s arrival back (option_map stage_message stage) ≡ None →
+    IsTrueHost s.device.config (host_after s.host (exchanged s arrival back (option_map stage_message stage)).told)
+unfolding host_next
+exchange-true laws s arrival back None stands is e free = cc
+exchange-true laws s arrival back (Some stage) stands is e free =
+    let inside : Inside s.device.config.count (Some stage) = subst (λ (o : Option Stage). Inside s.device.config.count o) e (subst (λ n. Inside n s.host.stage) stands.outputs (stage-inside s.host s.host.stage stands.host.stage)) in
+    let asks : AsksSo s.device.config (Some stage) = subst (AsksSo s.device.config) e is.asks in
+    let bytes = back_bytes (answer_to s.device s.host.setup.addr (stage_message stage) arrival) back in
+    let told = told-true laws s arrival back stage stands asks inside free in
+    subst (λ (o : Option Stage). IsTrueHost s.device.config (answered (idle s.host) o bytes).after) (sym e)
+    (answered-true s.device.config (idle s.host) (Some stage) bytes stands.sound stands.host.formats is.formats asks inside
+    (subst (λ a. ToldTrue s.device.config a (Some stage) bytes) (sym stands.addr) told))
+
+-- one event
+pub next-true : DamageLaws → (s : State) (event : Event) → Stands s → IsTrueHost s.device.config s.host → event_cause s event ≡ None → IsTrueHost s.device.config (next s event).host
+unfolding next host_next
+next-true laws s (Order cell word) stands is free = begins-true s.device.config s.host (host.Order cell word) is.formats
+next-true laws s (OrderMicro cell x) stands is free = begins-true s.device.config s.host (micro_job s.host cell x) is.formats
+next-true laws s (Check cell) stands is free = begins-true s.device.config s.host (host.Check cell) is.formats
+next-true laws s (Learn output) stands is free = begins-true s.device.config s.host (host.Learn output) is.formats
+next-true laws s (Clear output) stands is free = begins-true s.device.config s.host (host.Clear output) is.formats
+next-true laws s (Deliver arrival) stands is free = subst (IsTrueHost s.device.config) (sym (next-deliver-host s arrival)) is
+next-true laws s (Finish acked) stands is free = finished-true s.device.config (idle s.host) s.host.stage acked is.formats is.asks
+next-true laws s (Exchange arrival back) stands is free = exchange-true laws s arrival back s.host.stage stands is refl free
+next-true laws s RestartDevice stands is free = is
+next-true laws s RestartHost stands is free = record { formats = agree-none s.device.config; asks = tt }
+next-true laws s (Reading output code word) stands is free = is
