@@ -152,6 +152,7 @@ module _ (line : List ℕ) (b : ℕ) where
       ends false space none =
           let goes : before is_slash (line ++ b ∷ []) ≡ line ++ b ∷ [] = before-unmarked is_slash line (b ∷ []) none ∙ rw space refl in
           ap part_bytes goes ∙ part_bytes-separator line b is ∙ ap part_bytes (sym (before_none is_slash line none))
+
       by : (c : Bool) → list_any is_slash line ≡ c → part_bytes (before is_slash (line ++ b ∷ [])) ≡ part_bytes (before is_slash line)
       by true some = ap part_bytes (before-marked is_slash line (b ∷ []) some)
       by false none = ends (is_slash b) refl none
@@ -223,11 +224,11 @@ bad-separator : (line : List ℕ) (b : ℕ) → is_separator b ≡ true
     || is_some (unpaired (since is_separator line)))
 bad-separator line b is =
     rw (ended-mark is_separator line b is, since-mark is_separator line b is) (
-      or-false (list_any is_bad_word (ended is_separator line ++ since is_separator line ∷ []))
-      ∙ list_any-append is_bad_word (ended is_separator line) (since is_separator line ∷ [])
-      ∙ ap (λ c. list_any is_bad_word (ended is_separator line) || c) (or-false (is_bad_word (since is_separator line)))
-      ∙ sym (or_assoc (list_any is_bad_word (ended is_separator line)) (not (list_all is_hex_digit (since is_separator line)))
-      (is_some (unpaired (since is_separator line))))
+    or-false (list_any is_bad_word (ended is_separator line ++ since is_separator line ∷ []))
+    ∙ list_any-append is_bad_word (ended is_separator line) (since is_separator line ∷ [])
+    ∙ ap (λ c. list_any is_bad_word (ended is_separator line) || c) (or-false (is_bad_word (since is_separator line)))
+    ∙ sym (or_assoc (list_any is_bad_word (ended is_separator line)) (not (list_all is_hex_digit (since is_separator line)))
+    (is_some (unpaired (since is_separator line))))
     )
 
 not_both : (a s h : Bool) → (a || not (s && (h && true))) ≡ ((a || not s) || not h)
@@ -241,8 +242,8 @@ bad-other : (line : List ℕ) (b : ℕ) → is_separator b ≡ false
     ≡ ((list_any is_bad_word (ended is_separator line) || not (list_all is_hex_digit (since is_separator line))) || not (is_hex_digit b))
 bad-other line b other =
     rw (ended-other is_separator line b other, since-other is_separator line b other) (
-      ap (λ c. list_any is_bad_word (ended is_separator line) || not c) (list_all-append is_hex_digit (since is_separator line) (b ∷ []))
-      ∙ not_both (list_any is_bad_word (ended is_separator line)) (list_all is_hex_digit (since is_separator line)) (is_hex_digit b)
+    ap (λ c. list_any is_bad_word (ended is_separator line) || not c) (list_all-append is_hex_digit (since is_separator line) (b ∷ []))
+    ∙ not_both (list_any is_bad_word (ended is_separator line)) (list_all is_hex_digit (since is_separator line)) (is_hex_digit b)
     )
 
 -- ---- the line without its carriage return
@@ -274,8 +275,10 @@ body_went_on line b other = by (unpaired (since is_separator line)) (list_any is
   where
     slash : list_any is_slash (line ++ b ∷ []) ≡ list_any is_slash line
     slash = slash-snoc line b ∙ rw (not_slash b other) (or-false (list_any is_slash line))
+
     more : list_any is_slash (after is_slash (line ++ b ∷ [])) ≡ list_any is_slash (after is_slash line)
     more = more-snoc line b ∙ rw (not_slash b other) (and-false (list_any is_slash (after is_slash line)) (list_any is_slash line))
+
     by : (d : Option ℕ) (s : Bool) → unpaired (since is_separator line) ≡ d → list_any is_slash line ≡ s
         → body_of (line ++ b ∷ []) ≡ body_goes_on (body_of line) b
     by None true isd iss = rw (isd, iss) (λ i. record {

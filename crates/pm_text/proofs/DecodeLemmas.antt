@@ -55,6 +55,7 @@ room_left old (x ∷ xs) open' some none = by (leb MAX_TEXT old.kept.taken) refl
   where
     is : refusal_by Open old.kept (x ∷ xs) ≡ None
     is = ap (λ s. refusal_by s old.kept (x ∷ xs)) (sym open') ∙ none
+
     by : (c : Bool) → leb MAX_TEXT old.kept.taken ≡ c → old.kept.taken < MAX_TEXT
     by true full = let refused = rw full at is in absurd (cc)
     by false free = grind (arith, nat_tests)
@@ -147,10 +148,13 @@ pushed_front text new_text old mid new piece front rest split some pushes refuse
 -- a front of what is written behind what was written
 AppendsFront-behind : (a b c : Option (List ℕ)) (before part later all : List ℕ) → Appends a b before → AppendsFront b c part
     → all ≡ before ++ (part ++ later) → AppendsFront a c all
-AppendsFront-behind a b c before part later all written (front, rest, split, some, appended) is =
-    (before ++ front, rest ++ later,
-    is ∙ ap (λ l. before ++ (l ++ later)) split ∙ ap (λ l. before ++ l) (append_assoc front rest later) ∙ sym (append_assoc before front (rest ++ later)),
-    omega (arith, some, length-append rest later), Appends-trans a b c before front written appended)
+AppendsFront-behind a b c before part later all written (front, rest, split, some, appended) is = (
+  before ++ front,
+  rest ++ later,
+  is ∙ ap (λ l. before ++ (l ++ later)) split ∙ ap (λ l. before ++ l) (append_assoc front rest later) ∙ sym (append_assoc before front (rest ++ later)),
+  omega (arith, some, length-append rest later),
+  Appends-trans a b c before front written appended,
+)
 
 -- what the lines of more bytes say
 pub lines-append : (bytes piece : List ℕ) → told_lines (said (bytes ++ piece)) ≡ told_lines (said bytes) ++ told_lines (told (now bytes) piece)
@@ -198,10 +202,12 @@ module _ (r0 r1 r2 w0 w1 w2 : Option (List ℕ)) (bytes piece text : List ℕ) (
 
   pub put_front : (is_whole : Bool) → PushesFront [] text old new piece is_whole → AppendsFront w1 w2 text
       → (front : List ℕ) × Consumes r0 r2 front × AppendsFront w0 w2 (told_lines (said front))
-  put_front is_whole pushed short =
-      (bytes ++ piece, consumed,
-      AppendsFront-behind w0 w1 w2 (told_lines (said bytes)) text (told_lines (told (now (bytes ++ pushed.front)) pushed.rest))
-      (told_lines (said (bytes ++ piece))) written.text short (put_part is_whole pushed))
+  put_front is_whole pushed short = (
+    bytes ++ piece,
+    consumed,
+    AppendsFront-behind w0 w1 w2 (told_lines (said bytes)) text (told_lines (told (now (bytes ++ pushed.front)) pushed.rest))
+        (told_lines (said (bytes ++ piece))) written.text short (put_part is_whole pushed),
+  )
 
   pub put_memory : (front : List ℕ) × (text' : List ℕ) × (rest : List ℕ) × Consumes r0 r2 front × (told_lines (said front) ≡ text' ++ rest) × Appends w0 w1 text'
   put_memory = (bytes ++ piece, told_lines (said bytes), told_lines (told (now bytes) piece), consumed, lines-append bytes piece, written.text)
@@ -215,9 +221,14 @@ module _ (r0 r1 r2 w0 w1 w2 : Option (List ℕ)) (bytes piece text : List ℕ) (
       let all : bytes ++ piece ≡ (bytes ++ pushed.front) ++ pushed.rest = ap (λ l. bytes ++ l) pushed.split ∙ sym (append_assoc bytes pushed.front pushed.rest) in
       let part : text ≡ told_lines (told (now bytes) pushed.front) = pushed.text_is ∙ ap (λ k. told_lines (told k pushed.front)) written.kept in
       let P : List ℕ → Type 0 = λ l. Consumes r0 r2 l in
-      let Q : List ℕ → Type 0 = λ l. Appends w0 w2 l in
-      (bytes ++ pushed.front, pushed.rest, omega (arith, count, many, length-append bytes pushed.front), some, subst P all consumed,
-      subst Q (ap (λ l. told_lines (said bytes) ++ l) part ∙ sym (lines-append bytes pushed.front)) (Appends-trans w0 w1 w2 (told_lines (said bytes)) text written.text appended))
+      let Q : List ℕ → Type 0 = λ l. Appends w0 w2 l in (
+        bytes ++ pushed.front,
+        pushed.rest,
+        omega (arith, count, many, length-append bytes pushed.front),
+        some,
+        subst P all consumed,
+        subst Q (ap (λ l. told_lines (said bytes) ++ l) part ∙ sym (lines-append bytes pushed.front)) (Appends-trans w0 w1 w2 (told_lines (said bytes)) text written.text appended),
+      )
 
   pub written_more : PushesFront [] text old new piece true → Appends w1 w2 text → Written r0 r2 w0 w2 (bytes ++ piece) new
   written_more pushed appended =

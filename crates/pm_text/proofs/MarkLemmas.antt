@@ -45,6 +45,7 @@ some_ended mark (x ∷ xs) some = by (mark x) refl (some_ended mark xs)
     onto_some : (ls : List (List ℕ)) → 0 < length ls → 0 < length (onto_next x ls)
     onto_some [] few = absurd (omega arith)
     onto_some (l ∷ ls) few = omega arith
+
     by : (b : Bool) → mark x ≡ b → (list_any mark xs ≡ true → 0 < length (ended mark xs)) → 0 < length (ended mark (x ∷ xs))
     by true is rest = rw is (omega arith)
     by false is rest = rw is (onto_some (ended mark xs) (rest (rw is at some)))
@@ -99,6 +100,7 @@ split-ended mark (x ∷ xs) = by (mark x) refl (split-ended mark xs)
     first_next : (ls : List (List ℕ)) (l : List ℕ) → onto_first x (ls ++ l ∷ []) ≡ onto_next x (ls ++ l ∷ [])
     first_next [] l = refl
     first_next (m ∷ ms) l = refl
+
     by : (c : Bool) → mark x ≡ c → slice_split mark xs ≡ ended mark xs ++ since mark xs ∷ []
         → slice_split mark (x ∷ xs) ≡ ended mark (x ∷ xs) ++ since mark (x ∷ xs) ∷ []
     by true marked rest = rw (marked, rest) refl

@@ -30,10 +30,11 @@ taken_front old piece open' =
     let room = take (MAX_TEXT - old.kept.taken) piece in
     let left = drop (MAX_TEXT - old.kept.taken) piece in
     let front = first_front room in
-    let taken : taken_of old piece ≡ first_line room = ap (λ s. taken_by s old.kept piece) open' in
-    (front.0 ++ left,
-    sym (take-append-drop (MAX_TEXT - old.kept.taken) piece) ∙ ap (λ l. l ++ left) front.1
-    ∙ append_assoc (first_line room) front.0 left ∙ ap (λ l. l ++ (front.0 ++ left)) (sym taken))
+    let taken : taken_of old piece ≡ first_line room = ap (λ s. taken_by s old.kept piece) open' in (
+      front.0 ++ left,
+      sym (take-append-drop (MAX_TEXT - old.kept.taken) piece) ∙ ap (λ l. l ++ left) front.1
+          ∙ append_assoc (first_line room) front.0 left ∙ ap (λ l. l ++ (front.0 ++ left)) (sym taken),
+    )
 
 -- a front is what stands before its length
 pub front_taken : (front all rest : List ℕ) (n : ℕ) → all ≡ front ++ rest → n ≡ length front → take n all ≡ front

@@ -46,14 +46,17 @@ from_some i at (x ∷ xs) found = by (eqb x 10) refl (from_some (i + 1) at xs)
         let same : i ≡ at = cc in
         (0, omega arith, record { mark = x; is_mark = is; within = omega arith; plain = refl; line = rw is refl })
     by false is rest =
-        let (n, place, tail) = rest (rw is at found) in
-        (suc n, omega arith, record {
-          mark = tail.mark;
-          is_mark = tail.is_mark;
-          within = omega (arith, tail.within);
-          plain = rw is tail.plain;
-          line = rw is (ap (λ l. x ∷ l) tail.line);
-        })
+        let (n, place, tail) = rest (rw is at found) in (
+          suc n,
+          omega arith,
+          record {
+            mark = tail.mark;
+            is_mark = tail.is_mark;
+            within = omega (arith, tail.within);
+            plain = rw is tail.plain;
+            line = rw is (ap (λ l. x ∷ l) tail.line);
+          },
+        )
 
 pub place_none : (bytes : List ℕ) → position is_line_feed bytes ≡ None → IsOpen bytes
 place_none bytes none = from_none 0 bytes (sym (position_from-zero is_line_feed bytes) ∙ none)

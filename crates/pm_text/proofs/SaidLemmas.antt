@@ -93,6 +93,7 @@ begun (x ∷ xs) = by (ends_with nat_eq (x ∷ xs) carriage_return) refl
     some true blank = refl
     some false true = refl
     some false false = refl
+
     by : (c : Bool) → ends_with nat_eq (x ∷ xs) carriage_return ≡ c
         → (not (is_empty_kind (kind_of (cond c (take (length (x ∷ xs) - 1) (x ∷ xs)) (x ∷ xs)))) || c) ≡ true
     by true is = or-true (not (is_empty_kind (kind_of (take (length (x ∷ xs) - 1) (x ∷ xs)))))
@@ -130,8 +131,10 @@ told_here bytes = by (is_skipped_kind (kind_of (without_return (since is_line_fe
   where
     line : List ℕ
     line = without_return (since is_line_feed bytes)
+
     count : 1 + length (map without_return (ended is_line_feed bytes)) ≡ length (ended is_line_feed bytes) + 1
     count = let mapped = length-map (ended is_line_feed bytes) in omega arith
+
     by : (c : Bool) → is_skipped_kind (kind_of line) ≡ c
         → map told_of (filter is_unskipped ((1 + length (map without_return (ended is_line_feed bytes)), line) ∷ []))
         ≡ some_told (cond c None (Some (length (ended is_line_feed bytes) + 1, body_judged (body_of line))))
@@ -295,8 +298,10 @@ trace_of-end text = trace_lines text ∙ ap told_lines (lines_at_end text) ∙ b
   where
     lines : List (List ℕ)
     lines = map without_return (ended is_line_feed text)
+
     at_end : (c : Bool) → has_bytes (since is_line_feed text) ≡ c → told_at_end (now text) ≡ cond c (line_told (now text)) None
     at_end c is = ap (λ d. cond d (line_told (now text)) None) (line_begun text ∙ is)
+
     by : (c : Bool) → has_bytes (since is_line_feed text) ≡ c
         → told_lines (lines ++ map without_return (cond c (since is_line_feed text ∷ []) [])) ≡ said text ++ some_told (told_at_end (now text))
     by true some =

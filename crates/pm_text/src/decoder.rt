@@ -151,8 +151,12 @@ impl Decoder {
     /// How many lines ended that are not skipped, and how many of these were accepted, have a faulty
     /// packet, and are bad.
     pub fn counts(&self) -> (u64, u64, u64, u64)
-        ensures { result ≡ (lines_in self.now.kept.counts, self.now.kept.counts.accepted,
-            self.now.kept.counts.faults, self.now.kept.counts.bad) }
+        ensures { result ≡ (
+          lines_in self.now.kept.counts,
+          self.now.kept.counts.accepted,
+          self.now.kept.counts.faults,
+          self.now.kept.counts.bad,
+        ) }
     {
         self.gathered.tally.lines()
     }

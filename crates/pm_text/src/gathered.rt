@@ -49,7 +49,9 @@ impl Gathered {
     /// Leaves the line that ended, which is shown no more.
     pub(crate) fn begin(&mut self)
         ensures { self.new ≡ record self.old {
-            line = if self.old.has_ended then line_of [] else self.old.line; has_ended = false } }
+          line = if self.old.has_ended then line_of [] else self.old.line;
+          has_ended = false;
+        } }
     {
         if self.has_ended {
             self.line.clear();
@@ -101,8 +103,9 @@ impl Gathered {
     fn take_all(&mut self, bytes: &[u8])
         requires { self.old.taken + length bytes.now < 2 ^ 64 }
         ensures { self.new ≡ record self.old {
-            taken = self.old.taken + length bytes.now;
-            line = fold line_takes self.old.line bytes.now } }
+          taken = self.old.taken + length bytes.now;
+          line = fold line_takes self.old.line bytes.now;
+        } }
     {
         self.line.take_all(bytes);
         self.taken += bytes.len();

@@ -124,7 +124,9 @@ impl LineBody {
     #[tactic(auto, unfolding(crate::specs::OpenLines::body_read))]
     pub(crate) fn parts(&self) -> Result<(&[u8], Option<&[u8]>), LineFault>
         ensures parts { IfOk result (λ parts. body_read self.now ≡ Ok (record {
-            write = parts.0.now; read = option_map (λ read. read.now) parts.1 })) }
+          write = parts.0.now;
+          read = option_map (λ read. read.now) parts.1;
+        })) }
         ensures fault { IfErr result (λ fault. body_read self.now ≡ Err fault) }
     {
         if self.is_bad || self.digit.is_some() {

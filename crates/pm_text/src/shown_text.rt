@@ -6,7 +6,9 @@ ghost use Rattle.pm_text.specs.TraceText.{told_text, judged_text, address_text, 
 ghost use Rattle.pm_text.specs.TraceText.{plain_text, page_text, payload_text, asked_text, numbers_text, code_name};
 ghost use Rattle.pm_table.specs.Coefficients.{coefficients_of};
 
-use crate::number_text::{push_decimal, push_hex, push_hex_number, push_signed_byte, push_signed_word};
+use crate::number_text::{
+    push_decimal, push_hex, push_hex_number, push_signed_byte, push_signed_word,
+};
 use crate::shown::Shown;
 use pm_frame::{FrameFault, FrameView, Message};
 use pm_table::{Code, Coefficients, known};
@@ -83,7 +85,11 @@ fn push_placed(text: &mut String, name: &str, place: usize) -> Result<(), AllocE
 
 // What a packet says that was accepted.
 #[tactic(auto, using(crate::proofs::Joins::joins))]
-fn push_message(text: &mut String, view: &FrameView<'_>, answer: Option<&[u8]>) -> Result<(), AllocError>
+fn push_message(
+    text: &mut String,
+    view: &FrameView<'_>,
+    answer: Option<&[u8]>,
+) -> Result<(), AllocError>
     ensures { OnOk result (string_bytes text.new ≡ string_bytes text.old
         ++ message_text view.now (option_map (λ bytes. bytes.now) answer.entry)) }
 {
@@ -102,7 +108,11 @@ fn push_message(text: &mut String, view: &FrameView<'_>, answer: Option<&[u8]>) 
 
 // The page that a packet names, its code's name, and what it carries.
 #[tactic(auto, using(crate::proofs::Joins::joins), unfolding(crate::specs::TraceText::plain_text))]
-fn push_plain(text: &mut String, view: &FrameView<'_>, answer: Option<&[u8]>) -> Result<(), AllocError>
+fn push_plain(
+    text: &mut String,
+    view: &FrameView<'_>,
+    answer: Option<&[u8]>,
+) -> Result<(), AllocError>
     ensures { OnOk result (string_bytes text.new ≡ string_bytes text.old
         ++ plain_text view.now (option_map (λ bytes. bytes.now) answer.entry)) }
 {

@@ -63,6 +63,10 @@ pub fn render_line(alloc: Global, number: u64, line: &TraceLine) -> Result<Strin
         None => None,
     };
     let mut text = String::new(alloc);
-    push_line(&mut text, number, &packet_shown(line.write.as_slice(), read))?;
+    push_line(
+        &mut text,
+        number,
+        &packet_shown(line.write.as_slice(), read),
+    )?;
     Ok(text)
 }

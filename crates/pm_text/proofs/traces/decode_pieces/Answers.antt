@@ -59,12 +59,13 @@ reads-preserved g c =
     let whole : c.in_ok-is_whole.is_whole ≡ true = c.if-not-is_whole.false in
     let shown : c.as_bytes.result.now ≡ string_bytes c.push_lines.new.text = c.as_bytes.ensures.value ∙ c.as_str.ensures.value in
     record {
-      written =
-          (front ++ take c.in_ok-count.count c.read.new.buf,
-          written_more _ _ _ _ _ _ front _ (string_bytes c.push_lines.new.text) c.reads.decoder c.push_lines.new.decoder written
-          c.in_ok-count.ensures.bytes.0
-          (at_whole _ _ _ _ _ _ whole (from_empty _ _ _ _ _ _ c.clear.ensures.bytes c.in_ok-is_whole.ensures.pushed))
-          (as_all _ _ _ _ shown c.in_ok-put.ensures.all));
+      written = (
+        front ++ take c.in_ok-count.count c.read.new.buf,
+        written_more _ _ _ _ _ _ front _ (string_bytes c.push_lines.new.text) c.reads.decoder c.push_lines.new.decoder written
+            c.in_ok-count.ensures.bytes.0
+            (at_whole _ _ _ _ _ _ whole (from_empty _ _ _ _ _ _ c.clear.ensures.bytes c.in_ok-is_whole.ensures.pushed))
+            (as_all _ _ _ _ shown c.in_ok-put.ensures.all),
+      );
       reads = search rules;
       writes = search rules;
     }

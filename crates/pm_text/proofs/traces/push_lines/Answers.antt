@@ -31,9 +31,10 @@ pieces-smaller c =
 
 pub pieces-preserved : goal.pieces-preserved
 pieces-preserved c =
-    let (front, split, pushes) = c.pieces.invariant in
-    (front ++ taken_of c.pieces.decoder c.pieces.rest.now,
-    split_more c.args.piece.now front c.pieces.rest.now c.pieces.decoder c.in-Ok.fed c.feed.new.self pushes.standing split c.in-Ok.ensures.fed
-    ∙ ap (λ r. (front ++ taken_of c.pieces.decoder c.pieces.rest.now) ++ r) (sym c.past-rest.ensures),
-    pushes_more _ _ _ c.args.decoder.now c.pieces.decoder c.feed.new.self front c.pieces.rest.now c.in-Ok.fed pushes c.in-Ok.ensures.fed c.in-Ok.ensures.room
-    c.in_ok-push_shown.ensures)
+    let (front, split, pushes) = c.pieces.invariant in (
+      front ++ taken_of c.pieces.decoder c.pieces.rest.now,
+      split_more c.args.piece.now front c.pieces.rest.now c.pieces.decoder c.in-Ok.fed c.feed.new.self pushes.standing split c.in-Ok.ensures.fed
+          ∙ ap (λ r. (front ++ taken_of c.pieces.decoder c.pieces.rest.now) ++ r) (sym c.past-rest.ensures),
+      pushes_more _ _ _ c.args.decoder.now c.pieces.decoder c.feed.new.self front c.pieces.rest.now c.in-Ok.fed pushes c.in-Ok.ensures.fed c.in-Ok.ensures.room
+          c.in_ok-push_shown.ensures,
+    )
