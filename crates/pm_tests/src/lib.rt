@@ -11,6 +11,8 @@ mod host;
 #[cfg(test)]
 mod model;
 #[cfg(test)]
+mod orders;
+#[cfg(test)]
 mod streams;
 #[cfg(test)]
 mod tool;

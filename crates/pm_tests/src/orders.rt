@@ -1,0 +1,202 @@
+ghost use Rattle.std.specs.Prelude.{◌≡◌};
+
+use pm_device::{Config, Converter, OutputStart};
+use pm_model::{OrderMachine, Plain};
+use pm_table::{Cell, Coefficients, Reg};
+use pm_world::{Arrival, Back, Event, SetupFault, World};
+use std::process::Abort;
+
+// Two outputs that are on, ask for 1 V and allow 4 V, margins at 1.0625 V and 0.9375 V, in ULINEAR16
+// with N = -12; and the same words for the order machine.
+const OUTPUT: OutputStart = OutputStart {
+    mode: 0x14,
+    operation: 0x80,
+    command: 0x1000,
+    max: 0x4000,
+    high: 0x1100,
+    low: 0x0F00,
+};
+
+const BASE: Config = Config {
+    addr: 0x58,
+    count: 2,
+    starts: [OUTPUT; 8],
+    protect: 0x00,
+    coefficients: Coefficients { m: 1, b: 0, r: 0 },
+};
+
+const START: [u16; 5] = [0x80, 0x1000, 0x4000, 0x1100, 0x0F00];
+
+// VOUT_COMMAND of both outputs.
+const FIRST: Cell = Cell::Out(0, Reg::VoutCommand);
+
+const SECOND: Cell = Cell::Out(1, Reg::VoutCommand);
+
+// Every cell that there is.
+const CELLS: [Cell; 11] = [
+    Cell::Out(0, Reg::Operation),
+    FIRST,
+    Cell::Out(0, Reg::VoutMax),
+    Cell::Out(0, Reg::MarginHigh),
+    Cell::Out(0, Reg::MarginLow),
+    Cell::Out(1, Reg::Operation),
+    SECOND,
+    Cell::Out(1, Reg::VoutMax),
+    Cell::Out(1, Reg::MarginHigh),
+    Cell::Out(1, Reg::MarginLow),
+    Cell::Protect,
+];
+
+const WHOLE: Event = Event::Deliver(Arrival::Whole);
+
+const CUT: Event = Event::Deliver(Arrival::Cut(5));
+
+const ACKED: Event = Event::Finish(true);
+
+const NOT_ACKED: Event = Event::Finish(false);
+
+const READ: Event = Event::Exchange(Arrival::Whole, Back::Whole);
+
+const READ_LOST: Event = Event::Exchange(Arrival::Cut(3), Back::Whole);
+
+// What the order machine is told with an event.
+#[derive(Clone, Copy)]
+enum Told {
+    Nothing,
+    Accept(Cell, u16),
+    Take,
+    End,
+    Back,
+}
+
+// Tells the machine so; whether it could be told.
+fn tell(machine: &mut OrderMachine, told: Told) -> bool {
+    match told {
+        Told::Nothing => true,
+        Told::Take => {
+            machine.take();
+            machine.pending().is_some()
+        }
+        Told::End => {
+            machine.end();
+            true
+        }
+        Told::Back => {
+            machine.back();
+            true
+        }
+        Told::Accept(cell, word) => match machine.pending() {
+            None if machine.has(cell) && cell.accepts(word) => {
+                machine.accept(cell, word);
+                true
+            }
+            _ => false,
+        },
+    }
+}
+
+// The word of a cell, in the converter and in the machine; 0 where there is no such cell.
+fn word(converter: &Converter, cell: Cell) -> u16 {
+    match cell {
+        Cell::Out(output, _) if output >= converter.count() => 0,
+        _ => converter.word(cell),
+    }
+}
+
+fn copied(machine: &OrderMachine, cell: Cell) -> u16 {
+    if machine.has(cell) {
+        machine.word(cell)
+    } else {
+        0
+    }
+}
+
+// A world and the order machine, one event after another: each cell has the same word in both.
+fn follow(rt: &impl Abort, rows: &[(Event, Told)]) -> Result<(), SetupFault> {
+    let mut world = World::new(BASE, 2)?;
+    let mut machine = OrderMachine::new(Plain::new(2, [START; 8], 0x00));
+    for (at, (event, told)) in rows.iter().enumerate() {
+        assert!(rt; world.step(event).is_ok(), "event {at} is taken");
+        assert!(rt; tell(&mut machine, *told), "event {at} is told");
+        for cell in CELLS {
+            let held = word(world.device(), cell);
+            assert_eq!(rt; held, copied(&machine, cell), "{cell:?} after event {at}");
+        }
+    }
+    Ok(())
+}
+
+#[test]
+fn an_order_takes_at_each_whole_delivery(rt: HostRuntime) -> Result<(), SetupFault> {
+    let nothing = Told::Nothing;
+    let first = (Event::Order(FIRST, 0x34CD), Told::Accept(FIRST, 0x34CD));
+    let second = (Event::Order(SECOND, 0x2000), Told::Accept(SECOND, 0x2000));
+    let rows = [
+        first,
+        (WHOLE, Told::Take),
+        (ACKED, nothing),
+        (READ, Told::End),
+        second,
+        (CUT, nothing),
+        (ACKED, nothing),
+        (READ, nothing),
+        (WHOLE, Told::Take),
+        (WHOLE, Told::Take),
+        (NOT_ACKED, nothing),
+        (READ_LOST, Told::End),
+    ];
+    follow(&rt, &rows)
+}
+
+#[test]
+fn start_words_come_back_and_the_order_goes_on(rt: HostRuntime) -> Result<(), SetupFault> {
+    let nothing = Told::Nothing;
+    let order = (Event::Order(FIRST, 0x34CD), Told::Accept(FIRST, 0x34CD));
+    let micro = (
+        Event::OrderMicro(FIRST, 2_000_000),
+        Told::Accept(FIRST, 0x2000),
+    );
+    let rows = [
+        order,
+        (WHOLE, Told::Take),
+        (Event::RestartDevice, Told::Back),
+        (WHOLE, Told::Take),
+        (Event::RestartHost, Told::End),
+        (Event::Clear(1), nothing),
+        (WHOLE, nothing),
+        (ACKED, nothing),
+        (Event::Learn(0), nothing),
+        (READ, nothing),
+        micro,
+        (WHOLE, Told::Take),
+        (ACKED, nothing),
+        (Event::RestartDevice, Told::Back),
+        (READ, nothing),
+    ];
+    follow(&rt, &rows)
+}
+
+#[test]
+fn a_blocked_order_takes_after_a_restart(rt: HostRuntime) -> Result<(), SetupFault> {
+    let nothing = Told::Nothing;
+    let protect = (
+        Event::Order(Cell::Protect, 0x40),
+        Told::Accept(Cell::Protect, 0x40),
+    );
+    let order = (Event::Order(SECOND, 0x34CD), Told::Accept(SECOND, 0x34CD));
+    let rows = [
+        protect,
+        (WHOLE, Told::Take),
+        (ACKED, nothing),
+        (READ, Told::End),
+        order,
+        (WHOLE, nothing),
+        (ACKED, nothing),
+        (READ, nothing),
+        (Event::RestartDevice, Told::Back),
+        (WHOLE, Told::Take),
+        (ACKED, nothing),
+        (READ, Told::End),
+    ];
+    follow(&rt, &rows)
+}
