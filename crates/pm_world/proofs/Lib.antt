@@ -8,5 +8,6 @@ mod Lives
 mod ReadBack
 mod Runs
 mod Sending
+mod TakenWhole
 mod TrueHost
 mod Undisturbed

@@ -45,7 +45,7 @@ use Rattle.pm_world.specs.declared.event.Arrival.{Arrival}
 use Rattle.pm_world.specs.declared.event.Arrival.TheVariants.{Whole, Cut, Bytes}
 use Rattle.pm_world.specs.declared.event.Back.TheVariants as back
 use Rattle.pm_world.specs.declared.stop.Cause.TheVariants.{Full, WrongKind, NotBetrayed}
-use Rattle.pm_world.specs.Honest.{honest, is_whole, WentThrough}
+use Rattle.pm_world.specs.Honest.{honest, is_whole, WentThrough, sent_by}
 use Rattle.pm_world.specs.Legal.{frame_of, heard_bytes, heard_ending, is_legal_hearing, answer_in}
 use Rattle.pm_world.specs.Life.{life, now, state_of, AreTaken}
 use Rattle.pm_world.specs.Setup.{setup_of}
@@ -87,7 +87,7 @@ pub record Ended (s : State) (cell : Cell) (word : ℕ) (event : Event) : Type 0
   pub confirmed : standing_at (next s event).host cell ≡ Confirmed word
   pub held : word_at (next s event).device.words cell ≡ word
 
-read-restart : (cell : Cell) → heard_ending (cell_read cell) Whole ≡ Restart
+pub read-restart : (cell : Cell) → heard_ending (cell_read cell) Whole ≡ Restart
 read-restart (Out output register) = refl
 read-restart Protect = refl
 
@@ -171,7 +171,7 @@ pub now-setup : (config : Config) (passes : ℕ) (events : List Event) → (now 
 unfolding now state_of host_now
 now-setup config passes events = refl
 
-order-stage : (s : State) (cell : Cell) (word : ℕ) → (next s (Order cell word)).host.stage ≡ Some (Writes cell word 0)
+pub order-stage : (s : State) (cell : Cell) (word : ℕ) → (next s (Order cell word)).host.stage ≡ Some (Writes cell word 0)
 unfolding next host_next
 order-stage s cell word = refl
 
@@ -184,7 +184,7 @@ order-entries : (config : Config) (passes : ℕ) (before : List Event) (cell : C
 unfolding life
 order-entries config passes before cell word = refl
 
-finish-stage : (s : State) (acked : Bool) (cell : Cell) (word : ℕ) → s.host.stage ≡ Some (Writes cell word 0) → (next s (Finish acked)).host.stage ≡ Some (Reads cell word 0)
+pub finish-stage : (s : State) (acked : Bool) (cell : Cell) (word : ℕ) → s.host.stage ≡ Some (Writes cell word 0) → (next s (Finish acked)).host.stage ≡ Some (Reads cell word 0)
 unfolding next host_next
 finish-stage s acked cell word stage = ap (λ o. (finished (idle s.host) o acked).after.stage) stage
 
@@ -224,7 +224,7 @@ pub record Ordered (config : Config) (cell : Cell) (word : ℕ) : Type 0 where
   pub write_fits : fits_layout (cell_write cell word) ≡ true
   pub read_fits : fits_layout (cell_read cell) ≡ true
 
-ordered : HonestLaws → (config : Config) (passes : ℕ) (before : List Event) (cell : Cell) (word : ℕ) → IsSound config → IsSetup (setup_of config passes) → AreTaken config passes (Order cell word ∷ before) → Ordered config cell word
+pub ordered : HonestLaws → (config : Config) (passes : ℕ) (before : List Event) (cell : Cell) (word : ℕ) → IsSound config → IsSetup (setup_of config passes) → AreTaken config passes (Order cell word ∷ before) → Ordered config cell word
 ordered laws config passes before cell word sound made taken =
     let o = ordering laws config passes before cell word sound made taken in
     let there : IsCell config.count cell = subst (λ (u : host.Setup). IsCell u.outputs cell) (now-setup config passes (Order cell word ∷ before)) o.there in
@@ -248,10 +248,6 @@ fixed laws config passes events cell word o =
       read_fits = o.read_fits;
       are = now-are laws config passes events;
     }
-
--- the events of an order up to so many deliveries
-abbrev sent_by : Cell → ℕ → List Arrival → List Event → List Event
-sent_by cell word arrivals before = map (λ arrival. Deliver arrival) arrivals ++ Order cell word ∷ before
 
 record Sent (config : Config) (passes : ℕ) (cell : Cell) (word : ℕ) (before events : List Event) (whole : Bool) : Type 0 where
   pub sends : Sends (now config passes events) cell word whole
