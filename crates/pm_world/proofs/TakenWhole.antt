@@ -1,14 +1,11 @@
 -- The end of an order's write and its undisturbed read have no cause against them.
-use Rattle.std.proofs.Common.{◌≡◌, ℕ, ◌+◌, ◌<◌, ◌≤◌, Bool, true, false, not, cond, ◌&&◌, ◌||◌, List, [], ◌∷◌, ◌++◌, length, map, Option, Some, None, option_map, refl, sym, ◌∙◌, ap, ap₂, subst, arith}
-use Rattle.std.specs.Prelude.{bytes_eq, nat_lt, nat_le}
-use Rattle.std.specs.List.{list_any}
+use Rattle.std.proofs.Common.{◌≡◌, ℕ, ◌+◌, ◌<◌, ◌≤◌, Bool, true, false, not, ◌&&◌, ◌||◌, List, [], ◌∷◌, length, Some, None, option_map, refl, ◌∙◌, ap, ap₂, arith}
+use Rattle.std.specs.Prelude.{bytes_eq, nat_lt}
 use Rattle.std.specs.Option.{option_or}
-use Rattle.std.proofs.lemmas.Bool.{lt-leb, or_left}
+use Rattle.std.proofs.lemmas.Bool.{lt-leb}
 use Rattle.std.proofs.lemmas.Slice.Eq.{bytes_eq-Decides}
 use Rattle.pm_table.specs.declared.cell.Cell.{Cell}
 use Rattle.pm_table.specs.declared.cell.Cell.TheVariants.{Out, Protect}
-use Rattle.pm_table.specs.Cell.{cell_code}
-use Rattle.pm_table.specs.Protection.{is_allowed}
 use Rattle.pm_frame.specs.declared.message.Message.{Message}
 use Rattle.pm_frame.specs.Fault.{whole_answer}
 use Rattle.pm_frame.specs.Layout.{is_read_message}
@@ -28,7 +25,7 @@ use Rattle.pm_world.specs.declared.event.Back.TheVariants as back
 use Rattle.pm_world.specs.declared.stop.Cause.{Cause}
 use Rattle.pm_world.specs.declared.stop.Cause.TheVariants.{Full, WrongKind, NotBetrayed}
 use Rattle.pm_world.specs.Honest.{honest, sent_by}
-use Rattle.pm_world.specs.Legal.{frame_of, heard_ending, is_restart, is_heard_whole, is_legal_hearing, is_legal_return}
+use Rattle.pm_world.specs.Legal.{frame_of, heard_ending, is_heard_whole, is_legal_hearing, is_legal_return}
 use Rattle.pm_world.specs.Life.{now, state_of, AreTaken}
 use Rattle.pm_world.specs.Setup.{setup_of}
 use Rattle.pm_world.specs.State.{State, event_limit, event_cause, cause_of, finish_cause, exchange_cause, answer_to, rule, IsTaken}
@@ -61,9 +58,9 @@ exchange-free s message reads ending =
     let answer = answer_to s.device s.host.setup.addr message Whole in
     let heard : is_legal_hearing frame frame (heard_ending message Whole) ≡ true = ap (is_legal_hearing frame frame) ending ∙ whole-hearing frame in
     let returned : is_legal_return frame (whole_answer message) (is_heard_whole frame frame (heard_ending message Whole)) answer answer ≡ true =
-        ap (λ e. is_legal_return frame (whole_answer message) (is_heard_whole frame frame e) answer answer) ending ∙ whole-return frame answer (whole_answer message) in
+    ap (λ e. is_legal_return frame (whole_answer message) (is_heard_whole frame frame e) answer answer) ending ∙ whole-return frame answer (whole_answer message) in
     ap (λ b. option_or (rule (not b) WrongKind) (option_or (rule (not (is_legal_hearing frame frame (heard_ending message Whole))) NotBetrayed)
-        (rule (not (is_legal_return frame (whole_answer message) (is_heard_whole frame frame (heard_ending message Whole)) answer answer)) NotBetrayed))) reads
+    (rule (not (is_legal_return frame (whole_answer message) (is_heard_whole frame frame (heard_ending message Whole)) answer answer)) NotBetrayed))) reads
     ∙ ap₂ (λ h r. option_or (rule (not h) NotBetrayed) (rule (not r) NotBetrayed)) heard returned
 
 free : (s : State) (event : Event) → s.taken < event_limit → event_cause s event ≡ None → cause_of s event ≡ None
@@ -100,8 +97,10 @@ taken-whole laws config passes before cell word arrivals acked sound made taken 
     let t = now config passes (Finish acked ∷ events) in
     let next_stage : t.host.stage ≡ Some (Reads cell word 0) = ap (λ (u : State). u.host.stage) (laws.more config passes events (Finish acked) sound made (finish, taken)) ∙ finish-stage s acked cell word stage in
     let reading : sending_in t.host ≡ Some (cell_read cell) = ap (option_map stage_message) next_stage in
-    let count = now-taken config passes (Finish acked ∷ events) in
-    (record {
-      free = free t (Exchange Whole back.Whole) (omega arith) (ap (exchange_cause t Whole back.Whole) reading ∙ exchange-free t (cell_read cell) (reads-cell cell) (read-restart cell));
-      word = tt;
-    }, (finish, taken))
+    let count = now-taken config passes (Finish acked ∷ events) in (
+      record {
+        free = free t (Exchange Whole back.Whole) (omega arith) (ap (exchange_cause t Whole back.Whole) reading ∙ exchange-free t (cell_read cell) (reads-cell cell) (read-restart cell));
+        word = tt;
+      },
+      (finish, taken),
+    )

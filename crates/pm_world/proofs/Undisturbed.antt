@@ -1,6 +1,6 @@
 -- An order whose write is delivered whole, and whose read nothing disturbs.
-use Rattle.std.proofs.Common.{◌≡◌, ℕ, ◌<◌, ◌≤◌, Bool, true, false, not, cond, ◌||◌, eqb, List, [], ◌∷◌, ◌++◌, map, length, Option, Some, None, option_map, refl, sym, ◌∙◌, ap, subst, ◌⊎◌, inl, inr, arith}
-use Rattle.std.specs.Prelude.{if◌then◌else◌, option_to_list, nat_le}
+use Rattle.std.proofs.Common.{◌≡◌, ℕ, ◌<◌, ◌≤◌, Bool, true, ◌||◌, eqb, List, [], ◌∷◌, ◌++◌, length, Some, option_map, refl, sym, ◌∙◌, ap, subst, arith}
+use Rattle.std.specs.Prelude.{option_to_list}
 use Rattle.std.specs.List.{list_any}
 use Rattle.std.proofs.lemmas.Bool.{eq-eqb, cond-true}
 use Rattle.std.proofs.lemmas.List.{get_or-set_same}
@@ -9,14 +9,13 @@ use Rattle.pm_table.specs.declared.cell.Reg.{Reg}
 use Rattle.pm_table.specs.declared.cell.Reg.TheVariants.{Operation, VoutCommand, VoutMax, MarginHigh, MarginLow}
 use Rattle.pm_table.specs.declared.cell.Cell.{Cell}
 use Rattle.pm_table.specs.declared.cell.Cell.TheVariants.{Out, Protect}
-use Rattle.pm_table.specs.Cell.{cell_accepts, cell_code, is_protection, register_number, IsCell, same_cell}
-use Rattle.pm_table.specs.Commands.{line_of}
+use Rattle.pm_table.specs.Cell.{cell_accepts, cell_code, register_number, IsCell}
 use Rattle.pm_table.specs.Protection.{is_allowed}
 use Rattle.pm_frame.specs.declared.message.Message.{Message}
-use Rattle.pm_frame.specs.Layout.{fits_layout, is_read_message}
-use Rattle.pm_model.specs.Settings.{Words, AreWords, word_at, with_word}
+use Rattle.pm_frame.specs.Layout.{fits_layout}
+use Rattle.pm_model.specs.Settings.{AreWords, word_at}
 use Rattle.pm_device.specs.declared.config.Config.{Config}
-use Rattle.pm_device.specs.declared.heard.Ending.TheVariants.{Stop, Restart}
+use Rattle.pm_device.specs.declared.heard.Ending.TheVariants.{Restart}
 use Rattle.pm_device.specs.Held.{Held}
 use Rattle.pm_device.specs.Start.{IsSound}
 use Rattle.pm_device.specs.Effect as device
@@ -29,7 +28,7 @@ use Rattle.pm_host.specs.declared.standing.Standing.TheVariants.{Confirmed, Unkn
 use Rattle.pm_host.specs.declared.step.JobEnd.TheVariants.{Done}
 use Rattle.pm_host.specs.Answers.{good_word}
 use Rattle.pm_host.specs.Cells.{cell_in, place_of, places, table}
-use Rattle.pm_host.specs.Frames.{CanSend, writes_output, writes_protect, reads_output, reads_protect}
+use Rattle.pm_host.specs.Frames.{CanSend}
 use Rattle.pm_host.specs.Known.{known_now}
 use Rattle.pm_host.specs.Marks.{Good, marks}
 use Rattle.pm_host.specs.Messages.{cell_write, cell_read}
@@ -42,16 +41,14 @@ use Rattle.pm_host.specs.Transcript as host
 use Rattle.pm_world.specs.declared.event.Event.{Event}
 use Rattle.pm_world.specs.declared.event.Event.TheVariants.{Order, Deliver, Finish, Exchange}
 use Rattle.pm_world.specs.declared.event.Arrival.{Arrival}
-use Rattle.pm_world.specs.declared.event.Arrival.TheVariants.{Whole, Cut, Bytes}
+use Rattle.pm_world.specs.declared.event.Arrival.TheVariants.{Whole}
 use Rattle.pm_world.specs.declared.event.Back.TheVariants as back
-use Rattle.pm_world.specs.declared.stop.Cause.TheVariants.{Full, WrongKind, NotBetrayed}
 use Rattle.pm_world.specs.Honest.{honest, is_whole, WentThrough, sent_by}
-use Rattle.pm_world.specs.Legal.{frame_of, heard_bytes, heard_ending, is_legal_hearing, answer_in}
+use Rattle.pm_world.specs.Legal.{frame_of, heard_ending, answer_in}
 use Rattle.pm_world.specs.Life.{life, now, state_of, AreTaken}
 use Rattle.pm_world.specs.Setup.{setup_of}
-use Rattle.pm_world.specs.State.{State, share_of, delivered, exchanged, next, device_after, host_after, end_after, end_by, event_cause, event_limit, cause_of, delivery_cause, rule, hearing, IsTaken}
-use Rattle.pm_world.proofs.Deliveries.{WriteLaws, CanTake, whole-write, legal-write}
-use Rattle.pm_world.proofs.Lives.{or-none, rule-none}
+use Rattle.pm_world.specs.State.{State, share_of, exchanged, next, device_after, host_after, end_after, end_by}
+use Rattle.pm_world.proofs.Deliveries.{WriteLaws}
 use Rattle.pm_world.proofs.ReadBack.{ReadLaws, read-word}
 use Rattle.pm_world.proofs.Sending.{Fixed, MapLaws, Sends, deliver-sends, eight, read-fits, taken-free, told-nothing, write-fits}
 
