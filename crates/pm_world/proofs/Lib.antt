@@ -13,5 +13,6 @@ mod ReadBack
 mod Retellings
 mod Runs
 mod Sending
+mod TakenWhole
 mod TrueHost
 mod Undisturbed

@@ -1,12 +1,7 @@
 -- A world while the write of an order is being sent.
-use Rattle.std.proofs.Common.{◌≡◌, ℕ, ◌<◌, ◌≤◌, Bool, true, false, not, cond, ◌||◌, eqb, List, [], ◌∷◌, ◌++◌, map, length, Option, Some, None, option_map, refl, sym, ◌∙◌, ap, subst, ◌⊎◌, inl, inr, arith}
-use Rattle.std.specs.Prelude.{if◌then◌else◌, option_to_list, nat_le}
-use Rattle.std.specs.List.{list_any}
+use Rattle.std.proofs.Common.{◌≡◌, ℕ, ◌≤◌, Bool, true, false, not, cond, ◌||◌, eqb, Option, Some, None, option_map, refl, sym, ◌∙◌, ap, subst, ◌⊎◌, inl, inr, arith}
+use Rattle.std.specs.Prelude.{if◌then◌else◌, nat_le}
 use Rattle.std.proofs.lemmas.Bool.{eq-eqb, cond-true}
-use Rattle.std.proofs.lemmas.List.{get_or-set_same}
-use Rattle.std.proofs.lemmas.List.FromFn.{length-map-range_with_len}
-use Rattle.pm_table.specs.declared.cell.Reg.{Reg}
-use Rattle.pm_table.specs.declared.cell.Reg.TheVariants.{Operation, VoutCommand, VoutMax, MarginHigh, MarginLow}
 use Rattle.pm_table.specs.declared.cell.Cell.{Cell}
 use Rattle.pm_table.specs.declared.cell.Cell.TheVariants.{Out, Protect}
 use Rattle.pm_table.specs.Cell.{cell_accepts, cell_code, is_protection, register_number, IsCell, same_cell}
@@ -15,44 +10,25 @@ use Rattle.pm_table.specs.Protection.{is_allowed}
 use Rattle.pm_frame.specs.declared.message.Message.{Message}
 use Rattle.pm_frame.specs.Layout.{fits_layout, is_read_message}
 use Rattle.pm_model.specs.Settings.{Words, AreWords, word_at, with_word}
-use Rattle.pm_device.specs.declared.config.Config.{Config}
-use Rattle.pm_device.specs.declared.heard.Ending.TheVariants.{Stop, Restart}
-use Rattle.pm_device.specs.Held.{Held}
-use Rattle.pm_device.specs.Start.{IsSound}
+use Rattle.pm_device.specs.declared.heard.Ending.TheVariants.{Stop}
 use Rattle.pm_device.specs.Effect as device
 use Rattle.pm_device.specs.Effect.{words_after}
-use Rattle.pm_device.specs.History.{now as device_now, next as device_next, after as device_outcome}
-use Rattle.pm_device.specs.Reply.{reply_of}
-use Rattle.pm_host.specs.declared.stage.Stage.TheVariants.{Writes, Reads}
-use Rattle.pm_host.specs.declared.standing.Standing.{Standing}
-use Rattle.pm_host.specs.declared.standing.Standing.TheVariants.{Confirmed, Unknown}
-use Rattle.pm_host.specs.declared.step.JobEnd.TheVariants.{Done}
-use Rattle.pm_host.specs.Answers.{good_word}
-use Rattle.pm_host.specs.Cells.{cell_in, place_of, places, table}
+use Rattle.pm_device.specs.History.{next as device_next, after as device_outcome}
+use Rattle.pm_host.specs.declared.stage.Stage.TheVariants.{Writes}
 use Rattle.pm_host.specs.Frames.{CanSend, writes_output, writes_protect, reads_output, reads_protect}
-use Rattle.pm_host.specs.Known.{known_now}
-use Rattle.pm_host.specs.Marks.{Good, marks}
 use Rattle.pm_host.specs.Messages.{cell_write, cell_read}
-use Rattle.pm_host.specs.Now.{now as host_now, AreTold}
-use Rattle.pm_host.specs.Refusals.{IsSetup}
-use Rattle.pm_host.specs.Sound.{IsOrdering, IsStage, IsSound as IsSoundHost}
-use Rattle.pm_host.specs.Summary.{Summary, Turn, next as host_next, step_of, turn, finished, answered, read_back, idle, marked, ends, sending_in, stage_message, standing_at}
-use Rattle.pm_host.specs.Standing.{standing_of}
+use Rattle.pm_host.specs.Summary.{Summary, sending_in, stage_message}
 use Rattle.pm_host.specs.Transcript as host
 use Rattle.pm_world.specs.declared.event.Event.{Event}
-use Rattle.pm_world.specs.declared.event.Event.TheVariants.{Order, Deliver, Finish, Exchange}
+use Rattle.pm_world.specs.declared.event.Event.TheVariants.{Deliver}
 use Rattle.pm_world.specs.declared.event.Arrival.{Arrival}
 use Rattle.pm_world.specs.declared.event.Arrival.TheVariants.{Whole, Cut, Bytes}
-use Rattle.pm_world.specs.declared.event.Back.TheVariants as back
 use Rattle.pm_world.specs.declared.stop.Cause.TheVariants.{Full, WrongKind, NotBetrayed}
-use Rattle.pm_world.specs.Honest.{honest, is_whole, WentThrough}
-use Rattle.pm_world.specs.Legal.{frame_of, heard_bytes, heard_ending, is_legal_hearing, answer_in}
-use Rattle.pm_world.specs.Life.{life, now, state_of, AreTaken}
-use Rattle.pm_world.specs.Setup.{setup_of}
-use Rattle.pm_world.specs.State.{State, share_of, delivered, exchanged, next, device_after, host_after, end_after, end_by, event_cause, event_limit, cause_of, delivery_cause, rule, hearing, IsTaken}
+use Rattle.pm_world.specs.Honest.{is_whole}
+use Rattle.pm_world.specs.Legal.{frame_of, heard_bytes, heard_ending, is_legal_hearing}
+use Rattle.pm_world.specs.State.{State, delivered, next, device_after, host_after, event_cause, event_limit, cause_of, delivery_cause, rule, hearing, IsTaken}
 use Rattle.pm_world.proofs.Deliveries.{WriteLaws, CanTake, whole-write, legal-write}
 use Rattle.pm_world.proofs.Lives.{or-none, rule-none}
-use Rattle.pm_world.proofs.ReadBack.{ReadLaws, read-word}
 
 -- a cell that was written has the new word, and every other cell its old one
 pub record MapLaws : Type 0 where

@@ -1,6 +1,6 @@
 -- An order whose write is delivered whole, and whose read nothing disturbs.
-use Rattle.std.proofs.Common.{◌≡◌, ℕ, ◌<◌, ◌≤◌, Bool, true, false, not, cond, ◌||◌, eqb, List, [], ◌∷◌, ◌++◌, map, length, Option, Some, None, option_map, refl, sym, ◌∙◌, ap, subst, ◌⊎◌, inl, inr, arith}
-use Rattle.std.specs.Prelude.{if◌then◌else◌, option_to_list, nat_le}
+use Rattle.std.proofs.Common.{◌≡◌, ℕ, ◌<◌, ◌≤◌, Bool, true, ◌||◌, eqb, List, [], ◌∷◌, ◌++◌, length, Some, option_map, refl, sym, ◌∙◌, ap, subst, arith}
+use Rattle.std.specs.Prelude.{option_to_list}
 use Rattle.std.specs.List.{list_any}
 use Rattle.std.proofs.lemmas.Bool.{eq-eqb, cond-true}
 use Rattle.std.proofs.lemmas.List.{get_or-set_same}
@@ -9,14 +9,13 @@ use Rattle.pm_table.specs.declared.cell.Reg.{Reg}
 use Rattle.pm_table.specs.declared.cell.Reg.TheVariants.{Operation, VoutCommand, VoutMax, MarginHigh, MarginLow}
 use Rattle.pm_table.specs.declared.cell.Cell.{Cell}
 use Rattle.pm_table.specs.declared.cell.Cell.TheVariants.{Out, Protect}
-use Rattle.pm_table.specs.Cell.{cell_accepts, cell_code, is_protection, register_number, IsCell, same_cell}
-use Rattle.pm_table.specs.Commands.{line_of}
+use Rattle.pm_table.specs.Cell.{cell_accepts, cell_code, register_number, IsCell}
 use Rattle.pm_table.specs.Protection.{is_allowed}
 use Rattle.pm_frame.specs.declared.message.Message.{Message}
-use Rattle.pm_frame.specs.Layout.{fits_layout, is_read_message}
-use Rattle.pm_model.specs.Settings.{Words, AreWords, word_at, with_word}
+use Rattle.pm_frame.specs.Layout.{fits_layout}
+use Rattle.pm_model.specs.Settings.{AreWords, word_at}
 use Rattle.pm_device.specs.declared.config.Config.{Config}
-use Rattle.pm_device.specs.declared.heard.Ending.TheVariants.{Stop, Restart}
+use Rattle.pm_device.specs.declared.heard.Ending.TheVariants.{Restart}
 use Rattle.pm_device.specs.Held.{Held}
 use Rattle.pm_device.specs.Start.{IsSound}
 use Rattle.pm_device.specs.Effect as device
@@ -29,7 +28,7 @@ use Rattle.pm_host.specs.declared.standing.Standing.TheVariants.{Confirmed, Unkn
 use Rattle.pm_host.specs.declared.step.JobEnd.TheVariants.{Done}
 use Rattle.pm_host.specs.Answers.{good_word}
 use Rattle.pm_host.specs.Cells.{cell_in, place_of, places, table}
-use Rattle.pm_host.specs.Frames.{CanSend, writes_output, writes_protect, reads_output, reads_protect}
+use Rattle.pm_host.specs.Frames.{CanSend}
 use Rattle.pm_host.specs.Known.{known_now}
 use Rattle.pm_host.specs.Marks.{Good, marks}
 use Rattle.pm_host.specs.Messages.{cell_write, cell_read}
@@ -42,16 +41,14 @@ use Rattle.pm_host.specs.Transcript as host
 use Rattle.pm_world.specs.declared.event.Event.{Event}
 use Rattle.pm_world.specs.declared.event.Event.TheVariants.{Order, Deliver, Finish, Exchange}
 use Rattle.pm_world.specs.declared.event.Arrival.{Arrival}
-use Rattle.pm_world.specs.declared.event.Arrival.TheVariants.{Whole, Cut, Bytes}
+use Rattle.pm_world.specs.declared.event.Arrival.TheVariants.{Whole}
 use Rattle.pm_world.specs.declared.event.Back.TheVariants as back
-use Rattle.pm_world.specs.declared.stop.Cause.TheVariants.{Full, WrongKind, NotBetrayed}
-use Rattle.pm_world.specs.Honest.{honest, is_whole, WentThrough}
-use Rattle.pm_world.specs.Legal.{frame_of, heard_bytes, heard_ending, is_legal_hearing, answer_in}
+use Rattle.pm_world.specs.Honest.{honest, is_whole, WentThrough, sent_by}
+use Rattle.pm_world.specs.Legal.{frame_of, heard_ending, answer_in}
 use Rattle.pm_world.specs.Life.{life, now, state_of, AreTaken}
 use Rattle.pm_world.specs.Setup.{setup_of}
-use Rattle.pm_world.specs.State.{State, share_of, delivered, exchanged, next, device_after, host_after, end_after, end_by, event_cause, event_limit, cause_of, delivery_cause, rule, hearing, IsTaken}
-use Rattle.pm_world.proofs.Deliveries.{WriteLaws, CanTake, whole-write, legal-write}
-use Rattle.pm_world.proofs.Lives.{or-none, rule-none}
+use Rattle.pm_world.specs.State.{State, share_of, exchanged, next, device_after, host_after, end_after, end_by}
+use Rattle.pm_world.proofs.Deliveries.{WriteLaws}
 use Rattle.pm_world.proofs.ReadBack.{ReadLaws, read-word}
 use Rattle.pm_world.proofs.Sending.{Fixed, MapLaws, Sends, deliver-sends, eight, read-fits, taken-free, told-nothing, write-fits}
 
@@ -87,7 +84,7 @@ pub record Ended (s : State) (cell : Cell) (word : ℕ) (event : Event) : Type 0
   pub confirmed : standing_at (next s event).host cell ≡ Confirmed word
   pub held : word_at (next s event).device.words cell ≡ word
 
-read-restart : (cell : Cell) → heard_ending (cell_read cell) Whole ≡ Restart
+pub read-restart : (cell : Cell) → heard_ending (cell_read cell) Whole ≡ Restart
 read-restart (Out output register) = refl
 read-restart Protect = refl
 
@@ -171,7 +168,7 @@ pub now-setup : (config : Config) (passes : ℕ) (events : List Event) → (now 
 unfolding now state_of host_now
 now-setup config passes events = refl
 
-order-stage : (s : State) (cell : Cell) (word : ℕ) → (next s (Order cell word)).host.stage ≡ Some (Writes cell word 0)
+pub order-stage : (s : State) (cell : Cell) (word : ℕ) → (next s (Order cell word)).host.stage ≡ Some (Writes cell word 0)
 unfolding next host_next
 order-stage s cell word = refl
 
@@ -184,7 +181,7 @@ order-entries : (config : Config) (passes : ℕ) (before : List Event) (cell : C
 unfolding life
 order-entries config passes before cell word = refl
 
-finish-stage : (s : State) (acked : Bool) (cell : Cell) (word : ℕ) → s.host.stage ≡ Some (Writes cell word 0) → (next s (Finish acked)).host.stage ≡ Some (Reads cell word 0)
+pub finish-stage : (s : State) (acked : Bool) (cell : Cell) (word : ℕ) → s.host.stage ≡ Some (Writes cell word 0) → (next s (Finish acked)).host.stage ≡ Some (Reads cell word 0)
 unfolding next host_next
 finish-stage s acked cell word stage = ap (λ o. (finished (idle s.host) o acked).after.stage) stage
 
@@ -224,7 +221,7 @@ pub record Ordered (config : Config) (cell : Cell) (word : ℕ) : Type 0 where
   pub write_fits : fits_layout (cell_write cell word) ≡ true
   pub read_fits : fits_layout (cell_read cell) ≡ true
 
-ordered : HonestLaws → (config : Config) (passes : ℕ) (before : List Event) (cell : Cell) (word : ℕ) → IsSound config → IsSetup (setup_of config passes) → AreTaken config passes (Order cell word ∷ before) → Ordered config cell word
+pub ordered : HonestLaws → (config : Config) (passes : ℕ) (before : List Event) (cell : Cell) (word : ℕ) → IsSound config → IsSetup (setup_of config passes) → AreTaken config passes (Order cell word ∷ before) → Ordered config cell word
 ordered laws config passes before cell word sound made taken =
     let o = ordering laws config passes before cell word sound made taken in
     let there : IsCell config.count cell = subst (λ (u : host.Setup). IsCell u.outputs cell) (now-setup config passes (Order cell word ∷ before)) o.there in
@@ -248,10 +245,6 @@ fixed laws config passes events cell word o =
       read_fits = o.read_fits;
       are = now-are laws config passes events;
     }
-
--- the events of an order up to so many deliveries
-abbrev sent_by : Cell → ℕ → List Arrival → List Event → List Event
-sent_by cell word arrivals before = map (λ arrival. Deliver arrival) arrivals ++ Order cell word ∷ before
 
 record Sent (config : Config) (passes : ℕ) (cell : Cell) (word : ℕ) (before events : List Event) (whole : Bool) : Type 0 where
   pub sends : Sends (now config passes events) cell word whole

@@ -42,12 +42,15 @@ is_whole Whole = true
 is_whole (Cut count) = false
 is_whole (Bytes bytes ending) = false
 
--- an order, deliveries of its write, the end of that write, acknowledged or not, and an exchange that
--- nothing disturbs; newest first
+-- an order and deliveries of its write, newest first
+abbrev pub sent_by : Cell → ℕ → List Arrival → List Event → List Event
+sent_by cell word arrivals before =
+    map (λ arrival. Deliver arrival) arrivals ++ Order cell word ∷ before
+
+-- these, the end of that write, acknowledged or not, and an exchange that nothing disturbs
 abbrev pub honest : Cell → ℕ → List Arrival → Bool → List Event → List Event
 honest cell word arrivals acked before =
-    Exchange Whole back.Whole ∷ Finish acked
-    ∷ (map (λ arrival. Deliver arrival) arrivals ++ Order cell word ∷ before)
+    Exchange Whole back.Whole ∷ Finish acked ∷ sent_by cell word arrivals before
 
 -- An order went through: the host sent its write and one read, whose answer was good and had the
 -- word; its job is done, the cell's word is confirmed, and the converter holds it.

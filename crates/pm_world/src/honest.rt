@@ -1,14 +1,17 @@
 //! What undisturbed frames come to in a world, over the definitions alone: each law is the contract
 //! of a function with an empty body.
 
-ghost use Rattle.std.specs.Prelude.{ℕ, ◌<◌, ◌^◌, List};
+ghost use Rattle.std.specs.Prelude.{ℕ, ◌+◌, ◌<◌, ◌≤◌, ◌^◌, Bool, List, length};
+ghost use Rattle.pm_table.specs.declared.cell.Cell.{Cell};
 ghost use Rattle.pm_device.specs.declared.config.Config.{Config};
 ghost use Rattle.pm_device.specs.Start.{IsSound};
 ghost use Rattle.pm_host.specs.Refusals.{IsSetup};
+ghost use Rattle.pm_world.specs.declared.event.Arrival.{Arrival};
 ghost use Rattle.pm_world.specs.declared.event.Event.{Event};
-ghost use Rattle.pm_world.specs.Honest.{AreFewFrames, FormatsAgree, IsSpelled, MicrosAreNearest, OrdersGoThrough};
+ghost use Rattle.pm_world.specs.Honest.{AreFewFrames, FormatsAgree, IsSpelled, MicrosAreNearest, OrdersGoThrough, honest, sent_by};
 ghost use Rattle.pm_world.specs.Life.{AreTaken};
 ghost use Rattle.pm_world.specs.Setup.{setup_of};
+ghost use Rattle.pm_world.specs.State.{event_limit};
 
 use crate::laws::lives_are_followed;
 use pm_device::{Config, pasts_are_followed, reads_are_answered, writes_reach_one_cell};
@@ -30,9 +33,16 @@ pub fn frames_are_few()
 /// Among events that were taken, an order goes through where WRITE_PROTECT allows its code as it is
 /// accepted, its write is delivered whole at least once, whatever else is delivered of it, is then
 /// over, acknowledged or not, and is read back undisturbed: it took one write and one read, it is
-/// done, the cell's word is confirmed, and the converter holds it.
+/// done, the cell's word is confirmed, and the converter holds it (`through`). Once its deliveries
+/// were taken, so are that end and that read, where the world has room for two more events (`taken`).
 pub fn honest_orders_go_through()
-    ensures { (config : Config) (passes : ℕ) (events : List Event) →
+    ensures taken { (config : Config) (passes : ℕ) (before : List Event) (cell : Cell) (word : ℕ)
+        (arrivals : List Arrival) (acked : Bool) →
+        IsSound config → IsSetup (setup_of config passes) →
+        AreTaken config passes (sent_by cell word arrivals before) →
+        length (sent_by cell word arrivals before) + 2 ≤ event_limit →
+        AreTaken config passes (honest cell word arrivals acked before) }
+    ensures through { (config : Config) (passes : ℕ) (events : List Event) →
         IsSound config → IsSetup (setup_of config passes) → AreTaken config passes events →
         OrdersGoThrough config passes events }
 {

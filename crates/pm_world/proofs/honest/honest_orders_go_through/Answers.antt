@@ -1,13 +1,17 @@
 use Rattle.std.proofs.Common.{subst}
 use Rattle.pm_world.specs.Honest.{honest}
 use Rattle.pm_world.specs.Life.{AreTaken}
+use Rattle.pm_world.proofs.TakenWhole.{taken-whole}
 use Rattle.pm_world.proofs.Undisturbed.{HonestLaws, taken-before, went-through}
 use Rattle.pm_world.proofs.honest.honest_orders_go_through.Goals as goal
 
 pub returns : goal.returns
-returns c = λ config passes events sound made taken later before cell word arrivals acked is allowed whole.
-    went-through laws config passes before cell word arrivals acked sound made
-    (taken-before config passes later (honest cell word arrivals acked before) (subst (AreTaken config passes) is taken)) allowed whole
+returns c = record {
+  taken = λ config passes before cell word arrivals acked sound made taken room. taken-whole laws config passes before cell word arrivals acked sound made taken room;
+  through = λ config passes events sound made taken later before cell word arrivals acked is allowed whole.
+      went-through laws config passes before cell word arrivals acked sound made
+      (taken-before config passes later (honest cell word arrivals acked before) (subst (AreTaken config passes) is taken)) allowed whole;
+}
   where
     laws : HonestLaws
     laws = record {

@@ -80,7 +80,7 @@ pub returns-clause-through : goal.returns-clause-through
 returns-clause-through c =
     let new = c.in-Ok.ensures {u = tt} in
     let es = taken_events c.args.events.now c.run_up-stop.result in
-    c.honest_orders_go_through.ensures c.args.c c.args.passes es new.sound.0 new.sound.1
+    c.honest_orders_go_through.ensures.through c.args.c c.args.passes es new.sound.0 new.sound.1
     (c.lives_are_followed.ensures.from_start c.args.c c.args.passes es new.sound.0 new.sound.1 (subst (λ (s : State). AreTakenFrom s es) new.made c.run_up-stop.ensures.all)).0
 
 pub returns-clause-formats : goal.returns-clause-formats

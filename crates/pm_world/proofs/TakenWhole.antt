@@ -1,0 +1,106 @@
+-- The end of an order's write and its undisturbed read have no cause against them.
+use Rattle.std.proofs.Common.{◌≡◌, ℕ, ◌+◌, ◌<◌, ◌≤◌, Bool, true, false, not, ◌&&◌, ◌||◌, List, [], ◌∷◌, length, Some, None, option_map, refl, ◌∙◌, ap, ap₂, arith}
+use Rattle.std.specs.Prelude.{bytes_eq, nat_lt}
+use Rattle.std.specs.Option.{option_or}
+use Rattle.std.proofs.lemmas.Bool.{lt-leb}
+use Rattle.std.proofs.lemmas.Slice.Eq.{bytes_eq-Decides}
+use Rattle.pm_table.specs.declared.cell.Cell.{Cell}
+use Rattle.pm_table.specs.declared.cell.Cell.TheVariants.{Out, Protect}
+use Rattle.pm_frame.specs.declared.message.Message.{Message}
+use Rattle.pm_frame.specs.Fault.{whole_answer}
+use Rattle.pm_frame.specs.Layout.{is_read_message}
+use Rattle.pm_frame.specs.Betrayal.{is_betrayed}
+use Rattle.pm_device.specs.declared.config.Config.{Config}
+use Rattle.pm_device.specs.declared.heard.Ending.TheVariants.{Restart}
+use Rattle.pm_device.specs.Start.{IsSound}
+use Rattle.pm_host.specs.declared.stage.Stage.TheVariants.{Writes, Reads}
+use Rattle.pm_host.specs.Messages.{cell_write, cell_read}
+use Rattle.pm_host.specs.Refusals.{IsSetup}
+use Rattle.pm_host.specs.Summary.{Summary, sending_in, stage_message}
+use Rattle.pm_world.specs.declared.event.Event.{Event}
+use Rattle.pm_world.specs.declared.event.Event.TheVariants.{Order, Deliver, Finish, Exchange}
+use Rattle.pm_world.specs.declared.event.Arrival.{Arrival}
+use Rattle.pm_world.specs.declared.event.Arrival.TheVariants.{Whole}
+use Rattle.pm_world.specs.declared.event.Back.TheVariants as back
+use Rattle.pm_world.specs.declared.stop.Cause.{Cause}
+use Rattle.pm_world.specs.declared.stop.Cause.TheVariants.{Full, WrongKind, NotBetrayed}
+use Rattle.pm_world.specs.Honest.{honest, sent_by}
+use Rattle.pm_world.specs.Legal.{frame_of, heard_ending, is_heard_whole, is_legal_hearing, is_legal_return}
+use Rattle.pm_world.specs.Life.{now, state_of, AreTaken}
+use Rattle.pm_world.specs.Setup.{setup_of}
+use Rattle.pm_world.specs.State.{State, event_limit, event_cause, cause_of, finish_cause, exchange_cause, answer_to, rule, IsTaken}
+use Rattle.pm_world.proofs.ReadBack.{reads-cell}
+use Rattle.pm_world.proofs.Undisturbed.{HonestLaws, finish-stage, order-stage, read-restart}
+use Rattle.pm_world.proofs.Sending.{next-deliver-host}
+
+write-kind : (cell : Cell) (word : ℕ) → is_read_message (cell_write cell word) ≡ false
+write-kind (Out output register) word = refl
+write-kind Protect word = refl
+
+same_bytes : (bytes : List ℕ) → bytes_eq bytes bytes ≡ true
+same_bytes bytes = (bytes_eq-Decides bytes bytes).1 refl
+
+off : (applies : Bool) (cause : Cause) → applies ≡ false → rule applies cause ≡ None
+off applies cause e = ap (λ b. rule b cause) e
+
+-- all of a request is a legal hearing, and the answer to it a legal return
+whole-hearing : (frame : List ℕ) → is_legal_hearing frame frame Restart ≡ true
+unfolding is_legal_hearing
+whole-hearing frame = refl
+
+whole-return : (frame answer : List ℕ) (needed : ℕ) → is_legal_return frame needed (is_heard_whole frame frame Restart) answer answer ≡ true
+unfolding is_legal_return
+whole-return frame answer needed = ap₂ (λ b c. (true && b) && c || (nat_lt (length answer) needed || is_betrayed frame answer)) (same_bytes frame) (same_bytes answer)
+
+exchange-free : (s : State) (message : Message) → is_read_message message ≡ true → heard_ending message Whole ≡ Restart → exchange_cause s Whole back.Whole (Some message) ≡ None
+exchange-free s message reads ending =
+    let frame = frame_of s.host.setup.addr message in
+    let answer = answer_to s.device s.host.setup.addr message Whole in
+    let heard : is_legal_hearing frame frame (heard_ending message Whole) ≡ true = ap (is_legal_hearing frame frame) ending ∙ whole-hearing frame in
+    let returned : is_legal_return frame (whole_answer message) (is_heard_whole frame frame (heard_ending message Whole)) answer answer ≡ true =
+    ap (λ e. is_legal_return frame (whole_answer message) (is_heard_whole frame frame e) answer answer) ending ∙ whole-return frame answer (whole_answer message) in
+    ap (λ b. option_or (rule (not b) WrongKind) (option_or (rule (not (is_legal_hearing frame frame (heard_ending message Whole))) NotBetrayed)
+    (rule (not (is_legal_return frame (whole_answer message) (is_heard_whole frame frame (heard_ending message Whole)) answer answer)) NotBetrayed))) reads
+    ∙ ap₂ (λ h r. option_or (rule (not h) NotBetrayed) (rule (not r) NotBetrayed)) heard returned
+
+free : (s : State) (event : Event) → s.taken < event_limit → event_cause s event ≡ None → cause_of s event ≡ None
+unfolding cause_of
+free s event room none = ap (λ b. option_or (rule b Full) (event_cause s event)) (lt-leb event_limit s.taken room) ∙ none
+
+now-taken : (config : Config) (passes : ℕ) (events : List Event) → (now config passes events).taken ≡ length events
+unfolding now state_of
+now-taken config passes events = refl
+
+-- after its deliveries the write is still being sent
+sent-stage : HonestLaws → (config : Config) (passes : ℕ) (before : List Event) (cell : Cell) (word : ℕ) (arrivals : List Arrival) → IsSound config → IsSetup (setup_of config passes) →
+    AreTaken config passes (sent_by cell word arrivals before) → (now config passes (sent_by cell word arrivals before)).host.stage ≡ Some (Writes cell word 0)
+sent-stage laws config passes before cell word [] sound made taken =
+    ap (λ (s : State). s.host.stage) (laws.more config passes before (Order cell word) sound made taken) ∙ order-stage (now config passes before) cell word
+sent-stage laws config passes before cell word (arrival ∷ arrivals) sound made taken =
+    let events = sent_by cell word arrivals before in
+    ap (λ (s : State). s.host.stage) (laws.more config passes events (Deliver arrival) sound made taken)
+    ∙ (ap (λ (h : Summary). h.stage) (next-deliver-host (now config passes events) arrival)
+    ∙ sent-stage laws config passes before cell word arrivals sound made taken.1)
+
+pub taken-whole : HonestLaws → (config : Config) (passes : ℕ) (before : List Event) (cell : Cell) (word : ℕ) (arrivals : List Arrival) (acked : Bool) → IsSound config → IsSetup (setup_of config passes) →
+    AreTaken config passes (sent_by cell word arrivals before) → length (sent_by cell word arrivals before) + 2 ≤ event_limit →
+    AreTaken config passes (honest cell word arrivals acked before)
+taken-whole laws config passes before cell word arrivals acked sound made taken room =
+    let events = sent_by cell word arrivals before in
+    let s = now config passes events in
+    let stage = sent-stage laws config passes before cell word arrivals sound made taken in
+    let sending : sending_in s.host ≡ Some (cell_write cell word) = ap (option_map stage_message) stage in
+    let finish : IsTaken s (Finish acked) = record {
+      free = free s (Finish acked) (let count = now-taken config passes events in omega arith) (ap finish_cause sending ∙ off _ WrongKind (write-kind cell word));
+      word = tt;
+    } in
+    let t = now config passes (Finish acked ∷ events) in
+    let next_stage : t.host.stage ≡ Some (Reads cell word 0) = ap (λ (u : State). u.host.stage) (laws.more config passes events (Finish acked) sound made (finish, taken)) ∙ finish-stage s acked cell word stage in
+    let reading : sending_in t.host ≡ Some (cell_read cell) = ap (option_map stage_message) next_stage in
+    let count = now-taken config passes (Finish acked ∷ events) in (
+      record {
+        free = free t (Exchange Whole back.Whole) (omega arith) (ap (exchange_cause t Whole back.Whole) reading ∙ exchange-free t (cell_read cell) (reads-cell cell) (read-restart cell));
+        word = tt;
+      },
+      (finish, taken),
+    )
