@@ -8,3 +8,5 @@ mod device;
 mod host;
 #[cfg(test)]
 mod model;
+#[cfg(test)]
+mod text;

@@ -1,8 +1,7 @@
 //! Traces: the worked one, the faults of its lines, and a decoder in pieces.
 
-use pm_text::{ByteList, DecodeEnd, Decoder, Sink, Source, TextFault, TraceLine, decode};
+use pm_text::{DecodeEnd, Sink, Source, TextFault, decode};
 use std::alloc::Global;
-use std::io;
 use std::test::Fail;
 
 const TRACE: &str = "B0 05 04 00 21 CD 34 5A\nB0 06 02 00 21 / B1 02 CD 34 B9\nB0 05 04 01 21 CD 34 5A\nb0 10 80 34\nB0 9\n";
