@@ -15,4 +15,6 @@ mod orders;
 #[cfg(test)]
 mod streams;
 #[cfg(test)]
+mod text;
+#[cfg(test)]
 mod tool;

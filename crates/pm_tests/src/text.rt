@@ -1,8 +1,12 @@
 //! Traces: the worked one, the faults of its lines, and a decoder in pieces.
 
-use pm_text::{ByteList, DecodeEnd, Decoder, Sink, Source, TextFault, TraceLine, decode};
-use std::alloc::Global;
+ghost use Rattle.std.specs.Prelude.{Some};
+
+use pm_text::{DecodeEnd, Decoder, MAX_TEXT, Sink, Source, TextFault, decode};
+use pm_text::{read_trace_line, render_line};
+use std::alloc::{AllocError, Global};
 use std::io;
+use std::io::Read;
 use std::test::Fail;
 
 const TRACE: &str =
@@ -69,6 +73,154 @@ fn a_trace_is_written_line_by_line(rt: HostRuntime) -> Result<(), Fail> {
         let (end, written) = decoded(rt.alloc(), trace);
         assert_eq!(rt; end, Ok(wanted), "{trace}");
         assert_eq!(rt; written.as_slice(), text.as_bytes(), "{trace}");
+    }
+    Ok(())
+}
+
+// A reader that gives one byte at a time.
+#[derive(Drop)]
+struct OneByOne<'a> {
+    rest: &'a [u8],
+}
+
+impl Read for OneByOne<'_> {
+    ghost remaining = { λ r. Some r.rest.now };
+
+    fn read(&mut self, buf: &mut [u8]) -> io::Result<usize> {
+        let count = buf.len().min(self.rest.len()).min(1);
+        buf[..count].copy_from_slice(&self.rest[..count]);
+        self.rest = &self.rest[count..];
+        Ok(count)
+    }
+}
+
+#[test]
+fn the_worked_trace_is_read_byte_by_byte(rt: HostRuntime) -> Result<(), Fail> {
+    let mut reader = Source::new(OneByOne {
+        rest: TRACE.as_bytes(),
+    });
+    let mut writer = Sink::new(Vec::new(rt.alloc()));
+    let end = decode(rt.alloc(), &mut reader, &mut writer)?;
+    assert_eq!(rt; end, DecodeEnd::BadLines);
+    assert_eq!(rt; writer.into_inner().as_slice(), TEXT.as_bytes());
+    Ok(())
+}
+
+// Feeds a piece on until it is taken, and notes the numbers of the lines that are shown.
+fn feed_whole(decoder: &mut Decoder, piece: &[u8], shown: &mut Vec<u64>) -> Result<(), TextFault> {
+    let mut rest = piece;
+    for _ in 0..piece.len() {
+        let fed = decoder.feed(rest)?;
+        if let Some((number, _)) = decoder.line() {
+            shown.push(number)?;
+        }
+        rest = &rest[fed.taken..];
+    }
+    Ok(())
+}
+
+#[test]
+fn a_cut_shows_the_same_lines_wherever_it_is(rt: HostRuntime) -> Result<(), Fail> {
+    let trace = TRACE.as_bytes();
+    for cut in 0..=trace.len() {
+        let mut decoder = Decoder::new(rt.alloc());
+        let mut shown = Vec::new(rt.alloc());
+        feed_whole(&mut decoder, &trace[..cut], &mut shown)?;
+        feed_whole(&mut decoder, &trace[cut..], &mut shown)?;
+        assert_eq!(rt; decoder.finish(), Ok(false), "cut {cut}");
+        assert_eq!(rt; shown.as_slice(), [1, 2, 3, 4, 5].as_slice(), "cut {cut}");
+        assert_eq!(rt; decoder.counts(), (5, 3, 1, 1), "cut {cut}");
+    }
+    Ok(())
+}
+
+// A line whose write part has so many bytes.
+fn long_line(alloc: Global, bytes: usize) -> Result<String, AllocError> {
+    let mut line = String::from_str(alloc, "B0")?;
+    for _ in 1..bytes {
+        line.push_str(" 05")?;
+    }
+    Ok(line)
+}
+
+#[test]
+fn a_part_has_at_most_300_bytes(rt: HostRuntime) -> Result<(), Fail> {
+    let rows = [
+        (300, "", "1 58 write F3 Long 9\n"),
+        (301, "", "1 X1 Syntax\n"),
+        (300, "/", "1 58 write F7 WrongDirection 1\n"),
+        (301, "/", "1 X1 Syntax\n"),
+        (301, "/ /", "1 X1 Syntax\n"),
+        (301, "Z", "1 X2 BadHex\n"),
+    ];
+    for (bytes, end, wanted) in rows {
+        let mut trace = long_line(rt.alloc(), bytes)?;
+        trace.push_str(end)?;
+        let (_, written) = decoded(rt.alloc(), trace.as_str());
+        assert!(rt; written.starts_with(wanted.as_bytes()), "{bytes} {end}");
+    }
+    Ok(())
+}
+
+#[test]
+fn a_decoder_that_failed_refuses_from_then_on(rt: HostRuntime) -> Result<(), Fail> {
+    let mut trace = Vec::from_slice(rt.alloc(), b"b0 10 80 34\n")?;
+    trace.resize(MAX_TEXT, b' ')?;
+    let mut reader = Source::new(trace.as_slice());
+    let mut writer = Sink::new(Vec::new(rt.alloc()));
+    assert_eq!(rt; decode(rt.alloc(), &mut reader, &mut writer), Ok(DecodeEnd::Clean));
+
+    trace.push(b'\n')?;
+    let mut reader = Source::new(trace.as_slice());
+    let mut writer = Sink::new(Vec::new(rt.alloc()));
+    assert_eq!(rt; decode(rt.alloc(), &mut reader, &mut writer), Err(TextFault::TooLong));
+    assert_eq!(rt; writer.into_inner().as_slice(), b"1 58 WRITE_PROTECT write 80\n".as_slice());
+
+    let mut decoder = Decoder::new(rt.alloc());
+    let mut shown = Vec::new(rt.alloc());
+    assert_eq!(rt; feed_whole(&mut decoder, &trace, &mut shown), Err(TextFault::TooLong));
+    assert!(rt; decoder.line().is_none());
+    assert_eq!(rt; decoder.feed(b""), Err(TextFault::TooLong));
+    assert_eq!(rt; decoder.finish(), Err(TextFault::TooLong));
+    assert_eq!(rt; decoder.counts(), (1, 1, 0, 0));
+    Ok(())
+}
+
+#[test]
+fn a_finished_decoder_takes_nothing(rt: HostRuntime) -> Result<(), Fail> {
+    let mut decoder = Decoder::new(rt.alloc());
+    let fed = decoder.feed(b"b0 10 80 34\r")?;
+    assert_eq!(rt; (fed.taken, fed.ended), (12, false));
+    assert_eq!(rt; decoder.finish(), Ok(true));
+    assert!(rt; decoder.line().is_some());
+    let fed = decoder.feed(b"b0 10 80 34\n")?;
+    assert_eq!(rt; (fed.taken, fed.ended), (0, false));
+    assert!(rt; decoder.line().is_none());
+    assert_eq!(rt; decoder.finish(), Ok(false));
+    assert_eq!(rt; decoder.counts(), (1, 1, 0, 0));
+    Ok(())
+}
+
+#[test]
+fn a_line_is_read_and_rendered_alone(rt: HostRuntime) -> Result<(), Fail> {
+    let rows = [
+        ("B0 05 04 00 21 CD 34 5A", "1 58 page 0 VOUT_COMMAND write 34CD"),
+        ("B0 06 02 00 21 / B1 02 CD 34 B9", "1 58 page 0 VOUT_COMMAND read 34CD"),
+        ("B0 05 04 01 21 CD 34 5A", "1 58 write F5 WrongPec 7"),
+        ("b0 10 80 34", "1 58 WRITE_PROTECT write 80"),
+        ("  ", "1 -- write F1 NotOurs"),
+    ];
+    for (line, wanted) in rows {
+        let parts = read_trace_line(rt.alloc(), line.as_bytes())?;
+        let text = render_line(rt.alloc(), 1, &parts)?;
+        assert_eq!(rt; text.as_str(), wanted);
+    }
+    let refused = [("B0 9", TextFault::BadHex(1)), ("# x", TextFault::BadHex(1)), ("B0 // B1", TextFault::Syntax(1))];
+    for (line, wanted) in refused {
+        match read_trace_line(rt.alloc(), line.as_bytes()) {
+            Ok(_) => assert!(rt; false, "{line}"),
+            Err(fault) => assert_eq!(rt; fault, wanted, "{line}"),
+        }
     }
     Ok(())
 }
