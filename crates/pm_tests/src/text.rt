@@ -2,8 +2,9 @@
 
 ghost use Rattle.std.specs.Prelude.{Some};
 
-use pm_text::{DecodeEnd, Decoder, MAX_TEXT, Sink, Source, TextFault, decode};
-use pm_text::{read_trace_line, render_line};
+use pm_text::{
+    DecodeEnd, Decoder, MAX_TEXT, Sink, Source, TextFault, decode, read_trace_line, render_line,
+};
 use std::alloc::{AllocError, Global};
 use std::io;
 use std::io::Read;
@@ -168,17 +169,29 @@ fn a_decoder_that_failed_refuses_from_then_on(rt: HostRuntime) -> Result<(), Fai
     trace.resize(MAX_TEXT, b' ')?;
     let mut reader = Source::new(trace.as_slice());
     let mut writer = Sink::new(Vec::new(rt.alloc()));
-    assert_eq!(rt; decode(rt.alloc(), &mut reader, &mut writer), Ok(DecodeEnd::Clean));
+    assert_eq!(rt;
+        decode(rt.alloc(), &mut reader, &mut writer),
+        Ok(DecodeEnd::Clean)
+    );
 
     trace.push(b'\n')?;
     let mut reader = Source::new(trace.as_slice());
     let mut writer = Sink::new(Vec::new(rt.alloc()));
-    assert_eq!(rt; decode(rt.alloc(), &mut reader, &mut writer), Err(TextFault::TooLong));
-    assert_eq!(rt; writer.into_inner().as_slice(), b"1 58 WRITE_PROTECT write 80\n".as_slice());
+    assert_eq!(rt;
+        decode(rt.alloc(), &mut reader, &mut writer),
+        Err(TextFault::TooLong)
+    );
+    assert_eq!(rt;
+        writer.into_inner().as_slice(),
+        b"1 58 WRITE_PROTECT write 80\n".as_slice()
+    );
 
     let mut decoder = Decoder::new(rt.alloc());
     let mut shown = Vec::new(rt.alloc());
-    assert_eq!(rt; feed_whole(&mut decoder, &trace, &mut shown), Err(TextFault::TooLong));
+    assert_eq!(rt;
+        feed_whole(&mut decoder, &trace, &mut shown),
+        Err(TextFault::TooLong)
+    );
     assert!(rt; decoder.line().is_none());
     assert_eq!(rt; decoder.feed(b""), Err(TextFault::TooLong));
     assert_eq!(rt; decoder.finish(), Err(TextFault::TooLong));
@@ -204,8 +217,14 @@ fn a_finished_decoder_takes_nothing(rt: HostRuntime) -> Result<(), Fail> {
 #[test]
 fn a_line_is_read_and_rendered_alone(rt: HostRuntime) -> Result<(), Fail> {
     let rows = [
-        ("B0 05 04 00 21 CD 34 5A", "1 58 page 0 VOUT_COMMAND write 34CD"),
-        ("B0 06 02 00 21 / B1 02 CD 34 B9", "1 58 page 0 VOUT_COMMAND read 34CD"),
+        (
+            "B0 05 04 00 21 CD 34 5A",
+            "1 58 page 0 VOUT_COMMAND write 34CD",
+        ),
+        (
+            "B0 06 02 00 21 / B1 02 CD 34 B9",
+            "1 58 page 0 VOUT_COMMAND read 34CD",
+        ),
         ("B0 05 04 01 21 CD 34 5A", "1 58 write F5 WrongPec 7"),
         ("b0 10 80 34", "1 58 WRITE_PROTECT write 80"),
         ("  ", "1 -- write F1 NotOurs"),
@@ -215,7 +234,11 @@ fn a_line_is_read_and_rendered_alone(rt: HostRuntime) -> Result<(), Fail> {
         let text = render_line(rt.alloc(), 1, &parts)?;
         assert_eq!(rt; text.as_str(), wanted);
     }
-    let refused = [("B0 9", TextFault::BadHex(1)), ("# x", TextFault::BadHex(1)), ("B0 // B1", TextFault::Syntax(1))];
+    let refused = [
+        ("B0 9", TextFault::BadHex(1)),
+        ("# x", TextFault::BadHex(1)),
+        ("B0 // B1", TextFault::Syntax(1)),
+    ];
     for (line, wanted) in refused {
         match read_trace_line(rt.alloc(), line.as_bytes()) {
             Ok(_) => assert!(rt; false, "{line}"),
