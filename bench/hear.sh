@@ -1,6 +1,7 @@
 #!/usr/bin/env bash
-# How long `pmb hear` takes for texts of up to 1 MiB that are one frame, as one long word and as many
-# words of one byte. The code is unknown, so that the PEC of all bytes is computed. Build the program
+# How long `pmb hear` takes for texts of up to 1 MiB: one frame as one long word and as many words of
+# one byte, whose code is unknown, so that the PEC of all bytes is computed; and many lines, of short
+# writes, of reads, of restarts and of empty reads, which make the longest text. Build the program
 # first: (cd crates/pmb && rt run -- hear < stdin). Each row is the best of five runs; twice the text
 # should take about twice the time.
 set -eu
@@ -24,9 +25,20 @@ print(f"{name:28} {os.path.getsize(path):8} bytes  {best * 1000:8.1f} ms")
 PY
 }
 
+lines() { # name, line, size
+    python3 -c "import sys; line = sys.argv[1] + '\n'; print(line * (int(sys.argv[2]) // len(line)), end='')" \
+        "$2" "$3" > "$folder/lines"
+    measure "$1" "$folder/lines"
+}
+
 for size in 131072 262144 524288 1048574; do
     python3 -c "print('B0' + '99' * ($size // 2 - 1))" > "$folder/word"
     python3 -c "print('B0' + ' 99' * ($size // 3 - 1))" > "$folder/words"
     measure "one word" "$folder/word"
     measure "words of one byte" "$folder/words"
+    lines "writes by PAGE_PLUS" "B0 05 04 00 21 CD 34 5A" "$size"
+    lines "plain writes" "B0 21 CD 34 38" "$size"
+    lines "reads" "B0 20 /" "$size"
+    lines "restarts" "restart" "$size"
+    lines "empty reads" "/" "$size"
 done

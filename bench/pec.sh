@@ -1,5 +1,5 @@
 #!/usr/bin/env bash
-# How many megabytes a second `pec` takes, over frames and over 1 MiB: bench/pec/main.rt, built in a
+# How many megabytes a second `pec` takes, over frames and over 1 MiB: bench/pec.rattle, built in a
 # copy of the crates that it stands on. With a check of crates/pm_frame kept in its out/ it takes half a
 # minute, otherwise a few.
 set -eu
@@ -13,5 +13,5 @@ for crate in pm_num pm_table pm_frame; do
     grep "^$crate:" crates.txt >> "$folder/crates.txt"
 done
 echo "pec_bench: pm_frame" >> "$folder/crates.txt"
-cp bench/pec/main.rt "$folder/crates/pec_bench/src/main.rt"
+cp bench/pec.rattle "$folder/crates/pec_bench/src/main.rt"
 (cd "$folder/crates/pec_bench" && rt run 2> "$folder/log" || { cat "$folder/log"; exit 1; }) | grep "MB/s"

@@ -21,18 +21,21 @@ ROOT = os.path.dirname(os.path.dirname(os.path.abspath(__file__)))
 PROGRAM = os.path.join(ROOT, "crates/pmb/out/pmb")
 
 ADDRESS = 0x58
-START = 0x1000
 
 # Code: the bytes of its payload, whether it is read, whether it is written.
 TABLE = {
     0x00: (1, True, True), 0x01: (1, True, True), 0x03: (0, False, True), 0x05: (0, False, True),
     0x06: (0, True, False), 0x10: (1, True, True), 0x19: (1, True, False), 0x20: (1, True, False),
     0x21: (2, True, True), 0x24: (2, True, True), 0x25: (2, True, True), 0x26: (2, True, True),
-    0x30: (0, True, False), 0x78: (1, True, False), 0x79: (2, True, False), 0x7A: (1, True, False),
-    0x7E: (1, True, False), 0x88: (2, True, False), 0x8B: (2, True, False), 0x8C: (2, True, False),
+    0x30: (0, True, False), 0x78: (1, True, False), 0x79: (2, True, False), 0x7A: (1, True, True),
+    0x7E: (1, True, True), 0x88: (2, True, False), 0x8B: (2, True, False), 0x8C: (2, True, False),
     0x8D: (2, True, False), 0x98: (1, True, False),
 }
 NOT_CARRIED = (0x00, 0x05, 0x06, 0x30)
+# What each output starts with, and which codes may be written at each value of WRITE_PROTECT but 00h.
+START = {0x01: 0x80, 0x21: 0x1000, 0x24: 0x4000, 0x25: 0x1100, 0x26: 0x0F00}
+ALLOWED = {0x80: (0x10,), 0x40: (0x10, 0x01, 0x00), 0x20: (0x10, 0x01, 0x00, 0x21)}
+OUTPUTS = 2
 
 
 def pec(frame):
@@ -86,53 +89,150 @@ def write_fault(frame):
     return None
 
 
-def answer(frame):
-    """The converter's answer to a frame, and the words of both outputs."""
-    words = [START, START]
-    fault = write_fault(frame)
-    kinds = {
-        "F1": "silent",
-        "F6": "refused K2 UnsupportedCode",
-        "F7": "refused K7 ReadOnly",
-        "F8": "refused K6 Nested",
-    }
-    if fault:
-        return kinds.get(fault[:2], f"refused K1 Frame {fault}"), words
-    if frame[1] != 0x05 or frame[4] != 0x21:
-        return "refused K2 UnsupportedCode", words
-    if frame[3] >= 2:
-        return "refused K4 BadPage", words
-    words[frame[3]] = frame[5] + 256 * frame[6]
-    return "taken", words
+def request_fault(frame):
+    """The first fault of a frame that a repeated start follows, with its place."""
+    count = len(frame)
+    if count == 0 or frame[0] != 2 * ADDRESS:
+        return "F1 NotOurs"
+    if count == 1:
+        return "F2 Short 1"
+    is_read = lambda c: c in TABLE and TABLE[c][1]
+    code = frame[1]
+    if code in (0x06, 0x30):
+        if count != 5:
+            return f"F2 Short {count}" if count < 5 else "F3 Long 5"
+        if frame[2] != 2:
+            return "F4 WrongCount 2"
+        if code == 0x30:
+            return None
+        code, place = frame[4], 4
+        if code in NOT_CARRIED:
+            return "F8 Nested 4"
+    else:
+        place = 1
+    if code not in TABLE:
+        return f"F6 UnknownCode {place}"
+    if not is_read(code):
+        return f"F7 WrongDirection {place}"
+    return "F3 Long 2" if place == 1 and count > 2 else None
+
+
+class Converter:
+    """The converter of the base configuration: two outputs, ULINEAR16 with one exponent, so that its
+    words compare as its values do."""
+
+    def __init__(self):
+        self.restart()
+
+    def restart(self):
+        self.outputs = [dict(START) for _ in range(OUTPUTS)]
+        self.page = self.protect = self.cml = 0
+        self.over = [False] * OUTPUTS
+        self.look()
+
+    def look(self):
+        """A selected word above VOUT_MAX is noted at once."""
+        for number, cells in enumerate(self.outputs):
+            selected = {0x90: 0x26, 0xA0: 0x25}.get(cells[0x01] & 0xF0, 0x21)
+            self.over[number] |= cells[selected] > cells[0x24]
+
+    def fault(self, kind, bit):
+        self.cml |= bit
+        return f"refused {kind}"
+
+    def frame_fault(self, fault):
+        if fault[:2] == "F1":
+            return "silent"
+        known = {"F6": "K2 UnsupportedCode", "F7": "K7 ReadOnly", "F8": "K6 Nested"}
+        if fault[:2] in known:
+            return self.fault(known[fault[:2]], 0x80)
+        return self.fault(f"K1 Frame {fault}", 0x20 if fault[:2] == "F5" else 0x02)
+
+    def write(self, frame):
+        fault = write_fault(frame)
+        if fault:
+            return self.frame_fault(fault)
+        carried = frame[1] == 0x05
+        code, page = (frame[4], frame[3]) if carried else (frame[1], self.page)
+        payload = frame[5:-1] if carried else frame[2:-1]
+        word = int.from_bytes(bytes(payload), "little")
+        if page >= OUTPUTS or code == 0x00 and word >= OUTPUTS:
+            return self.fault("K4 BadPage", 0x40)
+        if self.protect and code != 0x03 and code not in ALLOWED[self.protect]:
+            return self.fault("K5 Protected", 0x80)
+        if code == 0x10 and word not in (0, 0x20, 0x40, 0x80):
+            return self.fault("K3 UnsupportedData", 0x40)
+        is_operation = word < 0x80 or word < 0x90 or word & 0xFC in (0x94, 0x98, 0xA4, 0xA8)
+        if code == 0x01 and not is_operation:
+            return self.fault("K3 UnsupportedData", 0x40)
+        if code == 0x00:
+            self.page = word
+        elif code == 0x03:
+            self.over[page], self.cml = False, 0
+        elif code == 0x10:
+            self.protect = word
+        elif code == 0x7A:
+            self.over[page] &= not word & 0x08
+        elif code == 0x7E:
+            self.cml &= ~word
+        else:
+            self.outputs[page][code] = word
+        self.look()
+        return "taken"
+
+    def register(self, code, page):
+        cells, over = self.outputs[page], self.over[page]
+        off = not cells[0x01] & 0x80
+        byte = 0x40 * off + 0x02 * (self.cml != 0) + over
+        known = {0x00: self.page, 0x10: self.protect, 0x19: 0x80, 0x20: 0x14, 0x78: byte, 0x7E: self.cml,
+                 0x79: byte + 0x8000 * over + 0x0800 * off, 0x7A: 0x08 * over, 0x98: 0x33}
+        return known[code] if code in known else cells.get(code, 0)
+
+    def read(self, frame):
+        fault = request_fault(frame)
+        if fault:
+            return self.frame_fault(fault)
+        if frame[1] == 0x30:
+            return self.fault("K3 UnsupportedData", 0x40)
+        carried = frame[1] == 0x06
+        code, page = (frame[4], frame[3]) if carried else (frame[1], self.page)
+        if page >= OUTPUTS:
+            return self.fault("K4 BadPage", 0x40)
+        payload = list(self.register(code, page).to_bytes(TABLE[code][0], "little"))
+        sent = [2 * ADDRESS + 1, *([len(payload)] if carried else []), *payload]
+        sent.append(pec([*frame, *sent]))
+        return "answer " + " ".join(f"{byte:02X}" for byte in sent)
 
 
 def hear(text):
     """Status, standard output and standard error of `pmb hear` on a text."""
+    if len(text) > 1048576:
+        return 1, "", "pmb: X3 TooLong\n"
     lines = text.split(b"\n")
     if lines[-1] == b"":
         lines.pop()
-    frame = fault = None
+    converter, said = Converter(), []
     for number, line in enumerate(lines, 1):
         line = line[:-1] if line.endswith(b"\r") else line
         if line.strip(b" ") == b"" or line.startswith(b"#"):
             continue
-        words = [it for it in line.split(b" ") if it]
-        if frame is not None:
-            fault = f"X1 Syntax line {number}"
-        elif b"/" in line or words[0] == b"restart":
-            fault = f"X1 Syntax line {number}"
-        elif any(not re.fullmatch(rb"([0-9A-Fa-f]{2})+", it) for it in words):
-            fault = f"X2 BadHex line {number}"
-        if fault:
-            break
-        frame = bytes.fromhex("".join(it.decode() for it in words))
-    if not fault and frame is None:
-        fault = f"X1 Syntax line {len(lines) + 1}"
-    if fault:
-        return 1, "", f"pmb: {fault}\n"
-    said, words = answer(frame)
-    outputs = "".join(f"output {o} VOUT_COMMAND {word:04X}\n" for o, word in enumerate(words))
-    return 0, f"{said}\n{outputs}", ""
+        if [it for it in line.split(b" ") if it][0] == b"restart":
+            if line.strip(b" ") != b"restart":
+                return 1, "", f"pmb: X1 Syntax line {number}\n"
+            converter.restart()
+            said.append("restarted")
+            continue
+        front, slash, rest = line.partition(b"/")
+        words = [it for it in front.split(b" ") if it]
+        if any(not re.fullmatch(rb"([0-9A-Fa-f]{2})+", it) for it in words):
+            return 1, "", f"pmb: X2 BadHex line {number}\n"
+        if rest.strip(b" ") != b"":
+            return 1, "", f"pmb: X1 Syntax line {number}\n"
+        frame = list(bytes.fromhex("".join(it.decode() for it in words)))
+        said.append(converter.read(frame) if slash else converter.write(frame))
+    for number, cells in enumerate(converter.outputs):
+        said.append(f"output {number} VOUT_COMMAND {cells[0x21]:04X}")
+    return 0, "".join(line + "\n" for line in said), ""
 
 
 def signed(word, bits):
@@ -181,44 +281,72 @@ def number(form, word, micro):
 
 
 def random_frame(dice):
-    """A frame that is good, or nearly."""
-    code = dice.choice([*TABLE, 0x99, *[0x21] * 12])
+    """A write that is good, or nearly."""
+    code = dice.choice([*TABLE, 0x99, *[0x21] * 6, 0x24, 0x24, 0x00, 0x00, 0x10, 0x01])
     payload = [dice.randrange(256) for _ in range(TABLE.get(code, (2,))[0])]
+    if code in (0x00, 0x10, 0x01, 0x7A, 0x7E) and dice.random() < 0.8:
+        payload = [dice.choice({0x00: [0, 1], 0x10: [0, 0, 0, 0x20, 0x40, 0x80]}.get(
+            code, [0x80, 0x40, 0x00, 0x94, 0xA8, 0x98, 0x08, 0xFF, 0x02, 0x20]))]
     if dice.random() < 0.6:
         page = dice.choice([0, 0, 1, 1, 2, 255])
         frame = [2 * ADDRESS, 0x05, 2 + len(payload), page, code, *payload]
     else:
         frame = [2 * ADDRESS, code, *payload]
-    for _ in range(dice.choice([0, 0, 0, 0, 1, 2])):
+    for _ in range(dice.choice([0, 0, 0, 0, 0, 0, 1, 2])):
         strange = dice.choice([0, 1, 2, 3, 4, 5, 6, 0x10, 0x21, 0x30, 0xB0, 0xFF])
         frame[dice.randrange(len(frame))] = strange
     frame.append(pec(frame))
-    if dice.random() < 0.15:
+    if dice.random() < 0.08:
         frame[dice.randrange(len(frame))] ^= 1 << dice.randrange(8)
-    if dice.random() < 0.15:
+    if dice.random() < 0.08:
         frame = frame[: dice.randrange(len(frame) + 1)]
-    if dice.random() < 0.1:
+    if dice.random() < 0.05:
         frame += [dice.randrange(256) for _ in range(dice.choice([1, 1, 2, 300]))]
     return frame
 
 
-def random_line(dice):
+def random_request(dice):
+    """A request that is good, or nearly."""
+    code = dice.choice([*TABLE, 0x99, *[0x21, 0x78, 0x79, 0x7A, 0x7E, 0x00] * 3])
+    page = dice.choice([0, 0, 1, 1, 2, 255])
+    frame = dice.choice([[2 * ADDRESS, code], [2 * ADDRESS, 0x06, 2, page, code]])
+    if code == 0x30:
+        frame = [2 * ADDRESS, 0x30, 2, dice.choice([0x21, 0x8B, 0x20]), dice.choice([0, 1, 2])]
+    if dice.random() < 0.1:
+        frame[dice.randrange(len(frame))] = dice.choice([0, 1, 2, 3, 5, 6, 0x30, 0xB2])
+    if dice.random() < 0.1:
+        frame = frame[: dice.randrange(len(frame) + 1)] if dice.random() < 0.5 else frame + [0]
+    return frame
+
+
+def spelled(dice, frame):
     line = b""
-    for byte in random_frame(dice):
+    for byte in frame:
         line += b"%02X" % byte if dice.random() < 0.9 else b"%02x" % byte
         line += dice.choice([b" ", b" ", b" ", b"  ", b""])
-    if dice.random() < 0.15:
+    return line
+
+
+def random_line(dice, strange):
+    if dice.random() < 0.1:
+        line = dice.choice([b"restart", b" restart "])
+    elif dice.random() < 0.4:
+        line = spelled(dice, random_request(dice)) + dice.choice([b"/", b" /", b"/ "])
+    else:
+        line = spelled(dice, random_frame(dice))
+    if dice.random() < strange:
         place = dice.randrange(len(line) + 1)
-        strange = dice.choice([b"/", b"\r", b"\t", b"G", b"0", b"#", b"restart", b" restart "])
-        line = line[:place] + strange + line[place:]
+        put = dice.choice([b"/", b"/ /", b"\r", b"\t", b"G", b"0", b"#", b"restart", b" restart "])
+        line = line[:place] + put + line[place:]
     return line
 
 
 def random_text(dice):
-    skipped = [b"", b"#", b"# B0", b"  ", b"\r", b" # x"]
-    lines = [dice.choice(skipped) for _ in range(dice.choice([0, 0, 0, 1, 3]))]
-    for _ in range(dice.choice([0, 1, 1, 1, 1, 1, 1, 2])):
-        lines.insert(dice.randrange(len(lines) + 1), random_line(dice))
+    skipped = [b"", b"#", b"# B0", b"  ", b"\r"]
+    lines = [dice.choice(skipped) for _ in range(dice.choice([0, 0, 0, 1, 3, 300, 70000 if dice.random() < 0.005 else 0]))]
+    strange = dice.choice([0, 0, 0, 0.15])
+    for _ in range(dice.choice([0, 1, 1, 2, 5, 20])):
+        lines.insert(dice.randrange(len(lines) + 1), random_line(dice, strange))
     return dice.choice([b"\n", b"\n", b"\r\n"]).join(lines) + dice.choice([b"", b"\n", b"\r\n", b"\n\r"])
 
 
@@ -247,12 +375,12 @@ def main():
     for _ in range(texts):
         text = random_text(dice)
         found, wanted = ran(["hear"], text), hear(text)
-        kind = (wanted[1] or wanted[2]).split("\n")[0]
-        kind = re.sub(r" line \d+$| \d+$", "", kind)
-        seen[kind] = seen.get(kind, 0) + 1
+        for kind in (wanted[1] or wanted[2]).splitlines():
+            kind = re.sub(r" line \d+$| \d+$|( [0-9A-F]{2})+$| \d VOUT.*", "", kind)
+            seen[kind] = seen.get(kind, 0) + 1
         if found != wanted:
             faults += 1
-            print(f"hear {text!r}: {found}, and not {wanted}")
+            print(f"hear {text[:3000]!r}: {found}, and not {wanted}")
     for _ in range(texts // 20):
         form, word, micro = random_question(dice)
         option = f"--word={word:04X}" if micro is None else f"--micro={micro}"

@@ -55,6 +55,8 @@ RUNS = [
     (["hear"], b"B0 05 03 00 00 01 99\n"),
     (["hear"], b"B2 05\n"),
     (["hear"], b"B0 " * 5000),
+    (["hear"], b"B0 00 01 ED\nB0 21 CD 34 38\nB0 20 /\nrestart\nB0 00 /\n" * 20),
+    (["hear"], b"/\n" * 100_000),
     (["hear"], b""),
     (["hear"], b"# a comment\n\nB0 05\nB0 05\n"),
     (["hear"], b"ZZ\n"),

@@ -14,6 +14,7 @@ PROGRAM = os.path.join(ROOT, "crates/pmb/out/pmb")
 
 FRAME = b"B0 05 04 00 21 CD 34 5A\n"
 TAKEN = b"taken\noutput 0 VOUT_COMMAND 34CD\noutput 1 VOUT_COMMAND 1000\n"
+NONE = b"output 0 VOUT_COMMAND 1000\noutput 1 VOUT_COMMAND 1000\n"
 LINEAR11 = ["number", "--format=linear11"]
 DIRECT = "--format=direct:"
 
@@ -22,6 +23,8 @@ DIRECT = "--format=direct:"
 RUNS = [
     (["hear"], FRAME, 0, TAKEN, b""),
     (["hear"], b"# first\n" * 300 + FRAME + b"\n" * 70000, 0, TAKEN, b""),
+    (["hear"], b"B0 00 01 ED\nB0 00 /\nrestart\n", 0, b"taken\nanswer B1 01 C5\nrestarted\n" + NONE, b""),
+    (["hear"], b"", 0, NONE, b""),
     (["hear"], b"/ /\n", 1, b"", b"pmb: X1 Syntax line 1\n"),
     (["hear"], b"\n" * 299 + b"B0 0", 1, b"", b"pmb: X2 BadHex line 300\n"),
     (["hear"], b"#" * 1_048_577, 1, b"", b"pmb: X3 TooLong\n"),
@@ -57,7 +60,7 @@ STREAMS = [
     ("<&-", ["hear"], 1, b"pmb: X4 Read\n"),
     ("< /", ["hear"], 1, b"pmb: X4 Read\n"),
     (">&- 2>&-", ["hear"], 1, b""),
-    ("< /dev/null 2>&-", ["hear"], 1, b""),
+    ("< / 2>&-", ["hear"], 1, b""),
     ("2>&-", LINEAR11, 2, b""),
     ("2>&-", ["listen"], 2, b""),
     ("2>&-", ["hear"], 0, b""),

@@ -1,5 +1,5 @@
 -- A change within eight neighbouring bits changes the packet error code.
-use Rattle.std.proofs.Common.{◌≡◌, ◌≢◌, ◌⊎◌, inl, inr, ℕ, zero, suc, ◌+◌, ◌-◌, ◌*◌, ◌/◌, ◌%◌, ◌^◌, ◌<◌, ◌≤◌, Bool, true, false, eqb, List, [], ◌∷◌, ◌++◌, length, get_or, bit_xor, refl, sym, ap, ap₂, ◌∙◌, subst, arith, zero-add, mod-lt}
+use Rattle.std.proofs.Common.{◌≡◌, ◌≢◌, inl, inr, ℕ, zero, suc, ◌+◌, ◌-◌, ◌*◌, ◌/◌, ◌%◌, ◌^◌, ◌<◌, ◌≤◌, eqb, List, length, bit_xor, refl, sym, ap, ap₂, ◌∙◌, subst, arith, zero-add, mod-lt}
 use Rattle.std.proofs.Math.Nat.{mod-add-div', mul-le-mul_right, lt_of_mul-lt-mul_right}
 use Rattle.std.proofs.lemmas.Bool.{cases_lt, eqb-true, eq-eqb, agree_below_at}
 use Rattle.std.proofs.lemmas.Nat.{pow-add, pow_pos, xor_lt}
@@ -8,7 +8,7 @@ use Rattle.std.specs.Int.{bit_at}
 use Rattle.std.specs.Int.Bits.{xor_assoc, xor_zero_l, xor_zero_r, xor_self}
 use Rattle.pm_frame.specs.Layout.{AreBytes}
 use Rattle.pm_frame.specs.Damage.{message_bit, DifferWithinEight, EndsInPec}
-use Rattle.pm_frame.specs.Pec.{doubled, residue, residues_of, pec_of}
+use Rattle.pm_frame.specs.Pec.{doubled, residues_of, pec_of}
 use Rattle.pm_frame.proofs.Carryless.{bit_at-xor}
 use Rattle.pm_frame.proofs.Residues.{doubled_times, doubled_times-zero, doubled-lt, residues_of-lt, residues_of-after, residues_of-last, pec_of-lt, pec_of-append_byte}
 use Rattle.pm_frame.proofs.Numbers.{number_of, number_of-lt, number_of-one, bit_at-number, residues_of-xor, residues_of-more, residues_of-moved, pec_of-number}

@@ -1,6 +1,6 @@
 -- Damage of a part of a packet, whatever stood before it: where the part's own code changes, the PEC
 -- betrays it.
-use Rattle.std.proofs.Common.{◌≡◌, ◌≢◌, ◌⊎◌, inl, inr, ℕ, ◌*◌, Bool, true, false, not, eqb, List, [], ◌∷◌, ◌++◌, length, take, get_or, bit_xor, refl, sym, ◌∙◌, ap, ap₂, arith, append_assoc}
+use Rattle.std.proofs.Common.{◌≡◌, ◌≢◌, ℕ, ◌*◌, Bool, true, false, eqb, List, [], ◌∷◌, ◌++◌, length, take, get_or, bit_xor, refl, sym, ◌∙◌, ap, arith, append_assoc}
 use Rattle.std.proofs.lemmas.Bool.{eqb-true, not-false}
 use Rattle.std.specs.Int.Bits.{xor_assoc, xor_self, xor_zero_l}
 use Rattle.pm_frame.specs.Betrayal.{is_betrayed}

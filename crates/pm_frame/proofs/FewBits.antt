@@ -1,5 +1,5 @@
 -- A change of few bits, or of an odd number of bits, changes the packet error code.
-use Rattle.std.proofs.Common.{◌≡◌, ◌≢◌, ◌⊎◌, inl, inr, ℕ, zero, suc, ◌+◌, ◌-◌, ◌*◌, ◌%◌, ◌^◌, ◌<◌, ◌≤◌, Bool, true, false, eqb, List, [], ◌∷◌, length, map, get_or, bit_xor, refl, sym, ap, ap₂, ◌∙◌, subst, arith, zero-add}
+use Rattle.std.proofs.Common.{◌≡◌, ◌≢◌, ◌⊎◌, inl, inr, ℕ, zero, suc, ◌+◌, ◌-◌, ◌*◌, ◌%◌, ◌^◌, ◌<◌, ◌≤◌, Bool, true, eqb, List, [], ◌∷◌, length, map, get_or, bit_xor, refl, sym, ap, ap₂, ◌∙◌, subst, arith, zero-add}
 use Rattle.std.specs.Prelude.{count_ones}
 use Rattle.std.specs.List.{range_with_len}
 use Rattle.std.proofs.lemmas.Bool.{cases_lt, eqb-true, eq-eqb, agree_below_at}
@@ -8,7 +8,7 @@ use Rattle.std.proofs.lemmas.Nat.{xor_lt, xor_block, pow_pos}
 use Rattle.std.proofs.lemmas.Nat.Bits.{bit_at-lt, bit_at-zero, bit_at_cat_low, bit_at_cat_high, same_from_bits_below}
 use Rattle.std.specs.Int.{bit_at}
 use Rattle.std.specs.Int.Count.{ones, ones_in}
-use Rattle.std.specs.Int.Bits.{xor_zero_l, xor_zero_r, xor_self}
+use Rattle.std.specs.Int.Bits.{xor_zero_l, xor_zero_r}
 use Rattle.pm_frame.specs.Layout.{AreBytes}
 use Rattle.pm_frame.specs.Damage.{changed_bits}
 use Rattle.pm_frame.specs.Pec.{doubled, residue, residues_of, pec_of}

@@ -1,15 +1,14 @@
 -- What a host holds after its transcript, one entry after another.
-use Rattle.std.proofs.Common.{◌≡◌, ℕ, ◌+◌, ◌%◌, ◌<◌, ◌≤◌, Bool, true, false, cond, eqb, ltb, List, [], ◌∷◌, ◌++◌, length, map, set, get_or, Option, Some, None, is_some, is_none, option_map, option_and_then, option_to_list, not, refl, sym, ap, ◌∙◌, inl, inr, arith}
+use Rattle.std.proofs.Common.{◌≡◌, ℕ, ◌%◌, ◌<◌, ◌≤◌, Bool, true, false, cond, eqb, ltb, List, [], ◌∷◌, ◌++◌, length, map, set, Option, Some, None, is_none, option_map, option_and_then, option_to_list, not, refl, sym, ap, ◌∙◌, inl, inr, arith}
 use Rattle.std.specs.Option.{option_or}
 use Rattle.std.specs.List.{range_with_len}
-use Rattle.std.proofs.lemmas.List.{same_lists, length-map, length-set, get_or-set_same, get_or-set_other}
+use Rattle.std.proofs.lemmas.List.{same_lists, length-set, get_or-set_same, get_or-set_other}
 use Rattle.std.proofs.lemmas.List.FromFn.{length-map-range_with_len, get_or-map-range_with_len}
 use Rattle.std.proofs.lemmas.Bool.{cases_eq, eq-eqb, ne_eqb, ltb-true, false≢true}
 use Rattle.pm_num.specs.AnyFormat.{Shape}
 use Rattle.pm_table.specs.declared.cell.Cell.{Cell}
 use Rattle.pm_table.specs.declared.cell.Cell.TheVariants.{Out, Protect}
 use Rattle.pm_table.specs.Cell.{cell_accepts, IsCell}
-use Rattle.pm_host.specs.declared.fault.HostFault.{HostFault}
 use Rattle.pm_host.specs.declared.fault.HostFault.TheVariants.{Busy, UnknownOutput, BadWord, TooUncertain}
 use Rattle.pm_host.specs.declared.stage.Stage.{Stage}
 use Rattle.pm_host.specs.declared.step.Step.{Step}
@@ -20,11 +19,11 @@ use Rattle.pm_host.specs.Known.{Known, known_after, known_now}
 use Rattle.pm_host.specs.Marks.{Mark, Put, Good, Restart, marks, puts, goods, put_by, read_by}
 use Rattle.pm_host.specs.Now.{now, stage_of, AreTold}
 use Rattle.pm_host.specs.Possible.{has_room}
-use Rattle.pm_host.specs.Refusals.{IsSetup, may_come, order_fault, cell_fault, output_fault, is_busy, rule, first}
-use Rattle.pm_host.specs.Summary.{Summary, Turn, turn, idle, start, step_by, begins, finished, answered, no_formats, possible_at, format_at}
+use Rattle.pm_host.specs.Refusals.{IsSetup, may_come, is_busy, rule, first}
+use Rattle.pm_host.specs.Summary.{Summary, Turn, turn, idle, start, step_by, no_formats, possible_at, format_at}
 use Rattle.pm_host.specs.Transcript.{Setup, Job, Order, Check, Learn, Clear, Entry, Accepted, Finished, Got, Restarted, last_job, told_since, end_of, open_job, found, found_for, format_of_output}
 use Rattle.pm_host.proofs.KnownLaws.{IsMark, known_now-nil, known_now-next}
-use Rattle.pm_host.proofs.Turns.{end_by, open_by, stage_by, puts_by, goods_by, known_more, formats_set, formats_more, got_turn, finished_turn, accepted_turn, WritesBy, WritesBy-from, ReadsBy-from, accepted_follows, finished_follows, got_follows}
+use Rattle.pm_host.proofs.Turns.{end_by, puts_by, goods_by, known_more, formats_set, formats_more, WritesBy, WritesBy-from, ReadsBy-from, accepted_follows, finished_follows, got_follows}
 
 -- a job that wasn't refused for its cell, its word or its output
 abbrev pub IsJob : Setup → Option Job → Type 0

@@ -11,7 +11,7 @@ use Rattle.pm_frame.specs.declared.message.Message.TheVariants.{PagePlusWrite, P
 use Rattle.pm_frame.specs.Layout.{answer_length, fits_layout, is_read_message}
 use Rattle.pm_host.specs.declared.stage.Stage.{Stage}
 use Rattle.pm_host.specs.declared.stage.Stage.TheVariants.{Writes, Reads, Checks, AsksMode, AsksCoefficients, Clears}
-use Rattle.pm_host.specs.Messages.{register_payload, cell_write, cell_read, mode_read, coefficients_read, faults_clear}
+use Rattle.pm_host.specs.Messages.{register_payload, cell_write, cell_read, mode_read, faults_clear}
 use Rattle.pm_host.specs.Summary.{stage_message}
 use Rattle.pm_host.specs.Frames.{CanSend, writes_output, writes_protect, reads_output, reads_protect, reads_mode, reads_coefficients, clears_faults}
 use Rattle.pm_host.specs.Transcript.{Setup}

@@ -15,7 +15,7 @@ use Rattle.pm_host.specs.declared.stage.Stage.TheVariants.{Writes, Reads, Checks
 use Rattle.pm_host.specs.declared.step.JobEnd.TheVariants.{Done, Differs, Unknown}
 use Rattle.pm_host.specs.Answers.{good_word, good_mode, good_coefficients}
 use Rattle.pm_host.specs.Marks.{Good}
-use Rattle.pm_host.specs.Summary.{Summary, Turn, turn, next, idle, marked, goes_on, ends, writes, another, read_back, read_another, checked, learned, mode_taken, mode_answered, coefficients_answered, finished, answered}
+use Rattle.pm_host.specs.Summary.{Summary, Turn, next, idle, marked, goes_on, ends, writes, another, read_back, checked, learned, mode_taken, mode_answered, coefficients_answered, finished, answered}
 use Rattle.pm_host.specs.Transcript.{Setup, Order, Check, Learn, Clear, Entry, Accepted, Finished, Got, Restarted}
 
 abbrev Keeps : Setup → Turn → Type 0

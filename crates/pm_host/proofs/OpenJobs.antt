@@ -1,19 +1,17 @@
 -- What holds while a job is open.
-use Rattle.std.proofs.Common.{◌≡◌, ℕ, suc, ◌+◌, ◌*◌, ◌/◌, ◌%◌, ◌<◌, ◌≤◌, Bool, true, false, cond, eqb, List, [], ◌∷◌, ◌++◌, length, Option, Some, None, is_some, is_none, option_map, option_and_then, refl, sym, ap, ◌∙◌, subst, arith}
-use Rattle.std.proofs.lemmas.Bool.{eq-eqb, eqb-true, eqb-false, or_right, false≢true}
+use Rattle.std.proofs.Common.{◌≡◌, ℕ, ◌+◌, ◌*◌, ◌/◌, ◌%◌, ◌<◌, ◌≤◌, Bool, true, false, cond, eqb, List, [], ◌∷◌, ◌++◌, length, Option, Some, None, is_some, is_none, option_map, refl, ap, ◌∙◌, subst, arith}
+use Rattle.std.proofs.lemmas.Bool.{eq-eqb, eqb-true, or_right, false≢true}
 use Rattle.std.proofs.lemmas.Option.{none-some, same_Some}
 use Rattle.std.proofs.lemmas.List.FromFn.{length-map-range_with_len}
 use Rattle.pm_table.specs.declared.cell.Cell.{Cell}
 use Rattle.pm_table.specs.declared.cell.Cell.TheVariants.{Out, Protect}
-use Rattle.pm_table.specs.Cell.{cell_accepts, IsCell, same_cell}
+use Rattle.pm_table.specs.Cell.{cell_accepts, IsCell}
 use Rattle.pm_frame.specs.declared.message.Message.{Message}
 use Rattle.pm_host.specs.declared.possible.Possible.{Possible}
 use Rattle.pm_host.specs.declared.possible.Possible.TheVariants.{Any, Words}
-use Rattle.pm_host.specs.declared.stage.Stage.{Stage}
-use Rattle.pm_host.specs.declared.stage.Stage.TheVariants.{Writes, Reads, Checks, AsksMode, AsksCoefficients, Clears}
+use Rattle.pm_host.specs.declared.stage.Stage.TheVariants.{Writes, Reads, AsksMode, AsksCoefficients}
 use Rattle.pm_host.specs.declared.standing.Standing.TheVariants as standing
 use Rattle.pm_host.specs.Frames.{CanSend, writes_output, writes_protect, reads_output, reads_protect, reads_mode, reads_coefficients, clears_faults, frames_of}
-use Rattle.pm_host.specs.Known.{known_now}
 use Rattle.pm_host.specs.Marks.{Mark, Put, marks, puts, goods, put_by}
 use Rattle.pm_host.specs.Messages.{cell_write, cell_read, mode_read, coefficients_read}
 use Rattle.pm_host.specs.Now.{now, stage_of, job_stage, AreTold}
@@ -22,10 +20,10 @@ use Rattle.pm_host.specs.Refusals.{IsSetup, is_busy}
 use Rattle.pm_host.specs.Sound.{IsOrdering, IsStage, IsSound}
 use Rattle.pm_host.specs.Standing.{standing_of}
 use Rattle.pm_host.specs.Summary.{sending_in, stage_message}
-use Rattle.pm_host.specs.Transcript.{Setup, Job, Order, Check, Learn, Clear, Entry, Accepted, Finished, Got, Restarted, last_job, told_since, end_of, open_job, sending_of, job_end, job_message, is_write_turn, order_end, learn_end, mode_told, coefficients_tries, format_of_output}
+use Rattle.pm_host.specs.Transcript.{Setup, Job, Order, Check, Learn, Clear, Entry, Accepted, Finished, Got, Restarted, last_job, told_since, end_of, open_job, sending_of, job_message, is_write_turn, order_end, learn_end, mode_told, coefficients_tries, format_of_output}
 use Rattle.pm_host.proofs.CellLemmas.{same_cell_itself}
 use Rattle.pm_host.proofs.KnownLaws.{possible_of-put_same, known_now-possible, known_now-standing}
-use Rattle.pm_host.proofs.Turns.{end_by, open_by, stage_by, WritesBy, ReadsBy, WritesBy-from, ReadsBy-from, turn_after_read}
+use Rattle.pm_host.proofs.Turns.{end_by, open_by, WritesBy, ReadsBy, WritesBy-from, ReadsBy-from, turn_after_read}
 use Rattle.pm_host.proofs.Follows.{IsJob, IsJob-told, IsCell-eight}
 use Rattle.pm_host.proofs.Left.{IsLeft, told-left}
 

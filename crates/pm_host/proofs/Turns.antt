@@ -1,10 +1,10 @@
 -- What one more entry makes of a job, by the look back and by the summary: the two agree.
-use Rattle.std.proofs.Common.{◌≡◌, ℕ, suc, ◌+◌, ◌*◌, ◌/◌, ◌%◌, ◌<◌, ◌≤◌, Bool, true, false, not, cond, eqb, List, [], ◌∷◌, ◌++◌, length, set, Option, Some, None, Result, Ok, Err, is_some, is_none, option_map, option_and_then, option_to_list, refl, sym, ap, ◌∙◌, inl, inr, arith, add-one}
+use Rattle.std.proofs.Common.{◌≡◌, ℕ, suc, ◌+◌, ◌*◌, ◌/◌, ◌%◌, ◌≤◌, Bool, true, false, not, cond, eqb, List, [], ◌∷◌, length, set, Option, Some, None, Result, Ok, Err, is_some, is_none, option_map, option_and_then, option_to_list, refl, sym, ap, ◌∙◌, inl, inr, arith, add-one}
 use Rattle.std.specs.Option.{option_or, option_map_or}
 use Rattle.std.specs.Result.{result_ok}
 use Rattle.std.proofs.lemmas.Bool.{cases_eq, eq-eqb, ne_eqb, eqb-true, eqb-false, false≢true}
 use Rattle.std.proofs.lemmas.Option.{none-some}
-use Rattle.pm_num.specs.AnyFormat.{Shape, InUlinear16}
+use Rattle.pm_num.specs.AnyFormat.{Shape}
 use Rattle.pm_table.specs.declared.cell.Cell.{Cell}
 use Rattle.pm_table.specs.declared.coefficients.Coefficients.{Coefficients}
 use Rattle.pm_table.specs.declared.fault.TableFault.{TableFault}
@@ -14,16 +14,15 @@ use Rattle.pm_table.specs.VoutMode.{mode_of}
 use Rattle.pm_table.specs.Format.{shape_in}
 use Rattle.pm_frame.specs.Layout.{is_read_message}
 use Rattle.pm_host.specs.declared.stage.Stage.{Stage}
-use Rattle.pm_host.specs.declared.stage.Stage.TheVariants.{Writes, Reads, Checks, AsksMode, AsksCoefficients, Clears}
+use Rattle.pm_host.specs.declared.stage.Stage.TheVariants.{Writes, Reads, AsksMode, AsksCoefficients}
 use Rattle.pm_host.specs.declared.step.JobEnd.{JobEnd}
 use Rattle.pm_host.specs.declared.step.JobEnd.TheVariants.{Unknown, Learned}
-use Rattle.pm_host.specs.declared.step.Step.TheVariants.{Next}
 use Rattle.pm_host.specs.Answers.{good_word, good_mode, good_coefficients}
 use Rattle.pm_host.specs.Known.{Known, known_after}
-use Rattle.pm_host.specs.Marks.{Mark, Put, Good, put_by, read_by}
+use Rattle.pm_host.specs.Marks.{Mark, Good, put_by, read_by}
 use Rattle.pm_host.specs.Now.{job_stage}
-use Rattle.pm_host.specs.Summary.{Summary, Turn, stage_message, step_by, begins, finished, answered, marked, read_back, checked, learned, mode_answered, mode_taken, coefficients_answered}
-use Rattle.pm_host.specs.Transcript.{Setup, Job, Order, Check, Learn, Clear, Entry, Accepted, Finished, Got, Restarted, is_write_turn, order_end, check_end, clear_end, learn_end, job_end, mode_told, coefficients_told, coefficients_tries, found, found_by, found_for}
+use Rattle.pm_host.specs.Summary.{Summary, Turn, stage_message, step_by, begins, finished, answered}
+use Rattle.pm_host.specs.Transcript.{Setup, Job, Order, Check, Learn, Clear, Entry, Accepted, Finished, Got, Restarted, is_write_turn, order_end, check_end, clear_end, learn_end, job_end, mode_told, coefficients_told, coefficients_tries, found, found_by}
 use Rattle.pm_host.proofs.FrameLemmas.{cell_write-writes, cell_read-reads}
 
 -- the end of a job, the open job, its stage and its marks, by the last job and what was told since

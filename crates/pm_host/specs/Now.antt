@@ -1,5 +1,5 @@
 -- What the definitions say of a whole transcript, as one summary.
-use Rattle.std.specs.Prelude.{◌≡◌, ℕ, ◌+◌, ◌/◌, true, is_some, if◌then◌else◌, List, [], ◌∷◌, length, map, Option, Some, None, option_map}
+use Rattle.std.specs.Prelude.{◌≡◌, ◌/◌, true, is_some, if◌then◌else◌, List, [], ◌∷◌, length, map, Option, option_map}
 use Rattle.std.specs.List.{range_with_len}
 use Rattle.pm_host.specs.declared.stage.Stage.{Stage}
 use Rattle.pm_host.specs.declared.stage.Stage.TheVariants.{Writes, Reads, Checks, AsksMode, AsksCoefficients, Clears}

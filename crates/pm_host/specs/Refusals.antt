@@ -1,5 +1,5 @@
 -- When a call is refused, and which entries may come: this project's own choice.
-use Rattle.std.specs.Prelude.{◌≡◌, ℕ, ◌^◌, ◌<◌, ◌≤◌, ℤ, unsigned_abs, Bool, true, false, not, nat_lt, nat_le, ◌||◌, if◌then◌else◌, List, [], ◌∷◌, Option, Some, None, is_none, is_some, option_map, option_and_then}
+use Rattle.std.specs.Prelude.{ℕ, ◌^◌, ◌≤◌, ℤ, unsigned_abs, Bool, true, false, not, nat_lt, ◌||◌, if◌then◌else◌, List, [], ◌∷◌, Option, Some, None, is_none, is_some, option_map, option_and_then}
 use Rattle.std.specs.Option.{option_or, option_map_or}
 use Rattle.pm_num.specs.declared.fault.NumFault.{NumFault}
 use Rattle.pm_num.specs.declared.fault.NumFault.TheVariants.{BelowLeast, AboveGreatest, TooLarge}
@@ -17,7 +17,7 @@ use Rattle.pm_host.specs.declared.fault.HostFault.{HostFault}
 use Rattle.pm_host.specs.declared.fault.HostFault.TheVariants.{OutputCount, Passes, Busy, UnknownOutput, BadWord, TooUncertain, FormatUnknown, Num}
 use Rattle.pm_host.specs.Cells.{is_cell}
 use Rattle.pm_host.specs.Possible.{has_room}
-use Rattle.pm_host.specs.Summary.{Summary, possible_at, format_at, sending_in, start, next}
+use Rattle.pm_host.specs.Summary.{Summary, possible_at, format_at, sending_in}
 use Rattle.pm_host.specs.Transcript.{Setup, Job, Order, Check, Learn, Clear, Entry, Accepted, Finished, Got, Restarted}
 
 -- a rule names its fault where it applies, and the first of several counts

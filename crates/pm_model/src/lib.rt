@@ -1,7 +1,8 @@
 //! The settings of a power converter as a map of cells: each cell a word, and what the outputs
 //! command by it.
 //!
-//! [`Plain`] is the map of a converter with one to eight outputs, [`Formats`] says what the words of
+//! [`Plain`] is the map of a converter with one to eight outputs, [`OrderMachine`] is such a map under
+//! orders alone, and [`Formats`] says what the words of
 //! each output's voltages stand for. [`Plain::commanded`] is the voltage that an output asks for,
 //! cut to its VOUT_MAX.
 //!
@@ -11,9 +12,13 @@
 
 mod formats;
 mod laws;
+mod order_machine;
+mod pending_order;
 mod plain;
 mod registers;
 
 pub use formats::Formats;
 pub use laws::{outputs_stand_alone, settings_are_a_map};
+pub use order_machine::{OrderMachine, orders_stay_in_their_cells};
+pub use pending_order::PendingOrder;
 pub use plain::Plain;

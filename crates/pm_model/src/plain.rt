@@ -75,6 +75,13 @@ impl Plain {
         }
     }
 
+    /// The same settings.
+    pub(crate) fn copied(&self) -> Plain
+        ensures { result ≡ self.now }
+    {
+        Plain { ..*self }
+    }
+
     /// How many outputs there are, 1 to 8.
     pub fn count(&self) -> u8
         ensures count { result ≡ self.now.count }

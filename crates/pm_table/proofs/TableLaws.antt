@@ -1,4 +1,4 @@
-use Rattle.std.proofs.Common.{◌≡◌, ℕ, ◌≤◌, Bool, true, false, cond, eqb, leb, ◌&&◌, refl, List, [], ◌∷◌, Option, None, lit≤}
+use Rattle.std.proofs.Common.{◌≡◌, ℕ, ◌≤◌, Bool, true, false, cond, eqb, leb, ◌&&◌, refl, List, [], ◌∷◌, Option, lit≤}
 use Rattle.std.proofs.lemmas.Bool.{and_parts, leb-true}
 use Rattle.std.specs.Option.{option_map_or}
 use Rattle.pm_table.specs.Commands.{Line, Row, rows, line_among, line_of, payload_length}

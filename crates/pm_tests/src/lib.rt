@@ -5,6 +5,12 @@
 #[cfg(test)]
 mod device;
 #[cfg(test)]
+mod fakes;
+#[cfg(test)]
 mod host;
 #[cfg(test)]
 mod model;
+#[cfg(test)]
+mod streams;
+#[cfg(test)]
+mod tool;

@@ -20,7 +20,7 @@ use Rattle.pm_tool.specs.Commandline.{Asks, pmb, status_by}
 use Rattle.pm_tool.specs.NumberFaults.{refusal_status, refusal_words}
 use Rattle.pm_tool.specs.NumberText.{IsNumberText, RefusesNumber}
 use Rattle.pm_tool.specs.Script.{printed_text}
-use Rattle.pm_tool.specs.Question.{question, text_at}
+use Rattle.pm_tool.specs.Question.{asked_by}
 use Rattle.pm_tool.specs.declared.commandline.choice.Chosen.{Chosen}
 use Rattle.pm_tool.specs.declared.commandline.choice.Chosen.TheVariants.{Hear, Number as NumberChosen}
 use Rattle.pm_tool.specs.declared.numbers.fault.NumberFault.{NumberFault}
@@ -137,7 +137,7 @@ NumberEnds asked (Misused text) = ⊥
 abbrev pub ChoiceEnds : {R : Type 0} → (R → Option (List ℕ)) → Held R → Held R → Chosen → End → Type 0
 ChoiceEnds remaining old new Hear end = HearEnds remaining old new end
 ChoiceEnds remaining old new (NumberChosen format word micro) end = (new ≡ old)
-    × NumberEnds (question format.now (text_at word) (text_at micro)) end
+    × NumberEnds (asked_by format word micro) end
 
 -- how a command line ends of which the parser finds a fault of this kind: help that was asked for is
 -- printed, and what is said of any other fault is the parser's own text

@@ -81,3 +81,7 @@ question format (Some word) None =
 question format None (Some micro) = asked_of (format_of format)
     (or_fault (option_map (λ k. Nearest k) (signed_of 64 micro)) fault.Micro)
 question format _ _ = Err fault.OneOf
+
+-- the question of the texts that options have
+abbrev pub asked_by : Bor Text → Option (Bor Text) → Option (Bor Text) → Result Question NumberFault
+asked_by format word micro = question format.now (text_at word) (text_at micro)

@@ -9,12 +9,10 @@ ghost use Rattle.clap.specs.Walk.{texts};
 ghost use Rattle.clap.specs.Words.{FailsBy, HasKind, fault_of, found_of, kind_of, rows_of};
 ghost use Rattle.clap.specs.Words.{subcommand_of, takes};
 ghost use Rattle.pm_tool.specs.Commandline.{Asks, Given, HasValuesOf, IsCommandName};
-ghost use Rattle.pm_tool.specs.Commandline.{UnlessMemory, is_once, number_words, pmb, status_by};
+ghost use Rattle.pm_tool.specs.Commandline.{UnlessMemory, is_once, number_words, pmb};
 
 mod choice;
 mod commands;
-#[cfg(test)]
-mod tests;
 
 pub use choice::Chosen;
 use clap::error::ErrorKind;
@@ -50,18 +48,6 @@ pub fn chosen<'a>(alloc: Global, words: &'a [&'a str]) -> Result<Chosen<'a>, Err
         → IsErrAnd result (HasKind (ErrorKind.MissingSubcommand ∷ [])) }
 {
     parsed(alloc, words)
-}
-
-/// The status with which the program ends where the command line gave no choice: 1 for want of
-/// memory, 0 for help that was asked for, 2 otherwise.
-pub fn status_of(error: &Error) -> u8
-    ensures { result ≡ status_by (kind_of error.now) }
-{
-    match error.kind() {
-        ErrorKind::OutOfMemory => 1,
-        ErrorKind::DisplayHelp => 0,
-        _ => 2,
-    }
 }
 
 fn parsed<'a>(alloc: Global, words: &'a [&'a str]) -> Result<Chosen<'a>, Error>

@@ -3,7 +3,7 @@ ghost use Rattle.std.specs.Io.KnownBytes.{Keeps};
 ghost use Rattle.clap.specs.Words.{kind_of};
 ghost use Rattle.pm_tool.specs.Execution.{End, HearEnds, IsDone, IsEnd, NumberEnds, RunEnds, Says, UsageEnds};
 ghost use Rattle.pm_tool.specs.Execution.{CutShort, Printed, arguments_of, no_words_end, refusal_line, said_by, status_of, wants_memory};
-ghost use Rattle.pm_tool.specs.Question.{question, text_at};
+ghost use Rattle.pm_tool.specs.Question.{asked_by};
 
 use crate::commandline::{Chosen, chosen};
 use crate::numbers::number;
@@ -102,7 +102,7 @@ fn run_number<W: Write, E: Write>(
     requires output { IsFalse output.old.failed }
     requires errors { IsFalse errors.old.failed }
     ensures { (end : End)
-        × NumberEnds (question format.now (text_at word.entry) (text_at micro.entry)) end
+        × NumberEnds (asked_by format.entry word.entry micro.entry) end
         × IsEnd W.contents E.contents output.old output.new errors.old errors.new result end }
 {
     match number(alloc, output, format, word, micro) {

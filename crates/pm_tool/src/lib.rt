@@ -13,7 +13,7 @@ mod pieces;
 mod refusal;
 mod script;
 
-pub use commandline::{Chosen, chosen, status_of};
+pub use commandline::{Chosen, chosen};
 pub use execution::run;
 pub use numbers::{NumberFault, number, number_has_one_text};
 pub use pm_text::{MAX_TEXT, Sink, Source, TextFault};

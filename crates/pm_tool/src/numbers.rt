@@ -8,15 +8,13 @@ ghost use Rattle.pm_tool.specs.declared.numbers.question.Question.{Question};
 ghost use Rattle.pm_tool.specs.NumberText.{IsAnswer, IsCommandLineFault, IsFormat};
 ghost use Rattle.pm_tool.specs.NumberText.{IsNumberText, IsOfNumber, Refuses, RefusesNumber};
 ghost use Rattle.pm_tool.specs.NumberText.{rank_in, value_in};
-ghost use Rattle.pm_tool.specs.Question.{HasExponent, question, text_at};
+ghost use Rattle.pm_tool.specs.Question.{HasExponent, asked_by};
 ghost use Rattle.pm_text.specs.Streams.{AppendsFront};
 
 mod answer;
 mod digits;
 mod fault;
 mod question;
-#[cfg(test)]
-mod tests;
 
 use answer::{Answer, answer_in, line};
 pub use fault::NumberFault;
@@ -47,22 +45,22 @@ pub fn number<W: Write>(
 ) -> Result<(), NumberFault>
     requires { IsFalse writer.old.failed }
     ensures ok { OnOk result ((text : List ℕ)
-        × IsNumberText (question format.now (text_at word.entry) (text_at micro.entry)) text
+        × IsNumberText (asked_by format.entry word.entry micro.entry) text
         × Appends (W.contents writer.old.inner) (W.contents writer.new.inner) text) }
 
     // The faults of the command line, and those of the numbers, come exactly where they are found.
     ensures command_line { (fault : NumberFault) → IsCommandLineFault fault → IsErrOf result fault
-        ↔ (question format.now (text_at word.entry) (text_at micro.entry) ≡ Err fault) }
+        ↔ (asked_by format.entry word.entry micro.entry ≡ Err fault) }
     ensures numbers { (fault : NumFault) → IsErrOf result (NumberFault.Num fault)
-        ↔ RefusesNumber (question format.now (text_at word.entry) (text_at micro.entry)) fault }
+        ↔ RefusesNumber (asked_by format.entry word.entry micro.entry) fault }
 
     // X5 comes exactly where the writer failed, and X6 only where there was a line to write.
     ensures write { IsErrOf result (NumberFault.Text TextFault.Write) ↔ IsTrue writer.new.failed }
     ensures cut_short { IsErrOf result (NumberFault.Text TextFault.Write) → (text : List ℕ)
-        × IsNumberText (question format.now (text_at word.entry) (text_at micro.entry)) text
+        × IsNumberText (asked_by format.entry word.entry micro.entry) text
         × AppendsFront (W.contents writer.old.inner) (W.contents writer.new.inner) text }
     ensures memory { IsErrOf result (NumberFault.Text TextFault.Memory) → (text : List ℕ)
-        × IsNumberText (question format.now (text_at word.entry) (text_at micro.entry)) text }
+        × IsNumberText (asked_by format.entry word.entry micro.entry) text }
     ensures faults { IfErr result IsOfNumber }
     ensures unwritten { IfErr result (λ fault. fault ≢ NumberFault.Text TextFault.Write
         → writer.new ≡ writer.old) }
@@ -80,13 +78,13 @@ fn line_asked(
     micro: Option<&str>,
 ) -> Result<String, NumberFault>
     ensures line { IfOk result (λ line. IsNumberText
-        (question format.now (text_at word.entry) (text_at micro.entry)) (string_bytes line)) }
+        (asked_by format.entry word.entry micro.entry) (string_bytes line)) }
     ensures command_line { (fault : NumberFault) → IsCommandLineFault fault → IsErrOf result fault
-        ↔ (question format.now (text_at word.entry) (text_at micro.entry) ≡ Err fault) }
+        ↔ (asked_by format.entry word.entry micro.entry ≡ Err fault) }
     ensures numbers { (fault : NumFault) → IsErrOf result (NumberFault.Num fault)
-        ↔ RefusesNumber (question format.now (text_at word.entry) (text_at micro.entry)) fault }
+        ↔ RefusesNumber (asked_by format.entry word.entry micro.entry) fault }
     ensures memory { IsErrOf result (NumberFault.Text TextFault.Memory) → (text : List ℕ)
-        × IsNumberText (question format.now (text_at word.entry) (text_at micro.entry)) text }
+        × IsNumberText (asked_by format.entry word.entry micro.entry) text }
     ensures faults { IfErr result (λ fault.
         IsOfNumber fault × (fault ≢ NumberFault.Text TextFault.Write)) }
 {

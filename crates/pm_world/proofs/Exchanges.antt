@@ -53,13 +53,13 @@ legal-request s arrival frame heard ending a reads =
 exchange_cause-by : (s : State) (arrival : Arrival) (back : Back) (message : Message) (b c d : Bool) → is_read_message message ≡ b →
     is_legal_hearing (frame_of s.host.setup.addr message) (heard_bytes (frame_of s.host.setup.addr message) arrival) (heard_ending message arrival) ≡ c →
     is_legal_return (frame_of s.host.setup.addr message) (whole_answer message)
-        (is_heard_whole (frame_of s.host.setup.addr message) (heard_bytes (frame_of s.host.setup.addr message) arrival) (heard_ending message arrival))
-        (answer_to s.device s.host.setup.addr message arrival) (back_bytes (answer_to s.device s.host.setup.addr message arrival) back) ≡ d →
+    (is_heard_whole (frame_of s.host.setup.addr message) (heard_bytes (frame_of s.host.setup.addr message) arrival) (heard_ending message arrival))
+    (answer_to s.device s.host.setup.addr message arrival) (back_bytes (answer_to s.device s.host.setup.addr message arrival) back) ≡ d →
     exchange_cause s arrival back (Some message) ≡ option_or (rule (not b) WrongKind) (option_or (rule (not c) NotBetrayed) (rule (not d) NotBetrayed))
 exchange_cause-by s arrival back message b c d reads hears returns =
     ap₂ (λ x y. option_or (rule (not x) WrongKind) (option_or (rule (not y) NotBetrayed) (rule (not (is_legal_return (frame_of s.host.setup.addr message) (whole_answer message)
-        (is_heard_whole (frame_of s.host.setup.addr message) (heard_bytes (frame_of s.host.setup.addr message) arrival) (heard_ending message arrival))
-        (answer_to s.device s.host.setup.addr message arrival) (back_bytes (answer_to s.device s.host.setup.addr message arrival) back))) NotBetrayed))) reads hears
+    (is_heard_whole (frame_of s.host.setup.addr message) (heard_bytes (frame_of s.host.setup.addr message) arrival) (heard_ending message arrival))
+    (answer_to s.device s.host.setup.addr message arrival) (back_bytes (answer_to s.device s.host.setup.addr message arrival) back))) NotBetrayed))) reads hears
     ∙ ap (λ z. option_or (rule (not b) WrongKind) (option_or (rule (not c) NotBetrayed) (rule (not z) NotBetrayed))) returns
 
 pub exchanges-betrayed : (s : State) (held : Held) (host : Summary) (end : Option JobEnd) (taken : ℕ) (arrival : Arrival) (back : Back) (frame heard : List ℕ) (ending : Ending) →
@@ -76,8 +76,8 @@ legal_return-is : (held : Held) (host : Summary) (arrival : Arrival) (back : Bac
     (r : Returns held host arrival back frame heard ending answer came needed whole) →
     is_legal_return frame needed whole answer came ≡
     is_legal_return (frame_of host.setup.addr r.arrives.sent.message) (whole_answer r.arrives.sent.message)
-        (is_heard_whole (frame_of host.setup.addr r.arrives.sent.message) (heard_bytes (frame_of host.setup.addr r.arrives.sent.message) arrival) (heard_ending r.arrives.sent.message arrival))
-        (answer_to held host.setup.addr r.arrives.sent.message arrival) (back_bytes (answer_to held host.setup.addr r.arrives.sent.message arrival) back)
+    (is_heard_whole (frame_of host.setup.addr r.arrives.sent.message) (heard_bytes (frame_of host.setup.addr r.arrives.sent.message) arrival) (heard_ending r.arrives.sent.message arrival))
+    (answer_to held host.setup.addr r.arrives.sent.message arrival) (back_bytes (answer_to held host.setup.addr r.arrives.sent.message arrival) back)
 legal_return-is held host arrival back frame heard ending answer came needed whole r =
     let message = r.arrives.sent.message in
     let frame_is : frame ≡ frame_of host.setup.addr message = frame_of-is host.setup.addr message frame r.arrives.sent.frame in
@@ -86,11 +86,11 @@ legal_return-is held host arrival back frame heard ending answer came needed who
     let needed_same : needed ≡ whole_answer message = r.needed_is message (r.arrives.sent.frame.request (message-reads host arrival frame heard ending r.arrives r.reads)) in
     let answer_same : answer ≡ answer_to held host.setup.addr message arrival = r.answer_is ∙ ap₂ (λ b e. answer_in (reply_of held b e)) heard_same ending_same in
     let whole_same : whole ≡ is_heard_whole (frame_of host.setup.addr message) (heard_bytes (frame_of host.setup.addr message) arrival) (heard_ending message arrival) =
-        r.whole_is ∙ (ap (λ f. is_heard_whole f heard ending) frame_is ∙ ap₂ (is_heard_whole (frame_of host.setup.addr message)) heard_same ending_same) in
+    r.whole_is ∙ (ap (λ f. is_heard_whole f heard ending) frame_is ∙ ap₂ (is_heard_whole (frame_of host.setup.addr message)) heard_same ending_same) in
     ap (λ f. is_legal_return f needed whole answer came) frame_is
     ∙ (ap₂ (λ n w. is_legal_return (frame_of host.setup.addr message) n w answer came) needed_same whole_same
     ∙ ap₂ (λ a b. is_legal_return (frame_of host.setup.addr message) (whole_answer message)
-        (is_heard_whole (frame_of host.setup.addr message) (heard_bytes (frame_of host.setup.addr message) arrival) (heard_ending message arrival)) a b)
+    (is_heard_whole (frame_of host.setup.addr message) (heard_bytes (frame_of host.setup.addr message) arrival) (heard_ending message arrival)) a b)
     answer_same (r.came_is ∙ ap (λ a. back_bytes a back) answer_same))
 
 pub exchanges-by : (s : State) (held : Held) (host : Summary) (end : Option JobEnd) (taken : ℕ) (arrival : Arrival) (back : Back) (frame heard : List ℕ) (ending : Ending) (answer came : List ℕ) (needed : ℕ) (whole : Bool) (d : Bool) →
@@ -117,5 +117,5 @@ exchanges-told s after held new host end taken arrival back frame heard ending a
     told
     ∙ (ap₂ (λ (d : Held) (b : List ℕ). shared (state d host end taken) (tells (Got b))) new_same came_same
     ∙ subst (λ (t : State). shared (state (device_next held (hearing host.setup.addr message arrival)) host end taken) (tells (Got (back_bytes (answer_to held host.setup.addr message arrival) back)))
-        ≡ shared t (exchanged t arrival back (sending_in t.host))) view
+    ≡ shared t (exchanged t arrival back (sending_in t.host))) view
     (ap (λ o. shared (state held host end taken) (exchanged (state held host end taken) arrival back o)) (sym r.arrives.sent.sending)))

@@ -2,10 +2,15 @@ mod Deliveries
 mod Ends
 mod Exchanges
 mod Frames
+mod Hearings
 mod Learned
 mod LearnedLives
 mod Lives
+mod OpenOrders
+mod OrderEvents
+mod OwnWords
 mod ReadBack
+mod Retellings
 mod Runs
 mod Sending
 mod TakenWhole

@@ -32,12 +32,12 @@ use Rattle.pm_world.specs.Life.{Life, state_of, lived, life, now, AreTaken, afte
 pub record EndLaws : Type 0 where
   pub device_none : (config : Config) → device_now config [] ≡ start_of config
   pub device_more : (config : Config) (past : List device.Event) (event : device.Event) → 1 ≤ config.count → config.count ≤ 8 →
-    device_now config (event ∷ past) ≡ device_next (device_now config past) event
+      device_now config (event ∷ past) ≡ device_next (device_now config past) event
   pub host_none : (setup : host.Setup) → IsSetup setup → host_now setup [] ≡ host_start setup
   pub host_more : (setup : host.Setup) (entries : List host.Entry) (entry : host.Entry) → IsSetup setup → AreTold setup (entry ∷ entries) →
-    host_now setup (entry ∷ entries) ≡ host_next (host_now setup entries) entry
+      host_now setup (entry ∷ entries) ≡ host_next (host_now setup entries) entry
   pub host_step : (setup : host.Setup) (entries : List host.Entry) (entry : host.Entry) → IsSetup setup → AreTold setup (entry ∷ entries) →
-    step_of (host_now setup entries) entry ≡ step_by (host.end_of setup (entry ∷ entries))
+      step_of (host_now setup entries) entry ≡ step_by (host.end_of setup (entry ∷ entries))
 
 -- of two, none
 pub or-none : {A : Type 0} (a b : Option A) → option_or a b ≡ None → (a ≡ None) × (b ≡ None)

@@ -22,9 +22,10 @@ past-more n events event inside is =
 pub taken-more : (s before new : State) (n : ℕ) (events : List Event) (event : Event) → n < length events → event ≡ get_or events n event →
     before ≡ after_all s (past n events) → AreTakenFrom s (past n events) → IsTaken before event → new ≡ next before event →
     (new ≡ after_all s (past (n + 1) events)) × AreTakenFrom s (past (n + 1) events)
-taken-more s before new n events event inside is now all taken after =
-    (after ∙ (ap (λ t. next t event) now ∙ ap (after_all s) (sym more)),
-    subst (AreTakenFrom s) (sym more) (subst (λ t. IsTaken t event) now taken, all))
+taken-more s before new n events event inside is now all taken after = (
+  after ∙ (ap (λ t. next t event) now ∙ ap (after_all s) (sym more)),
+  subst (AreTakenFrom s) (sym more) (subst (λ t. IsTaken t event) now taken, all),
+)
   where
     more : past (n + 1) events ≡ event ∷ past n events
     more = past-more n events event inside is
@@ -36,4 +37,3 @@ pub stops-at : (s before : State) (n : ℕ) (events : List Event) (event : Event
 stops-at s before n events event cause inside is now stops =
     subst (λ found. IsSomeAnd found (λ e. cause_of (after_all s (past n events)) e ≡ Some cause)) (sym (slice_get-get_or events n event inside))
     (subst (λ e. cause_of (after_all s (past n events)) e ≡ Some cause) is (subst (λ t. cause_of t event ≡ Some cause) now stops))
-

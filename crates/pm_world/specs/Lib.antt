@@ -1,5 +1,6 @@
 pub mod Honest
 pub mod Legal
 pub mod Life
+pub mod Retelling
 pub mod Setup
 pub mod State

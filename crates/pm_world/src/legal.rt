@@ -77,7 +77,13 @@ pub(crate) fn is_heard_whole(frame: &[u8], bytes: &[u8], ending: Ending) -> bool
 
 /// Whether bytes that come back for a request are legal, where the converter answered this to it.
 #[tactic(auto, unfolding(crate::specs::Legal::is_legal_return))]
-pub(crate) fn is_legal_return(request: &[u8], whole_answer: usize, whole: bool, answer: &[u8], bytes: &[u8]) -> bool
+pub(crate) fn is_legal_return(
+    request: &[u8],
+    whole_answer: usize,
+    whole: bool,
+    answer: &[u8],
+    bytes: &[u8],
+) -> bool
     ensures { result ≡ spec_is_legal_return request.now whole_answer whole answer.now bytes.now }
 {
     whole && bytes == answer || bytes.len() < whole_answer || is_betrayed(request, bytes)

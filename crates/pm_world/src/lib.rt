@@ -5,11 +5,13 @@ mod event;
 mod honest;
 mod laws;
 mod legal;
+mod orders;
 mod stop;
 mod world;
 
 pub use event::{Arrival, Back, Event};
 pub use honest::{frames_are_few, honest_orders_go_through, learned_formats_are_true};
 pub use laws::lives_are_followed;
+pub use orders::lives_are_orders;
 pub use stop::{Cause, SetupFault, Stop};
 pub use world::World;

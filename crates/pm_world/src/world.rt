@@ -15,6 +15,12 @@ ghost use Rattle.pm_host.specs.Told.{entry_told};
 ghost use Rattle.pm_host.specs.Transcript as told;
 ghost use Rattle.pm_device.specs.Effect as heard;
 ghost use Rattle.pm_world.specs.declared.event.Event.TheVariants as event;
+ghost use Rattle.pm_table.specs.declared.cell.Cell.{Cell as AnyCell};
+ghost use Rattle.pm_table.specs.Cell.{IsCell};
+ghost use Rattle.pm_model.specs.Commanded.{commanded};
+ghost use Rattle.pm_model.specs.Settings.{word_at};
+ghost use Rattle.pm_device.specs.Held.{value_for};
+ghost use Rattle.pm_world.specs.Retelling.{IsOrderRun, IsOwnWord, CommandsOwn};
 
 use crate::event::{Arrival, Back, Event};
 use crate::honest::{frames_are_few, honest_orders_go_through, learned_formats_are_true, spell};
@@ -23,6 +29,7 @@ use crate::legal::{
     answer_in, back_bytes, heard_bytes, heard_ending, is_heard_whole, is_legal_hearing,
     is_legal_return,
 };
+use crate::orders::lives_are_orders;
 use crate::stop::{Cause, SetupFault, Stop};
 use pm_device::{Config, Converter, Ending};
 use pm_frame::read_request;
@@ -91,6 +98,14 @@ impl World {
     /// A new world, and then one event after another up to the first that isn't taken. `Err` is why
     /// no world is made.
     ///
+    /// Whatever was lost, cut, damaged, repeated or falsely acknowledged, and whichever end started
+    /// again: the converter's words are those of a run of the order machine that retells the taken
+    /// events (`orders`). In it exactly the orders are accepted, each in its place and with its word,
+    /// and an order takes only at a delivery between its acceptance and the end of its job. So each
+    /// cell that is there has its start word, or the word of an order that was taken for that very
+    /// cell (`own`); and what [`Converter::commanded`] answers of an output is the value of a word of
+    /// its own, or where that is above the value of its own VOUT_MAX, the latter (`commanded`).
+    ///
     /// What the clauses call the taken events are the first ones of the list, as many as the stop
     /// says, or all of them; newest first, as lives are. The world is what its definition says of
     /// them (`now`), each of them was taken (`all`), and the run stops exactly at the first event
@@ -103,6 +118,14 @@ impl World {
         ensures now { IfOk result (λ run.
             run.0 ≡ now c passes (taken_events events.now run.1)) }
         ensures all { IfOk result (λ run. AreTaken c passes (taken_events events.now run.1)) }
+        ensures orders { IfOk result (λ run.
+            IsOrderRun c passes (taken_events events.now run.1) run.0.device.words) }
+        ensures own { IfOk result (λ run. (cell : AnyCell) → IsCell c.count cell →
+            IsOwnWord c passes (taken_events events.now run.1) cell
+            (word_at run.0.device.words cell)) }
+        ensures commanded { IfOk result (λ run. (output : ℕ) → output < c.count →
+            CommandsOwn c passes (taken_events events.now run.1) output
+            (commanded (value_for run.0.device.config output) run.0.device.words output)) }
         ensures stop { IfOk result (λ run. StopsAt c passes events.now run.1) }
         ensures few { IfOk result (λ run. AreFewFrames c passes (taken_events events.now run.1)) }
         ensures through { IfOk result (λ run.
@@ -112,6 +135,7 @@ impl World {
         ensures nearest { IfOk result (λ run.
             MicrosAreNearest c passes (taken_events events.now run.1)) }
     {
+        lives_are_orders();
         lives_are_followed();
         frames_are_few();
         honest_orders_go_through();

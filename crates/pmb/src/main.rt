@@ -21,12 +21,17 @@ fn main(rt: HostRuntime) -> ExitCode {
             .map_err(|_| ErrorKind::OutOfMemory),
         Err(kind) => Err(*kind),
     };
-    let words = words.as_ref().map(|words: &Vec<&str>| words.as_slice()).map_err(|kind| *kind);
+    let words = words
+        .as_ref()
+        .map(|words: &Vec<&str>| words.as_slice())
+        .map_err(|kind| *kind);
     ExitCode::from(run(rt.alloc(), words, &mut input, &mut output, &mut errors))
 }
 
 /// The arguments as texts, or why they can't be had as such.
 fn arguments<R: Runtime + AllocGlobal>(rt: &R) -> Result<Vec<String>, ErrorKind> {
     let arguments = env::args(rt).map_err(|error| error.kind())?;
-    arguments.collect(rt.alloc()).map_err(|_| ErrorKind::OutOfMemory)
+    arguments
+        .collect(rt.alloc())
+        .map_err(|_| ErrorKind::OutOfMemory)
 }

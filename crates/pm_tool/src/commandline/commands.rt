@@ -24,7 +24,7 @@ pub(super) fn pmb_command<'a>(alloc: Global) -> Result<Command<'a>, AllocError>
 fn hear_command<'a>(alloc: Global) -> Command<'a>
     ensures { app_of result ≡ hear_app }
 {
-    Command::new(alloc, "hear").about("Lets a model converter hear the one frame of standard input")
+    Command::new(alloc, "hear").about("Lets a model converter hear the frames of standard input")
 }
 
 /// `number` and its three options.

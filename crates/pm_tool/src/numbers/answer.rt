@@ -1,6 +1,12 @@
 //! The answer to a question, and its line.
+ghost use Rattle.std.specs.Prelude.{◌≡◌, ◌↔◌, Err, IfOk, string_bytes};
+ghost use Rattle.pm_num.specs.declared.fault.NumFault.{NumFault};
+ghost use Rattle.pm_tool.specs.NumberText.{IsAnswer, IsFloorMicro, IsWordFor, RefusesValue};
+ghost use Rattle.pm_tool.specs.NumberText.{line_of};
 
-use pm_num::Frac;
+use crate::numbers::question::Asked;
+use pm_num::{Frac, NumFault, NumFormat, micro};
+use std::alloc::{AllocError, Global};
 
 /// A word of a format, with its value and the greatest whole number of millionths that isn't above
 /// that.
@@ -11,6 +17,48 @@ pub(crate) struct Answer {
     pub(crate) millionths: i128,
 }
 
-mod answering;
+/// The word that is asked for in a format, with its value. Faults come in this order: N5, N3 or N4.
+pub(crate) fn answer_in<F: NumFormat>(format: &F, asked: Asked) -> Result<Answer, NumFault>
+    ensures answered { IfOk result (IsAnswer (F.value format.now) (F.rank format.now) asked) }
+    ensures refused { (fault : NumFault) → (result ≡ Err fault)
+        ↔ RefusesValue (F.lowest format.now) (F.highest format.now) asked fault }
+{
+    let word = word_in(format, asked)?;
+    Ok(with_value(word, format.value_of(word)))
+}
 
-pub(crate) use answering::{answer_in, line};
+/// The word that is asked for.
+fn word_in<F: NumFormat>(format: &F, asked: Asked) -> Result<u16, NumFault>
+    ensures word { IfOk result (IsWordFor (F.value format.now) (F.rank format.now) asked) }
+    ensures refused { (fault : NumFault) → (result ≡ Err fault)
+        ↔ RefusesValue (F.lowest format.now) (F.highest format.now) asked fault }
+{
+    match asked {
+        Asked::Word(word) => Ok(word),
+        Asked::Nearest(k) => format.nearest(micro(k)?),
+    }
+}
+
+/// A word with its value, and the whole millionths of that.
+fn with_value(word: u16, value: Frac) -> Answer
+    ensures word { result.word ≡ word }
+    ensures value { result.value ≡ value }
+    ensures floor { IsFloorMicro value result.millionths }
+{
+    Answer {
+        word,
+        value,
+        millionths: value.floor_micro(),
+    }
+}
+
+/// The line of an answer.
+pub(crate) fn line(alloc: Global, answer: &Answer) -> Result<String, AllocError>
+    ensures { IfOk result (λ text. string_bytes text ≡ line_of answer.now) }
+{
+    let word = answer.word;
+    let num = answer.value.num();
+    let den = answer.value.den();
+    let millionths = answer.millionths;
+    format!(in alloc; "word {word:04X} value {num}/{den} micro {millionths}\n")
+}

@@ -1,4 +1,12 @@
 //! What `number` is asked, as its three texts give it.
+ghost use Rattle.std.specs.Prelude.{◌≡◌, ◌∷◌, [], codes, IfOk, IfSome, MatchOption};
+ghost use Rattle.std.specs.Prelude.{option_and_then};
+ghost use Rattle.pm_tool.specs.Digits.{signed_of};
+ghost use Rattle.pm_tool.specs.Question.{HasExponent, direct_format, exponent_format, format_by};
+ghost use Rattle.pm_tool.specs.Question.{asked_by, format_of, parts};
+
+use crate::numbers::digits::{read_i8, read_i16, read_i64, read_word};
+use crate::numbers::fault::NumberFault;
 
 /// A number format, as its text names it: `linear11`, `ulinear16:N` or `direct:M:B:R`. Whether
 /// DIRECT can have these parameters is judged when the format is made.
@@ -27,6 +35,81 @@ pub(crate) struct Question {
     pub(crate) asked: Asked,
 }
 
-mod reading;
+/// What the three texts ask. Faults come in this order: not exactly one of word and micro, the
+/// format, the word or the micro.
+pub(crate) fn read_question(
+    format: &str,
+    word: Option<&str>,
+    micro: Option<&str>,
+) -> Result<Question, NumberFault>
+    ensures asked { result
+        ≡ asked_by format.entry word.entry micro.entry }
+    ensures exponent { IfOk result (λ asked. HasExponent asked.format) }
+{
+    let asked = match (word, micro) {
+        (Some(word), None) => read_word(word).map(Asked::Word).ok_or(NumberFault::Word),
+        (None, Some(micro)) => read_i64(micro)
+            .map(Asked::Nearest)
+            .ok_or(NumberFault::Micro),
+        _ => return Err(NumberFault::OneOf),
+    };
+    let format = read_format(format).ok_or(NumberFault::Format)?;
+    Ok(Question {
+        format,
+        asked: asked?,
+    })
+}
 
-pub(crate) use reading::read_question;
+/// The format that a text names.
+fn read_format(text: &str) -> Option<FormatText>
+    ensures named { result ≡ format_of text.now }
+    ensures exponent { IfSome result HasExponent }
+{
+    let Some((name, numbers)) = first_part(text) else {
+        return (text == "linear11").then_some(FormatText::Linear11);
+    };
+    match name {
+        "ulinear16" => read_ulinear16(numbers),
+        "direct" => read_direct(numbers),
+        _ => None,
+    }
+}
+
+/// ULINEAR16 with the exponent that a text writes.
+fn read_ulinear16(text: &str) -> Option<FormatText>
+    ensures named { result ≡ option_and_then exponent_format (signed_of 8 text.now) }
+    ensures exponent { IfSome result HasExponent }
+{
+    let n = read_i8(text)?;
+    if n < -16 || 15 < n {
+        return None;
+    }
+    Some(FormatText::Ulinear16(n))
+}
+
+/// DIRECT with the three numbers that a text writes, parted by colons.
+fn read_direct(text: &str) -> Option<FormatText>
+    ensures named { result ≡ format_by (codes "direct" ∷ parts text.now) }
+    ensures exponent { IfSome result HasExponent }
+{
+    let (m, others) = first_part(text)?;
+    let (b, r) = first_part(others)?;
+    direct_of(m, b, r)
+}
+
+/// DIRECT with the numbers that three texts write.
+fn direct_of(m: &str, b: &str, r: &str) -> Option<FormatText>
+    ensures named { result
+        ≡ direct_format (signed_of 16 m.now) (signed_of 16 b.now) (signed_of 8 r.now) }
+    ensures exponent { IfSome result HasExponent }
+{
+    Some(FormatText::Direct(read_i16(m)?, read_i16(b)?, read_i8(r)?))
+}
+
+/// What stands before a text's first colon and after it, or None where it has no colon.
+fn first_part(text: &str) -> Option<(&str, &str)>
+    ensures { MatchOption result (parts text.now ≡ text.now ∷ [])
+        (λ found. parts text.now ≡ found.0.now ∷ parts found.1.now) }
+{
+    text.split_once(':')
+}

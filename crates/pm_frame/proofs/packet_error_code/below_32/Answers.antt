@@ -1,4 +1,4 @@
-use Rattle.std.proofs.Common.{◌≡◌, ℕ, ◌+◌, ◌*◌, ◌/◌, ◌%◌, ◌^◌, ◌<◌, bit_xor, ap, ◌∙◌, arith}
+use Rattle.std.proofs.Common.{◌≡◌, ℕ, ◌+◌, ◌*◌, ◌/◌, ◌%◌, ◌^◌, bit_xor, ap, ◌∙◌, arith}
 use Rattle.pm_frame.specs.Pec.{residues_of}
 use Rattle.pm_frame.proofs.Fold.{narrowed, turned_32, xor_four-lt}
 use Rattle.pm_frame.proofs.packet_error_code.below_32.Goals as goal

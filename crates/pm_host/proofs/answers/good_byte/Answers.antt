@@ -1,4 +1,4 @@
-use Rattle.std.proofs.Common.{◌≡◌, length, Some, ap, refl, sym, ◌∙◌, rules, arith}
+use Rattle.std.proofs.Common.{◌≡◌, length, Some, ap, refl, sym, ◌∙◌}
 use Rattle.pm_host.proofs.AnswerLemmas.{good_payload-some, good_payload-none, word_in-one}
 use Rattle.pm_host.proofs.answers.good_byte.Goals as goal
 

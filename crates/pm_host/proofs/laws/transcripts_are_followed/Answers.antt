@@ -1,4 +1,4 @@
-use Rattle.std.proofs.Common.{None, sym, ap}
+use Rattle.std.proofs.Common.{sym, ap}
 use Rattle.pm_host.specs.Now.{now}
 use Rattle.pm_host.specs.Summary.{next, step_of}
 use Rattle.pm_host.proofs.Follows.{now-nil, turn-now, IsJob-told, now-format}

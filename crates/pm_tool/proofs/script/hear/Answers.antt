@@ -26,8 +26,7 @@ cut_front (Err fault) P is front = front
 
 pub returns-clause-cut_short : goal.returns-clause-cut_short
 returns-clause-cut_short g c = λ is.
-    let front = cut_front _ _ is c.put_text.ensures.front in
-    (
+    let front = cut_front _ _ is c.put_text.ensures.front in (
       c.in_ok-input.input.items,
       _,
       c.in_ok-input.ensures.whole,

@@ -1,4 +1,3 @@
-use Rattle.std.proofs.Common.{rules}
 use Rattle.pm_host.proofs.FrameLemmas.{cell_read-fits, mode_read-fits, mode_read-one}
 use Rattle.pm_host.proofs.host.Host.answered.Goals as goal
 

@@ -23,10 +23,11 @@ returns-then-not-is_legal_hearing c =
       heard_is = c.heard_bytes-bytes.ensures ∙ ap (λ f. heard_bytes f c.args.arrival.now) c.as_slice.ensures.value;
       ending_is = c.heard_ending-ending.ensures;
     } in
-    let reads : sends_read host ≡ true = sym c.sending_reads.ensures ∙ c.if-not-sending_reads.false in
-    (exchanges-betrayed c.args.self.now c.self.inside.device host c.self.inside.end c.self.inside.taken c.args.arrival.now c.args.back.now frame heard ending c.self.view_is arrives reads
-    (ap (λ f. is_legal_hearing f heard ending) (sym c.as_slice-2.ensures.value) ∙ sym c.is_legal_hearing.ensures ∙ c.if-not-is_legal_hearing.true),
-    refl)
+    let reads : sends_read host ≡ true = sym c.sending_reads.ensures ∙ c.if-not-sending_reads.false in (
+      exchanges-betrayed c.args.self.now c.self.inside.device host c.self.inside.end c.self.inside.taken c.args.arrival.now c.args.back.now frame heard ending c.self.view_is arrives reads
+          (ap (λ f. is_legal_hearing f heard ending) (sym c.as_slice-2.ensures.value) ∙ sym c.is_legal_hearing.ensures ∙ c.if-not-is_legal_hearing.true),
+      refl,
+    )
 
 pub returns-then-not-is_legal_return : goal.returns-then-not-is_legal_return
 returns-then-not-is_legal_return c =
@@ -55,16 +56,18 @@ returns-then-not-is_legal_return c =
       whole_is = c.is_heard_whole-whole.ensures ∙ ap (λ f. is_heard_whole f heard ending) c.as_slice-4.ensures.value;
     } in
     let legal : is_legal_hearing frame heard ending ≡ true =
-        ap (λ f. is_legal_hearing f heard ending) (sym c.as_slice-2.ensures.value) ∙ sym c.is_legal_hearing.ensures ∙ c.if-not-is_legal_hearing.false in
-    (exchanges-by c.args.self.now c.self.inside.device host c.self.inside.end c.self.inside.taken c.args.arrival.now c.args.back.now frame heard ending answer came needed whole false c.self.view_is returns_so legal
-    (ap (λ f. is_legal_return f needed whole answer came) (sym c.as_slice-5.ensures.value) ∙ sym c.is_legal_return.ensures ∙ c.if-not-is_legal_return.true),
-    refl)
+    ap (λ f. is_legal_hearing f heard ending) (sym c.as_slice-2.ensures.value) ∙ sym c.is_legal_hearing.ensures ∙ c.if-not-is_legal_hearing.false in (
+      exchanges-by c.args.self.now c.self.inside.device host c.self.inside.end c.self.inside.taken c.args.arrival.now c.args.back.now frame heard ending answer came needed whole false c.self.view_is returns_so legal
+          (ap (λ f. is_legal_return f needed whole answer came) (sym c.as_slice-5.ensures.value) ∙ sym c.is_legal_return.ensures ∙ c.if-not-is_legal_return.true),
+      refl,
+    )
 
 pub invariant_of-self : goal.invariant_of-self
 invariant_of-self c =
-    let same = config-kept c.self.inside.device c.hear.new.self (Hearing c.heard_bytes-bytes.result.now c.heard_ending-ending.result) c.hear.ensures.after in
-    (c.self.invariant.0 ∙ ap (λ (k : Config). k.addr) same,
-    subst (λ (k : Config). IsMatched c.self.inside.host.setup k c.self.inside.taken) same c.self.invariant.1)
+    let same = config-kept c.self.inside.device c.hear.new.self (Hearing c.heard_bytes-bytes.result.now c.heard_ending-ending.result) c.hear.ensures.after in (
+      c.self.invariant.0 ∙ ap (λ (k : Config). k.addr) same,
+      subst (λ (k : Config). IsMatched c.self.inside.host.setup k c.self.inside.taken) same c.self.invariant.1,
+    )
 
 pub returns : goal.returns
 returns c =
@@ -93,8 +96,9 @@ returns c =
       whole_is = c.is_heard_whole-whole.ensures ∙ ap (λ f. is_heard_whole f heard ending) c.as_slice-4.ensures.value;
     } in
     let legal : is_legal_hearing frame heard ending ≡ true =
-        ap (λ f. is_legal_hearing f heard ending) (sym c.as_slice-2.ensures.value) ∙ sym c.is_legal_hearing.ensures ∙ c.if-not-is_legal_hearing.false in
-    (exchanges-by c.args.self.now c.self.inside.device host c.self.inside.end c.self.inside.taken c.args.arrival.now c.args.back.now frame heard ending answer came needed whole true c.self.view_is returns_so legal
-    (ap (λ f. is_legal_return f needed whole answer came) (sym c.as_slice-5.ensures.value) ∙ sym c.is_legal_return.ensures ∙ c.if-not-is_legal_return.false),
-    tt,
-    exchanges-told c.args.self.now c.tell.new.self c.self.inside.device c.hear.new.self host c.self.inside.end c.self.inside.taken c.args.arrival.now c.args.back.now frame heard ending answer came needed whole c.self.view_is returns_so c.hear.ensures.after c.tell.ensures)
+    ap (λ f. is_legal_hearing f heard ending) (sym c.as_slice-2.ensures.value) ∙ sym c.is_legal_hearing.ensures ∙ c.if-not-is_legal_hearing.false in (
+      exchanges-by c.args.self.now c.self.inside.device host c.self.inside.end c.self.inside.taken c.args.arrival.now c.args.back.now frame heard ending answer came needed whole true c.self.view_is returns_so legal
+          (ap (λ f. is_legal_return f needed whole answer came) (sym c.as_slice-5.ensures.value) ∙ sym c.is_legal_return.ensures ∙ c.if-not-is_legal_return.false),
+      tt,
+      exchanges-told c.args.self.now c.tell.new.self c.self.inside.device c.hear.new.self host c.self.inside.end c.self.inside.taken c.args.arrival.now c.args.back.now frame heard ending answer came needed whole c.self.view_is returns_so c.hear.ensures.after c.tell.ensures,
+    )

@@ -27,9 +27,10 @@ unfolding step_of
 returns-in-Ok c =
     let whole = to_z-of_z {w = w64} c.ranges.microvolts in
     let found = some_word c.self.inside.host c.order_micro.new.self c.args.cell (micro_word c.self.inside.host c.args.cell c.args.microvolts)
-        (passed c.args.microvolts _ whole c.self.inside.host c.order_micro.new.self c.args.cell c.in-Ok.ensures.ok) in
-    (sym (ap (λ (s : State). event_cause s (OrderMicro c.args.cell c.args.microvolts)) c.self.view_is)
-    ∙ ap refused (fault-passed c.args.microvolts _ whole c.self.inside.host c.args.cell c.in-Ok.ensures.fault),
-    sym (ap (λ (s : State). is_some (micro_word s.host c.args.cell c.args.microvolts)) c.self.view_is) ∙ found.0,
-    host-told c.args.self.now c.self.inside.device c.self.inside.host c.order_micro.new.self c.self.inside.end None c.self.inside.taken (Accepted (micro_job c.self.inside.host c.args.cell c.args.microvolts)) c.self.view_is found.1 refl
-    ∙ ap (λ (s : State). shared c.args.self.now (tells (Accepted (micro_job s.host c.args.cell c.args.microvolts)))) c.self.view_is)
+    (passed c.args.microvolts _ whole c.self.inside.host c.order_micro.new.self c.args.cell c.in-Ok.ensures.ok) in (
+      sym (ap (λ (s : State). event_cause s (OrderMicro c.args.cell c.args.microvolts)) c.self.view_is)
+          ∙ ap refused (fault-passed c.args.microvolts _ whole c.self.inside.host c.args.cell c.in-Ok.ensures.fault),
+      sym (ap (λ (s : State). is_some (micro_word s.host c.args.cell c.args.microvolts)) c.self.view_is) ∙ found.0,
+      host-told c.args.self.now c.self.inside.device c.self.inside.host c.order_micro.new.self c.self.inside.end None c.self.inside.taken (Accepted (micro_job c.self.inside.host c.args.cell c.args.microvolts)) c.self.view_is found.1 refl
+          ∙ ap (λ (s : State). shared c.args.self.now (tells (Accepted (micro_job s.host c.args.cell c.args.microvolts)))) c.self.view_is,
+    )

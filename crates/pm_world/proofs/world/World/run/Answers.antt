@@ -1,8 +1,14 @@
-use Rattle.std.proofs.Common.{◌≡◌, ℕ, List, Option, Some, None, sym, ◌∙◌, ap, subst}
+use Rattle.std.proofs.Common.{◌≡◌, ℕ, ◌<◌, List, Option, Some, None, sym, ◌∙◌, ap, subst}
 use Rattle.std.specs.Prelude.{slice_get, IsSomeAnd}
 use Rattle.pm_device.specs.declared.config.Config.{Config}
 use Rattle.pm_world.specs.declared.event.Event.{Event}
 use Rattle.pm_world.specs.declared.stop.Stop.{Stop}
+use Rattle.pm_table.specs.declared.cell.Cell.{Cell}
+use Rattle.pm_table.specs.Cell.{IsCell}
+use Rattle.pm_model.specs.Commanded.{commanded}
+use Rattle.pm_model.specs.Settings.{word_at}
+use Rattle.pm_device.specs.Held.{value_for}
+use Rattle.pm_world.specs.Retelling.{IsOrderRun, IsOwnWord, CommandsOwn}
 use Rattle.pm_world.specs.Setup.{start}
 use Rattle.pm_world.specs.State.{State, cause_of}
 use Rattle.pm_world.specs.Life.{now, taken_events, after_all, AreTakenFrom, StopsAt, StopsFrom}
@@ -14,6 +20,33 @@ stops : (config : Config) (passes : ℕ) (events : List Event) (stop : Option St
 stops config passes events None same h = tt
 stops config passes events (Some stop) same h =
     subst (λ (s : State). IsSomeAnd (slice_get events stop.at) (λ event. cause_of s event ≡ Some stop.cause)) (sym same) h
+
+pub returns-clause-orders : goal.returns-clause-orders
+returns-clause-orders c =
+    let new = c.in-Ok.ensures {u = tt} in
+    let es = taken_events c.args.events.now c.run_up-stop.result in
+    let so = c.lives_are_followed.ensures.from_start c.args.c c.args.passes es new.sound.0 new.sound.1 (subst (λ (s : State). AreTakenFrom s es) new.made c.run_up-stop.ensures.all) in
+    let same = c.run_up-stop.ensures.after ∙ (ap (λ (s : State). after_all s es) new.made ∙ sym so.1) in
+    subst (λ (s : State). IsOrderRun c.args.c c.args.passes es s.device.words) (sym same)
+    (c.lives_are_orders.ensures.orders c.args.c c.args.passes es new.sound.0 new.sound.1 so.0)
+
+pub returns-clause-own : goal.returns-clause-own
+returns-clause-own c =
+    let new = c.in-Ok.ensures {u = tt} in
+    let es = taken_events c.args.events.now c.run_up-stop.result in
+    let so = c.lives_are_followed.ensures.from_start c.args.c c.args.passes es new.sound.0 new.sound.1 (subst (λ (s : State). AreTakenFrom s es) new.made c.run_up-stop.ensures.all) in
+    let same = c.run_up-stop.ensures.after ∙ (ap (λ (s : State). after_all s es) new.made ∙ sym so.1) in
+    subst (λ (s : State). (cell : Cell) → IsCell c.args.c.count cell → IsOwnWord c.args.c c.args.passes es cell (word_at s.device.words cell)) (sym same)
+    (λ cell here. c.lives_are_orders.ensures.own c.args.c c.args.passes es cell new.sound.0 new.sound.1 so.0 here)
+
+pub returns-clause-commanded : goal.returns-clause-commanded
+returns-clause-commanded c =
+    let new = c.in-Ok.ensures {u = tt} in
+    let es = taken_events c.args.events.now c.run_up-stop.result in
+    let so = c.lives_are_followed.ensures.from_start c.args.c c.args.passes es new.sound.0 new.sound.1 (subst (λ (s : State). AreTakenFrom s es) new.made c.run_up-stop.ensures.all) in
+    let same = c.run_up-stop.ensures.after ∙ (ap (λ (s : State). after_all s es) new.made ∙ sym so.1) in
+    subst (λ (s : State). (output : ℕ) → output < c.args.c.count → CommandsOwn c.args.c c.args.passes es output (commanded (value_for s.device.config output) s.device.words output)) (sym same)
+    (λ output here. c.lives_are_orders.ensures.commanded c.args.c c.args.passes es output new.sound.0 new.sound.1 so.0 here)
 
 pub returns-clause-now : goal.returns-clause-now
 returns-clause-now c =

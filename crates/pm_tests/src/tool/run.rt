@@ -1,0 +1,314 @@
+ghost use Rattle.std.specs.Prelude.{IsFalse};
+
+use crate::fakes::{Endless, Failure, Paper, Pieces, blank_paper, in_pieces};
+use pm_tool::{Sink, Source, run};
+use std::alloc::Global;
+use std::io::{ErrorKind, Read};
+
+const FRAME: &str = "B0 05 04 00 21 CD 34 5A";
+
+const TAKEN: &str = "taken\noutput 0 VOUT_COMMAND 34CD\noutput 1 VOUT_COMMAND 1000\n";
+
+/// What a run over memory comes to: the status, and what was written on both streams.
+#[derive(Drop)]
+struct Ran {
+    status: u8,
+    output: Paper,
+    errors: Paper,
+}
+
+impl Ran {
+    /// Whether the run ended so.
+    fn is(&self, status: u8, output: &str, errors: &str) -> bool {
+        self.status == status
+            && self.output.taken.as_slice() == output.as_bytes()
+            && self.errors.taken.as_slice() == errors.as_bytes()
+    }
+}
+
+/// Runs the program with its output and its errors going to such writers.
+fn run_with<R: Read>(
+    alloc: Global,
+    words: Result<&[&str], ErrorKind>,
+    input: &mut Source<R>,
+    output: Paper,
+    errors: Paper,
+) -> Ran
+    requires { IsFalse input.old.failed }
+{
+    let mut output = Sink::new(output);
+    let mut errors = Sink::new(errors);
+    let status = run(alloc, words, input, &mut output, &mut errors);
+    Ran {
+        status,
+        output: output.into_inner(),
+        errors: errors.into_inner(),
+    }
+}
+
+/// Runs the program on a text.
+fn run_on(alloc: Global, words: &[&str], text: &str) -> Ran {
+    let mut input = Source::new(in_pieces(text.as_bytes(), 7));
+    run_with(
+        alloc,
+        Ok(words),
+        &mut input,
+        blank_paper(alloc, 4096),
+        blank_paper(alloc, 4096),
+    )
+}
+
+#[test]
+fn every_status_has_its_texts(rt: HostRuntime) {
+    let hear = ["pmb", "hear"];
+    for (text, status, output, errors) in [
+        (FRAME, 0, TAKEN, ""),
+        ("/ /", 1, "", "pmb: X1 Syntax line 1\n"),
+        ("\n\nB0 0", 1, "", "pmb: X2 BadHex line 3\n"),
+    ] {
+        let found = run_on(rt.alloc(), &hear, text);
+        assert!(rt; found.is(status, output, errors), "{text}");
+    }
+    for (option, status, output, errors) in [
+        ("--word=87FF", 0, "word 87FF value -1/65536 micro -16\n", ""),
+        ("--word=1", 2, "", "pmb: bad word\n"),
+        ("--micro=1e3", 2, "", "pmb: bad micro\n"),
+        ("--micro=33521664000001", 1, "", "pmb: N4 AboveGreatest\n"),
+        ("--micro=-33554432000001", 1, "", "pmb: N3 BelowLeast\n"),
+        ("--micro=1000000000000001", 1, "", "pmb: N5 TooLarge\n"),
+        (
+            "--format=linear11",
+            2,
+            "",
+            "pmb: give one of --word and --micro\n",
+        ),
+    ] {
+        let words = ["pmb", "number", "--format=linear11", option];
+        let found = if option.starts_with("--format") {
+            run_on(rt.alloc(), &["pmb", "number", option], FRAME)
+        } else {
+            run_on(rt.alloc(), &words, FRAME)
+        };
+        assert!(rt; found.is(status, output, errors), "{option}");
+    }
+    for (format, status, errors) in [
+        ("--format=direct:0:5:3", 1, "pmb: N1 ZeroSlope\n"),
+        ("--format=direct:1:5:13", 1, "pmb: N2 ExponentRange\n"),
+        ("--format=float", 2, "pmb: bad format\n"),
+    ] {
+        let found = run_on(rt.alloc(), &["pmb", "number", format, "--word=0001"], "");
+        assert!(rt; found.is(status, "", errors), "{format}");
+    }
+    for (kind, status, errors) in [
+        (ErrorKind::OutOfMemory, 1, "pmb: X6 Memory\n"),
+        (ErrorKind::InvalidData, 2, "pmb: bad arguments\n"),
+    ] {
+        let mut input = Source::new(in_pieces(FRAME.as_bytes(), 7));
+        let alloc = rt.alloc();
+        let found = run_with(
+            alloc,
+            Err(kind),
+            &mut input,
+            blank_paper(alloc, 1),
+            blank_paper(alloc, 1),
+        );
+        assert!(rt; found.is(status, "", errors), "{errors}");
+        assert_eq!(rt; input.into_inner().calls, 0);
+    }
+}
+
+#[test]
+fn a_failed_reader_and_an_endless_one_are_told(rt: HostRuntime) {
+    let alloc = rt.alloc();
+    let hear = ["pmb", "hear"];
+    for fails_at in 1..=5 {
+        let mut input = Source::new(Pieces {
+            rest: FRAME.as_bytes(),
+            piece: 7,
+            fails_at,
+            calls: 0,
+        });
+        let found = run_with(
+            alloc,
+            Ok(&hear),
+            &mut input,
+            blank_paper(alloc, 1),
+            blank_paper(alloc, 1),
+        );
+        assert!(rt; found.is(1, "", "pmb: X4 Read\n"), "at {fails_at}");
+        assert_eq!(rt; input.into_inner().calls, fails_at);
+    }
+    let mut input = Source::new(Endless);
+    let found = run_with(
+        alloc,
+        Ok(&hear),
+        &mut input,
+        blank_paper(alloc, 1),
+        blank_paper(alloc, 1),
+    );
+    assert!(rt; found.is(1, "", "pmb: X3 TooLong\n"));
+}
+
+#[test]
+fn a_failed_output_is_told_and_holds_a_front(rt: HostRuntime) {
+    let alloc = rt.alloc();
+    let number = ["pmb", "number", "--format=linear11", "--word=87FF"];
+    let line = "word 87FF value -1/65536 micro -16\n";
+    for (words, text) in [
+        (["pmb", "hear"].as_slice(), TAKEN),
+        (number.as_slice(), line),
+    ] {
+        for fails_at in 1..=text.len() {
+            for failure in [Failure::Error, Failure::Nothing] {
+                let mut input = Source::new(in_pieces(FRAME.as_bytes(), 7));
+                let mut output = blank_paper(alloc, 1);
+                output.fails_at = fails_at;
+                output.failure = failure;
+                let found = run_with(
+                    alloc,
+                    Ok(words),
+                    &mut input,
+                    output,
+                    blank_paper(alloc, 4096),
+                );
+                assert!(rt;
+                    found.status == 1 && found.output.calls == fails_at,
+                    "at {fails_at}"
+                );
+                let front = &text.as_bytes()[..fails_at - 1];
+                assert_eq!(rt; found.output.taken.as_slice(), front, "at {fails_at}");
+                let errors = found.errors.taken.as_slice();
+                assert_eq!(rt; errors, b"pmb: X5 Write\n".as_slice(), "at {fails_at}");
+            }
+        }
+        let mut input = Source::new(in_pieces(FRAME.as_bytes(), 7));
+        let mut output = blank_paper(alloc, 1);
+        output.flush_fails = true;
+        let found = run_with(
+            alloc,
+            Ok(words),
+            &mut input,
+            output,
+            blank_paper(alloc, 4096),
+        );
+        assert!(rt; found.is(1, text, "pmb: X5 Write\n"));
+    }
+}
+
+#[test]
+fn a_failed_standard_error_leaves_the_status(rt: HostRuntime) {
+    let alloc = rt.alloc();
+    for (words, status, text) in [
+        (["pmb", "hear"].as_slice(), 1, "pmb: X2 BadHex line 1\n"),
+        (
+            ["pmb", "number"].as_slice(),
+            2,
+            "pmb: give one of --word and --micro\n",
+        ),
+    ] {
+        for fails_at in 1..=text.len() {
+            let mut input = Source::new(in_pieces(b"ZZ", 7));
+            let mut errors = blank_paper(alloc, 1);
+            errors.fails_at = fails_at;
+            let found = run_with(alloc, Ok(words), &mut input, blank_paper(alloc, 1), errors);
+            assert!(rt;
+                found.status == status && found.output.taken.is_empty(),
+                "at {fails_at}"
+            );
+            assert_eq!(rt; found.errors.calls, fails_at);
+            let front = &text.as_bytes()[..fails_at - 1];
+            assert_eq!(rt; found.errors.taken.as_slice(), front, "at {fails_at}");
+        }
+    }
+}
+
+static MISSING: &str = "error: 'pmb' requires a subcommand but one was not provided
+  [subcommands: hear, number]
+
+Usage: pmb <COMMAND>
+
+For more information, try '--help'.
+";
+
+static UNKNOWN: &str = "error: unrecognized subcommand 'listen'
+
+Usage: pmb <COMMAND>
+
+For more information, try '--help'.
+";
+
+static NO_SUCH_OPTION: &str = "error: unexpected argument '--bits' found
+
+Usage: pmb number [OPTIONS]
+
+For more information, try '--help'.
+";
+
+static NO_VALUE: &str = "error: a value is required for '--word <HHHH>' but none was supplied
+
+For more information, try '--help'.
+";
+
+static TWICE: &str = "error: the argument '--word <HHHH>' cannot be used multiple times
+
+Usage: pmb number [OPTIONS]
+
+For more information, try '--help'.
+";
+
+static HELP: &str = "PMBus packets and numbers, by proved engines
+
+Usage: pmb <COMMAND>
+
+Commands:
+  hear    Lets a model converter hear the frames of standard input
+  number  Prints a word of a number format, its exact value and its whole millionths
+
+Options:
+  -h, --help  Print help
+";
+
+static NUMBER_HELP: &str =
+    "Prints a word of a number format, its exact value and its whole millionths
+
+Usage: pmb number [OPTIONS]
+
+Options:
+      --format <F>   The format: linear11, ulinear16:N (N from -16 to 15) or direct:M:B:R
+      --word <HHHH>  The word, as four hexadecimal digits
+      --micro <K>    A value of K millionths, whose nearest word is taken
+  -h, --help         Print help
+";
+
+#[test]
+fn the_parsers_texts_go_where_they_belong(rt: HostRuntime) {
+    for (words, status, output, errors) in [
+        (["pmb"].as_slice(), 2, "", MISSING),
+        (["pmb", "listen"].as_slice(), 2, "", UNKNOWN),
+        (
+            ["pmb", "number", "--bits=1"].as_slice(),
+            2,
+            "",
+            NO_SUCH_OPTION,
+        ),
+        (["pmb", "number", "--word"].as_slice(), 2, "", NO_VALUE),
+        (
+            ["pmb", "number", "--word=1", "--word=2"].as_slice(),
+            2,
+            "",
+            TWICE,
+        ),
+        (["pmb", "--help"].as_slice(), 0, HELP, ""),
+        (["pmb", "number", "--help"].as_slice(), 0, NUMBER_HELP, ""),
+    ] {
+        let found = run_on(rt.alloc(), words, FRAME);
+        assert!(rt; found.is(status, output, errors), "{words:?}");
+    }
+    let alloc = rt.alloc();
+    let mut input = Source::new(in_pieces(b"", 1));
+    let mut output = blank_paper(alloc, 1);
+    output.fails_at = 3;
+    let words = ["pmb", "--help"];
+    let found = run_with(alloc, Ok(&words), &mut input, output, blank_paper(alloc, 1));
+    assert!(rt; found.is(1, "PM", "pmb: X5 Write\n"));
+}

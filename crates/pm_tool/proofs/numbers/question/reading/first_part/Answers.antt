@@ -1,5 +1,0 @@
-use Rattle.pm_tool.proofs.PartLemmas.{cut_at_colon}
-use Rattle.pm_tool.proofs.numbers.question.reading.first_part.Goals as goal
-
-pub returns : goal.returns
-returns c = cut_at_colon c.args.text.now c.split_once.result c.split_once.ensures.cases

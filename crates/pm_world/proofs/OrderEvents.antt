@@ -1,0 +1,197 @@
+-- What an event makes of the converter's words and of the open order, in a world that takes it.
+use Rattle.std.proofs.Common.{◌≡◌, ◌⊎◌, inl, inr, ℕ, ℤ, Bool, true, false, not, List, Option, Some, None, is_some, IsSome, unwrap_or, refl, sym, ◌∙◌, ap, subst}
+use Rattle.std.specs.Option.{option_or, option_and_then, option_map}
+use Rattle.std.proofs.lemmas.Bool.{ltb-true}
+use Rattle.pm_table.specs.declared.cell.Cell.{Cell}
+use Rattle.pm_table.specs.declared.cell.Cell.TheVariants.{Out, Protect}
+use Rattle.pm_table.specs.Cell.{cell_accepts, IsCell, output_of}
+use Rattle.pm_frame.specs.declared.message.Message.{Message}
+use Rattle.pm_frame.specs.declared.message.Payload.TheVariants.{Empty}
+use Rattle.pm_frame.specs.Layout.{IsWrite, is_read_message, fits_layout}
+use Rattle.pm_model.specs.OrderMachine.{with_order}
+use Rattle.pm_model.specs.Settings.{Words, with_word}
+use Rattle.pm_device.specs.declared.heard.Ending.{Ending}
+use Rattle.pm_device.specs.declared.heard.Ending.TheVariants.{Stop}
+use Rattle.pm_device.specs.Held.{Held}
+use Rattle.pm_device.specs.Effect.{Hearing, words_after}
+use Rattle.pm_device.specs.History.{next as device_next, after as device_by}
+use Rattle.pm_host.specs.declared.fault.HostFault.{HostFault}
+use Rattle.pm_host.specs.declared.stage.Stage.{Stage}
+use Rattle.pm_host.specs.declared.stage.Stage.TheVariants.{Writes, Reads, Checks, AsksMode, AsksCoefficients, Clears}
+use Rattle.pm_host.specs.Cells.{is_cell}
+use Rattle.pm_host.specs.Messages.{cell_read, cell_write, mode_read, coefficients_read, faults_clear}
+use Rattle.pm_host.specs.Refusals.{is_busy, cell_fault, order_fault, output_fault, micro_fault, micro_word, voltage_fault, range_fault, rule as host_rule}
+use Rattle.pm_host.specs.Summary.{Summary, next as host_next, sending_in, stage_message, idle, format_at}
+use Rattle.pm_world.specs.declared.event.Arrival.{Arrival}
+use Rattle.pm_world.specs.declared.event.Back.{Back as Return}
+use Rattle.pm_world.specs.declared.stop.Cause.{Cause}
+use Rattle.pm_world.specs.declared.stop.Cause.TheVariants.{NotBetrayed, WrongKind}
+use Rattle.pm_world.specs.Legal.{frame_of, heard_bytes, heard_ending, is_legal_hearing}
+use Rattle.pm_world.specs.State.{State, rule, refused, device_after, host_after, delivered, exchanged, delivery_cause, exchange_cause, hearing_cause, return_cause}
+use Rattle.pm_world.proofs.Hearings.{HearingLaws, hears-write, hears-request, cell-reached}
+use Rattle.pm_world.proofs.OpenOrders.{stage_order, Goes, answered-order}
+
+-- of two, none
+pub or-none : {A : Type 0} (a b : Option A) → option_or a b ≡ None → (a ≡ None) × (b ≡ None)
+or-none None b h = (refl, h)
+or-none (Some x) b h = cc
+
+pub rule-none : (b : Bool) (cause : Cause) → rule b cause ≡ None → b ≡ false
+rule-none false cause h = refl
+rule-none true cause h = cc
+
+host_rule-none : (b : Bool) (fault : HostFault) → host_rule b fault ≡ None → b ≡ false
+host_rule-none false fault h = refl
+host_rule-none true fault h = cc
+
+not-false : (b : Bool) → not b ≡ false → b ≡ true
+not-false true h = refl
+not-false false h = cc
+
+pub refused-none : (fault : Option HostFault) → refused fault ≡ None → fault ≡ None
+refused-none None h = refl
+refused-none (Some fault) h = cc
+
+some-is : (a b : Message) → Some a ≡ Some b → a ≡ b
+some-is a b e = ap (λ o. unwrap_or o a) e
+
+-- a request is no write
+reads : (request message : Message) → is_read_message request ≡ true → Some request ≡ Some message → is_read_message message ≡ false → ⊥
+reads request message is e writes =
+    let both : true ≡ false = sym is ∙ (ap is_read_message (some-is request message e) ∙ writes) in cc
+
+reads-cell : (cell : Cell) (message : Message) → Some (cell_read cell) ≡ Some message → is_read_message message ≡ false → ⊥
+reads-cell (Out output register) message e writes = reads (cell_read (Out output register)) message refl e writes
+reads-cell Protect message e writes = reads (cell_read Protect) message refl e writes
+
+-- a whole write that is being sent leaves the words, or is the open order's
+written : HearingLaws → (held : Held) (stage : Option Stage) (message : Message) (bytes : List ℕ) → option_map stage_message stage ≡ Some message → is_read_message message ≡ false →
+    IsWrite held.config.addr message bytes →
+    (words_after held (Hearing bytes Stop) ≡ held.words)
+    ⊎ (IsSome (stage_order stage) × (words_after held (Hearing bytes Stop) ≡ with_order held.words (stage_order stage)))
+written laws held None message bytes e writes h = cc
+written laws held (Some (Writes cell word pass)) message bytes e writes h =
+    go (cell-reached laws held cell word bytes (subst (λ m. IsWrite held.config.addr m bytes) (sym (some-is (cell_write cell word) message e)) h))
+  where
+    go : (words_after held (Hearing bytes Stop) ≡ held.words) ⊎ (words_after held (Hearing bytes Stop) ≡ with_word held.words cell word) →
+        (words_after held (Hearing bytes Stop) ≡ held.words)
+        ⊎ (IsSome (stage_order (Some (Writes cell word pass))) × (words_after held (Hearing bytes Stop) ≡ with_order held.words (stage_order (Some (Writes cell word pass)))))
+    go (inl e) = inl e
+    go (inr e) = inr (refl, e)
+written laws held (Some (Clears output tries)) message bytes e writes h =
+    inl (laws.clears held output Empty bytes (subst (λ m. IsWrite held.config.addr m bytes) (sym (some-is (faults_clear output) message e)) h))
+written laws held (Some (Reads cell word pass)) message bytes e writes h = absurd (reads-cell cell message e writes)
+written laws held (Some (Checks cell tries)) message bytes e writes h = absurd (reads-cell cell message e writes)
+written laws held (Some (AsksMode output tries)) message bytes e writes h = absurd (reads (mode_read output) message refl e writes)
+written laws held (Some (AsksCoefficients output tries)) message bytes e writes h = absurd (reads coefficients_read message refl e writes)
+
+-- what a hearing leaves is what the converter holds then
+heard-words : (held : Held) (bytes : List ℕ) (ending : Ending) → (device_next held (Hearing bytes ending)).words ≡ words_after held (Hearing bytes ending)
+unfolding device_next device_by
+heard-words held bytes ending = refl
+
+-- a delivery leaves the words, or lets the open order take
+abbrev pub Takes : State → Words → Type 0
+Takes s words = (words ≡ s.device.words) ⊎ (IsSome (stage_order s.host.stage) × (words ≡ with_order s.device.words (stage_order s.host.stage)))
+
+pub delivered-words : HearingLaws → (s : State) (arrival : Arrival) (sending : Option Message) → s.host.setup.addr ≡ s.device.config.addr → sending_in s.host ≡ sending →
+    ((message : Message) → sending ≡ Some message → fits_layout message ≡ true) → delivery_cause s arrival sending ≡ None →
+    Takes s (device_after s.device (delivered s arrival sending).heard).words
+delivered-words laws s arrival None same e fits h = cc
+delivered-words laws s arrival (Some message) same e fits h = go (hears-write laws s.device message bytes ending writes (fits message refl) legal) where
+  bytes : List ℕ
+  bytes = heard_bytes (frame_of s.host.setup.addr message) arrival
+
+  ending : Ending
+  ending = heard_ending message arrival
+
+  parts : (rule (is_read_message message) WrongKind ≡ None) × (hearing_cause s.host.setup.addr message arrival ≡ None)
+  parts = or-none (rule (is_read_message message) WrongKind) (hearing_cause s.host.setup.addr message arrival) h
+
+  writes : is_read_message message ≡ false
+  writes = rule-none (is_read_message message) WrongKind parts.0
+
+  legal : is_legal_hearing (frame_of s.device.config.addr message) (heard_bytes (frame_of s.host.setup.addr message) arrival) (heard_ending message arrival) ≡ true
+  legal = subst (λ a. is_legal_hearing (frame_of a message) (heard_bytes (frame_of s.host.setup.addr message) arrival) (heard_ending message arrival) ≡ true) same
+      (not-false _ (rule-none _ NotBetrayed parts.1))
+
+  go : (words_after s.device (Hearing (heard_bytes (frame_of s.host.setup.addr message) arrival) (heard_ending message arrival)) ≡ s.device.words)
+      ⊎ ((heard_ending message arrival ≡ Stop) × IsWrite s.device.config.addr message (heard_bytes (frame_of s.host.setup.addr message) arrival)) →
+      ((device_next s.device (Hearing (heard_bytes (frame_of s.host.setup.addr message) arrival) (heard_ending message arrival))).words ≡ s.device.words)
+      ⊎ (IsSome (stage_order s.host.stage) × ((device_next s.device (Hearing (heard_bytes (frame_of s.host.setup.addr message) arrival) (heard_ending message arrival))).words ≡ with_order s.device.words (stage_order s.host.stage)))
+  go (inl e) = inl (heard-words s.device _ _ ∙ e)
+  go (inr (stop, whole)) =
+      subst (λ x. ((device_next s.device (Hearing (heard_bytes (frame_of s.host.setup.addr message) arrival) x)).words ≡ s.device.words)
+      ⊎ (IsSome (stage_order s.host.stage) × ((device_next s.device (Hearing (heard_bytes (frame_of s.host.setup.addr message) arrival) x)).words ≡ with_order s.device.words (stage_order s.host.stage)))) (sym stop)
+      (subst (λ (w : Words). (w ≡ s.device.words) ⊎ (IsSome (stage_order s.host.stage) × (w ≡ with_order s.device.words (stage_order s.host.stage))))
+      (sym (heard-words s.device (heard_bytes (frame_of s.host.setup.addr message) arrival) Stop))
+      (written laws s.device s.host.stage message (heard_bytes (frame_of s.host.setup.addr message) arrival) e writes whole))
+
+-- and leaves the host
+pub delivered-stage : (s : State) (arrival : Arrival) (sending : Option Message) → stage_order (host_after s.host (delivered s arrival sending).told).stage ≡ stage_order s.host.stage
+delivered-stage s arrival None = refl
+delivered-stage s arrival (Some message) = refl
+
+-- an exchange leaves them
+pub exchanged-words : HearingLaws → (s : State) (arrival : Arrival) (back : Return) (sending : Option Message) →
+    ((message : Message) → sending ≡ Some message → fits_layout message ≡ true) → exchange_cause s arrival back sending ≡ None →
+    (device_after s.device (exchanged s arrival back sending).heard).words ≡ s.device.words
+exchanged-words laws s arrival back None fits h = cc
+exchanged-words laws s arrival back (Some message) fits h =
+    let kinds = or-none (rule (not (is_read_message message)) WrongKind) (option_or (hearing_cause s.host.setup.addr message arrival) (return_cause s.device s.host.setup.addr message arrival back)) h in
+    let hears = or-none (hearing_cause s.host.setup.addr message arrival) (return_cause s.device s.host.setup.addr message arrival back) kinds.1 in
+    heard-words s.device (heard_bytes (frame_of s.host.setup.addr message) arrival) (heard_ending message arrival)
+    ∙ hears-request laws s.device s.host.setup.addr message (heard_bytes (frame_of s.host.setup.addr message) arrival) (heard_ending message arrival)
+    (not-false (is_read_message message) (rule-none (not (is_read_message message)) WrongKind kinds.0)) (fits message refl)
+    (not-false _ (rule-none _ NotBetrayed hears.0))
+
+-- and keeps an order open, or ends it
+pub exchanged-order : (s : State) (arrival : Arrival) (back : Return) (sending : Option Message) → Goes (stage_order s.host.stage) (stage_order (host_after s.host (exchanged s arrival back sending).told).stage)
+unfolding host_next
+exchanged-order s arrival back None = inl refl
+exchanged-order s arrival back (Some message) = answered-order (idle s.host) s.host.stage _
+
+-- a job that isn't refused comes where no order is open
+idle-order : (s : Summary) → is_busy s ≡ false → stage_order s.stage ≡ None
+idle-order s free = go s.stage free where
+  go : (stage : Option Stage) → is_some stage ≡ false → stage_order stage ≡ None
+  go None h = refl
+  go (Some stage) h = cc
+
+pub cell-order : (s : Summary) (cell : Cell) → cell_fault s cell ≡ None → stage_order s.stage ≡ None
+cell-order s cell h = idle-order s (host_rule-none (is_busy s) _ (or-none (host_rule (is_busy s) _) _ h).0)
+
+pub output-order : (s : Summary) (output : ℕ) → output_fault s output ≡ None → stage_order s.stage ≡ None
+output-order s output h = idle-order s (host_rule-none (is_busy s) _ (or-none (host_rule (is_busy s) _) _ h).0)
+
+-- what is_cell says
+cell-there : (outputs : ℕ) (cell : Cell) → is_cell outputs cell ≡ true → IsCell outputs cell
+cell-there outputs (Out output register) h = ltb-true output outputs h
+cell-there outputs Protect h = tt
+
+-- an order that isn't refused may be accepted
+pub record IsFree (s : Summary) (cell : Cell) (word : ℕ) : Type 0 where
+  pub free : stage_order s.stage ≡ None
+  pub there : IsCell s.setup.outputs cell
+  pub fits : cell_accepts cell word ≡ true
+
+pub order-free : (s : Summary) (cell : Cell) (word : ℕ) → order_fault s cell word ≡ None → IsFree s cell word
+order-free s cell word h =
+    let first = or-none (cell_fault s cell) _ h in
+    let cells = or-none (host_rule (is_busy s) _) _ first.0 in
+    let words = or-none (host_rule (not (cell_accepts cell word)) _) _ first.1 in
+    record {
+      free = cell-order s cell first.0;
+      there = cell-there s.setup.outputs cell (not-false _ (host_rule-none (not (is_cell s.setup.outputs cell)) _ (or-none (host_rule (not (is_cell s.setup.outputs cell)) _) _ cells.1).0));
+      fits = not-false _ (host_rule-none (not (cell_accepts cell word)) _ words.0);
+    }
+
+word-free : (s : Summary) (cell : Cell) (word : Option ℕ) → IsSome word → option_and_then (λ w. order_fault s cell w) word ≡ None → IsFree s cell (unwrap_or word 0)
+word-free s cell None some h = cc
+word-free s cell (Some w) some h = order-free s cell w h
+
+pub micro-free : (s : Summary) (cell : Cell) (x : ℤ) → micro_fault s cell x ≡ None → IsSome (micro_word s cell x) → IsFree s cell (unwrap_or (micro_word s cell x) 0)
+micro-free s cell x h some =
+    let past_voltage = (or-none (voltage_fault s cell) _ h).1 in
+    let past_range = (or-none (option_and_then (λ shape. range_fault shape x) (format_at s (output_of cell))) _ past_voltage).1 in
+    word-free s cell (micro_word s cell x) some (or-none (option_and_then (λ w. order_fault s cell w) (micro_word s cell x)) None past_range).0
