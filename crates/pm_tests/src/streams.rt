@@ -1,6 +1,6 @@
 //! Tests of `pm_text`: its readers and writers, whole texts, lines, words and bytes.
 use crate::fakes::{Endless, Failure, Paper, Pieces, blank_paper, in_pieces};
-use pm_text::{Line, Lines, Sink, Source, TextFault, Words, cut_at, push_bytes, read_text};
+use pm_lines::{Line, Lines, Sink, Source, TextFault, Words, cut_at, push_bytes, read_text};
 use std::test::Fail;
 
 #[test]

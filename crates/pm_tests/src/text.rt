@@ -2,9 +2,8 @@
 
 ghost use Rattle.std.specs.Prelude.{Some};
 
-use pm_text::{
-    DecodeEnd, Decoder, MAX_TEXT, Sink, Source, TextFault, decode, read_trace_line, render_line,
-};
+use pm_lines::{MAX_TEXT, Sink, Source, TextFault};
+use pm_trace::{DecodeEnd, Decoder, decode, read_trace_line, render_line};
 use std::alloc::{AllocError, Global};
 use std::io;
 use std::io::Read;

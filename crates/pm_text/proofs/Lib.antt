@@ -1,11 +1,1 @@
-pub mod BodyLemmas
-pub mod CountLemmas
-pub mod DecodeLemmas
-pub mod GatheredLemmas
 pub mod Joins
-pub mod LineLemmas
-pub mod MarkLemmas
-pub mod OpenLineLemmas
-pub mod PieceLemmas
-pub mod RunLemmas
-pub mod SaidLemmas

@@ -1,15 +1,2 @@
-pub mod Bytes
-pub mod Counts
-pub mod Decoding
-pub mod Faults
-pub mod Gathered
-pub mod Lines
-pub mod Marks
-pub mod OpenLines
-pub mod Parts
-pub mod Pieces
-pub mod ShownLines
-pub mod Streams
-pub mod Trace
-pub mod TraceText
-pub mod Written
+pub mod Replay
+pub mod Report

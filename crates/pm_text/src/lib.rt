@@ -1,56 +1,21 @@
-//! What reads and writes texts, over any reader and any writer: a reader and a writer that are used
-//! until they fail, a whole text of at most 1 MiB, its lines that are not skipped, the words of a
-//! line, the bytes that words write in hexadecimal, and the faults of a text.
-//!
-//! What a text means is not here. A line or a word borrows the text that it stands in, and nothing
-//! takes memory for a word.
+//! What the program reads and writes as texts: scenarios, which are replayed and reported, and traces,
+//! which are decoded. The lower crates' parts of it are named here too, so that a caller needs this
+//! crate alone.
 #![tactic(auto)]
 
-mod byte_list;
-mod bytes;
-mod counts_text;
-mod cut;
-mod decode_end;
-mod decoder;
-mod fault;
-mod fed;
-mod gathered;
-mod hex_digit;
-mod laws;
-mod line;
-mod line_body;
-mod line_fault;
-mod line_kind;
-mod lines;
-mod number_text;
-mod open_line;
-mod part;
-mod shown;
-mod shown_text;
-mod sink;
-mod source;
-mod standing;
-mod tally;
-mod text;
-mod trace_line;
-mod traces;
-mod words;
+mod outputs;
+mod ran;
+mod replay;
+mod replay_end;
+mod report;
+mod settings;
 
-pub use byte_list::ByteList;
-pub use bytes::push_bytes;
-pub use cut::cut_at;
-pub use decode_end::DecodeEnd;
-pub use decoder::Decoder;
-pub use fault::TextFault;
-pub use fed::Fed;
-pub use laws::pieces_do_not_matter;
-pub use line::Line;
-pub use lines::Lines;
-pub use part::PART_BYTES;
-pub use shown::Shown;
-pub use sink::Sink;
-pub use source::Source;
-pub use text::{MAX_TEXT, read_text};
-pub use trace_line::{TraceLine, read_trace_line, render_line};
-pub use traces::decode;
-pub use words::Words;
+pub use pm_lines::{MAX_TEXT, Sink, Source, TextFault};
+pub use pm_scenario::{Events, Scenario};
+pub use pm_trace::{
+    ByteList, DecodeEnd, Decoder, Fed, Shown, TraceLine, decode, read_trace_line, render_line,
+};
+pub use ran::Ran;
+pub use replay::replay;
+pub use replay_end::ReplayEnd;
+pub use report::render_report;

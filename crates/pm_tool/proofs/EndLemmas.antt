@@ -4,11 +4,11 @@ use Rattle.std.specs.Io.KnownBytes.{Appends, Consumes, Keeps}
 use Rattle.std.proofs.KnownBytes.{Appends-kept}
 use Rattle.clap.specs.declared.error.kind.ErrorKind.{ErrorKind}
 use Rattle.clap.specs.declared.error.kind.ErrorKind.TheVariants.{DisplayHelp, OutOfMemory}
-use Rattle.pm_text.specs.Faults.{fault_line, fault_words}
-use Rattle.pm_text.specs.Streams.{AppendsFront, Held, IsWholeText}
-use Rattle.pm_text.specs.declared.fault.TextFault.{TextFault}
-use Rattle.pm_text.specs.declared.fault.TextFault.TheVariants.{Syntax, BadHex, TooLong, Read, Write, Memory}
-use Rattle.pm_text.specs.declared.text.TheConstants.{MAX_TEXT}
+use Rattle.pm_lines.specs.Faults.{fault_line, fault_words}
+use Rattle.pm_lines.specs.Streams.{AppendsFront, Held, IsWholeText}
+use Rattle.pm_lines.specs.declared.fault.TextFault.{TextFault}
+use Rattle.pm_lines.specs.declared.fault.TextFault.TheVariants.{Syntax, BadHex, TooLong, Read, Write, Memory}
+use Rattle.pm_lines.specs.declared.text.TheConstants.{MAX_TEXT}
 use Rattle.std.specs.declared.io.ErrorKind.{ErrorKind as IoKind}
 use Rattle.std.specs.declared.io.ErrorKind.TheVariants.{OutOfMemory as IoMemory}
 use Rattle.clap.specs.Kinds.{IsAmong}

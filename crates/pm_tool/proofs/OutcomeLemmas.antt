@@ -2,11 +2,11 @@
 use Rattle.std.proofs.Common.{◌≡◌, ℕ, ◌<◌, ◌≤◌, true, false, List, [], ◌∷◌, ◌++◌, length, length-append, append-nil, Option, Some, None, IfSome, Result, Ok, Err, refl, sym, ap, ◌∙◌, arith, ltb, subst, IfErr, ◌⊎◌, inl, inr}
 use Rattle.std.proofs.lemmas.Bool.Decides.{nat_tests}
 use Rattle.std.specs.Io.KnownBytes.{Consumes}
-use Rattle.pm_text.specs.declared.fault.TextFault.{TextFault}
-use Rattle.pm_text.specs.declared.fault.TextFault.TheVariants.{Syntax, BadHex, TooLong, Read, Write, Memory}
-use Rattle.pm_text.specs.declared.text.TheConstants.{MAX_TEXT}
-use Rattle.pm_text.specs.Streams.{IsWholeText}
-use Rattle.pm_text.specs.Faults.{IsOfReading}
+use Rattle.pm_lines.specs.declared.fault.TextFault.{TextFault}
+use Rattle.pm_lines.specs.declared.fault.TextFault.TheVariants.{Syntax, BadHex, TooLong, Read, Write, Memory}
+use Rattle.pm_lines.specs.declared.text.TheConstants.{MAX_TEXT}
+use Rattle.pm_lines.specs.Streams.{IsWholeText}
+use Rattle.pm_lines.specs.Faults.{IsOfReading}
 use Rattle.pm_tool.specs.Outcome.{outcome_of, outcome_of_text, IsSettled}
 use Rattle.pm_tool.specs.Script.{printed_text}
 

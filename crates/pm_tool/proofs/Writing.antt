@@ -6,7 +6,7 @@ use Rattle.std.proofs.KnownBytes.{Appends-trans}
 use Rattle.std.proofs.lemmas.List.{drop_more, take_all, take_more}
 use Rattle.std.proofs.lemmas.List.FromFn.{get_or-range_with_len, length-range_with_len}
 use Rattle.std.proofs.lemmas.List.Concat.{flat_map-append}
-use Rattle.pm_text.specs.Streams.{AppendsFront}
+use Rattle.pm_lines.specs.Streams.{AppendsFront}
 
 -- a front of a later part, behind what was written before
 pub AppendsFront-later : (a b c : Option (List ℕ)) (before part later all : List ℕ) → Appends a b before → AppendsFront b c part

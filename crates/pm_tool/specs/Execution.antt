@@ -11,11 +11,11 @@ use Rattle.clap.specs.Walk.{texts}
 use Rattle.clap.specs.Words.{Text, fault_of, subcommand_of}
 use Rattle.clap.specs.declared.error.kind.ErrorKind.{ErrorKind}
 use Rattle.clap.specs.declared.error.kind.ErrorKind.TheVariants.{DisplayHelp}
-use Rattle.pm_text.specs.Faults.{fault_line, fault_words}
-use Rattle.pm_text.specs.Streams.{AppendsFront, Held, IsWholeText}
-use Rattle.pm_text.specs.declared.fault.TextFault.{TextFault}
-use Rattle.pm_text.specs.declared.fault.TextFault.TheVariants.{Syntax, BadHex, TooLong, Read, Write, Memory}
-use Rattle.pm_text.specs.declared.text.TheConstants.{MAX_TEXT}
+use Rattle.pm_lines.specs.Faults.{fault_line, fault_words}
+use Rattle.pm_lines.specs.Streams.{AppendsFront, Held, IsWholeText}
+use Rattle.pm_lines.specs.declared.fault.TextFault.{TextFault}
+use Rattle.pm_lines.specs.declared.fault.TextFault.TheVariants.{Syntax, BadHex, TooLong, Read, Write, Memory}
+use Rattle.pm_lines.specs.declared.text.TheConstants.{MAX_TEXT}
 use Rattle.pm_tool.specs.Commandline.{Asks, pmb, status_by}
 use Rattle.pm_tool.specs.NumberFaults.{refusal_status, refusal_words}
 use Rattle.pm_tool.specs.NumberText.{IsNumberText, RefusesNumber}

@@ -3,7 +3,7 @@
 use Rattle.std.specs.Prelude.{ℕ, List, codes}
 use Rattle.pm_num.specs.declared.fault.NumFault.TheVariants.{ZeroSlope, ExponentRange, BelowLeast}
 use Rattle.pm_num.specs.declared.fault.NumFault.TheVariants.{AboveGreatest, TooLarge}
-use Rattle.pm_text.specs.Faults.{fault_words}
+use Rattle.pm_lines.specs.Faults.{fault_words}
 use Rattle.pm_tool.specs.declared.numbers.fault.NumberFault.{NumberFault}
 use Rattle.pm_tool.specs.declared.numbers.fault.NumberFault.TheVariants.{OneOf, Format, Word}
 use Rattle.pm_tool.specs.declared.numbers.fault.NumberFault.TheVariants.{Micro, Num, Text}

@@ -17,7 +17,7 @@ use Rattle.pm_tool.specs.declared.numbers.question.Asked.{Asked}
 use Rattle.pm_tool.specs.declared.numbers.question.Asked.TheVariants.{Word, Nearest}
 use Rattle.pm_tool.specs.declared.numbers.question.Question.{Question}
 use Rattle.pm_tool.specs.declared.numbers.answer.Answer.{Answer}
-use Rattle.pm_text.specs.declared.fault.TextFault.TheVariants as text
+use Rattle.pm_lines.specs.declared.fault.TextFault.TheVariants as text
 use Rattle.pm_tool.specs.declared.numbers.fault.NumberFault.{NumberFault}
 use Rattle.pm_tool.specs.declared.numbers.fault.NumberFault.TheVariants as fault
 

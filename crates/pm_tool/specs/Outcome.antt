@@ -1,8 +1,8 @@
 -- What the hearing of a text comes to. This project's own choice.
 use Rattle.std.specs.Prelude.{ℕ, List, length, Result, Ok, Err, if◌then◌else◌, nat_lt, ⊤}
-use Rattle.pm_text.specs.declared.fault.TextFault.{TextFault}
-use Rattle.pm_text.specs.declared.fault.TextFault.TheVariants.{Syntax, BadHex, TooLong, Read, Write, Memory}
-use Rattle.pm_text.specs.declared.text.TheConstants.{MAX_TEXT}
+use Rattle.pm_lines.specs.declared.fault.TextFault.{TextFault}
+use Rattle.pm_lines.specs.declared.fault.TextFault.TheVariants.{Syntax, BadHex, TooLong, Read, Write, Memory}
+use Rattle.pm_lines.specs.declared.text.TheConstants.{MAX_TEXT}
 use Rattle.pm_tool.specs.Script.{printed_text}
 
 -- whether there is a text to write, or the fault

@@ -10,10 +10,10 @@ use Rattle.pm_device.specs.declared.heard.Ending.TheVariants.{Stop, Restart}
 use Rattle.pm_model.specs.Settings.{word_at}
 use Rattle.pm_table.specs.declared.cell.Cell.TheVariants.{Out}
 use Rattle.pm_table.specs.declared.cell.Reg.TheVariants.{VoutCommand}
-use Rattle.pm_text.specs.Bytes.{bytes_of}
-use Rattle.pm_text.specs.Lines.{Numbered, is_space, unskipped_from, words_of}
-use Rattle.pm_text.specs.declared.fault.TextFault.{TextFault}
-use Rattle.pm_text.specs.declared.fault.TextFault.TheVariants.{Syntax, BadHex}
+use Rattle.pm_lines.specs.Bytes.{bytes_of}
+use Rattle.pm_lines.specs.Lines.{Numbered, is_space, unskipped_from, words_of}
+use Rattle.pm_lines.specs.declared.fault.TextFault.{TextFault}
+use Rattle.pm_lines.specs.declared.fault.TextFault.TheVariants.{Syntax, BadHex}
 use Rattle.pm_tool.specs.Base.{base}
 use Rattle.pm_tool.specs.ReplyText.{as_line, output_line, reply_words}
 

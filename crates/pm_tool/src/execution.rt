@@ -10,7 +10,7 @@ use crate::numbers::number;
 use crate::refusal::say;
 use crate::script::hear;
 use clap::error::ErrorKind;
-use pm_text::{Sink, Source, TextFault};
+use pm_lines::{Sink, Source, TextFault};
 use std::alloc::Global;
 use std::io::{self, Read, Write};
 

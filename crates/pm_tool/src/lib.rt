@@ -16,5 +16,5 @@ mod script;
 pub use commandline::{Chosen, chosen};
 pub use execution::run;
 pub use numbers::{NumberFault, number, number_has_one_text};
-pub use pm_text::{MAX_TEXT, Sink, Source, TextFault};
+pub use pm_lines::{MAX_TEXT, Sink, Source, TextFault};
 pub use script::hear;

@@ -9,7 +9,7 @@ ghost use Rattle.pm_tool.specs.NumberText.{IsAnswer, IsCommandLineFault, IsForma
 ghost use Rattle.pm_tool.specs.NumberText.{IsNumberText, IsOfNumber, Refuses, RefusesNumber};
 ghost use Rattle.pm_tool.specs.NumberText.{rank_in, value_in};
 ghost use Rattle.pm_tool.specs.Question.{HasExponent, asked_by};
-ghost use Rattle.pm_text.specs.Streams.{AppendsFront};
+ghost use Rattle.pm_lines.specs.Streams.{AppendsFront};
 
 mod answer;
 mod digits;
@@ -19,7 +19,7 @@ mod question;
 use answer::{Answer, answer_in, line};
 pub use fault::NumberFault;
 use pm_num::{Direct, Linear11, NumFault, Ulinear16};
-use pm_text::{Sink, TextFault};
+use pm_lines::{Sink, TextFault};
 use question::{FormatText, Question, read_question};
 use std::alloc::Global;
 use std::io::Write;

@@ -1,8 +1,8 @@
 ghost use Rattle.std.specs.Prelude.{◌≡◌, IsFalse, OnOk, OnErr, is_err, flat_map, IfErr};
 ghost use Rattle.std.specs.Io.KnownBytes.{Appends};
-ghost use Rattle.pm_text.specs.Streams.{AppendsFront};
+ghost use Rattle.pm_lines.specs.Streams.{AppendsFront};
 
-use pm_text::{Sink, TextFault};
+use pm_lines::{Sink, TextFault};
 use std::io::Write;
 
 /// Writes the pieces one behind another.

@@ -2,7 +2,7 @@ ghost use Rattle.std.specs.Prelude.{◌≡◌, ◌++◌, IsFalse, Some};
 ghost use Rattle.pm_tool.specs.Execution.{Says, line_words, refusal_line};
 
 use crate::pieces::put_all;
-use pm_text::Sink;
+use pm_lines::Sink;
 use std::io::Write;
 
 /// Says a refusal on standard error, as the one line `pmb: WORDS`, with ` line N` behind the words

@@ -1,11 +1,11 @@
 //! The refusals of `number`.
 ghost use Rattle.std.specs.Prelude.{◌≡◌};
 ghost use Rattle.pm_tool.specs.NumberFaults.{refusal_status, refusal_words};
-ghost use Rattle.pm_text.specs.declared.fault.TextFault.TheVariants.{Memory};
+ghost use Rattle.pm_lines.specs.declared.fault.TextFault.TheVariants.{Memory};
 ghost use Rattle.pm_tool.specs.declared.numbers.fault.NumberFault.TheVariants as refusals;
 
 use pm_num::NumFault;
-use pm_text::TextFault;
+use pm_lines::TextFault;
 use std::alloc::AllocError;
 use thiserror::Error;
 

@@ -1,14 +1,14 @@
 ghost use Rattle.std.specs.Prelude.{◌≡◌, ◌⊎◌, Ok, Err, codes, IfOk, IfErr, OnOk};
 ghost use Rattle.std.specs.List.{list_all};
-ghost use Rattle.pm_text.specs.Faults.{IsOfText};
-ghost use Rattle.pm_text.specs.Lines.{is_space, words_of};
-ghost use Rattle.pm_text.specs.declared.fault.TextFault.TheVariants.{Memory};
+ghost use Rattle.pm_lines.specs.Faults.{IsOfText};
+ghost use Rattle.pm_lines.specs.Lines.{is_space, words_of};
+ghost use Rattle.pm_lines.specs.declared.fault.TextFault.TheVariants.{Memory};
 ghost use Rattle.pm_tool.specs.Script.{begins_with, line_event, restart_event};
 ghost use Rattle.pm_tool.specs.LineEvent.{event_of};
 ghost use Rattle.pm_device.specs.Effect.{Restarted};
 
 use pm_device::Ending;
-use pm_text::{Line, TextFault, Words, cut_at, push_bytes};
+use pm_lines::{Line, TextFault, Words, cut_at, push_bytes};
 
 /// What a line of `hear` asks. The bytes of a frame stand elsewhere, since a buffer of their own
 /// serves all lines.

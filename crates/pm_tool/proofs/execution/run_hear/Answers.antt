@@ -1,6 +1,6 @@
 use Rattle.std.proofs.Common.{◌≡◌, ap, Ok, Err, Result}
-use Rattle.pm_text.specs.declared.fault.TextFault.{TextFault}
-use Rattle.pm_text.specs.declared.fault.TextFault.TheVariants.{Read}
+use Rattle.pm_lines.specs.declared.fault.TextFault.{TextFault}
+use Rattle.pm_lines.specs.declared.fault.TextFault.TheVariants.{Read}
 use Rattle.pm_tool.proofs.EndLemmas.{false_unless, heard, hear_refused, said_fault}
 use Rattle.pm_tool.proofs.execution.run_hear.Goals as goal
 

@@ -1,6 +1,6 @@
 use Rattle.std.proofs.Common.{◌≡◌, ◌≤◌, List, length}
 use Rattle.pm_device.specs.Effect.{Event}
-use Rattle.pm_text.specs.Lines.{unskipped_from}
+use Rattle.pm_lines.specs.Lines.{unskipped_from}
 use Rattle.pm_tool.specs.Script.{event_lines, events_in, held_after}
 use Rattle.pm_tool.proofs.ScriptLemmas.{prepended}
 use Rattle.pm_tool.proofs.script.answer_lines.Given as goal

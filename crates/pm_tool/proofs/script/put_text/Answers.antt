@@ -2,7 +2,7 @@ use Rattle.std.proofs.Common.{◌≡◌, ◌∙◌, ◌+◌, ◌<◌, ◌++◌, 
 use Rattle.std.specs.List.{flat_map, range_with_len}
 use Rattle.std.specs.Io.KnownBytes.{Appends}
 use Rattle.std.proofs.KnownBytes.{Appends-trans}
-use Rattle.pm_text.specs.Streams.{AppendsFront}
+use Rattle.pm_lines.specs.Streams.{AppendsFront}
 use Rattle.pm_tool.specs.Script.{output_at}
 use Rattle.pm_tool.proofs.Writing.{AppendsFront-first, AppendsFront-later, numbered-all, numbered-at, numbered-more, on_err}
 use Rattle.pm_tool.proofs.script.put_text.Goals as goal

@@ -1,0 +1,7 @@
+pub mod Bytes
+pub mod Digits
+pub mod Faults
+pub mod FaultWords
+pub mod Lines
+pub mod Numbers
+pub mod Streams

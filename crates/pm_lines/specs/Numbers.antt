@@ -1,0 +1,12 @@
+-- Numbers as texts have them. The forms are this project's own choice.
+use Rattle.std.specs.Prelude.{ℕ, ◌/◌, ◌%◌, true, List, [], ◌∷◌, ◌++◌}
+use Rattle.std.specs.Fmt.{digit_glyph}
+
+-- a byte as two hexadecimal digits in upper case
+unfoldable pub hex_byte : ℕ → List ℕ
+hex_byte byte = digit_glyph true (byte / 16) ∷ digit_glyph true (byte % 16) ∷ []
+
+-- the number that bytes are which went over the bus low byte first: the low byte is written last
+abbrev pub hex_number : List ℕ → List ℕ
+hex_number [] = []
+hex_number (low ∷ bytes) = hex_number bytes ++ hex_byte low

@@ -1,0 +1,32 @@
+//! What every text of this project stands on, over any reader and any writer: a reader and a writer
+//! that are used until they fail, a whole text of at most 1 MiB, its lines that are not skipped, the
+//! words of a line, the bytes that words write in hexadecimal, numbers behind a text, and the faults
+//! of a text with the words in which they are told.
+//!
+//! What a text means is not here. A line or a word borrows the text that it stands in, and nothing
+//! takes memory for a word.
+#![tactic(auto)]
+
+mod bytes;
+mod cut;
+mod fault;
+mod fault_words;
+mod line;
+mod lines;
+mod number_text;
+mod sink;
+mod source;
+mod text;
+mod words;
+
+pub use bytes::push_bytes;
+pub use cut::cut_at;
+pub use fault::TextFault;
+pub use fault_words::{host_fault_words, num_fault_words, table_fault_words};
+pub use line::Line;
+pub use lines::Lines;
+pub use number_text::{push_decimal, push_hex, push_hex_number, push_signed};
+pub use sink::Sink;
+pub use source::Source;
+pub use text::{MAX_TEXT, read_text};
+pub use words::Words;

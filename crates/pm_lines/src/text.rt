@@ -1,0 +1,44 @@
+ghost use Rattle.std.specs.Prelude.{◌≡◌, ℕ, List, ◌<◌, ◌≤◌, ◌↔◌, length, IfOk, IfErr, IsErrOf, IsTrue, IsFalse};
+ghost use Rattle.std.specs.Io.KnownBytes.{Consumes};
+ghost use Rattle.pm_lines.specs.Streams.{IsWholeText};
+ghost use Rattle.pm_lines.specs.Faults.{IsOfReading};
+
+use crate::fault::TextFault;
+use crate::source::Source;
+use std::alloc::Global;
+use std::io::Read;
+
+/// The most bytes that a text may have.
+pub const MAX_TEXT: usize = 1_048_576;
+
+/// The bytes that are asked for at a time.
+const CHUNK: usize = 4096;
+
+/// The whole text, to the source's end. X3 as soon as it has too many bytes, which ends a source
+/// that never ends; X4 where the source failed; X6 only where memory for the bytes was refused.
+pub fn read_text<R: Read>(alloc: Global, source: &mut Source<R>) -> Result<Vec<u8>, TextFault>
+    requires { IsFalse source.old.failed }
+    ensures whole { IfOk result (λ text.
+        IsWholeText (R.remaining source.old.inner) (R.remaining source.new.inner) text.items) }
+    ensures too_long { IsErrOf result TextFault.TooLong → (front : List ℕ)
+        × (MAX_TEXT < length front)
+        × Consumes (R.remaining source.old.inner) (R.remaining source.new.inner) front }
+    ensures memory { IsErrOf result TextFault.Memory → (front : List ℕ)
+        × (0 < length front) × (length front ≤ MAX_TEXT)
+        × Consumes (R.remaining source.old.inner) (R.remaining source.new.inner) front }
+    ensures read { IsErrOf result TextFault.Read ↔ IsTrue source.new.failed }
+    ensures faults { IfErr result IsOfReading }
+{
+    let mut text = Vec::new(alloc);
+    let mut chunk = [0u8; CHUNK];
+    'reads: loop {
+        let count = source.read(&mut chunk)?;
+        if count == 0 {
+            return Ok(text);
+        }
+        if count > MAX_TEXT - text.len() {
+            return Err(TextFault::TooLong);
+        }
+        text.extend_from_slice(&chunk[..count])?;
+    }
+}

@@ -1,0 +1,4 @@
+pub mod EventLines
+pub mod Kinds
+pub mod Reading
+pub mod ScenarioText

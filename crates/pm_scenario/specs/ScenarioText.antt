@@ -1,0 +1,159 @@
+-- The text of a scenario, line by line: what both ends are made from, and what happens between them.
+-- The form is this project's own choice.
+use Rattle.std.specs.Prelude.{ℕ, nat_lt, min, if◌then◌else◌, List, [], ◌∷◌, ◌++◌, length, replicate, take, Option, Some, None, Result, Ok, Err, codes}
+use Rattle.pm_table.specs.declared.coefficients.Coefficients.{Coefficients}
+use Rattle.pm_device.specs.declared.config.Config.{Config}
+use Rattle.pm_device.specs.declared.config.OutputStart.{OutputStart}
+use Rattle.pm_world.specs.declared.event.Event.{Event}
+use Rattle.pm_lines.specs.Digits.{hex_of, signed_of, small_of}
+use Rattle.pm_lines.specs.Lines.{Numbered, lines_of, unskipped_from}
+use Rattle.pm_lines.specs.declared.fault.TextFault.{TextFault}
+use Rattle.pm_lines.specs.declared.fault.TextFault.TheVariants as text
+use Rattle.pm_lines.specs.declared.text.TheConstants.{MAX_TEXT}
+use Rattle.pm_scenario.specs.EventLines.{event_line}
+use Rattle.pm_scenario.specs.Kinds.{is_word}
+use Rattle.pm_scenario.specs.Reading.{◌>>=◌, ◌>>◌, Field, Part, Rest, field, gives, line, line_as, one_of, read_on}
+use Rattle.pm_scenario.specs.declared.line_fault.LineFault.{LineFault}
+use Rattle.pm_scenario.specs.declared.line_fault.LineFault.TheVariants as fault
+use Rattle.pm_scenario.specs.declared.scenario.Scenario.{Scenario}
+
+-- ---- the lines before the events
+
+-- `scenario 1`
+unfoldable pub version_line : Field (Unit {0})
+version_line = do
+  _ ← field fault.Syntax (is_word (codes "scenario"))
+  field fault.Syntax (is_word (codes "1"))
+
+-- `address HH`
+unfoldable pub address_line : Field ℕ
+address_line = do
+  _ ← field fault.Syntax (is_word (codes "address"))
+  field fault.BadHex (hex_of 2)
+
+-- `passes N`
+unfoldable pub passes_line : Field ℕ
+passes_line = do
+  _ ← field fault.Syntax (is_word (codes "passes"))
+  field fault.Syntax small_of
+
+-- `protect HH`
+unfoldable pub protect_line : Field ℕ
+protect_line = do
+  _ ← field fault.Syntax (is_word (codes "protect"))
+  field fault.BadHex (hex_of 2)
+
+-- `coefficients M B R`
+unfoldable pub coefficients_line : Field Coefficients
+coefficients_line = do
+  _ ← field fault.Syntax (is_word (codes "coefficients"))
+  m ← field fault.Syntax (signed_of 16)
+  b ← field fault.Syntax (signed_of 16)
+  r ← field fault.Syntax (signed_of 8)
+  gives (record { m = m; b = b; r = r })
+
+-- MODE OPERATION COMMAND MAX HIGH LOW: two bytes and four words
+unfoldable pub output_rest : Field OutputStart
+output_rest = do
+  mode ← field fault.BadHex (hex_of 2)
+  operation ← field fault.BadHex (hex_of 2)
+  command ← field fault.BadHex (hex_of 4)
+  max ← field fault.BadHex (hex_of 4)
+  high ← field fault.BadHex (hex_of 4)
+  low ← field fault.BadHex (hex_of 4)
+  gives (record {
+    mode = mode;
+    operation = operation;
+    command = command;
+    max = max;
+    high = high;
+    low = low;
+  })
+
+abbrev pub some_start : Field (Option OutputStart)
+some_start = do
+  start ← output_rest
+  gives (Some start)
+
+-- `output ..`, or `begin`: None
+unfoldable pub output_line : Field (Option OutputStart)
+output_line = one_of ((codes "output", some_start) ∷ (codes "begin", gives None) ∷ [])
+
+-- ---- the outputs and the events
+
+-- an output, or `begin`, and the outputs behind it
+abbrev pub start_before : Result (Option OutputStart) LineFault → Result (List OutputStart × Rest) LineFault → Rest → Result (List OutputStart × Rest) LineFault
+start_before (Err first) rest left = Err first
+start_before (Ok None) rest left = Ok ([], left)
+start_before (Ok (Some start)) (Err first) left = Err first
+start_before (Ok (Some start)) (Ok starts) left = Ok (start ∷ starts.0, starts.1)
+
+-- the outputs up to the line `begin`
+abbrev pub outputs_in : ℕ → List Numbered → Result (List OutputStart × Rest) LineFault
+outputs_in count [] = Err (fault.Syntax (suc count))
+outputs_in count (line ∷ lines) = start_before (line_as output_line line) (outputs_in count lines)
+    (record { count = count; lines = lines })
+
+unfoldable pub outputs : Part (List OutputStart)
+outputs rest = outputs_in rest.count rest.lines
+
+-- an event, and those of the lines behind it, or the first fault
+abbrev pub event_before : Result Event LineFault → Result (List Event) LineFault → Result (List Event) LineFault
+event_before (Err first) events = Err first
+event_before (Ok event) (Err first) = Err first
+event_before (Ok event) (Ok events) = Ok (event ∷ events)
+
+abbrev pub events_in : List Numbered → Result (List Event) LineFault
+events_in [] = Ok []
+events_in (line ∷ lines) = event_before (line_as event_line line) (events_in lines)
+
+-- ---- the whole
+
+-- what stands in the place of an output that isn't there
+abbrev pub no_start : OutputStart
+no_start = record { mode = 0; operation = 0; command = 0; max = 0; high = 0; low = 0 }
+
+-- The configuration has as many outputs as there are lines `output`, of which more than 255 count as
+-- 255. It has room for eight: the fields of further lines are read, and dropped.
+unfoldable pub config_of : ℕ → ℕ → Coefficients → List OutputStart → Config
+config_of address protect coefficients starts = record {
+  addr = address;
+  count = min (length starts) 255;
+  starts = take 8 (starts ++ replicate 8 no_start);
+  protect = protect;
+  coefficients = coefficients;
+}
+
+-- a configuration, and the passes of a job
+abbrev pub header : Part (Config × ℕ)
+header = do
+  _ ← line version_line
+  address ← line address_line
+  passes ← line passes_line
+  protect ← line protect_line
+  coefficients ← line coefficients_line
+  starts ← outputs
+  gives (config_of address protect coefficients starts, passes)
+
+abbrev pub with_events : Config × ℕ → Result (List Event) LineFault → Result Scenario LineFault
+with_events head (Err first) = Err first
+with_events head (Ok events) =
+    Ok (record { config = head.0; passes = head.1; events = events })
+
+abbrev pub scenario_by : Result ((Config × ℕ) × Rest) LineFault → Result Scenario LineFault
+scenario_by (Err first) = Err first
+scenario_by (Ok got) = with_events got.0 (events_in got.1.lines)
+
+-- a text that is read line by line
+abbrev pub rest_of : List ℕ → Rest
+rest_of bytes = record { count = length (lines_of bytes); lines = unskipped_from 1 bytes }
+
+abbrev pub as_text_fault : {A : Type 0} → Result A LineFault → Result A TextFault
+as_text_fault (Ok x) = Ok x
+as_text_fault (Err (fault.Syntax line)) = Err (text.Syntax line)
+as_text_fault (Err (fault.BadHex line)) = Err (text.BadHex line)
+
+-- The scenario of a text, or the fault of its first faulty line; X3 comes before all.
+unfoldable pub scenario_of : List ℕ → Result Scenario TextFault
+scenario_of bytes = if nat_lt MAX_TEXT (length bytes) then Err text.TooLong
+    else as_text_fault (scenario_by (header (rest_of bytes)))

@@ -1,0 +1,12 @@
+//! Scenarios: texts that say what both ends of a bus are made from, and what happens between them,
+//! event by event.
+#![tactic(auto)]
+
+mod events;
+mod line_fault;
+mod register;
+mod scenario;
+
+pub use events::Events;
+pub use register::{is_byte_register, register_name};
+pub use scenario::Scenario;

@@ -1,0 +1,9 @@
+/// Why a line of a scenario can't be read.
+#[derive(Clone, Copy, Debug, PartialEq, Eq)]
+pub(crate) enum LineFault {
+    /// X1: a word of this line isn't what stands at its place, or a word or the line is missing, or
+    /// one is too many.
+    Syntax(u64),
+    /// X2: a word of this line should be hexadecimal of a stated length and isn't.
+    BadHex(u64),
+}

@@ -1,0 +1,137 @@
+-- What is written of a world after a scenario: what its converter holds, commands and shows, and what
+-- its host knows. The form is this project's own choice; names are printed as in PMBus 1.3 Part II.
+use Rattle.std.specs.Prelude.{ℕ, ℤ, pos, negsuc, neg_ℤ, suc, ◌+◌, ◌-◌, ◌*◌, ◌/◌, ◌%◌, ◌^◌, ◌==◌, Bool, if◌then◌else◌, List, [], ◌∷◌, ◌++◌, flat_map, is_some, decimal, codes, Option, Some, None}
+use Rattle.std.specs.Fmt.{signed_decimal}
+use Rattle.std.specs.List.{range_with_len}
+use Rattle.pm_num.specs.Ratio.{Ratio}
+use Rattle.pm_table.specs.declared.cell.Cell.{Cell}
+use Rattle.pm_table.specs.declared.cell.Cell.TheVariants.{Out, Protect}
+use Rattle.pm_table.specs.declared.cell.Reg.{Reg}
+use Rattle.pm_table.specs.declared.cell.Reg.TheVariants.{Operation, VoutCommand, VoutMax, MarginHigh, MarginLow}
+use Rattle.pm_model.specs.Commanded.{commanded}
+use Rattle.pm_model.specs.Settings.{word_at}
+use Rattle.pm_device.specs.Held.{value_for}
+use Rattle.pm_device.specs.Status.{is_on, status_byte, status_cml, status_vout, status_word}
+use Rattle.pm_host.specs.Summary.{standing_at}
+use Rattle.pm_host.specs.declared.standing.Standing.{Standing}
+use Rattle.pm_host.specs.declared.standing.Standing.TheVariants.{Confirmed, Unknown}
+use Rattle.pm_host.specs.declared.step.JobEnd.{JobEnd}
+use Rattle.pm_host.specs.declared.step.JobEnd.TheVariants as ended
+use Rattle.pm_world.specs.State.{State}
+use Rattle.pm_world.specs.declared.stop.Cause.{Cause}
+use Rattle.pm_world.specs.declared.stop.Cause.TheVariants.{Full, NothingSent, WrongKind, NotBetrayed, Host}
+use Rattle.pm_world.specs.declared.stop.Stop.{Stop}
+use Rattle.pm_lines.specs.FaultWords.{host_fault_words}
+use Rattle.pm_lines.specs.Numbers.{hex_byte}
+use Rattle.pm_scenario.specs.Kinds.{register_digits, register_name}
+
+-- ---- words
+
+-- a word as four hexadecimal digits
+unfoldable pub hex_word : ℕ → List ℕ
+hex_word word = hex_byte (word / 256) ++ hex_byte (word % 256)
+
+-- a cell's word with its digits: OPERATION and WRITE_PROTECT are bytes
+abbrev pub cell_text : Cell → ℕ → List ℕ
+cell_text (Out output register) word =
+    if register_digits register == 2 then hex_byte word else hex_word word
+cell_text Protect word = hex_byte word
+
+-- what the host says of a cell
+abbrev pub standing_text : Cell → Standing → List ℕ
+standing_text cell (Confirmed word) = codes "confirmed " ++ cell_text cell word
+standing_text cell Unknown = codes "unknown"
+
+-- a setting: its name, the converter's word, and what the host says
+unfoldable pub setting_line : State → List ℕ → Cell → List ℕ
+setting_line s name cell = name ++ (codes " " ++ (cell_text cell (word_at s.device.words cell)
+    ++ (codes " host " ++ (standing_text cell (standing_at s.host cell) ++ codes "\n"))))
+
+-- ---- an output
+
+-- the greatest whole number of millionths that isn't above a value
+abbrev pub floor_micros_of : ℤ → ℕ → ℤ
+floor_micros_of (pos num) den = pos (num * 10 ^ 6 / den)
+floor_micros_of (negsuc num) den = neg_ℤ (pos ((suc num * 10 ^ 6 + (den - 1)) / den))
+
+unfoldable pub floor_micros : Ratio → ℤ
+floor_micros value = floor_micros_of value.num value.den
+
+abbrev pub on_text : Bool → List ℕ
+on_text is_on = if is_on then codes " on" else codes " off"
+
+-- a voltage: the fraction, and the whole microvolts
+unfoldable pub voltage_text : Ratio → List ℕ
+voltage_text value = signed_decimal value.num
+    ++ (codes "/" ++ (decimal value.den ++ (codes " " ++ (signed_decimal (floor_micros value) ++ codes " uV"))))
+
+unfoldable pub output_line : State → ℕ → List ℕ
+output_line s output = codes "output " ++ (decimal output ++ (on_text (is_on s.device output)
+    ++ (codes " commanded "
+    ++ (voltage_text (commanded (value_for s.device.config output) s.device.words output) ++ codes "\n"))))
+
+-- STATUS_BYTE, STATUS_WORD and STATUS_VOUT
+unfoldable pub status_line : State → ℕ → List ℕ
+status_line s output = codes "status " ++ (hex_byte (status_byte s.device output)
+    ++ (codes " " ++ (hex_word (status_word s.device output)
+    ++ (codes " " ++ (hex_byte (status_vout s.device output) ++ codes "\n")))))
+
+abbrev pub register_line : State → ℕ → Reg → List ℕ
+register_line s output register =
+    setting_line s (register_name register) (Out output register)
+
+-- an output's lines: what it commands, its five settings, its status
+unfoldable pub output_lines : State → ℕ → List ℕ
+output_lines s output = output_line s output
+    ++ (register_line s output Operation ++ (register_line s output VoutCommand
+    ++ (register_line s output VoutMax ++ (register_line s output MarginHigh
+    ++ (register_line s output MarginLow ++ status_line s output)))))
+
+abbrev pub all_outputs : State → List ℕ
+all_outputs s = flat_map (output_lines s) (range_with_len 0 s.device.config.count)
+
+-- ---- the first line, and the last ones
+
+-- the letters and the name of a cause, and the host's refusal behind S4
+abbrev pub cause_text : Cause → List ℕ
+cause_text Full = codes "S5 Full"
+cause_text NothingSent = codes "S2 NothingSent"
+cause_text WrongKind = codes "S3 WrongKind"
+cause_text NotBetrayed = codes "S1 NotBetrayed"
+cause_text (Host fault) = codes "S4 Host " ++ host_fault_words fault
+
+-- how many events were taken, and why the next one wasn't
+abbrev pub first_line : ℕ → Option Stop → List ℕ
+first_line taken None = codes "ran " ++ (decimal taken ++ codes "\n")
+first_line taken (Some stop) =
+    codes "stopped " ++ (decimal stop.at ++ (codes " " ++ (cause_text stop.cause ++ codes "\n")))
+
+unfoldable pub cml_line : State → List ℕ
+cml_line s = codes "cml " ++ (hex_byte (status_cml s.device) ++ codes "\n")
+
+abbrev pub seen_line : Bool → List ℕ
+seen_line seen = if seen then codes "restart seen yes\n" else codes "restart seen no\n"
+
+abbrev pub end_text : JobEnd → List ℕ
+end_text ended.Done = codes "done"
+end_text (ended.Differs word) = codes "differs " ++ hex_word word
+end_text ended.Unknown = codes "unknown"
+end_text ended.Learned = codes "learned"
+
+-- the open job, or how the last one ended
+abbrev pub job_text : Bool → Option JobEnd → List ℕ
+job_text is_open None = if is_open then codes "pending" else codes "none"
+job_text is_open (Some end) = if is_open then codes "pending" else end_text end
+
+unfoldable pub job_line : State → List ℕ
+job_line s = codes "job " ++ (job_text (is_some s.host.stage) s.end ++ codes "\n")
+
+-- ---- the whole
+
+-- the lines that follow the first one
+unfoldable pub world_lines : State → List ℕ
+world_lines s = setting_line s (codes "protect") Protect
+    ++ (all_outputs s ++ (cml_line s ++ (seen_line s.host.known.seen ++ job_line s)))
+
+unfoldable pub report_text : State → ℕ → Option Stop → List ℕ
+report_text s taken stop = first_line taken stop ++ world_lines s

@@ -1,0 +1,143 @@
+//! The report of a run: what the converter holds, commands and shows, and what the host knows.
+ghost use Rattle.std.specs.Prelude.{◌≡◌, ◌++◌, IfOk, IfErr, OnOk, codes, is_some, string_bytes};
+ghost use Rattle.pm_text.specs.Report.{cause_text, cml_line, end_text, first_line, job_line, job_text, report_text, seen_line, world_lines};
+
+use crate::outputs::push_outputs;
+use crate::ran::Ran;
+use crate::settings::{push_hex_word, push_setting};
+use pm_host::JobEnd;
+use pm_lines::{TextFault, host_fault_words, push_decimal, push_hex};
+use pm_table::Cell;
+use pm_world::{Cause, Stop, World};
+use std::alloc::{AllocError, Global};
+
+/// The report of a run. Its first line is `ran N`, or `stopped N` and the cause, where an event wasn't
+/// taken. Then comes, of the state after the taken events: WRITE_PROTECT; for each output the voltage
+/// that it commands, its five settings, each with what the host says of it, and STATUS_BYTE,
+/// STATUS_WORD and STATUS_VOUT; STATUS_CML; whether the host saw a restart; and its job.
+///
+/// # Errors
+///
+/// X6 alone.
+pub fn render_report(alloc: Global, run: &Ran) -> Result<String, TextFault>
+    ensures text { IfOk result (λ text. string_bytes text
+        ≡ report_text run.now.world run.now.taken run.now.stop) }
+    ensures fault { IfErr result (λ fault. fault ≡ TextFault.Memory) }
+{
+    let mut text = String::new(alloc);
+    push_report(&mut text, run)?;
+    Ok(text)
+}
+
+#[tactic(auto, using(crate::proofs::Joins::joins), unfolding(crate::specs::Report::report_text))]
+fn push_report(text: &mut String, run: &Ran) -> Result<(), AllocError>
+    ensures { OnOk result (string_bytes text.new ≡ string_bytes text.old
+        ++ report_text run.now.world run.now.taken run.now.stop) }
+{
+    push_first_line(text, run.taken, &run.stop)?;
+    push_world(text, &run.world)
+}
+
+// How many events were taken, and why the next one wasn't.
+#[tactic(auto, using(crate::proofs::Joins::joins))]
+fn push_first_line(text: &mut String, taken: u64, stop: &Option<Stop>) -> Result<(), AllocError>
+    ensures { OnOk result (string_bytes text.new
+        ≡ string_bytes text.old ++ first_line taken stop.now) }
+{
+    match stop {
+        None => {
+            text.push_str("ran ")?;
+            push_decimal(text, taken)?;
+        }
+        Some(stop) => {
+            text.push_str("stopped ")?;
+            push_decimal(text, stop.at as u64)?;
+            text.push_str(" ")?;
+            push_cause(text, stop.cause)?;
+        }
+    }
+    text.push_str("\n")
+}
+
+// The letters and the name of a cause, and the host's refusal behind S4.
+#[tactic(auto, using(crate::proofs::Joins::joins))]
+fn push_cause(text: &mut String, cause: Cause) -> Result<(), AllocError>
+    ensures { OnOk result (string_bytes text.new ≡ string_bytes text.old ++ cause_text cause) }
+{
+    match cause {
+        Cause::Full => text.push_str("S5 Full"),
+        Cause::NothingSent => text.push_str("S2 NothingSent"),
+        Cause::WrongKind => text.push_str("S3 WrongKind"),
+        Cause::NotBetrayed => text.push_str("S1 NotBetrayed"),
+        Cause::Host(fault) => {
+            text.push_str("S4 Host ")?;
+            text.push_str(host_fault_words(fault))
+        }
+    }
+}
+
+// The lines that follow the first one.
+#[tactic(auto, using(crate::proofs::Joins::joins), unfolding(crate::specs::Report::world_lines))]
+fn push_world(text: &mut String, world: &World) -> Result<(), AllocError>
+    ensures { OnOk result (string_bytes text.new ≡ string_bytes text.old ++ world_lines world.now) }
+{
+    push_setting(text, world, "protect", Cell::Protect)?;
+    push_outputs(text, world)?;
+    push_cml(text, world)?;
+    text.push_str(if world.host().restart_seen() {
+        "restart seen yes\n"
+    } else {
+        "restart seen no\n"
+    })?;
+    push_job(text, world)
+}
+
+// STATUS_CML.
+#[tactic(auto, using(crate::proofs::Joins::joins), unfolding(crate::specs::Report::cml_line))]
+fn push_cml(text: &mut String, world: &World) -> Result<(), AllocError>
+    ensures { OnOk result (string_bytes text.new ≡ string_bytes text.old ++ cml_line world.now) }
+{
+    text.push_str("cml ")?;
+    push_hex(text, world.device().status_cml())?;
+    text.push_str("\n")
+}
+
+// The open job, or how the last one ended.
+#[tactic(auto, using(crate::proofs::Joins::joins), unfolding(crate::specs::Report::job_line))]
+fn push_job(text: &mut String, world: &World) -> Result<(), AllocError>
+    ensures { OnOk result (string_bytes text.new ≡ string_bytes text.old ++ job_line world.now) }
+{
+    text.push_str("job ")?;
+    push_job_words(text, world.host().sending().is_some(), world.last_end())?;
+    text.push_str("\n")
+}
+
+#[tactic(auto, using(crate::proofs::Joins::joins))]
+fn push_job_words(text: &mut String, is_open: bool, end: Option<JobEnd>) -> Result<(), AllocError>
+    ensures { OnOk result (string_bytes text.new
+        ≡ string_bytes text.old ++ job_text is_open end) }
+{
+    if is_open {
+        return text.push_str("pending");
+    }
+    match end {
+        None => text.push_str("none"),
+        Some(end) => push_end(text, end),
+    }
+}
+
+// How a job ended.
+#[tactic(auto, using(crate::proofs::Joins::joins))]
+fn push_end(text: &mut String, end: JobEnd) -> Result<(), AllocError>
+    ensures { OnOk result (string_bytes text.new ≡ string_bytes text.old ++ end_text end) }
+{
+    match end {
+        JobEnd::Done => text.push_str("done"),
+        JobEnd::Differs(word) => {
+            text.push_str("differs ")?;
+            push_hex_word(text, word)
+        }
+        JobEnd::Unknown => text.push_str("unknown"),
+        JobEnd::Learned => text.push_str("learned"),
+    }
+}

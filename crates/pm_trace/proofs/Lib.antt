@@ -1,0 +1,10 @@
+pub mod BodyLemmas
+pub mod CountLemmas
+pub mod DecodeLemmas
+pub mod GatheredLemmas
+pub mod Joins
+pub mod MarkLemmas
+pub mod OpenLineLemmas
+pub mod PieceLemmas
+pub mod RunLemmas
+pub mod SaidLemmas

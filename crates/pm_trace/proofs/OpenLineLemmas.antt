@@ -1,0 +1,96 @@
+-- What is kept of a line with its carriage return, with one byte more at its end.
+use Rattle.std.proofs.Common.{◌≡◌, ℕ, ◌+◌, ◌-◌, eqb, Bool, true, false, cond, List, [], ◌∷◌, ◌++◌, length, take, drop, refl, sym, ap, subst, ◌∙◌, arith, length-append, eq-eqb, ne_eqb}
+use Rattle.std.specs.Prelude.{nat_eq}
+use Rattle.std.specs.List.{ends_with}
+use Rattle.std.proofs.Math.Bool.{and-true}
+use lib.Pointwise.{pointwise}
+use Rattle.std.proofs.lemmas.Bool.Decides.{nat_tests}
+use Rattle.std.proofs.Math.Seq.{drop-append_seam, take-append_seam}
+use Rattle.pm_lines.specs.Lines.{without_return, carriage_return}
+use Rattle.pm_trace.specs.OpenLines.{body_of, body_takes, line_of, line_takes, body_with_return}
+use Rattle.pm_trace.specs.declared.line_body.LineBody.{LineBody}
+use Rattle.pm_trace.specs.declared.open_line.OpenLine.{OpenLine}
+use Rattle.pm_trace.proofs.BodyLemmas.{body_of-snoc}
+
+-- a list that isn't empty has a last byte
+pub record HasLast (xs : List ℕ) : Type 0 where
+  pub front : List ℕ
+  pub last : ℕ
+  pub is : xs ≡ front ++ last ∷ []
+
+has_last : (x : ℕ) (xs : List ℕ) → HasLast (x ∷ xs)
+has_last x [] = record { front = []; last = x; is = refl }
+has_last x (y ∷ ys) =
+    let tail = has_last y ys in
+    record { front = x ∷ tail.front; last = tail.last; is = ap (λ l. x ∷ l) tail.is }
+
+one_less : (xs : List ℕ) (b : ℕ) → length (xs ++ b ∷ []) - 1 ≡ length xs
+one_less xs b = omega (arith, length-append xs (b ∷ []))
+
+pub turned : (m n : ℕ) → eqb m n ≡ eqb n m
+turned m n = by (eqb m n) refl
+  where
+    by : (c : Bool) → eqb m n ≡ c → eqb m n ≡ eqb n m
+    by true is =
+        let same : m ≡ n = grind (arith, nat_tests) in
+        is ∙ sym (eq-eqb n m (sym same))
+    by false other =
+        is-not ∙ sym (ne_eqb n m (λ same. let yes : eqb m n ≡ true = eq-eqb m n (sym same) in absurd (cc)))
+      where
+        is-not : eqb m n ≡ false
+        is-not = other
+
+ends-snoc : (xs : List ℕ) (b : ℕ) → ends_with nat_eq (xs ++ b ∷ []) carriage_return ≡ eqb b 13
+ends-snoc xs b =
+    ap (λ n. pointwise nat_eq carriage_return (drop n (xs ++ b ∷ []))) (one_less xs b)
+    ∙ ap (pointwise nat_eq carriage_return) (drop-append_seam xs (b ∷ []))
+    ∙ and-true (eqb 13 b) ∙ turned 13 b
+
+without_return-snoc : (xs : List ℕ) (b : ℕ) → without_return (xs ++ b ∷ []) ≡ cond (eqb b 13) xs (xs ++ b ∷ [])
+without_return-snoc xs b =
+    ap (λ c. cond c (take (length (xs ++ b ∷ []) - 1) (xs ++ b ∷ [])) (xs ++ b ∷ [])) (ends-snoc xs b)
+    ∙ ap (λ l. cond (eqb b 13) l (xs ++ b ∷ [])) (ap (λ n. take n (xs ++ b ∷ [])) (one_less xs b) ∙ take-append_seam xs (b ∷ []))
+
+line_snoc : (xs : List ℕ) (b : ℕ)
+    → line_of (xs ++ b ∷ []) ≡ record { body = body_of (cond (eqb b 13) xs (xs ++ b ∷ [])); is_returned = eqb b 13 }
+unfolding line_of
+line_snoc xs b = λ i. record { body = body_of (without_return-snoc xs b i); is_returned = ends-snoc xs b i }
+
+-- the carriage return that is held back stands at the end
+returned-snoc : (xs : List ℕ) (b : ℕ) → body_with_return (line_of (xs ++ b ∷ [])) ≡ body_of (xs ++ b ∷ [])
+returned-snoc xs b = ap body_with_return (line_snoc xs b) ∙ by (eqb b 13) refl
+  where
+    by : (c : Bool) → eqb b 13 ≡ c
+        → cond c (body_takes (body_of (cond c xs (xs ++ b ∷ []))) 13) (body_of (cond c xs (xs ++ b ∷ []))) ≡ body_of (xs ++ b ∷ [])
+    by true is =
+        let same : b ≡ 13 = grind (arith, nat_tests) in
+        ap (body_takes (body_of xs)) (sym same) ∙ sym (body_of-snoc xs b)
+    by false other = refl
+
+returned : (xs : List ℕ) → body_with_return (line_of xs) ≡ body_of xs
+unfolding line_of
+returned [] = refl
+returned (x ∷ xs) =
+    let last = has_last x xs in
+    let P : List ℕ → Type 0 = λ l. body_with_return (line_of l) ≡ body_of l in
+    subst P (sym last.is) (returned-snoc last.front last.last)
+
+-- a line in these two states
+abbrev pub line_held : LineBody → OpenLine
+line_held body = record { body = body; is_returned = true }
+
+abbrev pub line_left : LineBody → OpenLine
+line_left body = record { body = body; is_returned = false }
+
+line_took : (xs : List ℕ) (b : ℕ)
+    → line_takes (line_of xs) b ≡ cond (eqb b 13) (line_held (body_of xs)) (line_left (body_takes (body_of xs) b))
+unfolding line_takes
+line_took xs b = ap (λ l. cond (eqb b 13) (line_held l) (line_left (body_takes l b))) (returned xs)
+
+pub line_of-snoc : (xs : List ℕ) (b : ℕ) → line_of (xs ++ b ∷ []) ≡ line_takes (line_of xs) b
+line_of-snoc xs b = line_snoc xs b ∙ by (eqb b 13) ∙ sym (line_took xs b)
+  where
+    by : (c : Bool) → record { body = body_of (cond c xs (xs ++ b ∷ [])); is_returned = c }
+        ≡ cond c (line_held (body_of xs)) (line_left (body_takes (body_of xs) b))
+    by true = refl
+    by false = ap line_left (body_of-snoc xs b)

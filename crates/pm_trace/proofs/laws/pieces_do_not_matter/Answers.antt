@@ -1,0 +1,14 @@
+use Rattle.pm_trace.proofs.SaidLemmas.{now-append}
+use Rattle.pm_trace.proofs.PieceLemmas.{decoded_lines, decoded_counts, called_lines, called_kept, said_front, total}
+use Rattle.pm_trace.proofs.laws.pieces_do_not_matter.Goals as goal
+
+pub returns : goal.returns
+returns c = record {
+  next = now-append;
+  lines = decoded_lines;
+  counts = decoded_counts;
+  total = total;
+  so_far = called_lines;
+  kept = called_kept;
+  front = said_front;
+}

@@ -1,0 +1,30 @@
+use Rattle.std.proofs.Common.{◌≡◌, ◌∙◌, ◌⊎◌, inl, inr, string_bytes}
+use Rattle.pm_trace.proofs.DecodeLemmas.{whole_input, end_all, end_front, end_counts, end_memory, as_front, as_all}
+use Rattle.pm_trace.proofs.traces.decode.Goals as goal
+
+pub returns-in_err-text-clause-memory : goal.returns-in_err-text-clause-memory
+returns-in_err-text-clause-memory g c = λ is.
+    let (input, written, at_end) = c.in_ok-decode_pieces.ensures.ok in
+    end_memory _ _ _ _ (g.W.Write.contents c.decode_pieces.new.writer.inner) input c.decode_pieces.new.decoder written
+
+pub returns-in_err-put-clause-write : goal.returns-in_err-put-clause-write
+returns-in_err-put-clause-write g c = λ is.
+    let (input, written, at_end) = c.in_ok-decode_pieces.ensures.ok in
+    let shown : c.as_bytes.result.now ≡ string_bytes c.in_ok-text.text = c.as_bytes.ensures.value ∙ c.as_str.ensures.value in (
+      input,
+      written.given,
+      inr (
+        whole_input _ _ _ _ (g.W.Write.contents c.decode_pieces.new.writer.inner) input c.decode_pieces.new.decoder written at_end,
+        end_front _ _ _ _ _ input c.decode_pieces.new.decoder written _ c.in_ok-text.ensures.text (as_front _ _ _ _ shown c.in_err-put.ensures.front),
+      ),
+    )
+
+pub returns-clause-ok : goal.returns-clause-ok
+returns-clause-ok g c =
+    let (input, written, at_end) = c.in_ok-decode_pieces.ensures.ok in
+    let shown : c.as_bytes.result.now ≡ string_bytes c.in_ok-text.text = c.as_bytes.ensures.value ∙ c.as_str.ensures.value in (
+      input,
+      whole_input _ _ _ _ (g.W.Write.contents c.decode_pieces.new.writer.inner) input c.decode_pieces.new.decoder written at_end,
+      end_all _ _ _ _ _ input c.decode_pieces.new.decoder written _ c.in_ok-text.ensures.text (as_all _ _ _ _ shown c.in_ok-put.ensures.all),
+      end_counts _ _ _ _ (g.W.Write.contents c.decode_pieces.new.writer.inner) input c.decode_pieces.new.decoder written c.text_at_end.new.decoder _ c.in_ok-text.ensures.kept c.end_in.ensures,
+    )

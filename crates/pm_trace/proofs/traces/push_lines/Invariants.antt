@@ -1,0 +1,12 @@
+use Rattle.std.proofs.Common.{◌≡◌, ℕ, List, ◌++◌, length, string_bytes}
+use Rattle.pm_trace.specs.Written.{Pushes}
+use Rattle.pm_trace.proofs.traces.push_lines.Given as goal
+
+-- a front of the piece was taken, and the rest is left
+abbrev pub invariant-pieces : goal.invariant-pieces
+invariant-pieces l =
+    (front : List ℕ) × (l.piece ≡ front ++ l.rest)
+    × Pushes (string_bytes l.fn.text) (string_bytes l.text) l.fn.decoder l.decoder front
+
+abbrev pub decreases-pieces : goal.decreases-pieces
+decreases-pieces l = length l.rest

@@ -1,0 +1,169 @@
+-- What a decoder keeps of the bytes that it has taken, and what it says of the lines that end:
+-- `now` and `said`, a look back over all its bytes, and `next` and `told`, what further bytes make
+-- of it. This project's own choice.
+use Rattle.std.specs.Prelude.{◌≡◌, ℕ, ◌+◌, ◌-◌, Bool, true, false, ◌&&◌, nat_le, if◌then◌else◌, List, [], ◌∷◌, ◌++◌, length, map, take, drop, filter, Option, Some, None}
+use Rattle.std.specs.List.{list_any, fold, filter_map, enumerate_from}
+use Rattle.pm_lines.specs.declared.fault.TextFault.{TextFault}
+use Rattle.pm_lines.specs.declared.fault.TextFault.TheVariants.{TooLong, Memory}
+use Rattle.pm_lines.specs.declared.text.TheConstants.{MAX_TEXT}
+use Rattle.pm_trace.specs.declared.standing.Standing.{Standing}
+use Rattle.pm_trace.specs.declared.standing.Standing.TheVariants.{Open, Finished, Failed}
+use Rattle.pm_trace.specs.declared.fed.Fed.{Fed}
+use Rattle.pm_trace.specs.declared.open_line.OpenLine.{OpenLine}
+use Rattle.pm_lines.specs.Lines.{has_bytes, is_line_feed, is_unskipped, without_return}
+use Rattle.pm_trace.specs.Marks.{ended, since}
+use Rattle.pm_trace.specs.Trace.{Told, told_of, Judged}
+use Rattle.pm_trace.specs.Counts.{Counts, counts_of, counts_with, IsNewCode}
+use Rattle.pm_trace.specs.OpenLines.{line_of, line_takes, is_begun, is_skipped_kind, body_judged}
+
+-- ---- the bytes taken
+
+-- how many bytes were taken, how many lines ended, the lines counted that were not skipped, and what
+-- is kept of the line that goes on
+pub record Kept : Type 0 where
+  pub taken : ℕ
+  pub ended : ℕ
+  pub counts : Counts
+  pub line : OpenLine
+
+-- what the lines say that a line feed ended, those that are skipped apart
+unfoldable pub said : List ℕ → List Told
+said bytes = map told_of (filter is_unskipped
+    (enumerate_from 1 (map without_return (ended is_line_feed bytes))))
+
+-- what is kept of these bytes
+unfoldable pub now : List ℕ → Kept
+now bytes = record {
+  taken = length bytes;
+  ended = length (ended is_line_feed bytes);
+  counts = counts_of (said bytes);
+  line = line_of (since is_line_feed bytes);
+}
+
+-- ---- further bytes
+
+-- what the line says that ends here, where it isn't skipped
+abbrev pub line_told : Kept → Option Told
+line_told kept = if is_skipped_kind kept.line.body.kind then None
+    else Some (kept.ended + 1, body_judged kept.line.body)
+
+-- what is kept where a line ends here
+abbrev pub line_ended : Kept → Kept
+line_ended kept = record {
+  taken = kept.taken;
+  ended = kept.ended + 1;
+  counts = counts_with kept.counts (line_told kept);
+  line = line_of [];
+}
+
+abbrev pub some_told : Option Told → List Told
+some_told None = []
+some_told (Some told) = told ∷ []
+
+-- one byte more
+unfoldable pub kept_takes : Kept → ℕ → Kept
+kept_takes kept byte = if is_line_feed byte
+    then record (line_ended kept) { taken = kept.taken + 1 }
+    else record kept { taken = kept.taken + 1; line = line_takes kept.line byte }
+
+-- further bytes
+abbrev pub next : Kept → List ℕ → Kept
+next kept bytes = fold kept_takes kept bytes
+
+-- what the lines say that end within further bytes
+abbrev pub told : Kept → List ℕ → List Told
+told kept [] = []
+told kept (byte ∷ bytes) =
+    (if is_line_feed byte then some_told (line_told kept) else [])
+    ++ told (kept_takes kept byte) bytes
+
+-- the end of all bytes, which ends a line that has some
+abbrev pub kept_at_end : Kept → Kept
+kept_at_end kept = if is_begun kept.line then line_ended kept else kept
+
+abbrev pub told_at_end : Kept → Option Told
+told_at_end kept = if is_begun kept.line then line_told kept else None
+
+-- ---- the calls of a decoder
+
+-- what callers see of a decoder: what it keeps of the bytes that it took, the line that its last
+-- call ended, where that isn't skipped, and whether it takes more
+pub record Holding : Type 0 where
+  pub kept : Kept
+  pub shown : Option Told
+  pub standing : Standing
+
+-- a decoder that took no byte
+pub record IsFresh (holding : Holding) : Type 0 where
+  pub kept : holding.kept ≡ now []
+  pub shown : holding.shown ≡ None
+  pub standing : holding.standing ≡ Open
+
+-- bytes up to the first line feed, and with it
+abbrev pub first_line : List ℕ → List ℕ
+first_line [] = []
+first_line (byte ∷ bytes) = if is_line_feed byte then byte ∷ [] else byte ∷ first_line bytes
+
+-- the bytes that one call takes of a piece: up to the first line feed, with it, and no more than a
+-- text may have
+abbrev pub taken_by : Standing → Kept → List ℕ → List ℕ
+taken_by Open kept piece = first_line (take (MAX_TEXT - kept.taken) piece)
+taken_by Finished kept piece = []
+taken_by (Failed fault) kept piece = []
+
+abbrev pub taken_of : Holding → List ℕ → List ℕ
+taken_of holding piece = taken_by holding.standing holding.kept piece
+
+-- the refusal that a piece meets, before any of its bytes is taken: X3 for a byte past the most that
+-- a text may have, and the refusal of a decoder that failed
+abbrev pub refusal_by : Standing → Kept → List ℕ → Option TextFault
+refusal_by Open kept piece =
+    if has_bytes piece && nat_le MAX_TEXT kept.taken then Some TooLong else None
+refusal_by Finished kept piece = None
+refusal_by (Failed fault) kept piece = Some fault
+
+abbrev pub refusal_of : Holding → List ℕ → Option TextFault
+refusal_of holding piece = refusal_by holding.standing holding.kept piece
+
+-- a call takes bytes of a piece
+pub record Feeds (old : Holding) (piece : List ℕ) (fed : Fed) (new : Holding) : Type 0 where
+  pub taken : fed.taken ≡ length (taken_of old piece)
+  pub ended : fed.ended ≡ list_any is_line_feed (taken_of old piece)
+  pub kept : new.kept ≡ next old.kept (taken_of old piece)
+  pub shown : some_told new.shown ≡ told old.kept (taken_of old piece)
+  pub standing : new.standing ≡ old.standing
+
+-- a decoder that refuses: it shows nothing, counts nothing more, and refuses from then on
+pub record Fails (old : Holding) (fault : TextFault) (new : Holding) : Type 0 where
+  pub standing : new.standing ≡ Failed fault
+  pub shown : new.shown ≡ None
+  pub counts : new.kept.counts ≡ old.kept.counts
+
+-- the one line that ends carries a code that wasn't counted before
+pub record CarriesNew (counts : Counts) (lines : List Told) : Type 0 where
+  pub line : Told
+  pub one : lines ≡ line ∷ []
+  pub is_new : IsNewCode counts line.1
+
+-- the end of all bytes, in each standing
+abbrev pub is_ended_by : Standing → Kept → Bool
+is_ended_by Open kept = is_begun kept.line
+is_ended_by Finished kept = false
+is_ended_by (Failed fault) kept = false
+
+abbrev pub kept_by : Standing → Kept → Kept
+kept_by Open kept = kept_at_end kept
+kept_by Finished kept = kept
+kept_by (Failed fault) kept = kept
+
+abbrev pub told_by : Standing → Kept → Option Told
+told_by Open kept = told_at_end kept
+told_by Finished kept = None
+told_by (Failed fault) kept = None
+
+-- a call ends the bytes
+pub record Finishes (old : Holding) (ended : Bool) (new : Holding) : Type 0 where
+  pub ended_is : ended ≡ is_ended_by old.standing old.kept
+  pub kept : new.kept ≡ kept_by old.standing old.kept
+  pub shown : new.shown ≡ told_by old.standing old.kept
+  pub standing : new.standing ≡ Finished

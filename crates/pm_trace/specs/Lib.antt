@@ -1,0 +1,11 @@
+pub mod Counts
+pub mod Decoding
+pub mod Gathered
+pub mod Marks
+pub mod OpenLines
+pub mod Parts
+pub mod Pieces
+pub mod ShownLines
+pub mod Trace
+pub mod TraceText
+pub mod Written

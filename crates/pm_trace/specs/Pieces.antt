@@ -1,0 +1,35 @@
+-- A decoder that is called again and again. This project's own choice.
+use Rattle.std.specs.Prelude.{◌≡◌, ℕ, Bool, List, [], ◌∷◌, ◌++◌, take, drop}
+use Rattle.pm_trace.specs.declared.fed.Fed.{Fed}
+use Rattle.pm_trace.specs.Trace.{Told}
+use Rattle.pm_trace.specs.Decoding.{Holding, Feeds, Finishes, some_told}
+
+-- a call of `feed` that isn't refused
+pub record Call : Type 0 where
+  pub piece : List ℕ
+  pub fed : Fed
+
+-- the bytes that it took
+abbrev pub taken_in : Call → List ℕ
+taken_in call = take call.fed.taken call.piece
+
+-- calls one after another, with the lines that were shown behind each
+abbrev pub Calls : Holding → List Call → List Told → Holding → Type 0
+Calls old [] lines new = (lines ≡ []) × (new ≡ old)
+Calls old (call ∷ calls) lines new = (mid : Holding) × (rest : List Told)
+    × Feeds old call.piece call.fed mid × (lines ≡ some_told mid.shown ++ rest)
+    × Calls mid calls rest new
+
+-- the calls take a piece whole: each is given what those before it left
+abbrev pub TakesWhole : List ℕ → List Call → Type 0
+TakesWhole piece [] = piece ≡ []
+TakesWhole piece (call ∷ calls) =
+    (call.piece ≡ piece) × TakesWhole (drop call.fed.taken piece) calls
+
+-- each piece is fed on until it is taken whole, and then the bytes end
+abbrev pub Decodes : Holding → List (List ℕ) → List Told → Holding → Type 0
+Decodes old [] lines new = (ended : Bool) × Finishes old ended new × (lines ≡ some_told new.shown)
+Decodes old (piece ∷ pieces) lines new = (calls : List Call) × (mid : Holding)
+    × (front : List Told) × (rest : List Told)
+    × Calls old calls front mid × TakesWhole piece calls × (lines ≡ front ++ rest)
+    × Decodes mid pieces rest new

@@ -1,0 +1,34 @@
+-- What a decoder took of a reader, and what was written of it.
+use Rattle.std.specs.Prelude.{◌≡◌, ℕ, ◌+◌, ◌<◌, ◌≤◌, Bool, true, false, List, [], ◌++◌, length, Option}
+use Rattle.std.specs.Io.KnownBytes.{Appends, Consumes}
+use Rattle.pm_trace.specs.declared.standing.Standing.TheVariants.{Open}
+use Rattle.pm_lines.specs.declared.text.TheConstants.{MAX_TEXT}
+use Rattle.pm_trace.specs.Decoding.{Holding, now, next, said, told}
+use Rattle.pm_trace.specs.TraceText.{told_lines}
+
+-- these bytes were taken, and what their lines say was put behind a text
+pub record Pushes (text new_text : List ℕ) (old new : Holding) (bytes : List ℕ) : Type 0 where
+  pub text_is : new_text ≡ text ++ told_lines (told old.kept bytes)
+  pub kept : new.kept ≡ next old.kept bytes
+  pub standing : new.standing ≡ Open
+  pub room : new.kept.taken ≤ MAX_TEXT
+
+-- a front of a piece was taken, and what its lines say was put behind a text: the whole piece, or
+-- all that a text may have
+pub record PushesFront (text new_text : List ℕ) (old new : Holding) (piece : List ℕ)
+    (is_whole : Bool) : Type 0 where
+  pub front : List ℕ
+  pub rest : List ℕ
+  pub split : piece ≡ front ++ rest
+  pub text_is : new_text ≡ text ++ told_lines (told old.kept front)
+  pub whole : is_whole ≡ true → (rest ≡ []) × Pushes text new_text old new front
+  pub too_many : is_whole ≡ false → (0 < length rest) × (old.kept.taken + length front ≡ MAX_TEXT)
+
+-- the reader gave these bytes, the decoder took them, and what their lines say was written
+pub record Written (read new_read written new_written : Option (List ℕ)) (bytes : List ℕ)
+    (holding : Holding) : Type 0 where
+  pub given : Consumes read new_read bytes
+  pub kept : holding.kept ≡ now bytes
+  pub standing : holding.standing ≡ Open
+  pub short : length bytes ≤ MAX_TEXT
+  pub text : Appends written new_written (told_lines (said bytes))

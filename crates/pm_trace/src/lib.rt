@@ -1,0 +1,37 @@
+//! Traces of captured bytes: what their lines say of the packets that went over the bus, and a
+//! streaming decoder that is fed the bytes in any pieces.
+//!
+//! A line is the write part of a packet in hexadecimal, and optionally `/` and the read part. The
+//! decoder keeps no line as text, and takes memory for the counts of codes alone; `decode` runs it
+//! from a reader to a writer.
+#![tactic(auto)]
+
+mod byte_list;
+mod counts_text;
+mod decode_end;
+mod decoder;
+mod fed;
+mod gathered;
+mod hex_digit;
+mod laws;
+mod line_body;
+mod line_fault;
+mod line_kind;
+mod open_line;
+mod part;
+mod shown;
+mod shown_text;
+mod standing;
+mod tally;
+mod trace_line;
+mod traces;
+
+pub use byte_list::ByteList;
+pub use decode_end::DecodeEnd;
+pub use decoder::Decoder;
+pub use fed::Fed;
+pub use laws::pieces_do_not_matter;
+pub use part::PART_BYTES;
+pub use shown::Shown;
+pub use trace_line::{TraceLine, read_trace_line, render_line};
+pub use traces::decode;

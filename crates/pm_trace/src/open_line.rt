@@ -1,0 +1,67 @@
+ghost use Rattle.std.specs.Prelude.{◌≡◌};
+
+use crate::line_body::LineBody;
+
+/// What is kept of a line of a trace that goes on. A carriage return that may be the last byte of
+/// the line is held back: it is no part of a line that ends behind it.
+#[derive(Debug, Drop)]
+pub(crate) struct OpenLine {
+    pub(crate) body: LineBody,
+    is_returned: bool,
+}
+
+impl OpenLine {
+    ghost use Rattle.std.specs.Prelude.{[]};
+    ghost use Rattle.std.specs.List.{fold};
+    ghost use Rattle.pm_trace.specs.OpenLines.{line_of, line_takes, is_begun};
+
+    /// A line without bytes.
+    #[tactic(auto, unfolding(crate::specs::OpenLines::line_of))]
+    pub(crate) fn new() -> OpenLine
+        ensures { result ≡ line_of [] }
+    {
+        OpenLine {
+            body: LineBody::new(),
+            is_returned: false,
+        }
+    }
+
+    /// Leaves no byte.
+    #[tactic(auto, unfolding(crate::specs::OpenLines::line_of))]
+    pub(crate) fn clear(&mut self)
+        ensures { self.new ≡ line_of [] }
+    {
+        self.body.clear();
+        self.is_returned = false;
+    }
+
+    /// Takes further bytes, none of which is a line feed.
+    pub(crate) fn take_all(&mut self, bytes: &[u8])
+        ensures { self.new ≡ fold line_takes self.old bytes.now }
+    {
+        for byte in bytes {
+            self.take(*byte);
+        }
+    }
+
+    // Takes one byte more.
+    #[tactic(auto, unfolding(crate::specs::OpenLines::line_takes))]
+    fn take(&mut self, byte: u8)
+        ensures { self.new ≡ line_takes self.old byte }
+    {
+        if self.is_returned {
+            self.body.take(b'\r');
+        }
+        self.is_returned = byte == b'\r';
+        if byte != b'\r' {
+            self.body.take(byte);
+        }
+    }
+
+    /// Whether the line has a byte.
+    pub(crate) fn is_begun(&self) -> bool
+        ensures { result ≡ is_begun self.now }
+    {
+        !self.body.is_empty() || self.is_returned
+    }
+}

@@ -1,0 +1,71 @@
+ghost use Rattle.std.specs.Prelude.{◌≡◌};
+
+use arrayvec::ArrayVec;
+use std::marker::Model;
+
+/// The most bytes that a part of a trace line may have.
+pub const PART_BYTES: usize = 300;
+
+/// The first bytes of a part, and whether it had more than one may have.
+#[derive(Debug, Drop)]
+pub(crate) struct Part {
+    bytes: ArrayVec<u8, PART_BYTES>,
+    is_long: bool,
+}
+
+impl Model for Part {
+    ghost use Rattle.pm_trace.specs.Parts.{Collected};
+
+    ghost Value = { Collected };
+
+    ghost view = { λ p. record { bytes = p.bytes.items; is_long = p.is_long } };
+}
+
+impl Part {
+    ghost use Rattle.pm_trace.specs.Parts.{part_of, part_takes};
+    ghost use Rattle.std.specs.Prelude.{[]};
+
+    /// A part without bytes.
+    #[tactic(auto, unfolding(crate::specs::Parts::part_of))]
+    pub(crate) fn new() -> Part
+        ensures { result ≡ part_of [] }
+    {
+        Part {
+            bytes: ArrayVec::new(),
+            is_long: false,
+        }
+    }
+
+    /// Takes one byte more, of which only the first ones are kept.
+    #[tactic(auto, unfolding(crate::specs::Parts::part_takes))]
+    pub(crate) fn take(&mut self, byte: u8)
+        ensures { self.new ≡ part_takes self.old byte }
+    {
+        if self.bytes.try_push(byte).is_err() {
+            self.is_long = true;
+        }
+    }
+
+    /// Leaves no byte.
+    #[tactic(auto, unfolding(crate::specs::Parts::part_of))]
+    pub(crate) fn clear(&mut self)
+        ensures { self.new ≡ part_of [] }
+    {
+        self.bytes.clear();
+        self.is_long = false;
+    }
+
+    /// The bytes that were kept.
+    pub(crate) fn bytes(&self) -> &[u8]
+        ensures { result.now ≡ self.now.bytes }
+    {
+        self.bytes.as_slice()
+    }
+
+    /// Whether it had more bytes than a part may have.
+    pub(crate) fn is_long(&self) -> bool
+        ensures { result ≡ self.now.is_long }
+    {
+        self.is_long
+    }
+}

@@ -1,0 +1,225 @@
+//! The text of a line that is shown.
+ghost use Rattle.std.specs.Prelude.{◌≡◌, ◌++◌, [], OnOk, string_bytes, option_map, unwrap_or, decimal, codes};
+ghost use Rattle.std.specs.Fmt.{signed_decimal};
+ghost use Rattle.pm_trace.specs.ShownLines.{judged_in};
+ghost use Rattle.pm_trace.specs.TraceText.{told_text, judged_text, address_text, fault_text, message_text};
+ghost use Rattle.pm_trace.specs.TraceText.{plain_text, page_text, payload_text, asked_text, numbers_text, code_name};
+ghost use Rattle.pm_table.specs.Coefficients.{coefficients_of};
+
+use crate::shown::Shown;
+use pm_frame::{FrameFault, FrameView, Message};
+use pm_lines::{push_decimal, push_hex, push_hex_number, push_signed};
+use pm_table::{Code, Coefficients, known};
+use std::alloc::AllocError;
+
+/// Puts the text of a line behind a text, with the line's number and without a line feed.
+#[tactic(auto, using(crate::proofs::Joins::joins), unfolding(crate::specs::TraceText::told_text))]
+pub(crate) fn push_line(text: &mut String, number: u64, shown: &Shown<'_>) -> Result<(), AllocError>
+    ensures { OnOk result (string_bytes text.new
+        ≡ string_bytes text.old ++ told_text (number, judged_in shown.now)) }
+{
+    push_decimal(text, number)?;
+    text.push_str(" ")?;
+    push_shown(text, shown)
+}
+
+// What the line says.
+#[tactic(auto, using(crate::proofs::Joins::joins))]
+fn push_shown(text: &mut String, shown: &Shown<'_>) -> Result<(), AllocError>
+    ensures { OnOk result (string_bytes text.new
+        ≡ string_bytes text.old ++ judged_text (judged_in shown.now)) }
+{
+    match shown {
+        Shown::Accepted { addr, view, answer } => {
+            push_hex(text, *addr)?;
+            text.push_str(" ")?;
+            push_message(text, view, *answer)
+        }
+        Shown::Faulty { addr, read, fault } => {
+            push_address(text, *addr)?;
+            text.push_str(if *read { " read " } else { " write " })?;
+            push_fault(text, *fault)
+        }
+        Shown::BadSyntax => text.push_str("X1 Syntax"),
+        Shown::BadHex => text.push_str("X2 BadHex"),
+    }
+}
+
+// The address of a packet with a fault.
+fn push_address(text: &mut String, addr: Option<u8>) -> Result<(), AllocError>
+    ensures { OnOk result (string_bytes text.new ≡ string_bytes text.old ++ address_text addr) }
+{
+    match addr {
+        None => text.push_str("--"),
+        Some(addr) => push_hex(text, addr),
+    }
+}
+
+// The letters and the name of a packet's fault, and its place.
+fn push_fault(text: &mut String, fault: FrameFault) -> Result<(), AllocError>
+    ensures { OnOk result (string_bytes text.new ≡ string_bytes text.old ++ fault_text fault) }
+{
+    match fault {
+        FrameFault::NotOurs => text.push_str("F1 NotOurs"),
+        FrameFault::Short(place) => push_placed(text, "F2 Short ", place),
+        FrameFault::Long(place) => push_placed(text, "F3 Long ", place),
+        FrameFault::WrongCount(place) => push_placed(text, "F4 WrongCount ", place),
+        FrameFault::WrongPec(place) => push_placed(text, "F5 WrongPec ", place),
+        FrameFault::UnknownCode(place) => push_placed(text, "F6 UnknownCode ", place),
+        FrameFault::WrongDirection(place) => push_placed(text, "F7 WrongDirection ", place),
+        FrameFault::Nested(place) => push_placed(text, "F8 Nested ", place),
+    }
+}
+
+// A name, and a place behind it.
+#[tactic(auto, using(crate::proofs::Joins::joins))]
+fn push_placed(text: &mut String, name: &str, place: usize) -> Result<(), AllocError>
+    ensures { OnOk result (string_bytes text.new
+        ≡ string_bytes text.old ++ (name.now ++ decimal place)) }
+{
+    text.push_str(name)?;
+    push_decimal(text, place as u64)
+}
+
+// What a packet says that was accepted.
+#[tactic(auto, using(crate::proofs::Joins::joins))]
+fn push_message(
+    text: &mut String,
+    view: &FrameView<'_>,
+    answer: Option<&[u8]>,
+) -> Result<(), AllocError>
+    ensures { OnOk result (string_bytes text.new ≡ string_bytes text.old
+        ++ message_text view.now (option_map (λ bytes. bytes.now) answer.entry)) }
+{
+    match view.message() {
+        Message::ReadCoefficients { code, side } => {
+            push_coefficients(text, code, side, answered(answer))
+        }
+        Message::SendByte { .. }
+        | Message::WriteByte { .. }
+        | Message::WriteWord { .. }
+        | Message::PagePlusWrite { .. }
+        | Message::ReadCommand { .. }
+        | Message::PagePlusRead { .. } => push_plain(text, view, answer),
+    }
+}
+
+// The page that a packet names, its code's name, and what it carries.
+#[tactic(auto, using(crate::proofs::Joins::joins), unfolding(crate::specs::TraceText::plain_text))]
+fn push_plain(
+    text: &mut String,
+    view: &FrameView<'_>,
+    answer: Option<&[u8]>,
+) -> Result<(), AllocError>
+    ensures { OnOk result (string_bytes text.new ≡ string_bytes text.old
+        ++ plain_text view.now (option_map (λ bytes. bytes.now) answer.entry)) }
+{
+    push_page(text, view.page())?;
+    text.push_str(name_of(view.code()))?;
+    push_payload(text, view.payload(), answer)
+}
+
+// The page, where one is named.
+#[tactic(auto, using(crate::proofs::Joins::joins))]
+fn push_page(text: &mut String, page: Option<u8>) -> Result<(), AllocError>
+    ensures { OnOk result (string_bytes text.new ≡ string_bytes text.old ++ page_text page) }
+{
+    let Some(page) = page else {
+        return Ok(());
+    };
+    text.push_str("page ")?;
+    push_decimal(text, u64::from(page))?;
+    text.push_str(" ")
+}
+
+// What a write carries, or what a read was answered.
+#[tactic(auto, using(crate::proofs::Joins::joins))]
+fn push_payload(text: &mut String, payload: &[u8], answer: Option<&[u8]>) -> Result<(), AllocError>
+    ensures { OnOk result (string_bytes text.new ≡ string_bytes text.old
+        ++ payload_text payload.now (option_map (λ bytes. bytes.now) answer.entry)) }
+{
+    match (answer, payload) {
+        (Some(answer), _) => {
+            text.push_str(" read ")?;
+            push_hex_number(text, answer)
+        }
+        (None, []) => text.push_str(" send"),
+        (None, _) => {
+            text.push_str(" write ")?;
+            push_hex_number(text, payload)
+        }
+    }
+}
+
+/// The name of a code that stands in the command table.
+pub(crate) fn name_of(code: u8) -> &'static str
+    ensures { result.now ≡ code_name code }
+{
+    match known(Code(code)) {
+        Some(line) => line.name,
+        None => "",
+    }
+}
+
+// The bytes of an answer, none where there is no answer.
+fn answered<'a>(answer: Option<&'a [u8]>) -> &'a [u8]
+    ensures { result.now ≡ unwrap_or (option_map (λ bytes. bytes.now) answer.entry) [] }
+{
+    match answer {
+        Some(answer) => answer,
+        None => &[],
+    }
+}
+
+// What coefficients were asked of, and the coefficients that were answered.
+#[tactic(auto, using(crate::proofs::Joins::joins))]
+fn push_coefficients(text: &mut String, code: u8, side: u8, answer: &[u8]) -> Result<(), AllocError>
+    ensures { OnOk result (string_bytes text.new ≡ string_bytes text.old
+        ++ (asked_text code side ++ numbers_text (coefficients_of answer.now))) }
+{
+    push_asked(text, code, side)?;
+    push_numbers(text, coefficients_in(answer))?;
+    Ok(())
+}
+
+// The code and the side that coefficients were asked of.
+#[tactic(auto, using(crate::proofs::Joins::joins), unfolding(crate::specs::TraceText::asked_text))]
+fn push_asked(text: &mut String, code: u8, side: u8) -> Result<(), AllocError>
+    ensures { OnOk result (string_bytes text.new
+        ≡ string_bytes text.old ++ asked_text code side) }
+{
+    text.push_str("COEFFICIENTS of ")?;
+    push_hex(text, code)?;
+    text.push_str(" side ")?;
+    push_decimal(text, u64::from(side))?;
+    Ok(())
+}
+
+// The three numbers of an answer.
+#[tactic(auto, using(crate::proofs::Joins::signed_joins), unfolding(crate::specs::TraceText::numbers_text))]
+fn push_numbers(text: &mut String, coefficients: Coefficients) -> Result<(), AllocError>
+    ensures { OnOk result (string_bytes text.new
+        ≡ string_bytes text.old ++ numbers_text coefficients) }
+{
+    push_named(text, " read m ", i128::from(coefficients.m))?;
+    push_named(text, " b ", i128::from(coefficients.b))?;
+    push_named(text, " r ", i128::from(coefficients.r))
+}
+
+// A name, and a number behind it.
+#[tactic(auto, using(crate::proofs::Joins::joins))]
+fn push_named(text: &mut String, name: &str, number: i128) -> Result<(), AllocError>
+    ensures { OnOk result (string_bytes text.new
+        ≡ string_bytes text.old ++ (name.now ++ signed_decimal number)) }
+{
+    text.push_str(name)?;
+    push_signed(text, number)
+}
+
+// The coefficients of an answer; a byte that isn't there counts as 0.
+fn coefficients_in(answer: &[u8]) -> Coefficients
+    ensures { result ≡ coefficients_of answer.now }
+{
+    let byte = |place: usize| answer.get(place).copied().unwrap_or(0);
+    Coefficients::read([byte(0), byte(1), byte(2), byte(3), byte(4)])
+}

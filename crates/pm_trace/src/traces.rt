@@ -1,0 +1,202 @@
+//! Traces from a reader, and what they say, to a writer.
+ghost use Rattle.std.specs.Prelude.{◌≡◌, ◌⊎◌, ◌+◌, ◌<◌, ◌≤◌, ◌↔◌, ℕ, List, ◌++◌, length, drop};
+ghost use Rattle.std.specs.Prelude.{IfOk, IfErr, OnOk, IsErrOf, IsTrue, IsFalse, string_bytes};
+ghost use Rattle.std.specs.Io.KnownBytes.{Appends, Consumes, IsAtEnd};
+ghost use Rattle.pm_trace.specs.declared.standing.Standing.{Standing};
+ghost use Rattle.pm_lines.specs.declared.text.TheConstants.{MAX_TEXT};
+ghost use Rattle.pm_trace.specs.Counts.{counts_of};
+ghost use Rattle.pm_trace.specs.Decoding.{said, told, some_told, told_at_end, kept_at_end, IsFresh};
+ghost use Rattle.pm_lines.specs.Faults.{IsOfDecode};
+ghost use Rattle.pm_trace.specs.Written.{PushesFront, Written};
+ghost use Rattle.pm_lines.specs.Streams.{AppendsFront, IsWholeText};
+ghost use Rattle.pm_trace.specs.Trace.{trace_of};
+ghost use Rattle.pm_trace.specs.TraceText.{trace_text, told_lines, counts_text, end_of};
+
+use crate::counts_text::push_counts;
+use crate::decode_end::DecodeEnd;
+use crate::decoder::Decoder;
+use pm_lines::{Sink, Source, TextFault};
+use crate::shown_text::push_line;
+use std::alloc::{AllocError, Global};
+use std::io::{Read, Write};
+
+/// The most bytes that are read at a time.
+const PIECE: usize = 512;
+
+/// Reads a trace and writes what it says: a line for each of its lines that isn't skipped, as soon
+/// as it was read; at the end `count NAME k` for each code that accepted lines carry, in the order
+/// of first appearance, and `lines L accepted A faults F bad B`. Neither stream may have failed
+/// before.
+///
+/// A bad line is written by its letters, and ends nothing: `BadLines` says that there is one.
+///
+/// # Errors
+///
+/// X3 where the trace has more than 1,048,576 bytes, and X4 where the reader failed: the lines that
+/// ended before were written, and no counts. X5 where the writer failed, and X6 where memory was
+/// refused: a front of the text was written.
+pub fn decode<R: Read, W: Write>(
+    alloc: Global,
+    reader: &mut Source<R>,
+    writer: &mut Sink<W>,
+) -> Result<DecodeEnd, TextFault>
+    requires reader { IsFalse reader.old.failed }
+    requires writer { IsFalse writer.old.failed }
+
+    // The reader was read to its end, and the text of all that it gave was written.
+    ensures ok { IfOk result (λ end. (input : List ℕ)
+        × IsWholeText (R.remaining reader.old.inner) (R.remaining reader.new.inner) input
+        × Appends (W.contents writer.old.inner) (W.contents writer.new.inner) (trace_text input)
+        × (end ≡ end_of (counts_of (trace_of input)))) }
+
+    // The reader gave more than a text may have, or failed: what ended before was written.
+    ensures too_long { IsErrOf result TextFault.TooLong → (front : List ℕ) × (more : List ℕ)
+        × (length front ≡ MAX_TEXT) × (0 < length more)
+        × Consumes (R.remaining reader.old.inner) (R.remaining reader.new.inner) (front ++ more)
+        × Appends (W.contents writer.old.inner) (W.contents writer.new.inner) (told_lines (said front)) }
+    ensures cut { IsErrOf result TextFault.Read → (front : List ℕ) × (length front ≤ MAX_TEXT)
+        × Consumes (R.remaining reader.old.inner) (R.remaining reader.new.inner) front
+        × Appends (W.contents writer.old.inner) (W.contents writer.new.inner) (told_lines (said front)) }
+
+    // A front of what the lines that were read say was written.
+    ensures write { IsErrOf result TextFault.Write → (front : List ℕ)
+        × Consumes (R.remaining reader.old.inner) (R.remaining reader.new.inner) front
+        × (AppendsFront (W.contents writer.old.inner) (W.contents writer.new.inner) (told_lines (said front))
+        ⊎ (IsWholeText (R.remaining reader.old.inner) (R.remaining reader.new.inner) front
+        × AppendsFront (W.contents writer.old.inner) (W.contents writer.new.inner) (trace_text front))) }
+    ensures memory { IsErrOf result TextFault.Memory → (front : List ℕ) × (text : List ℕ) × (rest : List ℕ)
+        × Consumes (R.remaining reader.old.inner) (R.remaining reader.new.inner) front
+        × (told_lines (said front) ≡ text ++ rest)
+        × Appends (W.contents writer.old.inner) (W.contents writer.new.inner) text }
+
+    // X1, X2 and X7 never come, and the streams say whether they failed.
+    ensures faults { IfErr result IsOfDecode }
+    ensures reader_failed { IsErrOf result TextFault.Read ↔ IsTrue reader.new.failed }
+    ensures writer_failed { IsErrOf result TextFault.Write ↔ IsTrue writer.new.failed }
+{
+    let mut decoder = Decoder::new(alloc);
+    decode_pieces(alloc, reader, writer, &mut decoder)?;
+    let text = text_at_end(alloc, &mut decoder)?;
+    writer.put(text.as_str().as_bytes())?;
+    Ok(end_in(&decoder))
+}
+
+// Reads all pieces, and writes what the lines say that a line feed ended.
+fn decode_pieces<R: Read, W: Write>(
+    alloc: Global,
+    reader: &mut Source<R>,
+    writer: &mut Sink<W>,
+    decoder: &mut Decoder,
+) -> Result<(), TextFault>
+    requires reader { IsFalse reader.old.failed }
+    requires writer { IsFalse writer.old.failed }
+    requires fresh { IsFresh decoder.old }
+    ensures ok { OnOk result ((input : List ℕ)
+        × Written (R.remaining reader.old.inner) (R.remaining reader.new.inner)
+        (W.contents writer.old.inner) (W.contents writer.new.inner) input decoder.new
+        × IsAtEnd (R.remaining reader.new.inner)) }
+    ensures too_long { IsErrOf result TextFault.TooLong → (front : List ℕ) × (more : List ℕ)
+        × (length front ≡ MAX_TEXT) × (0 < length more)
+        × Consumes (R.remaining reader.old.inner) (R.remaining reader.new.inner) (front ++ more)
+        × Appends (W.contents writer.old.inner) (W.contents writer.new.inner) (told_lines (said front)) }
+    ensures cut { IsErrOf result TextFault.Read → (front : List ℕ) × (length front ≤ MAX_TEXT)
+        × Consumes (R.remaining reader.old.inner) (R.remaining reader.new.inner) front
+        × Appends (W.contents writer.old.inner) (W.contents writer.new.inner) (told_lines (said front)) }
+    ensures write { IsErrOf result TextFault.Write → (front : List ℕ)
+        × Consumes (R.remaining reader.old.inner) (R.remaining reader.new.inner) front
+        × AppendsFront (W.contents writer.old.inner) (W.contents writer.new.inner) (told_lines (said front)) }
+    ensures memory { IsErrOf result TextFault.Memory → (front : List ℕ) × (text : List ℕ) × (rest : List ℕ)
+        × Consumes (R.remaining reader.old.inner) (R.remaining reader.new.inner) front
+        × (told_lines (said front) ≡ text ++ rest)
+        × Appends (W.contents writer.old.inner) (W.contents writer.new.inner) text }
+    ensures faults { IfErr result IsOfDecode }
+    ensures reader_failed { IsErrOf result TextFault.Read ↔ IsTrue reader.new.failed }
+    ensures writer_failed { IsErrOf result TextFault.Write ↔ IsTrue writer.new.failed }
+{
+    let mut text = String::new(alloc);
+    let mut piece = [0u8; PIECE];
+    'reads: loop {
+        let count = reader.read(&mut piece)?;
+        if count == 0 {
+            return Ok(());
+        }
+        text.clear();
+        let is_whole = push_lines(&mut text, decoder, &piece[..count])?;
+        writer.put(text.as_str().as_bytes())?;
+        if !is_whole {
+            return Err(TextFault::TooLong);
+        }
+    }
+}
+
+// Feeds a piece on until it is taken whole, and puts what the lines say behind the text that end.
+// False where the piece has a byte more than a text may have: then what ended before it stands in
+// the text.
+fn push_lines(text: &mut String, decoder: &mut Decoder, piece: &[u8]) -> Result<bool, TextFault>
+    requires open { decoder.old.standing ≡ Standing.Open }
+    requires room { decoder.old.kept.taken ≤ MAX_TEXT }
+    ensures pushed { IfOk result (PushesFront (string_bytes text.old) (string_bytes text.new)
+        decoder.old decoder.new piece.now) }
+    ensures fault { IfErr result (λ fault. fault ≡ TextFault.Memory) }
+{
+    let mut rest = piece;
+    'pieces: while !rest.is_empty() {
+        match decoder.feed(rest) {
+            Ok(fed) => rest = past(rest, fed.taken),
+            Err(TextFault::TooLong) => return Ok(false),
+            Err(fault) => return Err(fault),
+        }
+        push_shown(text, decoder)?;
+    }
+    Ok(true)
+}
+
+// What follows so many bytes.
+fn past(bytes: &[u8], count: usize) -> &[u8]
+    requires { count ≤ length bytes.now }
+    ensures { result.now ≡ drop count bytes.now }
+{
+    &bytes[count..]
+}
+
+// Puts the line that is shown behind a text, with a line feed.
+#[tactic(auto, using(crate::proofs::Joins::joins))]
+fn push_shown(text: &mut String, decoder: &Decoder) -> Result<(), AllocError>
+    ensures { OnOk result (string_bytes text.new
+        ≡ string_bytes text.old ++ told_lines (some_told decoder.now.shown)) }
+{
+    let Some((number, shown)) = decoder.line() else {
+        return Ok(());
+    };
+    push_line(text, number, &shown)?;
+    text.push_str("\n")
+}
+
+// Ends the bytes, and gives what is written then: a last line, and the counts.
+#[tactic(auto, using(crate::proofs::Joins::joins))]
+fn text_at_end(alloc: Global, decoder: &mut Decoder) -> Result<String, TextFault>
+    requires { decoder.old.standing ≡ Standing.Open }
+    ensures text { IfOk result (λ text. string_bytes text
+        ≡ told_lines (some_told (told_at_end decoder.old.kept))
+        ++ counts_text (kept_at_end decoder.old.kept).counts) }
+    ensures kept { OnOk result (decoder.new.kept ≡ kept_at_end decoder.old.kept) }
+    ensures fault { IfErr result (λ fault. fault ≡ TextFault.Memory) }
+{
+    let mut text = String::new(alloc);
+    decoder.finish()?;
+    push_shown(&mut text, decoder)?;
+    push_counts(&mut text, decoder.tally())?;
+    Ok(text)
+}
+
+// How a trace ends that was counted.
+fn end_in(decoder: &Decoder) -> DecodeEnd
+    ensures { result ≡ end_of decoder.now.kept.counts }
+{
+    let (_, _, _, bad) = decoder.counts();
+    if bad == 0 {
+        DecodeEnd::Clean
+    } else {
+        DecodeEnd::BadLines
+    }
+}
