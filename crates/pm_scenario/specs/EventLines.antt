@@ -110,11 +110,11 @@ abbrev pub reading_at : Option ℕ → Field Event
 reading_at None = do
   code ← field Syntax device_reading_named
   word ← field BadHex (hex_of 4)
-  gives (Measure 0 (record { «0» = code }) word)
+  gives (Measure 0 (record { 0 = code }) word)
 reading_at (Some output) = do
   code ← field Syntax output_reading_named
   word ← field BadHex (hex_of 4)
-  gives (Measure output (record { «0» = code }) word)
+  gives (Measure output (record { 0 = code }) word)
 
 unfoldable pub reading_rest : Field Event
 reading_rest = do
