@@ -1,1 +1,3 @@
+pub mod CountingLemmas
+pub mod FloorLemmas
 pub mod Joins

@@ -1,7 +1,8 @@
 -- What is written of a world after a scenario: what its converter holds, commands and shows, and what
 -- its host knows. The form is this project's own choice; names are printed as in PMBus 1.3 Part II.
-use Rattle.std.specs.Prelude.{ℕ, ℤ, pos, negsuc, neg_ℤ, suc, ◌+◌, ◌-◌, ◌*◌, ◌/◌, ◌%◌, ◌^◌, ◌==◌, Bool, if◌then◌else◌, List, [], ◌∷◌, ◌++◌, flat_map, is_some, decimal, codes, Option, Some, None}
+use Rattle.std.specs.Prelude.{ℕ, ℤ, pos, ◌*ℤ◌, ◌/◌, ◌%◌, ◌^◌, ◌==◌, Bool, if◌then◌else◌, List, [], ◌∷◌, ◌++◌, flat_map, is_some, decimal, codes, Option, Some, None}
 use Rattle.std.specs.Fmt.{signed_decimal}
+use Rattle.std.specs.Int.{int_div_euclid}
 use Rattle.std.specs.List.{range_with_len}
 use Rattle.pm_num.specs.Ratio.{Ratio}
 use Rattle.pm_table.specs.declared.cell.Cell.{Cell}
@@ -31,11 +32,11 @@ use Rattle.pm_scenario.specs.Kinds.{register_digits, register_name}
 unfoldable pub hex_word : ℕ → List ℕ
 hex_word word = hex_byte (word / 256) ++ hex_byte (word % 256)
 
--- a cell's word with its digits: OPERATION and WRITE_PROTECT are bytes
+-- a cell's word with its digits: OPERATION and WRITE_PROTECT are bytes, the low byte of their words
 abbrev pub cell_text : Cell → ℕ → List ℕ
 cell_text (Out output register) word =
-    if register_digits register == 2 then hex_byte word else hex_word word
-cell_text Protect word = hex_byte word
+    if register_digits register == 2 then hex_byte (word % 256) else hex_word word
+cell_text Protect word = hex_byte (word % 256)
 
 -- what the host says of a cell
 abbrev pub standing_text : Cell → Standing → List ℕ
@@ -49,15 +50,11 @@ setting_line s name cell = name ++ (codes " " ++ (cell_text cell (word_at s.devi
 
 -- ---- an output
 
--- the greatest whole number of millionths that isn't above a value
-abbrev pub floor_micros_of : ℤ → ℕ → ℤ
-floor_micros_of (pos num) den = pos (num * 10 ^ 6 / den)
-floor_micros_of (negsuc num) den = neg_ℤ (pos ((suc num * 10 ^ 6 + (den - 1)) / den))
-
+-- the whole microvolts of a value: the greatest that aren't above it
 unfoldable pub floor_micros : Ratio → ℤ
-floor_micros value = floor_micros_of value.num value.den
+floor_micros value = int_div_euclid (value.num *ℤ pos (10 ^ 6)) (pos value.den)
 
-abbrev pub on_text : Bool → List ℕ
+unfoldable pub on_text : Bool → List ℕ
 on_text is_on = if is_on then codes " on" else codes " off"
 
 -- a voltage: the fraction, and the whole microvolts
@@ -65,10 +62,18 @@ unfoldable pub voltage_text : Ratio → List ℕ
 voltage_text value = signed_decimal value.num
     ++ (codes "/" ++ (decimal value.den ++ (codes " " ++ (signed_decimal (floor_micros value) ++ codes " uV"))))
 
-unfoldable pub output_line : State → ℕ → List ℕ
-output_line s output = codes "output " ++ (decimal output ++ (on_text (is_on s.device output)
-    ++ (codes " commanded "
-    ++ (voltage_text (commanded (value_for s.device.config output) s.device.words output) ++ codes "\n"))))
+-- an output's number, and whether it is on
+unfoldable pub output_head : ℕ → Bool → List ℕ
+output_head output is_on = codes "output " ++ (decimal output ++ on_text is_on)
+
+-- the same, and the voltage that it commands
+unfoldable pub commanded_line : ℕ → Bool → Ratio → List ℕ
+commanded_line output is_on voltage =
+    output_head output is_on ++ (codes " commanded " ++ (voltage_text voltage ++ codes "\n"))
+
+abbrev pub output_line : State → ℕ → List ℕ
+output_line s output = commanded_line output (is_on s.device output)
+    (commanded (value_for s.device.config output) s.device.words output)
 
 -- STATUS_BYTE, STATUS_WORD and STATUS_VOUT
 unfoldable pub status_line : State → ℕ → List ℕ
@@ -80,12 +85,16 @@ abbrev pub register_line : State → ℕ → Reg → List ℕ
 register_line s output register =
     setting_line s (register_name register) (Out output register)
 
--- an output's lines: what it commands, its five settings, its status
-unfoldable pub output_lines : State → ℕ → List ℕ
-output_lines s output = output_line s output
-    ++ (register_line s output Operation ++ (register_line s output VoutCommand
+-- an output's five settings
+unfoldable pub register_lines : State → ℕ → List ℕ
+register_lines s output = register_line s output Operation ++ (register_line s output VoutCommand
     ++ (register_line s output VoutMax ++ (register_line s output MarginHigh
-    ++ (register_line s output MarginLow ++ status_line s output)))))
+    ++ register_line s output MarginLow)))
+
+-- an output's lines: what it commands, its settings, its status
+unfoldable pub output_lines : State → ℕ → List ℕ
+output_lines s output =
+    output_line s output ++ (register_lines s output ++ status_line s output)
 
 abbrev pub all_outputs : State → List ℕ
 all_outputs s = flat_map (output_lines s) (range_with_len 0 s.device.config.count)
@@ -109,7 +118,7 @@ first_line taken (Some stop) =
 unfoldable pub cml_line : State → List ℕ
 cml_line s = codes "cml " ++ (hex_byte (status_cml s.device) ++ codes "\n")
 
-abbrev pub seen_line : Bool → List ℕ
+unfoldable pub seen_line : Bool → List ℕ
 seen_line seen = if seen then codes "restart seen yes\n" else codes "restart seen no\n"
 
 abbrev pub end_text : JobEnd → List ℕ

@@ -5,17 +5,12 @@
 
 mod outputs;
 mod ran;
-mod replay;
 mod replay_end;
 mod report;
 mod settings;
 
 pub use pm_lines::{MAX_TEXT, Sink, Source, TextFault};
 pub use pm_scenario::{Events, Scenario};
-pub use pm_trace::{
-    ByteList, DecodeEnd, Decoder, Fed, Shown, TraceLine, decode, read_trace_line, render_line,
-};
 pub use ran::Ran;
-pub use replay::replay;
 pub use replay_end::ReplayEnd;
 pub use report::render_report;

@@ -1,6 +1,6 @@
 //! The lines of outputs: what each commands, its five settings, and its status.
-ghost use Rattle.std.specs.Prelude.{◌≡◌, ◌<◌, ◌++◌, OnOk, codes, string_bytes};
-ghost use Rattle.pm_text.specs.Report.{all_outputs, output_line, output_lines, status_line, voltage_text};
+ghost use Rattle.std.specs.Prelude.{◌≡◌, ◌<◌, ◌++◌, OnOk, string_bytes};
+ghost use Rattle.pm_text.specs.Report.{all_outputs, commanded_line, floor_micros, on_text, output_head, output_lines, register_lines, status_line, voltage_text};
 
 use crate::settings::{push_hex_word, push_register};
 use pm_lines::{push_decimal, push_hex, push_signed};
@@ -26,29 +26,60 @@ fn push_output(text: &mut String, world: &World, output: u8) -> Result<(), Alloc
     ensures { OnOk result (string_bytes text.new
         ≡ string_bytes text.old ++ output_lines world.now output) }
 {
-    push_commanded(text, world, output)?;
-    push_register(text, world, output, Reg::Operation)?;
-    push_register(text, world, output, Reg::VoutCommand)?;
-    push_register(text, world, output, Reg::VoutMax)?;
-    push_register(text, world, output, Reg::MarginHigh)?;
-    push_register(text, world, output, Reg::MarginLow)?;
+    let device = world.device();
+    push_commanded(text, output, device.is_on(output), device.commanded(output))?;
+    push_registers(text, world, output)?;
     push_status(text, world, output)
 }
 
 // What an output commands.
-#[tactic(auto, using(crate::proofs::Joins::joins), unfolding(crate::specs::Report::output_line))]
-fn push_commanded(text: &mut String, world: &World, output: u8) -> Result<(), AllocError>
-    requires { output < world.now.device.config.count }
+#[tactic(auto, using(crate::proofs::Joins::joins), unfolding(crate::specs::Report::commanded_line))]
+fn push_commanded(
+    text: &mut String,
+    output: u8,
+    is_on: bool,
+    voltage: Frac,
+) -> Result<(), AllocError>
     ensures { OnOk result (string_bytes text.new
-        ≡ string_bytes text.old ++ output_line world.now output) }
+        ≡ string_bytes text.old ++ commanded_line output is_on voltage) }
 {
-    let device = world.device();
+    push_head(text, output, is_on)?;
+    text.push_str(" commanded ")?;
+    push_voltage(text, voltage)?;
+    text.push_str("\n")
+}
+
+// The number of an output, and whether it is on.
+#[tactic(auto, using(crate::proofs::Joins::joins), unfolding(crate::specs::Report::output_head))]
+fn push_head(text: &mut String, output: u8, is_on: bool) -> Result<(), AllocError>
+    ensures { OnOk result (string_bytes text.new
+        ≡ string_bytes text.old ++ output_head output is_on) }
+{
     text.push_str("output ")?;
     push_decimal(text, u64::from(output))?;
-    text.push_str(if device.is_on(output) { " on" } else { " off" })?;
-    text.push_str(" commanded ")?;
-    push_voltage(text, device.commanded(output))?;
-    text.push_str("\n")
+    text.push_str(on_words(is_on))
+}
+
+// The five settings of an output.
+#[tactic(auto, using(crate::proofs::Joins::joins), unfolding(crate::specs::Report::register_lines))]
+fn push_registers(text: &mut String, world: &World, output: u8) -> Result<(), AllocError>
+    requires { output < world.now.device.config.count }
+    ensures { OnOk result (string_bytes text.new
+        ≡ string_bytes text.old ++ register_lines world.now output) }
+{
+    push_register(text, world, output, Reg::Operation)?;
+    push_register(text, world, output, Reg::VoutCommand)?;
+    push_register(text, world, output, Reg::VoutMax)?;
+    push_register(text, world, output, Reg::MarginHigh)?;
+    push_register(text, world, output, Reg::MarginLow)
+}
+
+// Whether an output is on.
+#[tactic(auto, unfolding(crate::specs::Report::on_text))]
+fn on_words(is_on: bool) -> &'static str
+    ensures { result.now ≡ on_text is_on }
+{
+    if is_on { " on" } else { " off" }
 }
 
 // A voltage: the fraction as it stands, and the whole microvolts.
@@ -59,10 +90,24 @@ fn push_voltage(text: &mut String, value: Frac) -> Result<(), AllocError>
 {
     push_signed(text, value.num())?;
     text.push_str("/")?;
-    push_signed(text, value.den())?;
+    push_decimal(text, denominator(value))?;
     text.push_str(" ")?;
-    push_signed(text, value.floor_micro())?;
+    push_signed(text, microvolts(value))?;
     text.push_str(" uV")
+}
+
+// The denominator of a voltage, which is at least 1.
+fn denominator(value: Frac) -> u64
+    ensures { result ≡ value.den }
+{
+    value.den() as u64
+}
+
+// The whole microvolts of a voltage.
+fn microvolts(value: Frac) -> i128
+    ensures { result ≡ floor_micros value }
+{
+    value.floor_micro()
 }
 
 // The status registers of an output.

@@ -84,12 +84,20 @@ fn push_world(text: &mut String, world: &World) -> Result<(), AllocError>
     push_setting(text, world, "protect", Cell::Protect)?;
     push_outputs(text, world)?;
     push_cml(text, world)?;
-    text.push_str(if world.host().restart_seen() {
+    text.push_str(seen_words(world.host().restart_seen()))?;
+    push_job(text, world)
+}
+
+// The line that says whether the host saw a restart.
+#[tactic(auto, unfolding(crate::specs::Report::seen_line))]
+fn seen_words(seen: bool) -> &'static str
+    ensures { result.now ≡ seen_line seen }
+{
+    if seen {
         "restart seen yes\n"
     } else {
         "restart seen no\n"
-    })?;
-    push_job(text, world)
+    }
 }
 
 // STATUS_CML.

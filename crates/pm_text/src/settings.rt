@@ -1,5 +1,5 @@
 //! The lines of settings: what the converter holds of a cell, and what the host says of it.
-ghost use Rattle.std.specs.Prelude.{◌≡◌, ◌++◌, OnOk, codes, string_bytes};
+ghost use Rattle.std.specs.Prelude.{◌≡◌, ◌<◌, ◌++◌, OnOk, string_bytes};
 ghost use Rattle.pm_table.specs.Cell.{IsCell};
 ghost use Rattle.pm_text.specs.Report.{cell_text, hex_word, register_line, setting_line, standing_text};
 
@@ -11,17 +11,32 @@ use pm_world::World;
 use std::alloc::AllocError;
 
 /// Puts the line of an output's register behind a text.
-pub(crate) fn push_register(text: &mut String, world: &World, output: u8, register: Reg) -> Result<(), AllocError>
+pub(crate) fn push_register(
+    text: &mut String,
+    world: &World,
+    output: u8,
+    register: Reg,
+) -> Result<(), AllocError>
     requires { output < world.now.device.config.count }
     ensures { OnOk result (string_bytes text.new
         ≡ string_bytes text.old ++ register_line world.now output register) }
 {
-    push_setting(text, world, register_name(register), Cell::Out(output, register))
+    push_setting(
+        text,
+        world,
+        register_name(register),
+        Cell::Out(output, register),
+    )
 }
 
 /// Puts the line of a cell that is there behind a text, under this name.
 #[tactic(auto, using(crate::proofs::Joins::joins), unfolding(crate::specs::Report::setting_line))]
-pub(crate) fn push_setting(text: &mut String, world: &World, name: &str, cell: Cell) -> Result<(), AllocError>
+pub(crate) fn push_setting(
+    text: &mut String,
+    world: &World,
+    name: &str,
+    cell: Cell,
+) -> Result<(), AllocError>
     requires { IsCell world.now.device.config.count cell }
     ensures { OnOk result (string_bytes text.new
         ≡ string_bytes text.old ++ setting_line world.now name.now cell) }
@@ -56,7 +71,7 @@ fn push_cell_word(text: &mut String, cell: Cell, word: u16) -> Result<(), AllocE
 {
     match cell {
         Cell::Out(_, register) if !is_byte_register(register) => push_hex_word(text, word),
-        _ => push_hex(text, word as u8),
+        _ => push_hex(text, (word % 256) as u8),
     }
 }
 

@@ -170,9 +170,10 @@ impl World {
         &self.device
     }
 
-    /// The host.
+    /// The host. It has the outputs of the configuration.
     pub fn host(&self) -> &Host
-        ensures { result.now ≡ self.now.host }
+        ensures host { result.now ≡ self.now.host }
+        ensures outputs { self.now.host.setup.outputs ≡ self.now.device.config.count }
     {
         &self.host
     }

@@ -1,0 +1,19 @@
+-- Texts of numbered things, one behind another.
+use Rattle.std.proofs.Common.{◌≡◌, ◌∙◌, ◌+◌, ◌<◌, ◌≤◌, ℕ, List, [], ◌∷◌, ◌++◌, take, get_or, sym, ap, append-nil, zero-add, arith}
+use Rattle.std.specs.List.{flat_map, range_with_len}
+use Rattle.std.proofs.lemmas.List.{take_all, take_more}
+use Rattle.std.proofs.lemmas.List.FromFn.{get_or-range_with_len, length-range_with_len}
+use Rattle.std.proofs.lemmas.List.Concat.{flat_map-append}
+
+-- one of them more
+pub numbered-more : (f : ℕ → List ℕ) (n i : ℕ) → i < n → flat_map f (take i (range_with_len 0 n)) ++ f i ≡ flat_map f (take (i + 1) (range_with_len 0 n))
+numbered-more f n i within =
+    let xs = range_with_len 0 n in
+    let here : get_or xs i 0 ≡ i = get_or-range_with_len 0 n i 0 within ∙ zero-add i in
+    let more : take (i + 1) xs ≡ take i xs ++ get_or xs i 0 ∷ [] = take_more xs i 0 (omega (arith, length-range_with_len 0 n)) in
+    sym (ap (flat_map f) more ∙ flat_map-append f (take i xs) (get_or xs i 0 ∷ []) ∙ ap (λ l. flat_map f (take i xs) ++ l) (append-nil (f (get_or xs i 0)))
+    ∙ ap (λ k. flat_map f (take i xs) ++ f k) here)
+
+-- all of them
+pub numbered-all : (f : ℕ → List ℕ) (n i : ℕ) → n ≤ i → flat_map f (take i (range_with_len 0 n)) ≡ flat_map f (range_with_len 0 n)
+numbered-all f n i past = ap (flat_map f) (take_all i (range_with_len 0 n) (omega (arith, length-range_with_len 0 n)))
