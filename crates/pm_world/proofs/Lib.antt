@@ -3,6 +3,7 @@ mod Ends
 mod Exchanges
 mod Frames
 mod Hearings
+mod HeldWords
 mod Learned
 mod LearnedLives
 mod Lives
@@ -13,6 +14,7 @@ mod ReadBack
 mod Retellings
 mod Runs
 mod Sending
+mod Standings
 mod TakenWhole
 mod TrueHost
 mod Undisturbed

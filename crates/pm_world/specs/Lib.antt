@@ -1,3 +1,4 @@
+pub mod Confirmed
 pub mod Honest
 pub mod Legal
 pub mod Life
