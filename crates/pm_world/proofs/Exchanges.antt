@@ -50,7 +50,7 @@ legal-request s arrival frame heard ending a reads =
     legal-is s.setup.addr a.sent.message arrival frame heard ending (frame_of-is s.setup.addr a.sent.message frame a.sent.frame) a.heard_is (ending-is s arrival frame heard ending a reads)
 
 -- the cause of an exchange, by the two tests
-exchange_cause-by : (s : State) (arrival : Arrival) (back : Back) (message : Message) (b c d : Bool) → is_read_message message ≡ b →
+pub exchange_cause-by : (s : State) (arrival : Arrival) (back : Back) (message : Message) (b c d : Bool) → is_read_message message ≡ b →
     is_legal_hearing (frame_of s.host.setup.addr message) (heard_bytes (frame_of s.host.setup.addr message) arrival) (heard_ending message arrival) ≡ c →
     is_legal_return (frame_of s.host.setup.addr message) (whole_answer message)
     (is_heard_whole (frame_of s.host.setup.addr message) (heard_bytes (frame_of s.host.setup.addr message) arrival) (heard_ending message arrival))

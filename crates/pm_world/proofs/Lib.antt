@@ -1,3 +1,4 @@
+mod DamagedFrames
 mod Deliveries
 mod Ends
 mod Exchanges
