@@ -1,15 +1,14 @@
 -- A world whose ends were told something.
-use Rattle.std.proofs.Common.{◌≡◌, ℕ, Option, Some, None, refl, sym, ◌∙◌, ap, subst}
+use Rattle.std.proofs.Common.{◌≡◌, ℕ, Option, sym, ◌∙◌, ap, subst}
 use Rattle.pm_device.specs.declared.config.Config.{Config}
 use Rattle.pm_device.specs.Held.{Held}
 use Rattle.pm_device.specs.Effect as device
 use Rattle.pm_device.specs.History.{next as device_next, after as device_after}
-use Rattle.pm_host.specs.declared.fault.HostFault.{HostFault}
 use Rattle.pm_host.specs.declared.step.JobEnd.{JobEnd}
 use Rattle.pm_host.specs.Summary.{Summary, next as host_next, step_of}
 use Rattle.pm_host.specs.Transcript.{Entry, Setup}
 use Rattle.pm_world.specs.Setup.{IsMatched}
-use Rattle.pm_world.specs.State.{State, shared, tells, hears, end_by, refused}
+use Rattle.pm_world.specs.State.{State, shared, tells, hears, end_by}
 
 -- the parts of a world, put together
 abbrev pub state : Held → Summary → Option JobEnd → ℕ → State

@@ -1,5 +1,5 @@
 -- A request that is being sent, as it arrives, and what comes back.
-use Rattle.std.proofs.Common.{◌≡◌, ℕ, Bool, true, false, not, cond, List, Option, Some, None, refl, sym, ◌∙◌, ap, ap₂, subst}
+use Rattle.std.proofs.Common.{◌≡◌, ℕ, Bool, true, false, not, List, Option, Some, refl, sym, ◌∙◌, ap, ap₂, subst}
 use Rattle.std.specs.Option.{option_or}
 use Rattle.pm_frame.specs.declared.message.Message.{Message}
 use Rattle.pm_frame.specs.Fault.{whole_answer}
@@ -50,7 +50,7 @@ legal-request s arrival frame heard ending a reads =
     legal-is s.setup.addr a.sent.message arrival frame heard ending (frame_of-is s.setup.addr a.sent.message frame a.sent.frame) a.heard_is (ending-is s arrival frame heard ending a reads)
 
 -- the cause of an exchange, by the two tests
-exchange_cause-by : (s : State) (arrival : Arrival) (back : Back) (message : Message) (b c d : Bool) → is_read_message message ≡ b →
+pub exchange_cause-by : (s : State) (arrival : Arrival) (back : Back) (message : Message) (b c d : Bool) → is_read_message message ≡ b →
     is_legal_hearing (frame_of s.host.setup.addr message) (heard_bytes (frame_of s.host.setup.addr message) arrival) (heard_ending message arrival) ≡ c →
     is_legal_return (frame_of s.host.setup.addr message) (whole_answer message)
     (is_heard_whole (frame_of s.host.setup.addr message) (heard_bytes (frame_of s.host.setup.addr message) arrival) (heard_ending message arrival))

@@ -1,9 +1,9 @@
 -- A frame that is being sent, as it arrives.
-use Rattle.std.proofs.Common.{◌≡◌, ℕ, Bool, true, false, not, cond, List, [], ◌∷◌, ◌++◌, Option, Some, None, IsNone, refl, sym, ◌∙◌, ap, ap₂, subst}
-use Rattle.std.specs.Prelude.{MatchOption, IsSomeAnd}
+use Rattle.std.proofs.Common.{◌≡◌, ℕ, Bool, true, false, not, cond, List, [], Option, Some, None, refl, sym, ◌∙◌, ap, ap₂, subst}
+use Rattle.std.specs.Prelude.{MatchOption}
 use Rattle.std.specs.Option.{option_or, option_map_or}
 use Rattle.pm_frame.specs.declared.message.Message.{Message}
-use Rattle.pm_frame.specs.Layout.{IsWrite, IsRequest, is_read_message, sent, with_pec}
+use Rattle.pm_frame.specs.Layout.{is_read_message, sent, with_pec}
 use Rattle.pm_device.specs.declared.heard.Ending.{Ending}
 use Rattle.pm_device.specs.declared.heard.Ending.TheVariants.{Stop, Restart}
 use Rattle.pm_device.specs.Held.{Held}
@@ -16,7 +16,7 @@ use Rattle.pm_host.specs.Refusals.{sends_read}
 use Rattle.pm_world.specs.declared.event.Arrival.{Arrival}
 use Rattle.pm_world.specs.declared.stop.Cause.{Cause}
 use Rattle.pm_world.specs.declared.stop.Cause.TheVariants.{WrongKind, NotBetrayed}
-use Rattle.pm_world.specs.Legal.{frame_of, heard_bytes, ending_of, whole_ending, heard_ending, is_legal_hearing}
+use Rattle.pm_world.specs.Legal.{frame_of, heard_bytes, ending_of, heard_ending, is_legal_hearing}
 use Rattle.pm_world.specs.State.{State, shared, delivered, hears, delivery_cause, hearing, rule}
 use Rattle.pm_world.proofs.Ends.{state, device-heard}
 

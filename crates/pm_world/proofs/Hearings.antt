@@ -48,7 +48,7 @@ or-cases false b h = inr h
 front-is : (frame bytes : List ℕ) → starts_with eqb frame bytes ≡ true → frame ≡ bytes ++ drop (length bytes) frame
 front-is frame bytes h = (starts_is Decides-eqb frame bytes (starts_with eqb frame bytes) refl).0 h
 
-frame-write : (addr : ℕ) (message : Message) → is_read_message message ≡ false → frame_of addr message ≡ with_pec [] (sent addr message)
+pub frame-write : (addr : ℕ) (message : Message) → is_read_message message ≡ false → frame_of addr message ≡ with_pec [] (sent addr message)
 unfolding frame_of
 frame-write addr message writes = ap (λ b. cond b (sent addr message) (with_pec [] (sent addr message))) writes
 

@@ -117,7 +117,7 @@ is-answer : DamageLaws → (held : Held) (addr : ℕ) (request : Message) (paylo
 is-answer laws held addr request payload frame bytes found same is good =
     same_Some found payload (sym good ∙ (ap (good_payload addr request) same ∙ good-answer laws.read addr request payload frame is))
 
-is_request : (addr : ℕ) (request : Message) → is_read_message request ≡ true → fits_layout request ≡ true → IsRequest addr request (frame_of addr request)
+pub is_request : (addr : ℕ) (request : Message) → is_read_message request ≡ true → fits_layout request ≡ true → IsRequest addr request (frame_of addr request)
 is_request addr request reads fits = record { reads = reads; fits = fits; spelled = frame-read addr request reads }
 
 -- some output is DIRECT where this one is

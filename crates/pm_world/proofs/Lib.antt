@@ -1,8 +1,10 @@
+mod DamagedFrames
 mod Deliveries
 mod Ends
 mod Exchanges
 mod Frames
 mod Hearings
+mod HeldWords
 mod Learned
 mod LearnedLives
 mod Lives
@@ -13,6 +15,7 @@ mod ReadBack
 mod Retellings
 mod Runs
 mod Sending
+mod Standings
 mod TakenWhole
 mod TrueHost
 mod Undisturbed

@@ -1,5 +1,5 @@
 -- The life of a world, event by event.
-use Rattle.std.proofs.Common.{◌≡◌, ℕ, ℤ, suc, ◌+◌, ◌≤◌, Bool, true, false, not, cond, List, [], ◌∷◌, ◌++◌, length, Option, Some, None, is_some, is_none, IsSome, unwrap_or, refl, sym, ◌∙◌, ap, ap₂, subst, add-one, arith}
+use Rattle.std.proofs.Common.{◌≡◌, ℕ, ℤ, suc, ◌≤◌, Bool, true, false, not, List, [], ◌∷◌, ◌++◌, length, Option, Some, None, is_none, IsSome, unwrap_or, refl, sym, ◌∙◌, ap, ap₂, subst, add-one}
 use Rattle.std.specs.Prelude.{option_to_list, nat_le}
 use Rattle.std.specs.Option.{option_or, option_and_then, option_map_or}
 use Rattle.pm_table.specs.declared.cell.Cell.{Cell}
@@ -13,7 +13,7 @@ use Rattle.pm_device.specs.Start.{IsSound}
 use Rattle.pm_host.specs.declared.fault.HostFault.{HostFault}
 use Rattle.pm_host.specs.declared.step.JobEnd.{JobEnd}
 use Rattle.pm_host.specs.Now.{now as host_now, AreTold}
-use Rattle.pm_host.specs.Refusals.{IsSetup, may_come, job_may_come, order_fault, micro_fault, micro_word, voltage_fault, range_fault, sends_write, sends_read}
+use Rattle.pm_host.specs.Refusals.{IsSetup, may_come, order_fault, micro_fault, micro_word, voltage_fault, range_fault, sends_write}
 use Rattle.pm_host.specs.Summary.{Summary, start as host_start, next as host_next, step_of, step_by, sending_in, format_at}
 use Rattle.pm_host.specs.Transcript as host
 use Rattle.pm_world.specs.declared.event.Event.{Event}

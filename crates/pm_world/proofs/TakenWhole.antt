@@ -44,7 +44,7 @@ off : (applies : Bool) (cause : Cause) → applies ≡ false → rule applies ca
 off applies cause e = ap (λ b. rule b cause) e
 
 -- all of a request is a legal hearing, and the answer to it a legal return
-whole-hearing : (frame : List ℕ) → is_legal_hearing frame frame Restart ≡ true
+pub whole-hearing : (frame : List ℕ) → is_legal_hearing frame frame Restart ≡ true
 unfolding is_legal_hearing
 whole-hearing frame = refl
 
@@ -63,7 +63,7 @@ exchange-free s message reads ending =
     (rule (not (is_legal_return frame (whole_answer message) (is_heard_whole frame frame (heard_ending message Whole)) answer answer)) NotBetrayed))) reads
     ∙ ap₂ (λ h r. option_or (rule (not h) NotBetrayed) (rule (not r) NotBetrayed)) heard returned
 
-free : (s : State) (event : Event) → s.taken < event_limit → event_cause s event ≡ None → cause_of s event ≡ None
+pub free : (s : State) (event : Event) → s.taken < event_limit → event_cause s event ≡ None → cause_of s event ≡ None
 unfolding cause_of
 free s event room none = ap (λ b. option_or (rule b Full) (event_cause s event)) (lt-leb event_limit s.taken room) ∙ none
 

@@ -166,7 +166,7 @@ pub record Stands (s : State) : Type 0 where
   pub host : IsSoundHost s.host
   pub spelled : IsSpelled s.device.config
 
-good-same : DamageLaws → (s : State) (arrival : Arrival) (back : Back) (request : Message) (bytes payload : List ℕ) → s.host.setup.addr ≡ s.device.config.addr → is_read_message request ≡ true →
+pub good-same : DamageLaws → (s : State) (arrival : Arrival) (back : Back) (request : Message) (bytes payload : List ℕ) → s.host.setup.addr ≡ s.device.config.addr → is_read_message request ≡ true →
     exchange_cause s arrival back (Some request) ≡ None → bytes ≡ back_bytes (answer_to s.device s.host.setup.addr request arrival) back → good_payload s.device.config.addr request bytes ≡ Some payload →
     bytes ≡ answer_in (reply_of s.device (frame_of s.device.config.addr request) Restart)
 good-same laws s arrival back request bytes payload addr reads free is good =

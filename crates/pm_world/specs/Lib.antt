@@ -1,3 +1,5 @@
+pub mod Confirmed
+pub mod Damage
 pub mod Honest
 pub mod Legal
 pub mod Life

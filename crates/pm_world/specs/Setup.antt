@@ -1,7 +1,6 @@
 -- How a world starts: this project's own choice. The host has the configuration's address and outputs.
 use Rattle.std.specs.Prelude.{◌≡◌, ℕ, ◌≤◌, Option, None, option_map}
 use Rattle.std.specs.Option.{option_or}
-use Rattle.pm_table.specs.Address.{IsAddress}
 use Rattle.pm_device.specs.declared.config.Config.{Config}
 use Rattle.pm_device.specs.Start.{IsSound, config_fault}
 use Rattle.pm_device.specs.History.{start_of}

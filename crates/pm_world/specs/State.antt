@@ -1,5 +1,5 @@
 -- What a world holds, and what an event makes of it: this project's own choice.
-use Rattle.std.specs.Prelude.{ℕ, ℤ, ◌+◌, ◌^◌, Bool, true, false, not, nat_le, if◌then◌else◌, List, [], ◌∷◌, Option, Some, None, IsSome, option_map, unwrap_or, Result, Ok, Err, ◌≡◌, ◌≤◌}
+use Rattle.std.specs.Prelude.{ℕ, ℤ, ◌+◌, ◌^◌, Bool, not, nat_le, if◌then◌else◌, List, Option, Some, None, IsSome, option_map, unwrap_or, Result, Ok, Err, ◌≡◌}
 use Rattle.std.specs.Option.{option_or}
 use Rattle.pm_table.specs.declared.cell.Cell.{Cell}
 use Rattle.pm_frame.specs.declared.message.Message.{Message}

@@ -1,6 +1,8 @@
 //! Both ends of the bus under a list of events.
 #![tactic(auto)]
 
+mod confirmed;
+mod damage;
 mod event;
 mod honest;
 mod laws;
@@ -9,6 +11,8 @@ mod orders;
 mod stop;
 mod world;
 
+pub use confirmed::confirmed_settings_are_held;
+pub use damage::betrayed_damage_is_taken;
 pub use event::{Arrival, Back, Event};
 pub use honest::{frames_are_few, honest_orders_go_through, learned_formats_are_true};
 pub use laws::lives_are_followed;

@@ -1,16 +1,12 @@
 ghost use Rattle.std.specs.Prelude.{◌≡◌, ◌<◌, ◌≤◌, ℕ, true, IfOk, OnOk};
 ghost use Rattle.std.specs.Result.{result_err};
-ghost use Rattle.pm_table.specs.Address.{IsAddress};
-ghost use Rattle.pm_frame.specs.declared.message.Message.{Message as Spoken};
-ghost use Rattle.pm_frame.specs.Fault.{whole_answer};
-ghost use Rattle.pm_frame.specs.Layout.{IsRequest};
 ghost use Rattle.pm_device.specs.Start.{IsSound};
-ghost use Rattle.pm_host.specs.Refusals.{IsSetup};
+ghost use Rattle.pm_host.specs.Refusals.{IsSetup, may_come};
+ghost use Rattle.pm_world.specs.Confirmed.{ConfirmedIsHeld};
 ghost use Rattle.pm_world.specs.Honest.{AreFewFrames, FormatsAgree, MicrosAreNearest, OrdersGoThrough};
 ghost use Rattle.pm_world.specs.Setup.{setup_of, start, setup_fault};
 ghost use Rattle.pm_world.specs.Life.{now, taken_events, after_all, AreTaken, AreTakenFrom, StopsAt, StopsFrom};
-ghost use Rattle.pm_world.specs.State.{Steps, Acts, shared, tells, hears, end_by as spec_end_by};
-ghost use Rattle.pm_host.specs.Refusals.{may_come};
+ghost use Rattle.pm_world.specs.State.{Steps, Acts, shared, tells, hears};
 ghost use Rattle.pm_host.specs.Told.{entry_told};
 ghost use Rattle.pm_host.specs.Transcript as told;
 ghost use Rattle.pm_device.specs.Effect as heard;
@@ -22,17 +18,17 @@ ghost use Rattle.pm_model.specs.Settings.{word_at};
 ghost use Rattle.pm_device.specs.Held.{value_for};
 ghost use Rattle.pm_world.specs.Retelling.{IsOrderRun, IsOwnWord, CommandsOwn};
 
+use crate::confirmed::confirmed_settings_are_held;
 use crate::event::{Arrival, Back, Event};
 use crate::honest::{frames_are_few, honest_orders_go_through, learned_formats_are_true, spell};
 use crate::laws::lives_are_followed;
 use crate::legal::{
     answer_in, back_bytes, heard_bytes, heard_ending, is_heard_whole, is_legal_hearing,
-    is_legal_return,
+    is_legal_return, needed_bytes,
 };
 use crate::orders::lives_are_orders;
 use crate::stop::{Cause, SetupFault, Stop};
 use pm_device::{Config, Converter, Ending};
-use pm_frame::read_request;
 use pm_host::{Host, JobEnd, Step, Told, transcripts_are_followed};
 use pm_table::{Cell, Code};
 use std::marker::Model;
@@ -104,14 +100,16 @@ impl World {
     /// and an order takes only at a delivery between its acceptance and the end of its job. So each
     /// cell that is there has its start word, or the word of an order that was taken for that very
     /// cell (`own`); and what [`Converter::commanded`] answers of an output is the value of a word of
-    /// its own, or where that is above the value of its own VOUT_MAX, the latter (`commanded`).
+    /// its own, or where that is above the value of its own VOUT_MAX, the latter (`commanded`). A word
+    /// that the host calls confirmed is the one that the converter holds, unless the converter
+    /// restarted since the host read the cell (`confirmed`).
     ///
     /// What the clauses call the taken events are the first ones of the list, as many as the stop
     /// says, or all of them; newest first, as lives are. The world is what its definition says of
-    /// them (`now`), each of them was taken (`all`), and the run stops exactly at the first event
-    /// that has a cause, with that cause (`stop`). No job sends more than twice as many frames as it
-    /// has passes (`few`), and an undisturbed order that WRITE_PROTECT allows ends done, confirmed and
-    /// held (`through`). A format that the host learned is the converter's (`formats`), and an order in
+    /// them (`now`), each was taken (`all`), and the run stops exactly at the first event that has a
+    /// cause, with that cause (`stop`). No job sends more than twice as many frames as it has passes
+    /// (`few`), and an undisturbed order that WRITE_PROTECT allows ends done, confirmed and held
+    /// (`through`). A format that the host learned is the converter's (`formats`), and an order in
     /// microvolts is that of the nearest word in it (`nearest`).
     pub fn run(c: Config, passes: u8, events: &[Event]) -> Result<(World, Option<Stop>), SetupFault>
         ensures fault { result_err result ≡ setup_fault c passes }
@@ -134,12 +132,15 @@ impl World {
             FormatsAgree c passes (taken_events events.now run.1)) }
         ensures nearest { IfOk result (λ run.
             MicrosAreNearest c passes (taken_events events.now run.1)) }
+        ensures confirmed { IfOk result (λ run.
+            ConfirmedIsHeld c passes (taken_events events.now run.1) run.0) }
     {
         lives_are_orders();
         lives_are_followed();
         frames_are_few();
         honest_orders_go_through();
         learned_formats_are_true();
+        confirmed_settings_are_held();
         spell(c);
         let mut world = match World::new(c, passes) {
             Ok(world) => world,
@@ -163,16 +164,17 @@ impl World {
         Ok(())
     }
 
-    /// The converter.
+    /// The converter, whose outputs are those that the host was made for (`outputs`).
     pub fn device(&self) -> &Converter
-        ensures { result.now ≡ self.now.device }
+        ensures value { result.now ≡ self.now.device }
+        ensures outputs { self.now.host.setup.outputs ≡ self.now.device.config.count }
     {
         &self.device
     }
 
-    /// The host. It has the outputs of the configuration.
+    /// The host, which was made for the converter's outputs (`outputs`).
     pub fn host(&self) -> &Host
-        ensures host { result.now ≡ self.now.host }
+        ensures value { result.now ≡ self.now.host }
         ensures outputs { self.now.host.setup.outputs ≡ self.now.device.config.count }
     {
         &self.host
@@ -366,7 +368,10 @@ impl World {
     {
         transcripts_are_followed();
         let step = self.host.told(told);
-        self.end = end_by(step);
+        self.end = match step {
+            Step::Next => None,
+            Step::Ended(end) => Some(end),
+        };
     }
 
     // The converter starts again.
@@ -390,27 +395,5 @@ impl World {
         ensures { self.new ≡ shared self.old (hears (heard.Reading output code.0 word)) }
     {
         let _ = self.device.set_reading(output, code, word);
-    }
-}
-
-// How the last job stands after a call of `told`.
-fn end_by(step: Step) -> Option<JobEnd>
-    ensures { result ≡ spec_end_by step }
-{
-    match step {
-        Step::Next => None,
-        Step::Ended(end) => Some(end),
-    }
-}
-
-// How many bytes the whole answer to a request has.
-fn needed_bytes(addr: u8, request: &[u8]) -> usize
-    requires { IsAddress addr }
-    ensures { (message : Spoken) → IsRequest addr message request.now →
-        result ≡ whole_answer message }
-{
-    match read_request(addr, request) {
-        Ok(view) => view.message().whole_answer(),
-        Err(_) => 0,
     }
 }

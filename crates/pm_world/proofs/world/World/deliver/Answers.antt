@@ -1,4 +1,4 @@
-use Rattle.std.proofs.Common.{sym, ◌∙◌, ap, subst, refl, not}
+use Rattle.std.proofs.Common.{sym, ◌∙◌, ap, subst, refl}
 use Rattle.pm_device.specs.declared.config.Config.{Config}
 use Rattle.pm_device.specs.declared.heard.Ending.TheVariants.{Stop}
 use Rattle.pm_device.specs.Effect.{Hearing}

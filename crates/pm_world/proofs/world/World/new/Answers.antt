@@ -1,4 +1,4 @@
-use Rattle.std.proofs.Common.{◌≡◌, ℕ, refl, sym, ◌∙◌, ap, subst, lit≤}
+use Rattle.std.proofs.Common.{◌≡◌, sym, ap, subst, lit≤}
 use Rattle.pm_device.specs.declared.config.Config.{Config}
 use Rattle.pm_device.specs.Held.{Held}
 use Rattle.pm_device.specs.History.{start_of}

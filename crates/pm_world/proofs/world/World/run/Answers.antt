@@ -9,6 +9,7 @@ use Rattle.pm_model.specs.Commanded.{commanded}
 use Rattle.pm_model.specs.Settings.{word_at}
 use Rattle.pm_device.specs.Held.{value_for}
 use Rattle.pm_world.specs.Retelling.{IsOrderRun, IsOwnWord, CommandsOwn}
+use Rattle.pm_world.specs.Confirmed.{ConfirmedIsHeld}
 use Rattle.pm_world.specs.Setup.{start}
 use Rattle.pm_world.specs.State.{State, cause_of}
 use Rattle.pm_world.specs.Life.{now, taken_events, after_all, AreTakenFrom, StopsAt, StopsFrom}
@@ -96,3 +97,12 @@ returns-clause-nearest c =
     let es = taken_events c.args.events.now c.run_up-stop.result in
     c.learned_formats_are_true.ensures.nearest c.args.c c.args.passes es new.sound.0 c.spell.ensures new.sound.1
     (c.lives_are_followed.ensures.from_start c.args.c c.args.passes es new.sound.0 new.sound.1 (subst (λ (s : State). AreTakenFrom s es) new.made c.run_up-stop.ensures.all)).0
+
+pub returns-clause-confirmed : goal.returns-clause-confirmed
+returns-clause-confirmed c =
+    let new = c.in-Ok.ensures {u = tt} in
+    let es = taken_events c.args.events.now c.run_up-stop.result in
+    let so = c.lives_are_followed.ensures.from_start c.args.c c.args.passes es new.sound.0 new.sound.1 (subst (λ (s : State). AreTakenFrom s es) new.made c.run_up-stop.ensures.all) in
+    let same = c.run_up-stop.ensures.after ∙ (ap (λ (s : State). after_all s es) new.made ∙ sym so.1) in
+    subst (λ (s : State). ConfirmedIsHeld c.args.c c.args.passes es s) (sym same)
+    (c.confirmed_settings_are_held.ensures c.args.c c.args.passes es new.sound.0 new.sound.1 so.0)
