@@ -1,3 +1,3 @@
+pub mod CellPlaces
 pub mod MapLaws
 pub mod OrderLemmas
-pub mod Places

@@ -8,7 +8,7 @@ use Rattle.pm_table.specs.declared.cell.Reg.TheVariants.{Operation, VoutCommand,
 use Rattle.pm_table.specs.declared.cell.Cell.{Cell}
 use Rattle.pm_table.specs.declared.cell.Cell.TheVariants.{Out, Protect}
 use Rattle.pm_model.specs.Settings.{Words, AreWords, IsCell, register_number, register_at, place, cell_in, words_of, word_at, with_word, same_cell}
-use Rattle.pm_model.proofs.Places.{register_number-below, place-below, place-output, place-register}
+use Rattle.pm_model.proofs.CellPlaces.{register_number-below, place-below, place-output, place-register}
 
 register_at-place : (register : Reg) → register_at (register_number register) ≡ register
 register_at-place Operation = refl

@@ -1,13 +1,12 @@
 -- In a run of the order machine each cell has its start word, or one that was accepted for it.
-use Rattle.std.proofs.Common.{◌≡◌, inl, inr, ◌⊎◌, ℕ, ◌<◌, ◌≤◌, Bool, true, false, cond, IsTrue, ◌↔◌, List, [], ◌∷◌, ◌++◌, Option, Some, None, refl, sym, ◌∙◌, ap, subst, arith}
+use Rattle.std.proofs.Common.{◌≡◌, inl, inr, ℕ, ◌≤◌, Bool, true, false, cond, IsTrue, ◌↔◌, List, [], ◌∷◌, Option, Some, None, refl, sym, ap, subst, arith}
 use Rattle.std.specs.List.{Contains}
 use Rattle.std.proofs.lemmas.List.Elements.{Contains-append_left, Contains-append_right, Contains-push}
 use Rattle.pm_table.specs.declared.cell.Cell.{Cell}
 use Rattle.pm_table.specs.declared.cell.Cell.TheVariants.{Out, Protect}
-use Rattle.pm_table.specs.Cell.{cell_accepts}
 use Rattle.pm_model.specs.declared.pending_order.PendingOrder.{PendingOrder}
 use Rattle.pm_model.specs.Settings.{Settings, Words, AreWords, IsCell, same_cell, word_at, with_word}
-use Rattle.pm_model.specs.OrderMachine.{Step, Accept, Take, End, Back, Machine, begun, stepped, with_order, machine_of, CanAccept, MayStep, IsRun, IsOwnWord, IsAccepted}
+use Rattle.pm_model.specs.OrderMachine.{Step, Accept, Take, End, Back, with_order, machine_of, IsRun, IsOwnWord, IsAccepted}
 
 -- what the proof takes of the map of cells
 pub record IsMap : Type 0 where

@@ -1,13 +1,12 @@
 -- The settings of a converter as a map from its cells to words. A crate above speaks of them by
 -- `word_at` and `with_word` alone. Which cells there are is this project's own choice.
-use Rattle.std.specs.Prelude.{◌≡◌, ℕ, ◌+◌, ◌*◌, ◌/◌, ◌%◌, if◌then◌else◌, ◌==◌, List, [], ◌∷◌, length, map, slice_index, slice_index_or, slice_set}
+use Rattle.std.specs.Prelude.{◌≡◌, ℕ, ◌+◌, ◌*◌, ◌/◌, ◌%◌, if◌then◌else◌, ◌==◌, List, length, map, slice_index, slice_set}
 use Rattle.std.specs.List.{range_with_len}
 use Rattle.pm_table.specs.declared.cell.Reg.{Reg}
 use Rattle.pm_table.specs.declared.cell.Reg.TheVariants.{Operation, VoutCommand, VoutMax, MarginHigh, MarginLow}
 use Rattle.pm_table.specs.declared.cell.Cell.{Cell}
 use Rattle.pm_table.specs.declared.cell.Cell.TheVariants.{Out, Protect}
 pub use Rattle.pm_table.specs.Cell.{IsCell, same_cell, register_number}
-use Rattle.pm_model.specs.declared.registers.Registers.{Registers}
 
 -- the words of the cells of eight outputs and of the device, in an order of this file's own, which
 -- no clause above it knows
@@ -55,21 +54,3 @@ with_word words cell word = slice_set words (place cell) word
 abbrev pub HaveSameRegisters : Words → Words → ℕ → Type 0
 HaveSameRegisters words others output =
     (register : Reg) → word_at words (Out output register) ≡ word_at others (Out output register)
-
--- the words of an output's registers, by their places
-abbrev pub register_words : Registers → List ℕ
-register_words row = row.operation ∷ row.command ∷ row.max ∷ row.high ∷ row.low ∷ []
-
--- registers that mean nothing
-abbrev pub no_registers : Registers
-no_registers = record { operation = 0; command = 0; max = 0; high = 0; low = 0 }
-
--- The words of eight outputs' registers and of WRITE_PROTECT, place by place. No public clause
--- speaks of this: it is what the code keeps.
-abbrev pub kept_at : List Registers → ℕ → ℕ → ℕ
-kept_at rows protect k =
-    if k == 40 then protect
-    else slice_index (register_words (slice_index_or rows (k / 5) no_registers)) (k % 5)
-
-unfoldable pub kept_words : List Registers → ℕ → Words
-kept_words rows protect = map (kept_at rows protect) (range_with_len 0 41)

@@ -14,8 +14,8 @@ mod formats;
 mod laws;
 mod order_machine;
 mod pending_order;
+mod places;
 mod plain;
-mod registers;
 
 pub use formats::Formats;
 pub use laws::{outputs_stand_alone, settings_are_a_map};

@@ -1,11 +1,11 @@
-ghost use Rattle.std.specs.Prelude.{◌≡◌, ◌↔◌, ◌≤◌, ◌<◌, ℕ, [], IsTrue, length, slice_index, slice_index_or};
+ghost use Rattle.std.specs.Prelude.{◌≡◌, ◌↔◌, ◌≤◌, ◌<◌, ◌/◌, ◌%◌, ℕ, [], IsTrue, slice_index, slice_index_or};
 ghost use Rattle.pm_table.specs.Cell.{cell_accepts, register_accepts};
 ghost use Rattle.pm_table.specs.declared.cell.Reg.{Reg as Register};
-ghost use Rattle.pm_model.specs.Settings.{word_at, with_word, register_number, register_words, no_registers, AreWords, IsCell};
+ghost use Rattle.pm_model.specs.Settings.{word_at, with_word, register_number, AreWords, IsCell};
 ghost use Rattle.pm_model.specs.Commanded.{selected, selected_register as spec_selected_register, is_above as spec_is_above, is_cut, commanded, scale_at};
 
 use crate::formats::Formats;
-use crate::registers::Registers;
+use crate::places::{OF_OUTPUTS, PLACES, REGISTERS, place_of};
 use pm_num::{Frac, NumFormat};
 use pm_table::{Cell, Reg};
 use std::cmp::Ordering;
@@ -15,39 +15,34 @@ use std::marker::Model;
 #[derive(Clone, Debug, Drop)]
 pub struct Plain {
     count: u8,
-    rows: [Registers; 8],
-    protect: u16,
+    // Five words for each of eight outputs, and that of WRITE_PROTECT.
+    words: [u16; PLACES],
 }
 
 impl Model for Plain {
-    ghost use Rattle.std.specs.Prelude.{◌≡◌, ◌≤◌, length};
-    ghost use Rattle.pm_model.specs.Settings.{Settings, kept_words};
+    ghost use Rattle.std.specs.Prelude.{◌≡◌, ◌≤◌};
+    ghost use Rattle.pm_model.specs.Settings.{Settings, AreWords};
 
     ghost Value = { Settings };
 
-    ghost view = { λ p. record { count = p.count; words = kept_words p.rows p.protect } };
+    ghost view = { λ p. record { count = p.count; words = p.words } };
 
-    ghost invariant = { λ p. (length p.rows ≡ 8) × (1 ≤ p.count) × (p.count ≤ 8) };
+    ghost invariant = { λ p. AreWords p.words × (1 ≤ p.count) × (p.count ≤ 8) };
 }
 
-// The rows of eight outputs.
-fn rows_of(words: [[u16; 5]; 8]) -> [Registers; 8]
-    ensures rows { length result ≡ 8 }
-    ensures words { (output : ℕ) → output < 8 →
-        register_words (slice_index_or result output no_registers)
-        ≡ slice_index_or words output [] }
+// The words of eight outputs, one output after another, and that of WRITE_PROTECT behind them.
+#[tactic(auto, unfolding(crate::specs::Settings::AreWords))]
+fn in_places(words: [[u16; 5]; 8], protect: u16) -> [u16; PLACES]
+    ensures whole { AreWords result }
+    ensures registers { (k : ℕ) → k < 40 →
+        slice_index result k ≡ slice_index (slice_index_or words (k / 5) []) (k % 5) }
+    ensures protection { slice_index result 40 ≡ protect }
 {
-    let [a, b, c, d, e, f, g, h] = words;
-    [
-        Registers::new(a),
-        Registers::new(b),
-        Registers::new(c),
-        Registers::new(d),
-        Registers::new(e),
-        Registers::new(f),
-        Registers::new(g),
-        Registers::new(h),
-    ]
+    let mut all = [protect; PLACES];
+    for place in 0..OF_OUTPUTS {
+        all[place] = words[place / REGISTERS][place % REGISTERS];
+    }
+    all
 }
 
 impl Plain {
@@ -70,8 +65,7 @@ impl Plain {
     {
         Plain {
             count,
-            rows: rows_of(words),
-            protect,
+            words: in_places(words, protect),
         }
     }
 
@@ -103,31 +97,25 @@ impl Plain {
     }
 
     /// The word of a cell that there is.
+    #[tactic(auto, unfolding(crate::specs::Settings::word_at, crate::specs::Settings::AreWords))]
     pub fn get(&self, cell: Cell) -> u16
         requires { IsCell self.now.count cell }
         ensures { result ≡ word_at self.now.words cell }
     {
-        match cell {
-            Cell::Out(output, register) => self.rows[usize::from(output)].get(register),
-            Cell::Protect => self.protect,
-        }
+        let words = &self.words;
+        words[place_of(cell)]
     }
 
     /// The settings with another word for a cell that there is. Asks that the cell accepts it.
+    #[tactic(auto, unfolding(crate::specs::Settings::with_word, crate::specs::Settings::AreWords))]
     pub fn with(&self, cell: Cell, word: u16) -> Plain
         requires cell { IsCell self.now.count cell }
         requires accepted { IsTrue (cell_accepts cell word) }
         ensures { result
             ≡ record { count = self.now.count; words = with_word self.now.words cell word } }
     {
-        let mut changed = Plain { ..*self };
-        match cell {
-            Cell::Out(output, register) => {
-                let row = usize::from(output);
-                changed.rows[row] = changed.rows[row].with(register, word);
-            }
-            Cell::Protect => changed.protect = word,
-        }
+        let mut changed = self.copied();
+        changed.words[place_of(cell)] = word;
         changed
     }
 

@@ -1,15 +1,15 @@
-use Rattle.std.proofs.Common.{◌∙◌, ap, get_or}
-use Rattle.pm_model.specs.Settings.{register_number}
+use Rattle.std.proofs.Common.{◌∙◌, ap₂, [], get_or, arith}
+use Rattle.pm_model.specs.Settings.{register_number, place, word_at}
+use Rattle.pm_model.proofs.CellPlaces.{register_number-below, place-output, place-register}
 use Rattle.pm_model.proofs.plain.Plain.new.Goals as goal
-use Rattle.pm_model.proofs.Places.{AreWords-kept_words, word_at-register, word_at-protect}
 
 pub returns-clause-registers : goal.returns-clause-registers
+unfolding word_at place
 returns-clause-registers c output register few =
-    word_at-register c.rows_of.result c.args.protect output register few
-    ∙ ap (λ words. get_or words (register_number register) 0) (c.rows_of.ensures.words output few)
+    let r = register_number-below register in
+    c.in_places.ensures.registers _ (omega (arith, r, few))
+    ∙ ap₂ (λ o n. get_or (get_or c.args.words o []) n 0) (place-output output (register_number register) r) (place-register output (register_number register) r)
 
 pub returns-clause-protection : goal.returns-clause-protection
-returns-clause-protection c = word_at-protect c.rows_of.result c.args.protect
-
-pub returns-clause-words : goal.returns-clause-words
-returns-clause-words c = AreWords-kept_words c.rows_of.result c.args.protect
+unfolding word_at place
+returns-clause-protection c = c.in_places.ensures.protection
