@@ -1,7 +1,7 @@
 //! What every text of this project stands on, over any reader and any writer: a reader and a writer
 //! that are used until they fail, a whole text of at most 1 MiB, its lines that are not skipped, the
-//! words of a line, the bytes that words write in hexadecimal, numbers behind a text, and the faults
-//! of a text with the words in which they are told.
+//! words of a line, the numbers that words write and the bytes that they write in hexadecimal,
+//! numbers behind a text, and the faults of a text with the words in which they are told.
 //!
 //! What a text means is not here. A line or a word borrows the text that it stands in, and nothing
 //! takes memory for a word.
@@ -9,6 +9,7 @@
 
 mod bytes;
 mod cut;
+mod digits;
 mod fault;
 mod fault_words;
 mod line;
@@ -21,6 +22,7 @@ mod words;
 
 pub use bytes::push_bytes;
 pub use cut::cut_at;
+pub use digits::{read_byte, read_i8, read_i16, read_i64, read_u8, read_word};
 pub use fault::TextFault;
 pub use fault_words::{host_fault_words, num_fault_words, table_fault_words};
 pub use line::Line;

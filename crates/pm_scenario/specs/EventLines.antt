@@ -65,25 +65,33 @@ ending_named = named ((codes "stop", Stop) ∷ (codes "restart", Restart) ∷ []
 -- `whole`, `cut N`, or `bytes HEX stop` or `bytes HEX restart`
 unfoldable pub arrival : Field Arrival
 arrival = one_of (
-  (codes "whole", gives arrives.Whole) ∷
-  (codes "cut", do
-    count ← field Syntax small_of
-    gives (arrives.Cut count)) ∷
-  (codes "bytes", do
-    bytes ← field BadHex frame_bytes
-    ending ← field Syntax ending_named
-    gives (arrives.Bytes (record { items = bytes }) ending)) ∷ [])
+    (codes "whole", gives arrives.Whole) ∷ (
+      codes "cut",
+      do
+        count ← field Syntax small_of
+        gives (arrives.Cut count),
+    ) ∷ (
+      codes "bytes",
+      do
+        bytes ← field BadHex frame_bytes
+        ending ← field Syntax ending_named
+        gives (arrives.Bytes (record { items = bytes }) ending),
+    ) ∷ [])
 
 -- `whole`, `cut N` or `bytes HEX`
 unfoldable pub back : Field Back
 back = one_of (
-  (codes "whole", gives returns.Whole) ∷
-  (codes "cut", do
-    count ← field Syntax small_of
-    gives (returns.Cut count)) ∷
-  (codes "bytes", do
-    bytes ← field BadHex frame_bytes
-    gives (returns.Bytes (record { items = bytes }))) ∷ [])
+    (codes "whole", gives returns.Whole) ∷ (
+      codes "cut",
+      do
+        count ← field Syntax small_of
+        gives (returns.Cut count),
+    ) ∷ (
+      codes "bytes",
+      do
+        bytes ← field BadHex frame_bytes
+        gives (returns.Bytes (record { items = bytes })),
+    ) ∷ [])
 
 unfoldable pub deliver_rest : Field Event
 deliver_rest = do
@@ -124,13 +132,13 @@ reading_rest = do
 -- an event line: its first word, and the words behind it
 unfoldable pub event_line : Field Event
 event_line = one_of (
-  (codes "order", order_rest) ∷
-  (codes "volts", volts_rest) ∷
-  (codes "check", check_rest) ∷
-  (codes "learn", learn_rest) ∷
-  (codes "clear", clear_rest) ∷
-  (codes "deliver", deliver_rest) ∷
-  (codes "finish", finish_rest) ∷
-  (codes "exchange", exchange_rest) ∷
-  (codes "restart", restart_rest) ∷
-  (codes "reading", reading_rest) ∷ [])
+    (codes "order", order_rest) ∷
+    (codes "volts", volts_rest) ∷
+    (codes "check", check_rest) ∷
+    (codes "learn", learn_rest) ∷
+    (codes "clear", clear_rest) ∷
+    (codes "deliver", deliver_rest) ∷
+    (codes "finish", finish_rest) ∷
+    (codes "exchange", exchange_rest) ∷
+    (codes "restart", restart_rest) ∷
+    (codes "reading", reading_rest) ∷ [])

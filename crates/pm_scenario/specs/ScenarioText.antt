@@ -1,6 +1,6 @@
 -- The text of a scenario, line by line: what both ends are made from, and what happens between them.
 -- The form is this project's own choice.
-use Rattle.std.specs.Prelude.{ℕ, ◌+◌, nat_lt, min, if◌then◌else◌, List, [], ◌∷◌, ◌++◌, length, replicate, take, Option, Some, None, Result, Ok, Err, codes}
+use Rattle.std.specs.Prelude.{ℕ, suc, nat_lt, min, if◌then◌else◌, List, [], ◌∷◌, ◌++◌, length, replicate, take, Option, Some, None, Result, Ok, Err, codes}
 use Rattle.pm_table.specs.declared.coefficients.Coefficients.{Coefficients}
 use Rattle.pm_device.specs.declared.config.Config.{Config}
 use Rattle.pm_device.specs.declared.config.OutputStart.{OutputStart}
@@ -90,7 +90,7 @@ start_before (Ok (Some start)) (Ok starts) left = Ok (start ∷ starts.0, starts
 
 -- the outputs up to the line `begin`
 abbrev pub outputs_in : ℕ → List Numbered → Result (List OutputStart × Rest) LineFault
-outputs_in count [] = Err (fault.Syntax (count + 1))
+outputs_in count [] = Err (fault.Syntax (suc count))
 outputs_in count (line ∷ lines) = start_before (line_as output_line line) (outputs_in count lines)
     (record { count = count; lines = lines })
 

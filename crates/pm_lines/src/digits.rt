@@ -1,0 +1,65 @@
+//! Numbers as texts write them. `std` reads a leading `+`, which is a fault here.
+ghost use Rattle.std.specs.Prelude.{◌≡◌, ◌≢◌, IfSome, IfNone, slice_index};
+ghost use Rattle.pm_lines.specs.Digits.{decimal_of, hex_of, natural_of, signed_of, small_of};
+
+/// The decimal number of a text, where it is 0 to 255 and has no sign.
+pub fn read_u8(text: &[u8]) -> Option<u8>
+    ensures { result ≡ small_of text.now }
+{
+    plain_text(text)?.parse().ok()
+}
+
+/// The decimal number of a text, where it is an `i8`.
+pub fn read_i8(text: &[u8]) -> Option<i8>
+    ensures { result ≡ signed_of 8 text.now }
+{
+    plain_text(text)?.parse().ok()
+}
+
+/// The decimal number of a text, where it is an `i16`.
+pub fn read_i16(text: &[u8]) -> Option<i16>
+    ensures { result ≡ signed_of 16 text.now }
+{
+    plain_text(text)?.parse().ok()
+}
+
+/// The decimal number of a text, where it is an `i64`.
+pub fn read_i64(text: &[u8]) -> Option<i64>
+    ensures { result ≡ signed_of 64 text.now }
+{
+    plain_text(text)?.parse().ok()
+}
+
+/// The byte that two hexadecimal digits write, in either case.
+pub fn read_byte(text: &[u8]) -> Option<u8>
+    ensures { result ≡ hex_of 2 text.now }
+{
+    if text.len() != 2 {
+        return None;
+    }
+    u8::from_str_radix(plain_text(text)?, 16).ok()
+}
+
+/// The word that four hexadecimal digits write, in either case.
+pub fn read_word(text: &[u8]) -> Option<u16>
+    ensures { result ≡ hex_of 4 text.now }
+{
+    if text.len() != 4 {
+        return None;
+    }
+    u16::from_str_radix(plain_text(text)?, 16).ok()
+}
+
+// The bytes as a text without a leading `+`. Where they are none, they write no number.
+fn plain_text(bytes: &[u8]) -> Option<&str>
+    ensures text { IfSome result (λ text. text.now ≡ bytes.now) }
+    ensures plain { IfSome result (λ text. slice_index text.now 0 ≢ 43) }
+    ensures decimal { IfNone result (decimal_of bytes.now ≡ None) }
+    ensures natural { IfNone result (natural_of 10 bytes.now ≡ None) }
+    ensures hex { IfNone result (natural_of 16 bytes.now ≡ None) }
+{
+    if bytes.starts_with(b"+") {
+        return None;
+    }
+    str::from_utf8(bytes).ok()
+}
