@@ -3,9 +3,9 @@ ghost use Rattle.std.specs.Prelude.{◌≡◌, ◌++◌, ◌<◌, ◌^◌, OnOk,
 ghost use Rattle.pm_trace.specs.Counts.{lines_in};
 ghost use Rattle.pm_trace.specs.TraceText.{count_line, totals_line, counts_text};
 
-use pm_lines::push_decimal;
 use crate::shown_text::name_of;
 use crate::tally::Tally;
+use pm_lines::push_decimal;
 use std::alloc::AllocError;
 
 /// Puts a line for each code that was carried, and the line of the counts, behind a text.

@@ -1,11 +1,11 @@
 ghost use Rattle.std.specs.Prelude.{◌≡◌};
 
-use pm_lines::{MAX_TEXT, TextFault};
 use crate::fed::Fed;
 use crate::gathered::Gathered;
 use crate::shown::Shown;
 use crate::standing::Standing;
 use crate::tally::Tally;
+use pm_lines::{MAX_TEXT, TextFault};
 use std::alloc::Global;
 use std::marker::Model;
 

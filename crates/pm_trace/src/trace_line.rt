@@ -3,11 +3,11 @@ ghost use Rattle.pm_trace.specs.Trace.{line_read, parts_judged};
 ghost use Rattle.pm_trace.specs.TraceText.{told_text};
 
 use crate::byte_list::ByteList;
-use pm_lines::TextFault;
 use crate::line_body::LineBody;
 use crate::line_fault::LineFault;
 use crate::shown::packet_shown;
 use crate::shown_text::push_line;
+use pm_lines::TextFault;
 use std::alloc::Global;
 
 /// The bytes of a packet as a line of a trace has them.

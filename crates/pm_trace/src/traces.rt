@@ -6,17 +6,16 @@ ghost use Rattle.pm_trace.specs.declared.standing.Standing.{Standing};
 ghost use Rattle.pm_lines.specs.declared.text.TheConstants.{MAX_TEXT};
 ghost use Rattle.pm_trace.specs.Counts.{counts_of};
 ghost use Rattle.pm_trace.specs.Decoding.{said, told, some_told, told_at_end, kept_at_end, IsFresh};
-ghost use Rattle.pm_lines.specs.Faults.{IsOfDecode};
 ghost use Rattle.pm_trace.specs.Written.{PushesFront, Written};
 ghost use Rattle.pm_lines.specs.Streams.{AppendsFront, IsWholeText};
 ghost use Rattle.pm_trace.specs.Trace.{trace_of};
-ghost use Rattle.pm_trace.specs.TraceText.{trace_text, told_lines, counts_text, end_of};
+ghost use Rattle.pm_trace.specs.TraceText.{trace_text, told_lines, counts_text, end_of, IsOfDecode};
 
 use crate::counts_text::push_counts;
 use crate::decode_end::DecodeEnd;
 use crate::decoder::Decoder;
-use pm_lines::{Sink, Source, TextFault};
 use crate::shown_text::push_line;
+use pm_lines::{Sink, Source, TextFault};
 use std::alloc::{AllocError, Global};
 use std::io::{Read, Write};
 
