@@ -11,6 +11,9 @@ mod settings;
 
 pub use pm_lines::{MAX_TEXT, Sink, Source, TextFault};
 pub use pm_scenario::{Events, Scenario};
+pub use pm_trace::{
+    ByteList, DecodeEnd, Decoder, Fed, Shown, TraceLine, decode, read_trace_line, render_line,
+};
 pub use ran::Ran;
 pub use replay_end::ReplayEnd;
 pub use report::render_report;

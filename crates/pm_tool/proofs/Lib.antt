@@ -4,7 +4,6 @@ pub mod OneText
 pub mod OutcomeLemmas
 pub mod PartLemmas
 pub mod RangeLemmas
-pub mod ReadingLemmas
 pub mod RefusalLemmas
 pub mod ScriptLemmas
 pub mod WordLemmas

@@ -9,9 +9,9 @@ use Rattle.clap.specs.Words.{with_subcommand}
 use Rattle.clap.specs.declared.builder.action.ArgAction.TheVariants.{Set}
 use Rattle.clap.specs.declared.error.Error.{Error}
 use Rattle.clap.specs.declared.error.kind.ErrorKind.{ErrorKind}
-use Rattle.clap.specs.declared.error.kind.ErrorKind.TheVariants.{DisplayHelp, OutOfMemory}
+use Rattle.clap.specs.declared.error.kind.ErrorKind.TheVariants.{DisplayHelp, DisplayVersion, OutOfMemory}
 use Rattle.pm_tool.specs.declared.commandline.choice.Chosen.{Chosen}
-use Rattle.pm_tool.specs.declared.commandline.choice.Chosen.TheVariants.{Hear, Number}
+use Rattle.pm_tool.specs.declared.commandline.choice.Chosen.TheVariants.{Hear, Replay, Decode, Number}
 
 -- ---- the commands, as the builder's calls make them
 
@@ -19,32 +19,41 @@ use Rattle.pm_tool.specs.declared.commandline.choice.Chosen.TheVariants.{Hear, N
 abbrev pub option_rule : Text → Rule
 option_rule name = record (new_rule name) { long = Some name; action = Some Set; value_names = 1 }
 
-abbrev pub hear_app : App
-hear_app = new_app (codes "hear")
-
 abbrev pub number_app : App
 number_app = with_rule (with_rule (with_rule (new_app (codes "number"))
     (option_rule (codes "format"))) (option_rule (codes "word"))) (option_rule (codes "micro"))
 
--- a subcommand is required, and there is none called `help`
+-- a subcommand is required, there is none called `help`, and there is a version
 abbrev pub with_required_subcommand : App → App
 with_required_subcommand app = record app {
-  top = record app.top { disable_help_subcommand = true; subcommand_required = true };
+  top = record app.top {
+    disable_help_subcommand = true;
+    subcommand_required = true;
+    has_version = true;
+  };
 }
+
+-- a subcommand with no options
+abbrev pub with_plain : App → Text → App
+with_plain app name = with_subcommand app (new_app name).top
 
 -- the whole command line
 abbrev pub pmb : App
-pmb = with_subcommand (with_subcommand (with_required_subcommand (new_app (codes "pmb")))
-    hear_app.top) number_app.top
+pmb = with_subcommand (with_plain (with_plain (with_plain
+    (with_required_subcommand (new_app (codes "pmb"))) (codes "hear")) (codes "replay")) (codes "decode"))
+    number_app.top
 
 -- the names of the subcommands
 abbrev pub IsCommandName : Text → Type 0
-IsCommandName name = (name ≡ codes "hear") ⊎ (name ≡ codes "number")
+IsCommandName name = (name ≡ codes "hear") ⊎ (name ≡ codes "replay") ⊎ (name ≡ codes "decode")
+    ⊎ (name ≡ codes "number")
 
 -- ---- what is chosen, by the subcommand's name and what was found for its options
 
 abbrev pub Asks : Text → List Row → Chosen → Type 0
 Asks name rows Hear = name ≡ codes "hear"
+Asks name rows Replay = name ≡ codes "replay"
+Asks name rows Decode = name ≡ codes "decode"
 Asks name rows (Number format word micro) = (name ≡ codes "number")
     × (format.now ≡ unwrap_or (first_of (codes "format") rows) [])
     × (option_map (λ s. s.now) word ≡ first_of (codes "word") rows)
@@ -96,6 +105,8 @@ text_of option given = option_map (λ one. one.text) (find (is_named (option_nam
 -- `number` is chosen, with the texts that were given for its options
 abbrev pub HasValuesOf : List Given → Chosen → Type 0
 HasValuesOf given Hear = ⊥
+HasValuesOf given Replay = ⊥
+HasValuesOf given Decode = ⊥
 HasValuesOf given (Number format word micro) =
     (format.now ≡ unwrap_or (text_of format_option given) [])
     × (option_map (λ s. s.now) word ≡ text_of word_option given)
@@ -106,4 +117,5 @@ HasValuesOf given (Number format word micro) =
 abbrev pub status_by : ErrorKind → ℕ
 status_by OutOfMemory = 1
 status_by DisplayHelp = 0
+status_by DisplayVersion = 0
 status_by _ = 2

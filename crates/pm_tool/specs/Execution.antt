@@ -10,19 +10,30 @@ use Rattle.clap.specs.Kinds.{IsAmong}
 use Rattle.clap.specs.Walk.{texts}
 use Rattle.clap.specs.Words.{Text, fault_of, subcommand_of}
 use Rattle.clap.specs.declared.error.kind.ErrorKind.{ErrorKind}
-use Rattle.clap.specs.declared.error.kind.ErrorKind.TheVariants.{DisplayHelp}
-use Rattle.pm_lines.specs.Faults.{fault_line, fault_words}
+use Rattle.pm_lines.specs.Faults.{fault_line, fault_setup, fault_words}
 use Rattle.pm_lines.specs.Streams.{AppendsFront, Held, IsWholeText}
 use Rattle.pm_lines.specs.declared.fault.TextFault.{TextFault}
-use Rattle.pm_lines.specs.declared.fault.TextFault.TheVariants.{Syntax, BadHex, TooLong, Read, Write, Memory}
+use Rattle.pm_lines.specs.declared.fault.TextFault.TheVariants.{Syntax, BadHex, TooLong, Read, Write, Memory, Setup}
 use Rattle.pm_lines.specs.declared.text.TheConstants.{MAX_TEXT}
+use Rattle.pm_world.specs.declared.stop.SetupFault.{SetupFault}
+use Rattle.pm_trace.specs.Counts.{counts_of}
+use Rattle.pm_trace.specs.Decoding.{said}
+use Rattle.pm_trace.specs.Trace.{trace_of}
+use Rattle.pm_trace.specs.TraceText.{end_of, told_lines, trace_text}
+use Rattle.pm_trace.specs.declared.decode_end.DecodeEnd.{DecodeEnd}
+use Rattle.pm_trace.specs.declared.decode_end.DecodeEnd.TheVariants.{Clean, BadLines}
+use Rattle.pm_scenario.specs.ScenarioText.{scenario_of}
+use Rattle.pm_text.specs.Replay.{IsReplay, RefusesSetup}
+use Rattle.pm_text.specs.declared.replay_end.ReplayEnd.{ReplayEnd}
+use Rattle.pm_text.specs.declared.replay_end.ReplayEnd.TheVariants.{Ran as AllTaken, Stopped}
 use Rattle.pm_tool.specs.Commandline.{Asks, pmb, status_by}
 use Rattle.pm_tool.specs.NumberFaults.{refusal_status, refusal_words}
 use Rattle.pm_tool.specs.NumberText.{IsNumberText, RefusesNumber}
 use Rattle.pm_tool.specs.Script.{printed_text}
+use Rattle.pm_tool.specs.SetupText.{setup_fault_words}
 use Rattle.pm_tool.specs.Question.{asked_by}
 use Rattle.pm_tool.specs.declared.commandline.choice.Chosen.{Chosen}
-use Rattle.pm_tool.specs.declared.commandline.choice.Chosen.TheVariants.{Hear, Number as NumberChosen}
+use Rattle.pm_tool.specs.declared.commandline.choice.Chosen.TheVariants.{Hear, Replay, Decode, Number as NumberChosen}
 use Rattle.pm_tool.specs.declared.numbers.fault.NumberFault.{NumberFault}
 use Rattle.pm_tool.specs.declared.numbers.fault.NumberFault.TheVariants.{OneOf, Format, Word, Micro, Num, Text as OfText}
 use Rattle.pm_tool.specs.declared.numbers.question.Question.{Question}
@@ -36,6 +47,8 @@ pub data End : Type 0 where
   CutShort : (text : List ℕ) → End
   -- standard output got nothing, and standard error says why
   Refused : (status : ℕ) (words : List ℕ) → End
+  -- standard output got the lines that were told so far, and standard error says why no more came
+  Broken : (text : List ℕ) (words : List ℕ) → End
   -- standard output got nothing, and standard error gets the parser's own text
   Misused : (text : List ℕ) → End
 
@@ -43,6 +56,7 @@ abbrev pub status_of : End → ℕ
 status_of (Printed status text) = status
 status_of (CutShort text) = 1
 status_of (Refused status words) = status
+status_of (Broken text words) = 1
 status_of (Misused text) = 2
 
 -- the line that says a refusal: `pmb: X2 BadHex line 3`
@@ -54,6 +68,7 @@ abbrev pub said_by : End → Option (List ℕ)
 said_by (Printed status text) = None
 said_by (CutShort text) = Some (refusal_line (codes "X5 Write"))
 said_by (Refused status words) = Some (refusal_line words)
+said_by (Broken text words) = Some (refusal_line words)
 said_by (Misused text) = Some text
 
 -- a front of the text was written, or all of it
@@ -68,6 +83,8 @@ Prints contents old new (Printed status text) =
 Prints contents old new (CutShort text) =
     IsTrue new.failed × AppendsSome (contents old.inner) (contents new.inner) text
 Prints contents old new (Refused status words) = new ≡ old
+Prints contents old new (Broken text words) =
+    IsFalse new.failed × Appends (contents old.inner) (contents new.inner) text
 Prints contents old new (Misused text) = new ≡ old
 
 -- what standard error got: all that it was to get, or a strict front of it where it failed
@@ -77,15 +94,31 @@ Says contents old new (Some line) =
     (IsFalse new.failed × Appends (contents old.inner) (contents new.inner) line)
     ⊎ (IsTrue new.failed × AppendsFront (contents old.inner) (contents new.inner) line)
 
--- ---- `hear`
+-- ---- the refusals of a text
 
 -- the words for a text's fault, and its line where it has one
 abbrev pub line_words : Option ℕ → List ℕ
 line_words None = []
 line_words (Some line) = codes " line " ++ decimal line
 
+-- the same, where no world is made
+abbrev pub reason_words : Option SetupFault → List ℕ
+reason_words None = []
+reason_words (Some fault) = codes " " ++ setup_fault_words fault
+
 abbrev pub text_refusal : TextFault → List ℕ
-text_refusal fault = fault_words fault ++ line_words (fault_line fault)
+text_refusal fault =
+    fault_words fault ++ (line_words (fault_line fault) ++ reason_words (fault_setup fault))
+
+-- more bytes came than a text may have, or some that memory was wanted for
+abbrev pub GaveMore : Option (List ℕ) → Option (List ℕ) → Type 0
+GaveMore old new = (front : List ℕ) × (MAX_TEXT < length front) × Consumes old new front
+
+abbrev pub GaveSome : Option (List ℕ) → Option (List ℕ) → Type 0
+GaveSome old new =
+    (front : List ℕ) × (0 < length front) × (length front ≤ MAX_TEXT) × Consumes old new front
+
+-- ---- `hear`
 
 -- the reader gave a text of which this is the outcome
 abbrev pub GaveText : Option (List ℕ) → Option (List ℕ) → Result (List ℕ) TextFault → Type 0
@@ -96,12 +129,11 @@ GaveText old new outcome = (input : List ℕ) × IsWholeText old new input × (p
 abbrev pub HearRefuses : Option (List ℕ) → Option (List ℕ) → TextFault → Type 0
 HearRefuses old new (Syntax line) = GaveText old new (Err (Syntax line))
 HearRefuses old new (BadHex line) = GaveText old new (Err (BadHex line))
-HearRefuses old new TooLong =
-    (front : List ℕ) × (MAX_TEXT < length front) × Consumes old new front
+HearRefuses old new TooLong = GaveMore old new
 HearRefuses old new Read = ⊤
 HearRefuses old new Write = ⊥
-HearRefuses old new Memory = (front : List ℕ) × (0 < length front) × (length front ≤ MAX_TEXT)
-    × Consumes old new front
+HearRefuses old new Memory = GaveSome old new
+HearRefuses old new (Setup fault) = ⊥
 
 -- how `hear` ends; the reader failed exactly where X4 is said
 abbrev pub HearEnds : {R : Type 0} → (R → Option (List ℕ)) → Held R → Held R → End → Type 0
@@ -112,7 +144,91 @@ HearEnds remaining old new (CutShort text) = IsFalse new.failed
 HearEnds remaining old new (Refused status words) = (status ≡ 1)
     × (fault : TextFault) × (words ≡ text_refusal fault) × (IsTrue new.failed ↔ (fault ≡ Read))
     × HearRefuses (remaining old.inner) (remaining new.inner) fault
+HearEnds remaining old new (Broken text words) = ⊥
 HearEnds remaining old new (Misused text) = ⊥
+
+-- ---- `replay`
+
+-- the reader gave a text, and this is the report of what its scenario comes to
+abbrev pub GaveScenario : Option (List ℕ) → Option (List ℕ) → List ℕ → ReplayEnd → Type 0
+GaveScenario old new text end =
+    (input : List ℕ) × IsWholeText old new input × IsReplay input text end
+
+-- the reader gave a text whose first faulty line this is
+abbrev pub GaveFaulty : Option (List ℕ) → Option (List ℕ) → TextFault → Type 0
+GaveFaulty old new fault =
+    (input : List ℕ) × IsWholeText old new input × (scenario_of input ≡ Err fault)
+
+-- why `replay` refuses, of what the reader gave
+abbrev pub ReplayRefuses : Option (List ℕ) → Option (List ℕ) → TextFault → Type 0
+ReplayRefuses old new (Syntax line) = GaveFaulty old new (Syntax line)
+ReplayRefuses old new (BadHex line) = GaveFaulty old new (BadHex line)
+ReplayRefuses old new TooLong = GaveMore old new
+ReplayRefuses old new Read = ⊤
+ReplayRefuses old new Write = ⊥
+ReplayRefuses old new Memory = GaveSome old new
+ReplayRefuses old new (Setup fault) =
+    (input : List ℕ) × IsWholeText old new input × RefusesSetup input fault
+
+-- a stopped replay has status 1
+abbrev pub replay_status : ReplayEnd → ℕ
+replay_status AllTaken = 0
+replay_status Stopped = 1
+
+-- how `replay` ends; the reader failed exactly where X4 is said
+abbrev pub ReplayEnds : {R : Type 0} → (R → Option (List ℕ)) → Held R → Held R → End → Type 0
+ReplayEnds remaining old new (Printed status text) = IsFalse new.failed × (end : ReplayEnd)
+    × (status ≡ replay_status end) × GaveScenario (remaining old.inner) (remaining new.inner) text end
+ReplayEnds remaining old new (CutShort text) = IsFalse new.failed × (end : ReplayEnd)
+    × GaveScenario (remaining old.inner) (remaining new.inner) text end
+ReplayEnds remaining old new (Refused status words) = (status ≡ 1)
+    × (fault : TextFault) × (words ≡ text_refusal fault) × (IsTrue new.failed ↔ (fault ≡ Read))
+    × ReplayRefuses (remaining old.inner) (remaining new.inner) fault
+ReplayEnds remaining old new (Broken text words) = ⊥
+ReplayEnds remaining old new (Misused text) = ⊥
+
+-- ---- `decode`
+
+-- a trace with bad lines has status 1
+abbrev pub decode_status : DecodeEnd → ℕ
+decode_status Clean = 0
+decode_status BadLines = 1
+
+-- the reader gave a trace, of which this is the text
+abbrev pub GaveTrace : Option (List ℕ) → Option (List ℕ) → List ℕ → DecodeEnd → Type 0
+GaveTrace old new text end = (input : List ℕ) × IsWholeText old new input
+    × (text ≡ trace_text input) × (end ≡ end_of (counts_of (trace_of input)))
+
+-- why `decode` breaks off, and what it has told until then: more bytes than a trace may have, or a
+-- failed read, and the lines that ended before; want of memory, and a front of these
+abbrev pub DecodeBreaks : Option (List ℕ) → Option (List ℕ) → List ℕ → TextFault → Type 0
+DecodeBreaks old new text TooLong = (front : List ℕ) × (more : List ℕ) × (length front ≡ MAX_TEXT)
+    × (0 < length more) × Consumes old new (front ++ more) × (text ≡ told_lines (said front))
+DecodeBreaks old new text Read = (front : List ℕ) × (length front ≤ MAX_TEXT)
+    × Consumes old new front × (text ≡ told_lines (said front))
+DecodeBreaks old new text Memory = (front : List ℕ) × (rest : List ℕ)
+    × Consumes old new front × (told_lines (said front) ≡ text ++ rest)
+DecodeBreaks old new text (Syntax line) = ⊥
+DecodeBreaks old new text (BadHex line) = ⊥
+DecodeBreaks old new text Write = ⊥
+DecodeBreaks old new text (Setup fault) = ⊥
+
+-- what was being written as the writer failed: lines that ended, or the whole of a trace's text
+abbrev pub DecodeWrites : Option (List ℕ) → Option (List ℕ) → List ℕ → Type 0
+DecodeWrites old new text = (front : List ℕ) × Consumes old new front
+    × ((text ≡ told_lines (said front)) ⊎ (IsWholeText old new front × (text ≡ trace_text front)))
+
+-- how `decode` ends; the reader failed exactly where X4 is said
+abbrev pub DecodeEnds : {R : Type 0} → (R → Option (List ℕ)) → Held R → Held R → End → Type 0
+DecodeEnds remaining old new (Printed status text) = IsFalse new.failed × (end : DecodeEnd)
+    × (status ≡ decode_status end) × GaveTrace (remaining old.inner) (remaining new.inner) text end
+DecodeEnds remaining old new (CutShort text) = IsFalse new.failed
+    × DecodeWrites (remaining old.inner) (remaining new.inner) text
+DecodeEnds remaining old new (Refused status words) = ⊥
+DecodeEnds remaining old new (Broken text words) = (fault : TextFault)
+    × (words ≡ text_refusal fault) × (IsTrue new.failed ↔ (fault ≡ Read))
+    × DecodeBreaks (remaining old.inner) (remaining new.inner) text fault
+DecodeEnds remaining old new (Misused text) = ⊥
 
 -- ---- `number`
 
@@ -129,6 +245,7 @@ NumberEnds asked (Printed status text) = (status ≡ 0) × IsNumberText asked te
 NumberEnds asked (CutShort text) = IsNumberText asked text
 NumberEnds asked (Refused status words) = (fault : NumberFault) × (status ≡ refusal_status fault)
     × (words ≡ refusal_words fault) × NumberRefuses asked fault
+NumberEnds asked (Broken text words) = ⊥
 NumberEnds asked (Misused text) = ⊥
 
 -- ---- the command line
@@ -136,15 +253,18 @@ NumberEnds asked (Misused text) = ⊥
 -- how the command that was chosen ends; `number` reads nothing
 abbrev pub ChoiceEnds : {R : Type 0} → (R → Option (List ℕ)) → Held R → Held R → Chosen → End → Type 0
 ChoiceEnds remaining old new Hear end = HearEnds remaining old new end
+ChoiceEnds remaining old new Replay end = ReplayEnds remaining old new end
+ChoiceEnds remaining old new Decode end = DecodeEnds remaining old new end
 ChoiceEnds remaining old new (NumberChosen format word micro) end = (new ≡ old)
     × NumberEnds (asked_by format word micro) end
 
--- how a command line ends of which the parser finds a fault of this kind: help that was asked for is
--- printed, and what is said of any other fault is the parser's own text
+-- how a command line ends of which the parser finds a fault of this kind: help or the version that was
+-- asked for is printed, and what is said of any other fault is the parser's own text
 abbrev pub UsageEnds : ErrorKind → End → Type 0
-UsageEnds kind (Printed status text) = (status ≡ 0) × (kind ≡ DisplayHelp)
-UsageEnds kind (CutShort text) = kind ≡ DisplayHelp
+UsageEnds kind (Printed status text) = (status ≡ 0) × (status_by kind ≡ 0)
+UsageEnds kind (CutShort text) = status_by kind ≡ 0
 UsageEnds kind (Refused status words) = ⊥
+UsageEnds kind (Broken text words) = ⊥
 UsageEnds kind (Misused text) = status_by kind ≡ 2
 
 -- memory for the command line itself was refused

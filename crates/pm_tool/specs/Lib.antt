@@ -1,6 +1,5 @@
 pub mod Base
 pub mod Commandline
-pub mod Digits
 pub mod Execution
 pub mod LineEvent
 pub mod NumberFaults
@@ -9,3 +8,4 @@ pub mod Outcome
 pub mod Question
 pub mod ReplyText
 pub mod Script
+pub mod SetupText

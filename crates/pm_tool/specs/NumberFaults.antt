@@ -1,8 +1,7 @@
 -- The refusals of `number`, as the program prints them: `pmb: bad word`, `pmb: N1 ZeroSlope`. This
 -- project's own choice.
 use Rattle.std.specs.Prelude.{ℕ, List, codes}
-use Rattle.pm_num.specs.declared.fault.NumFault.TheVariants.{ZeroSlope, ExponentRange, BelowLeast}
-use Rattle.pm_num.specs.declared.fault.NumFault.TheVariants.{AboveGreatest, TooLarge}
+use Rattle.pm_lines.specs.FaultWords.{num_fault_words}
 use Rattle.pm_lines.specs.Faults.{fault_words}
 use Rattle.pm_tool.specs.declared.numbers.fault.NumberFault.{NumberFault}
 use Rattle.pm_tool.specs.declared.numbers.fault.NumberFault.TheVariants.{OneOf, Format, Word}
@@ -14,11 +13,7 @@ refusal_words OneOf = codes "give one of --word and --micro"
 refusal_words Format = codes "bad format"
 refusal_words Word = codes "bad word"
 refusal_words Micro = codes "bad micro"
-refusal_words (Num ZeroSlope) = codes "N1 ZeroSlope"
-refusal_words (Num ExponentRange) = codes "N2 ExponentRange"
-refusal_words (Num BelowLeast) = codes "N3 BelowLeast"
-refusal_words (Num AboveGreatest) = codes "N4 AboveGreatest"
-refusal_words (Num TooLarge) = codes "N5 TooLarge"
+refusal_words (Num fault) = num_fault_words fault
 refusal_words (Text fault) = fault_words fault
 
 -- the status with which the program ends: 2 for a fault of the command line

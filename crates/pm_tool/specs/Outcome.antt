@@ -1,7 +1,7 @@
 -- What the hearing of a text comes to. This project's own choice.
 use Rattle.std.specs.Prelude.{ℕ, List, length, Result, Ok, Err, if◌then◌else◌, nat_lt, ⊤}
 use Rattle.pm_lines.specs.declared.fault.TextFault.{TextFault}
-use Rattle.pm_lines.specs.declared.fault.TextFault.TheVariants.{Syntax, BadHex, TooLong, Read, Write, Memory}
+use Rattle.pm_lines.specs.declared.fault.TextFault.TheVariants.{Syntax, BadHex, TooLong, Read, Write, Memory, Setup}
 use Rattle.pm_lines.specs.declared.text.TheConstants.{MAX_TEXT}
 use Rattle.pm_tool.specs.Script.{printed_text}
 
@@ -24,3 +24,9 @@ IsSettled (Err TooLong) = ⊤
 IsSettled (Err Read) = ⊥
 IsSettled (Err Write) = ⊥
 IsSettled (Err Memory) = ⊥
+IsSettled (Err (Setup fault)) = ⊥
+
+-- `hear` sets nothing up
+abbrev pub IsOfHear : TextFault → Type 0
+IsOfHear (Setup fault) = ⊥
+IsOfHear _ = ⊤

@@ -5,7 +5,7 @@ use Rattle.std.specs.Prelude.{option_and_then}
 use Rattle.std.specs.Borrow.{Bor}
 use Rattle.std.specs.Str.{bytes_eq}
 use Rattle.pm_num.specs.Formats.{IsExponent}
-use Rattle.pm_tool.specs.Digits.{signed_of, word_of}
+use Rattle.pm_lines.specs.Digits.{hex_of, signed_of}
 use Rattle.pm_tool.specs.declared.numbers.question.FormatText.{FormatText}
 use Rattle.pm_tool.specs.declared.numbers.question.FormatText.TheVariants.{Linear11, Ulinear16}
 use Rattle.pm_tool.specs.declared.numbers.question.FormatText.TheVariants.{Direct}
@@ -77,7 +77,7 @@ asked_of (Some format) (Ok asked) = Ok (record { format = format; asked = asked 
 -- first fault: OneOf, then Format, then Word or Micro
 abbrev pub question : Text → Option Text → Option Text → Result Question NumberFault
 question format (Some word) None =
-    asked_of (format_of format) (or_fault (option_map (λ w. Word w) (word_of word)) fault.Word)
+    asked_of (format_of format) (or_fault (option_map (λ w. Word w) (hex_of 4 word)) fault.Word)
 question format None (Some micro) = asked_of (format_of format)
     (or_fault (option_map (λ k. Nearest k) (signed_of 64 micro)) fault.Micro)
 question format _ _ = Err fault.OneOf

@@ -1,6 +1,7 @@
 //! What the words of a command line choose, by the rules of `clap`.
 //!
-//! One level of subcommands, of which one is required: `hear`, and `number` with its three options.
+//! One level of subcommands, of which one is required: `hear`, `replay`, `decode`, and `number` with its
+//! three options.
 //! The options are optional for the parser, since which of them belong together is for `number` to
 //! judge.
 ghost use Rattle.std.specs.Prelude.{◌≡◌, ◌∷◌, [], ℕ, List, codes, true};
@@ -25,7 +26,7 @@ use std::alloc::Global;
 /// # Errors
 ///
 /// Whatever `clap` refuses, with its text for the user: help that was asked for
-/// (`ErrorKind::DisplayHelp`), no subcommand, a word that is neither a subcommand nor an option of
+/// (`ErrorKind::DisplayHelp`), the version (`ErrorKind::DisplayVersion`), no subcommand, a word that is neither a subcommand nor an option of
 /// it, an option with no value or given twice; and want of memory (`ErrorKind::OutOfMemory`).
 pub fn chosen<'a>(alloc: Global, words: &'a [&'a str]) -> Result<Chosen<'a>, Error>
     // What is chosen is what the parser's walk over the words found.
@@ -39,11 +40,17 @@ pub fn chosen<'a>(alloc: Global, words: &'a [&'a str]) -> Result<Chosen<'a>, Err
     // The same in plain words, for any name of the program.
     ensures hear { (program : List ℕ) → texts words.entry.now ≡ program ∷ codes "hear" ∷ []
         → UnlessMemory result (λ chosen. chosen ≡ Chosen.Hear) }
+    ensures replay { (program : List ℕ) → texts words.entry.now ≡ program ∷ codes "replay" ∷ []
+        → UnlessMemory result (λ chosen. chosen ≡ Chosen.Replay) }
+    ensures decode { (program : List ℕ) → texts words.entry.now ≡ program ∷ codes "decode" ∷ []
+        → UnlessMemory result (λ chosen. chosen ≡ Chosen.Decode) }
     ensures number { (program : List ℕ) (given : List Given) → is_once given ≡ true
         → texts words.entry.now ≡ number_words program given
         → UnlessMemory result (HasValuesOf given) }
     ensures help { (program : List ℕ) → texts words.entry.now ≡ program ∷ codes "--help" ∷ []
         → IsErrAnd result (HasKind (ErrorKind.DisplayHelp ∷ [])) }
+    ensures version { (program : List ℕ) → texts words.entry.now ≡ program ∷ codes "--version" ∷ []
+        → IsErrAnd result (HasKind (ErrorKind.DisplayVersion ∷ [])) }
     ensures missing { (program : List ℕ) → texts words.entry.now ≡ program ∷ []
         → IsErrAnd result (HasKind (ErrorKind.MissingSubcommand ∷ [])) }
 {
@@ -68,6 +75,8 @@ fn choice_of<'a>(name: &str, found: &ArgMatches<'a>) -> Chosen<'a>
 {
     match name {
         "hear" => Chosen::Hear,
+        "replay" => Chosen::Replay,
+        "decode" => Chosen::Decode,
         "number" => Chosen::Number {
             format: found.get_str("format").unwrap_or(""),
             word: found.get_str("word"),

@@ -1,16 +1,17 @@
 ghost use Rattle.std.specs.Prelude.{◌≡◌, ◌⊎◌, IsFalse, Some, codes};
 ghost use Rattle.std.specs.Io.KnownBytes.{Keeps};
 ghost use Rattle.clap.specs.Words.{kind_of};
-ghost use Rattle.pm_tool.specs.Execution.{End, HearEnds, IsDone, IsEnd, NumberEnds, RunEnds, Says, UsageEnds};
+ghost use Rattle.pm_tool.specs.Execution.{DecodeEnds, End, HearEnds, IsDone, IsEnd, NumberEnds, ReplayEnds, RunEnds, Says, UsageEnds};
+ghost use Rattle.pm_tool.specs.Execution.{decode_status as status_of_decode, replay_status as status_of_replay};
 ghost use Rattle.pm_tool.specs.Execution.{CutShort, Printed, arguments_of, no_words_end, refusal_line, said_by, status_of, wants_memory};
 ghost use Rattle.pm_tool.specs.Question.{asked_by};
 
 use crate::commandline::{Chosen, chosen};
 use crate::numbers::number;
-use crate::refusal::say;
+use crate::refusal::{say, say_fault};
 use crate::script::hear;
 use clap::error::ErrorKind;
-use pm_lines::{Sink, Source, TextFault};
+use pm_text::{DecodeEnd, ReplayEnd, Sink, Source, TextFault, decode, replay};
 use std::alloc::Global;
 use std::io::{self, Read, Write};
 
@@ -19,9 +20,10 @@ use std::io::{self, Read, Write};
 /// first, or the error's kind where they couldn't be had as texts. None of the streams may have
 /// failed before.
 ///
-/// Status 0: the text was written to the output, or help that was asked for. Status 1: a refused
-/// input, a failed stream or want of memory, and 2: a faulty command line; each with one line on
-/// the third stream, where that can be written, but for the parser's own texts.
+/// Status 0: the text was written to the output, or help or the version that was asked for. Status 1:
+/// a stopped replay or a trace with a bad line, with nothing on the third stream; a refused input, a
+/// failed stream or want of memory, and 2: a faulty command line; each of these with one line on the
+/// third stream, where that can be written, but for the parser's own texts.
 pub fn run<R: Read, W: Write, E: Write>(
     alloc: Global,
     words: Result<&[&str], io::ErrorKind>,
@@ -41,6 +43,8 @@ pub fn run<R: Read, W: Write, E: Write>(
     };
     match chosen(alloc, words) {
         Ok(Chosen::Hear) => run_hear(alloc, input, output, errors),
+        Ok(Chosen::Replay) => run_replay(alloc, input, output, errors),
+        Ok(Chosen::Decode) => run_decode(alloc, input, output, errors),
         Ok(
             Chosen::Number {
                 format,
@@ -52,7 +56,7 @@ pub fn run<R: Read, W: Write, E: Write>(
     }
 }
 
-/// `pmb hear`.
+// `pmb hear`.
 fn run_hear<R: Read, W: Write, E: Write>(
     alloc: Global,
     input: &mut Source<R>,
@@ -66,23 +70,87 @@ fn run_hear<R: Read, W: Write, E: Write>(
         × IsEnd W.contents E.contents output.old output.new errors.old errors.new result end }
 {
     match hear(alloc, input, output) {
-        Ok(()) => done(output, errors),
+        Ok(()) => done(output, errors, 0),
         Err(fault) => {
-            say(errors, fault.words(), fault.line());
+            say_fault(errors, &fault);
             1
         }
     }
 }
 
-/// The status of a run whose text was written whole: it is done once the writer handed it on.
-fn done<W: Write, E: Write>(output: &mut Sink<W>, errors: &mut Sink<E>) -> u8
+// `pmb replay`.
+fn run_replay<R: Read, W: Write, E: Write>(
+    alloc: Global,
+    input: &mut Source<R>,
+    output: &mut Sink<W>,
+    errors: &mut Sink<E>,
+) -> u8
+    requires input { IsFalse input.old.failed }
+    requires output { IsFalse output.old.failed }
+    requires errors { IsFalse errors.old.failed }
+    ensures { (end : End) × ReplayEnds R.remaining input.old input.new end
+        × IsEnd W.contents E.contents output.old output.new errors.old errors.new result end }
+{
+    match replay(alloc, input, output) {
+        Ok(end) => done(output, errors, replay_status(end)),
+        Err(fault) => {
+            say_fault(errors, &fault);
+            1
+        }
+    }
+}
+
+// `pmb decode`.
+fn run_decode<R: Read, W: Write, E: Write>(
+    alloc: Global,
+    input: &mut Source<R>,
+    output: &mut Sink<W>,
+    errors: &mut Sink<E>,
+) -> u8
+    requires input { IsFalse input.old.failed }
+    requires output { IsFalse output.old.failed }
+    requires errors { IsFalse errors.old.failed }
+    ensures { (end : End) × DecodeEnds R.remaining input.old input.new end
+        × IsEnd W.contents E.contents output.old output.new errors.old errors.new result end }
+{
+    match decode(alloc, input, output) {
+        Ok(end) => done(output, errors, decode_status(end)),
+        Err(fault) => {
+            say_fault(errors, &fault);
+            1
+        }
+    }
+}
+
+// The status of a replay that was reported: 1 where it stopped.
+fn replay_status(end: ReplayEnd) -> u8
+    ensures { result ≡ status_of_replay end }
+{
+    match end {
+        ReplayEnd::Ran => 0,
+        ReplayEnd::Stopped => 1,
+    }
+}
+
+// The status of a trace that was told whole: 1 where a line is bad.
+fn decode_status(end: DecodeEnd) -> u8
+    ensures { result ≡ status_of_decode end }
+{
+    match end {
+        DecodeEnd::Clean => 0,
+        DecodeEnd::BadLines => 1,
+    }
+}
+
+// The status of a run whose text was written whole: as wanted, once the writer handed the text on.
+fn done<W: Write, E: Write>(output: &mut Sink<W>, errors: &mut Sink<E>, status: u8) -> u8
     requires output { IsFalse output.old.failed }
     requires errors { IsFalse errors.old.failed }
     ensures kept { Keeps (W.contents output.old.inner) (W.contents output.new.inner) }
-    ensures done { IsDone E.contents output.new errors.old errors.new result }
+    ensures done { IsDone E.contents output.new errors.old errors.new status result }
 {
     match output.flush() {
-        Ok(()) => 0,
+        Ok(()) => status,
         Err(_) => {
             say(errors, TextFault::Write.words(), None);
             1
@@ -106,7 +174,7 @@ fn run_number<W: Write, E: Write>(
         × IsEnd W.contents E.contents output.old output.new errors.old errors.new result end }
 {
     match number(alloc, output, format, word, micro) {
-        Ok(()) => done(output, errors),
+        Ok(()) => done(output, errors, 0),
         Err(fault) => {
             say(errors, fault.words(), None);
             fault.status()
@@ -114,7 +182,8 @@ fn run_number<W: Write, E: Write>(
     }
 }
 
-// What the parser says in place of a choice: help on the output, a fault on the third stream.
+// What the parser says in place of a choice: help and the version on the output, a fault on the third
+// stream.
 fn show_usage<W: Write, E: Write>(
     alloc: Global,
     error: &clap::Error,
@@ -131,7 +200,7 @@ fn show_usage<W: Write, E: Write>(
     };
     match error.kind() {
         ErrorKind::OutOfMemory => refuse_memory(errors),
-        ErrorKind::DisplayHelp => print_whole(text.as_bytes(), output, errors),
+        ErrorKind::DisplayHelp | ErrorKind::DisplayVersion => print_whole(text.as_bytes(), output, errors),
         _ => {
             let _ = errors.put(text.as_bytes());
             2
@@ -147,7 +216,7 @@ fn print_whole<W: Write, E: Write>(text: &[u8], output: &mut Sink<W>, errors: &m
         × IsEnd W.contents E.contents output.old output.new errors.old errors.new result end }
 {
     match output.put(text) {
-        Ok(()) => done(output, errors),
+        Ok(()) => done(output, errors, 0),
         Err(_) => {
             say(errors, TextFault::Write.words(), None);
             1

@@ -2,8 +2,8 @@
 //!
 //! `run` is the whole program but for its `main`: it is handed the words of the command line and the
 //! streams, and answers the exit status. `hear` lets a model converter hear the frames of a text
-//! and writes its answers; `number` writes one word of a number format with its value. `chosen` says
-//! which of them a command line names.
+//! and writes its answers; `number` writes one word of a number format with its value. `replay` and
+//! `decode` are those of `pm_text`. `chosen` says which of them a command line names.
 #![tactic(auto)]
 
 mod commandline;
@@ -16,5 +16,5 @@ mod script;
 pub use commandline::{Chosen, chosen};
 pub use execution::run;
 pub use numbers::{NumberFault, number, number_has_one_text};
-pub use pm_lines::{MAX_TEXT, Sink, Source, TextFault};
+pub use pm_text::{MAX_TEXT, Sink, Source, TextFault};
 pub use script::hear;

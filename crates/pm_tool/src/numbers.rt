@@ -12,14 +12,13 @@ ghost use Rattle.pm_tool.specs.Question.{HasExponent, asked_by};
 ghost use Rattle.pm_lines.specs.Streams.{AppendsFront};
 
 mod answer;
-mod digits;
 mod fault;
 mod question;
 
 use answer::{Answer, answer_in, line};
 pub use fault::NumberFault;
 use pm_num::{Direct, Linear11, NumFault, Ulinear16};
-use pm_lines::{Sink, TextFault};
+use pm_text::{Sink, TextFault};
 use question::{FormatText, Question, read_question};
 use std::alloc::Global;
 use std::io::Write;

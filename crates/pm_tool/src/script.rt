@@ -10,7 +10,7 @@ ghost use Rattle.pm_device.specs.Effect.{Event};
 ghost use Rattle.pm_device.specs.History.{next, start_of};
 ghost use Rattle.pm_tool.specs.Base.{base};
 ghost use Rattle.pm_tool.specs.LineEvent.{event_of};
-ghost use Rattle.pm_tool.specs.Outcome.{outcome_of, IsSettled};
+ghost use Rattle.pm_tool.specs.Outcome.{outcome_of, IsOfHear, IsSettled};
 ghost use Rattle.pm_tool.specs.ReplyText.{as_line};
 ghost use Rattle.pm_tool.specs.Script.{events_in, event_lines, event_words, held_after, output_at, output_lines, printed_text};
 
@@ -78,7 +78,8 @@ pub fn hear<R: Read, W: Write>(
         × AppendsFront (W.contents writer.old.inner) (W.contents writer.new.inner) text }
     ensures unwritten { IfErr result (λ fault. fault ≢ TextFault.Write → writer.new ≡ writer.old) }
 
-    // The streams say whether they failed.
+    // X7 never comes, and the streams say whether they failed.
+    ensures faults { IfErr result IsOfHear }
     ensures read { IsErrOf result TextFault.Read ↔ IsTrue reader.new.failed }
     ensures write { IsErrOf result TextFault.Write ↔ IsTrue writer.new.failed }
 

@@ -5,6 +5,10 @@
 pub enum Chosen<'a> {
     /// `hear`: the converter of the base configuration hears the frames of standard input.
     Hear,
+    /// `replay`: the events of the scenario on standard input happen, and are reported.
+    Replay,
+    /// `decode`: the trace on standard input is told line by line.
+    Decode,
     /// `number`: one word of a number format, as an exact value.
     Number {
         /// The text of `--format`, empty where the option is absent.

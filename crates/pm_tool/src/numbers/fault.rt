@@ -4,8 +4,9 @@ ghost use Rattle.pm_tool.specs.NumberFaults.{refusal_status, refusal_words};
 ghost use Rattle.pm_lines.specs.declared.fault.TextFault.TheVariants.{Memory};
 ghost use Rattle.pm_tool.specs.declared.numbers.fault.NumberFault.TheVariants as refusals;
 
+use pm_lines::num_fault_words;
 use pm_num::NumFault;
-use pm_lines::TextFault;
+use pm_text::TextFault;
 use std::alloc::AllocError;
 use thiserror::Error;
 
@@ -43,11 +44,7 @@ impl NumberFault {
             NumberFault::Format => "bad format",
             NumberFault::Word => "bad word",
             NumberFault::Micro => "bad micro",
-            NumberFault::Num(NumFault::ZeroSlope) => "N1 ZeroSlope",
-            NumberFault::Num(NumFault::ExponentRange) => "N2 ExponentRange",
-            NumberFault::Num(NumFault::BelowLeast) => "N3 BelowLeast",
-            NumberFault::Num(NumFault::AboveGreatest) => "N4 AboveGreatest",
-            NumberFault::Num(NumFault::TooLarge) => "N5 TooLarge",
+            NumberFault::Num(fault) => num_fault_words(*fault),
             NumberFault::Text(fault) => fault.words(),
         }
     }

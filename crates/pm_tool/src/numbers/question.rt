@@ -1,12 +1,12 @@
 //! What `number` is asked, as its three texts give it.
 ghost use Rattle.std.specs.Prelude.{◌≡◌, ◌∷◌, [], codes, IfOk, IfSome, MatchOption};
 ghost use Rattle.std.specs.Prelude.{option_and_then};
-ghost use Rattle.pm_tool.specs.Digits.{signed_of};
+ghost use Rattle.pm_lines.specs.Digits.{signed_of};
 ghost use Rattle.pm_tool.specs.Question.{HasExponent, direct_format, exponent_format, format_by};
 ghost use Rattle.pm_tool.specs.Question.{asked_by, format_of, parts};
 
-use crate::numbers::digits::{read_i8, read_i16, read_i64, read_word};
 use crate::numbers::fault::NumberFault;
+use pm_lines::{read_i8, read_i16, read_i64, read_word};
 
 /// A number format, as its text names it: `linear11`, `ulinear16:N` or `direct:M:B:R`. Whether
 /// DIRECT can have these parameters is judged when the format is made.
@@ -47,8 +47,10 @@ pub(crate) fn read_question(
     ensures exponent { IfOk result (λ asked. HasExponent asked.format) }
 {
     let asked = match (word, micro) {
-        (Some(word), None) => read_word(word).map(Asked::Word).ok_or(NumberFault::Word),
-        (None, Some(micro)) => read_i64(micro)
+        (Some(word), None) => read_word(word.as_bytes())
+            .map(Asked::Word)
+            .ok_or(NumberFault::Word),
+        (None, Some(micro)) => read_i64(micro.as_bytes())
             .map(Asked::Nearest)
             .ok_or(NumberFault::Micro),
         _ => return Err(NumberFault::OneOf),
@@ -80,7 +82,7 @@ fn read_ulinear16(text: &str) -> Option<FormatText>
     ensures named { result ≡ option_and_then exponent_format (signed_of 8 text.now) }
     ensures exponent { IfSome result HasExponent }
 {
-    let n = read_i8(text)?;
+    let n = read_i8(text.as_bytes())?;
     if n < -16 || 15 < n {
         return None;
     }
@@ -103,7 +105,11 @@ fn direct_of(m: &str, b: &str, r: &str) -> Option<FormatText>
         ≡ direct_format (signed_of 16 m.now) (signed_of 16 b.now) (signed_of 8 r.now) }
     ensures exponent { IfSome result HasExponent }
 {
-    Some(FormatText::Direct(read_i16(m)?, read_i16(b)?, read_i8(r)?))
+    Some(FormatText::Direct(
+        read_i16(m.as_bytes())?,
+        read_i16(b.as_bytes())?,
+        read_i8(r.as_bytes())?,
+    ))
 }
 
 /// What stands before a text's first colon and after it, or None where it has no colon.

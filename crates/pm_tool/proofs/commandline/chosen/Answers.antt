@@ -3,10 +3,10 @@ use Rattle.clap.specs.Words.{FailsBy, HasKind, Kinds, Row, Text, fault_of, subco
 use Rattle.clap.specs.Walk.{texts}
 use Rattle.clap.specs.declared.error.Error.{Error}
 use Rattle.clap.specs.declared.error.kind.ErrorKind.{ErrorKind}
-use Rattle.clap.specs.declared.error.kind.ErrorKind.TheVariants.{DisplayHelp, MissingSubcommand}
+use Rattle.clap.specs.declared.error.kind.ErrorKind.TheVariants.{DisplayHelp, DisplayVersion, MissingSubcommand}
 use Rattle.clap.proofs.OnLiterals.{clap_on_literals}
 use Rattle.pm_tool.specs.declared.commandline.choice.Chosen.{Chosen}
-use Rattle.pm_tool.specs.declared.commandline.choice.Chosen.TheVariants.{Hear, Number}
+use Rattle.pm_tool.specs.declared.commandline.choice.Chosen.TheVariants.{Hear, Replay, Decode, Number}
 use Rattle.pm_tool.specs.Commandline.{Asks, Given, HasValuesOf, UnlessMemory, number_words, pmb}
 use Rattle.pm_tool.proofs.GivenOptions.{first_text, number_met, number_passes, row}
 use Rattle.pm_tool.proofs.commandline.chosen.Goals as goal
@@ -34,10 +34,42 @@ hear_passes program = refl
 
 hear_chosen : (rows : List Row) (chosen : Chosen) → Asks (codes "hear") rows chosen → chosen ≡ Hear
 hear_chosen rows Hear asks = refl
+hear_chosen rows Replay asks = let e : codes "hear" ≡ codes "replay" = asks in absurd (cc)
+hear_chosen rows Decode asks = let e : codes "hear" ≡ codes "decode" = asks in absurd (cc)
 hear_chosen rows (Number format word micro) asks = let e : codes "hear" ≡ codes "number" = asks.0 in absurd (cc)
+
+replay_met : (program : Text) → subcommand_of pmb (program ∷ codes "replay" ∷ []) ≡ Some (codes "replay", [])
+unfolding clap_on_literals
+replay_met program = refl
+
+replay_passes : (program : Text) → fault_of pmb (program ∷ codes "replay" ∷ []) ≡ []
+unfolding clap_on_literals
+replay_passes program = refl
+
+replay_chosen : (rows : List Row) (chosen : Chosen) → Asks (codes "replay") rows chosen → chosen ≡ Replay
+replay_chosen rows Hear asks = let e : codes "replay" ≡ codes "hear" = asks in absurd (cc)
+replay_chosen rows Replay asks = refl
+replay_chosen rows Decode asks = let e : codes "replay" ≡ codes "decode" = asks in absurd (cc)
+replay_chosen rows (Number format word micro) asks = let e : codes "replay" ≡ codes "number" = asks.0 in absurd (cc)
+
+decode_met : (program : Text) → subcommand_of pmb (program ∷ codes "decode" ∷ []) ≡ Some (codes "decode", [])
+unfolding clap_on_literals
+decode_met program = refl
+
+decode_passes : (program : Text) → fault_of pmb (program ∷ codes "decode" ∷ []) ≡ []
+unfolding clap_on_literals
+decode_passes program = refl
+
+decode_chosen : (rows : List Row) (chosen : Chosen) → Asks (codes "decode") rows chosen → chosen ≡ Decode
+decode_chosen rows Hear asks = let e : codes "decode" ≡ codes "hear" = asks in absurd (cc)
+decode_chosen rows Replay asks = let e : codes "decode" ≡ codes "replay" = asks in absurd (cc)
+decode_chosen rows Decode asks = refl
+decode_chosen rows (Number format word micro) asks = let e : codes "decode" ≡ codes "number" = asks.0 in absurd (cc)
 
 given_chosen : (given : List Given) (chosen : Chosen) → Asks (codes "number") (map row given) chosen → HasValuesOf given chosen
 given_chosen given Hear asks = let e : codes "number" ≡ codes "hear" = asks in absurd (cc)
+given_chosen given Replay asks = let e : codes "number" ≡ codes "replay" = asks in absurd (cc)
+given_chosen given Decode asks = let e : codes "number" ≡ codes "decode" = asks in absurd (cc)
 given_chosen given (Number format word micro) asks = (
   asks.1 ∙ ap (λ o. unwrap_or o []) (first_text (codes "format") given),
   asks.2 ∙ first_text (codes "word") given,
@@ -47,6 +79,10 @@ given_chosen given (Number format word micro) asks = (
 help_fault : (program : Text) → fault_of pmb (program ∷ codes "--help" ∷ []) ≡ DisplayHelp ∷ []
 unfolding clap_on_literals
 help_fault program = refl
+
+version_fault : (program : Text) → fault_of pmb (program ∷ codes "--version" ∷ []) ≡ DisplayVersion ∷ []
+unfolding clap_on_literals
+version_fault program = refl
 
 missing_fault : (program : Text) → fault_of pmb (program ∷ []) ≡ MissingSubcommand ∷ []
 unfolding clap_on_literals
@@ -59,6 +95,20 @@ returns-clause-hear c = λ program e.
     (subst (λ (t : List Text). FailsBy (fault_of pmb t) c.parsed.result) e c.parsed.ensures.kinds)
     (hear_met program) (hear_passes program) (hear_chosen [])
 
+pub returns-clause-replay : goal.returns-clause-replay
+returns-clause-replay c = λ program e.
+    met c.parsed.result (program ∷ codes "replay" ∷ []) (codes "replay") [] (λ chosen. chosen ≡ Replay)
+    (subst (λ (t : List Text). IfOk c.parsed.result (λ chosen. IsSomeAnd (subcommand_of pmb t) (λ met. Asks met.0 met.1 chosen))) e c.parsed.ensures.named)
+    (subst (λ (t : List Text). FailsBy (fault_of pmb t) c.parsed.result) e c.parsed.ensures.kinds)
+    (replay_met program) (replay_passes program) (replay_chosen [])
+
+pub returns-clause-decode : goal.returns-clause-decode
+returns-clause-decode c = λ program e.
+    met c.parsed.result (program ∷ codes "decode" ∷ []) (codes "decode") [] (λ chosen. chosen ≡ Decode)
+    (subst (λ (t : List Text). IfOk c.parsed.result (λ chosen. IsSomeAnd (subcommand_of pmb t) (λ met. Asks met.0 met.1 chosen))) e c.parsed.ensures.named)
+    (subst (λ (t : List Text). FailsBy (fault_of pmb t) c.parsed.result) e c.parsed.ensures.kinds)
+    (decode_met program) (decode_passes program) (decode_chosen [])
+
 pub returns-clause-number : goal.returns-clause-number
 returns-clause-number c = λ program given once e.
     met c.parsed.result (number_words program given) (codes "number") (map row given) (HasValuesOf given)
@@ -69,6 +119,10 @@ returns-clause-number c = λ program given once e.
 pub returns-clause-help : goal.returns-clause-help
 returns-clause-help c = λ program e.
     refused c.parsed.result (texts c.args.words.now) DisplayHelp [] c.parsed.ensures.kinds (ap (fault_of pmb) e ∙ help_fault program)
+
+pub returns-clause-version : goal.returns-clause-version
+returns-clause-version c = λ program e.
+    refused c.parsed.result (texts c.args.words.now) DisplayVersion [] c.parsed.ensures.kinds (ap (fault_of pmb) e ∙ version_fault program)
 
 pub returns-clause-missing : goal.returns-clause-missing
 returns-clause-missing c = λ program e.

@@ -5,7 +5,7 @@ use Rattle.pm_tool.proofs.execution.print_whole.Goals as goal
 
 pub returns-in-Ok : goal.returns-in-Ok
 returns-in-Ok g c =
-    elim (ended g.W.Write.contents g.E.Write.contents c.args.output.now c.put.new.self _ c.args.errors.now _ _ c.args.text.now c.in-Ok.ensures.all c.done.ensures.kept c.done.ensures.done) [
+    elim (ended g.W.Write.contents g.E.Write.contents c.args.output.now c.put.new.self _ c.args.errors.now _ 0 _ c.args.text.now c.in-Ok.ensures.all c.done.ensures.kept c.done.ensures.done) [
       | inl e ↦ (Printed 0 c.args.text.now, inl refl, e)
       | inr e ↦ (CutShort c.args.text.now, inr refl, e)
     ]

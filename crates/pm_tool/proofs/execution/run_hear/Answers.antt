@@ -1,7 +1,7 @@
 use Rattle.std.proofs.Common.{◌≡◌, ap, Ok, Err, Result}
 use Rattle.pm_lines.specs.declared.fault.TextFault.{TextFault}
 use Rattle.pm_lines.specs.declared.fault.TextFault.TheVariants.{Read}
-use Rattle.pm_tool.proofs.EndLemmas.{false_unless, heard, hear_refused, said_fault}
+use Rattle.pm_tool.proofs.EndLemmas.{false_unless, heard, hear_refused}
 use Rattle.pm_tool.proofs.execution.run_hear.Goals as goal
 
 pub returns-in-Ok : goal.returns-in-Ok
@@ -14,9 +14,9 @@ returns-in-Err g c =
     let e = c.in-Err.ensures in
     hear_refused g.W.Write.contents g.E.Write.contents g.R.Read.remaining c.args.input.now _ c.args.output.now _ c.args.errors.now _ c.in-Err.fault
     (λ line is. e.syntax line (ap Err is)) (λ line is. e.bad_hex line (ap Err is)) (λ is. e.too_long (ap Err is)) (λ is. e.memory (ap Err is))
-    (λ is. e.cut_short (ap Err is)) e.unwritten
+    (λ is. e.cut_short (ap Err is)) e.unwritten e.faults
     (λ is. e.read.0 (ap Err is), λ t. err_is _ _ (e.read.1 t)) (λ is. e.write.0 (ap Err is), λ t. err_is _ _ (e.write.1 t))
-    (said_fault g.E.Write.contents c.args.errors.now c.say.new.errors c.in-Err.fault _ _ c.words.ensures c.line.ensures c.say.ensures)
+    c.say_fault.ensures
   where
     err_is : (a b : TextFault) → ◌≡◌ {A = Result (Unit {0}) TextFault} (Err a) (Err b) → a ≡ b
     err_is a b same = cc
