@@ -306,8 +306,8 @@ pub record IsEnd {W E : Type 0} (out : W → Option (List ℕ)) (err : E → Opt
   pub said : Says err errors errors' (said_by end)
 
 -- a text that was written is handed on, or standard output failed as it should be
-abbrev pub IsDone : {W E : Type 0} → (E → Option (List ℕ)) → Held W → Held E → Held E → ℕ → Type 0
-IsDone err output errors errors' status =
-    ((IsFalse output.failed) × (status ≡ 0) × (errors' ≡ errors))
+abbrev pub IsDone : {W E : Type 0} → (E → Option (List ℕ)) → Held W → Held E → Held E → ℕ → ℕ → Type 0
+IsDone err output errors errors' wanted status =
+    ((IsFalse output.failed) × (status ≡ wanted) × (errors' ≡ errors))
     ⊎ ((IsTrue output.failed) × (status ≡ 1)
     × Says err errors errors' (Some (refusal_line (codes "X5 Write"))))

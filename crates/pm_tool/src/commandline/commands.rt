@@ -1,5 +1,5 @@
 //! The commands as `clap` knows them.
-ghost use Rattle.std.specs.Prelude.{◌≡◌, IfOk};
+ghost use Rattle.std.specs.Prelude.{◌≡◌, IfOk, codes};
 ghost use Rattle.clap.specs.Words.{app_of, new_app, with_rule};
 ghost use Rattle.pm_tool.specs.Commandline.{number_app, option_rule, pmb, with_required_subcommand};
 
