@@ -2,9 +2,14 @@
 //! event by event.
 #![tactic(auto)]
 
+mod cells;
+mod event_line;
 mod events;
+mod fields;
+mod frames;
 mod line_fault;
 mod register;
+mod rows;
 mod scenario;
 
 pub use events::Events;
