@@ -2,6 +2,7 @@
 ghost use Rattle.std.specs.Prelude.{◌≡◌, ◌<◌, ◌+◌, ◌^◌, Ok, Err, [], ◌∷◌, length, MatchOption, MatchResult};
 ghost use Rattle.pm_scenario.specs.Reading.{row as next_row};
 ghost use Rattle.pm_scenario.specs.ScenarioText.{rest_of};
+ghost use Rattle.pm_scenario.specs.declared.line_fault.LineFault.TheVariants.{Syntax};
 
 use crate::line_fault::LineFault;
 use pm_lines::{Line, Lines};
@@ -44,9 +45,13 @@ impl<'a> Rows<'a> {
     /// The next line. Where there is none, X1 with the number after the last.
     #[tactic(auto, unfolding(crate::specs::Reading::row))]
     pub(crate) fn row(&mut self) -> Result<Line<'a>, LineFault>
-        ensures { MatchResult result
+        ensures read { MatchResult result
             (λ line. next_row self.old ≡ Ok ((line.number, line.text.now), self.new))
             (λ fault. next_row self.old ≡ Err fault) }
+        ensures lines { MatchResult result
+            (λ line. self.old.lines ≡ (line.number, line.text.now) ∷ self.new.lines)
+            (λ fault. (self.old.lines ≡ []) × (fault ≡ Syntax (self.old.count + 1))) }
+        ensures count { self.new.count ≡ self.old.count }
     {
         match self.lines.next_line() {
             Some(line) => Ok(line),
