@@ -1,0 +1,3 @@
+mod EventLemmas
+mod FrameLemmas
+mod OutputLemmas

@@ -1,7 +1,7 @@
 -- Readers of a scenario's words and lines. A reader takes from what is left, and gives what it read
 -- and what is left then, or the first fault. Words are taken in their order, and each is judged as
 -- what stands at its place. This project's own choice.
-use Rattle.std.specs.Prelude.{ℕ, ◌+◌, List, [], ◌∷◌, Option, Some, None, Result, Ok, Err, bytes_eq, if◌then◌else◌}
+use Rattle.std.specs.Prelude.{◌≡◌, ℕ, ◌+◌, List, [], ◌∷◌, Option, Some, None, Result, Ok, Err, bytes_eq, if◌then◌else◌}
 use Rattle.pm_lines.specs.Lines.{Numbered, WordsLeft, words_of}
 use Rattle.pm_scenario.specs.declared.line_fault.LineFault.{LineFault}
 use Rattle.pm_scenario.specs.declared.line_fault.LineFault.TheVariants.{Syntax, BadHex}
@@ -25,6 +25,12 @@ abbrev pub ◌>>◌ : {S A B : Type 0} → Reading S A → Reading S B → Readi
 -- this value, and nothing is taken
 abbrev pub gives : {S A : Type 0} → A → Reading S A
 gives x left = Ok (x, left)
+
+-- what a call gave, and what it left, are what a reader reads; after a fault nothing is told of what
+-- is left
+abbrev pub Reads : {S A : Type 0} → Result A LineFault → S → Result (A × S) LineFault → Type 0
+Reads (Ok x) left read = read ≡ Ok (x, left)
+Reads (Err fault) left read = read ≡ Err fault
 
 -- ---- the words of a line
 

@@ -1,6 +1,6 @@
 -- The text of a scenario, line by line: what both ends are made from, and what happens between them.
 -- The form is this project's own choice.
-use Rattle.std.specs.Prelude.{ℕ, suc, nat_lt, min, if◌then◌else◌, List, [], ◌∷◌, ◌++◌, length, replicate, take, Option, Some, None, Result, Ok, Err, codes}
+use Rattle.std.specs.Prelude.{◌≡◌, ⊤, ℕ, suc, nat_lt, min, if◌then◌else◌, List, [], ◌∷◌, ◌++◌, length, replicate, take, Option, Some, None, Result, Ok, Err, IsOk, IsOkAnd, codes}
 use Rattle.pm_table.specs.declared.coefficients.Coefficients.{Coefficients}
 use Rattle.pm_device.specs.declared.config.Config.{Config}
 use Rattle.pm_device.specs.declared.config.OutputStart.{OutputStart}
@@ -16,6 +16,7 @@ use Rattle.pm_scenario.specs.Reading.{◌>>=◌, ◌>>◌, Field, Part, Rest, fi
 use Rattle.pm_scenario.specs.declared.line_fault.LineFault.{LineFault}
 use Rattle.pm_scenario.specs.declared.line_fault.LineFault.TheVariants as fault
 use Rattle.pm_scenario.specs.declared.scenario.Scenario.{Scenario}
+use Rattle.pm_scenario.specs.declared.starts.Starts.{Starts}
 
 -- ---- the lines before the events
 
@@ -113,13 +114,25 @@ events_in (line ∷ lines) = event_before (line_as event_line line) (events_in l
 abbrev pub no_start : OutputStart
 no_start = record { mode = 0; operation = 0; command = 0; max = 0; high = 0; low = 0 }
 
--- The configuration has as many outputs as there are lines `output`, of which more than 255 count as
--- 255. It has room for eight: the fields of further lines are read, and dropped.
+-- how many outputs there are, of which more than 255 count as 255
+abbrev pub counted : List OutputStart → ℕ
+counted starts = min (length starts) 255
+
+-- the first eight outputs
+abbrev pub first_eight : List OutputStart → List OutputStart
+first_eight starts = take 8 (starts ++ replicate 8 no_start)
+
+-- what is kept of the outputs while they are read
+abbrev pub starts_of : List OutputStart → Starts
+starts_of starts = record { count = counted starts; starts = first_eight starts }
+
+-- The configuration has as many outputs as there are lines `output`. It has room for eight: the
+-- fields of further lines are read, and dropped.
 unfoldable pub config_of : ℕ → ℕ → Coefficients → List OutputStart → Config
 config_of address protect coefficients starts = record {
   addr = address;
-  count = min (length starts) 255;
-  starts = take 8 (starts ++ replicate 8 no_start);
+  count = counted starts;
+  starts = first_eight starts;
   protect = protect;
   coefficients = coefficients;
 }
@@ -148,12 +161,34 @@ scenario_by (Ok got) = with_events got.0 (events_in got.1.lines)
 abbrev pub rest_of : List ℕ → Rest
 rest_of bytes = record { count = length (lines_of bytes); lines = unskipped_from 1 bytes }
 
+abbrev pub text_fault : LineFault → TextFault
+text_fault (fault.Syntax line) = text.Syntax line
+text_fault (fault.BadHex line) = text.BadHex line
+
 abbrev pub as_text_fault : {A : Type 0} → Result A LineFault → Result A TextFault
 as_text_fault (Ok x) = Ok x
-as_text_fault (Err (fault.Syntax line)) = Err (text.Syntax line)
-as_text_fault (Err (fault.BadHex line)) = Err (text.BadHex line)
+as_text_fault (Err first) = Err (text_fault first)
 
 -- The scenario of a text, or the fault of its first faulty line; X3 comes before all.
 unfoldable pub scenario_of : List ℕ → Result Scenario TextFault
 scenario_of bytes = if nat_lt MAX_TEXT (length bytes) then Err text.TooLong
     else as_text_fault (scenario_by (header (rest_of bytes)))
+
+-- there is a first line, and it is an event line
+abbrev pub HasFirst : List Numbered → Type 0
+HasFirst [] = ⊥
+HasFirst (line ∷ lines) = IsOk (line_as event_line line)
+
+-- the lines before the events are read, and so is a first event line
+abbrev pub HasEvent : List ℕ → Type 0
+HasEvent bytes = IsOkAnd (header (rest_of bytes)) (λ got. HasFirst got.1.lines)
+
+-- the faults of the text of a scenario
+abbrev pub IsOfScenario : TextFault → Type 0
+IsOfScenario (text.Syntax line) = ⊤
+IsOfScenario (text.BadHex line) = ⊤
+IsOfScenario text.TooLong = ⊤
+IsOfScenario text.Read = ⊥
+IsOfScenario text.Write = ⊥
+IsOfScenario text.Memory = ⊤
+IsOfScenario (text.Setup fault) = ⊥

@@ -2,11 +2,18 @@
 //! event by event.
 #![tactic(auto)]
 
+mod cells;
+mod event_line;
 mod events;
+mod fields;
+mod frames;
+mod header;
 mod line_fault;
 mod register;
+mod rows;
 mod scenario;
+mod starts;
 
 pub use events::Events;
 pub use register::{is_byte_register, register_name};
-pub use scenario::Scenario;
+pub use scenario::{Scenario, read_scenario};

@@ -1,3 +1,5 @@
+use pm_lines::TextFault;
+
 /// Why a line of a scenario can't be read.
 #[derive(Clone, Copy, Debug, PartialEq, Eq)]
 pub(crate) enum LineFault {
@@ -6,4 +8,18 @@ pub(crate) enum LineFault {
     Syntax(u64),
     /// X2: a word of this line should be hexadecimal of a stated length and isn't.
     BadHex(u64),
+}
+
+impl From<LineFault> for TextFault {
+    ghost use Rattle.std.specs.Prelude.{◌≡◌};
+    ghost use Rattle.pm_scenario.specs.ScenarioText.{text_fault};
+
+    ghost from_gives = { λ line text. text ≡ text_fault line };
+
+    fn from(fault: LineFault) -> TextFault {
+        match fault {
+            LineFault::Syntax(line) => TextFault::Syntax(line),
+            LineFault::BadHex(line) => TextFault::BadHex(line),
+        }
+    }
 }
