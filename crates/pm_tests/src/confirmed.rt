@@ -94,7 +94,10 @@ fn a_confirmed_word_is_held(rt: HostRuntime) -> Result<(), SetupFault> {
         (READ_LOST, ORDERED, 0x34CD),
     ];
     follow(&rt, &mut world, &rows);
-    assert_eq!(rt; both(&world, SECOND), Some((Standing::Confirmed(0x2000), 0x2000)));
+    assert_eq!(rt;
+        both(&world, SECOND),
+        Some((Standing::Confirmed(0x2000), 0x2000))
+    );
     Ok(())
 }
 
