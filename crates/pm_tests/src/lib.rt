@@ -3,6 +3,8 @@
 #![tactic(auto)]
 
 #[cfg(test)]
+mod confirmed;
+#[cfg(test)]
 mod device;
 #[cfg(test)]
 mod fakes;

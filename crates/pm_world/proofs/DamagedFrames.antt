@@ -73,15 +73,20 @@ return-legal laws addr request frame payload answer bytes whole asked is damage 
     let betrayed = subst (λ f. is_betrayed f bytes ≡ true) (sym asked.spelled) (damaged laws (sent addr request) answer bytes good damage) in
     or_right (whole && bytes_eq bytes answer) _ (or_right (nat_lt (length bytes) (whole_answer request)) (is_betrayed frame bytes) betrayed)
 
--- a delivery, and an exchange, have no cause against them
-delivery-free : BetrayalLaws → (s : State) (message : Message) (bytes : List ℕ) (ending : Ending) → is_read_message message ≡ false → fits_layout message ≡ true →
+-- such damage is legal, so a delivery and an exchange have no cause against them
+pub record LegalLaws : Type 0 where
+  pub heard : (addr : ℕ) (message : Message) (frame bytes : List ℕ) (ending : Ending) → IsWrite addr message frame → IsBetrayedDamage frame bytes → is_legal_hearing frame bytes ending ≡ true
+  pub came_back : (addr : ℕ) (request : Message) (frame payload answer bytes : List ℕ) (whole : Bool) → IsRequest addr request frame → IsAnswer addr request payload answer →
+      IsBetrayedDamage answer bytes → is_legal_return frame (whole_answer request) whole answer bytes ≡ true
+
+delivery-free : LegalLaws → (s : State) (message : Message) (bytes : List ℕ) (ending : Ending) → is_read_message message ≡ false → fits_layout message ≡ true →
     IsBetrayedDamage (frame_of s.host.setup.addr message) bytes → delivery_cause s (arrival.Bytes (record { items = bytes }) ending) (Some message) ≡ None
 delivery-free laws s message bytes ending writes fits damage =
     let addr = s.host.setup.addr in
     let is : IsWrite addr message (frame_of addr message) = record { writes = writes; fits = fits; spelled = frame-write addr message writes } in
-    ap₂ (λ b c. option_or (rule b WrongKind) (rule (not c) NotBetrayed)) writes (heard-legal laws addr message (frame_of addr message) bytes ending is damage)
+    ap₂ (λ b c. option_or (rule b WrongKind) (rule (not c) NotBetrayed)) writes (laws.heard addr message (frame_of addr message) bytes ending is damage)
 
-exchange-free : BetrayalLaws → (s : State) (request : Message) (payload bytes : List ℕ) → IsAnswer s.host.setup.addr request payload (answer_to s.device s.host.setup.addr request arrival.Whole) →
+exchange-free : LegalLaws → (s : State) (request : Message) (payload bytes : List ℕ) → IsAnswer s.host.setup.addr request payload (answer_to s.device s.host.setup.addr request arrival.Whole) →
     IsBetrayedDamage (answer_to s.device s.host.setup.addr request arrival.Whole) bytes → exchange_cause s arrival.Whole (back.Bytes (record { items = bytes })) (Some request) ≡ None
 exchange-free laws s request payload bytes is damage =
     let addr = s.host.setup.addr in
@@ -90,11 +95,11 @@ exchange-free laws s request payload bytes is damage =
     let ends : heard_ending request arrival.Whole ≡ Restart = sym (heard_ending-request request arrival.Whole is.reads) in
     exchange_cause-by s arrival.Whole (back.Bytes (record { items = bytes })) request true true true is.reads
     (ap (is_legal_hearing frame frame) ends ∙ whole-hearing frame)
-    (return-legal laws addr request frame payload answer bytes (is_heard_whole frame frame (heard_ending request arrival.Whole)) (is_request addr request is.reads is.fits) is damage)
+    (laws.came_back addr request frame payload answer bytes (is_heard_whole frame frame (heard_ending request arrival.Whole)) (is_request addr request is.reads is.fits) is damage)
 
 -- such an event is taken
 pub record TakingLaws : Type 0 where
-  pub betrayal : BetrayalLaws
+  pub legal : LegalLaws
   pub told : (config : Config) (passes : ℕ) (events : List Event) → IsSound config → IsSetup (setup_of config passes) → AreTaken config passes events →
       AreTold (setup_of config passes) (life config passes events).entries
   pub sending : (setup : Setup) (entries : List Entry) → sending_in (host_now setup entries) ≡ sending_of setup entries
@@ -113,7 +118,7 @@ delivered-taken laws config passes events message bytes ending sound made taken 
     let damaged_frame = subst (λ (u : Setup). IsBetrayedDamage (frame_of u.addr message) bytes) (sym (now-setup config passes events)) damage in
     record {
       free = free s (Deliver (arrival.Bytes (record { items = bytes }) ending)) room
-          (ap (delivery_cause s (arrival.Bytes (record { items = bytes }) ending)) sending ∙ delivery-free laws.betrayal s message bytes ending writes fits damaged_frame);
+          (ap (delivery_cause s (arrival.Bytes (record { items = bytes }) ending)) sending ∙ delivery-free laws.legal s message bytes ending writes fits damaged_frame);
       word = tt;
     }
 
@@ -127,7 +132,7 @@ exchanged-taken laws config passes events request payload bytes room sending is 
     record {
       free = free s (Exchange arrival.Whole (back.Bytes (record { items = bytes }))) room
           (ap (exchange_cause s arrival.Whole (back.Bytes (record { items = bytes }))) sending
-          ∙ exchange-free laws.betrayal s request payload bytes
+          ∙ exchange-free laws.legal s request payload bytes
           (subst (λ (u : Setup). IsAnswer u.addr request payload (answer_to s.device u.addr request arrival.Whole)) setup is)
           (subst (λ (u : Setup). IsBetrayedDamage (answer_to s.device u.addr request arrival.Whole) bytes) setup damage));
       word = tt;

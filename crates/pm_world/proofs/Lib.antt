@@ -1,4 +1,5 @@
 mod DamagedFrames
+mod DamagedRequests
 mod Deliveries
 mod Ends
 mod Exchanges

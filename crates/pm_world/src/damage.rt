@@ -1,9 +1,11 @@
-//! Damage that a world takes, whatever it does: the contract of a function with an empty body.
+//! Damage that a world takes, over the definitions alone: each law is the contract of a function with
+//! an empty body.
 
 ghost use Rattle.std.specs.Prelude.{◌≡◌, ◌<◌, ℕ, Bool, true, false, List, Some};
 ghost use Rattle.pm_frame.specs.declared.message.Message.{Message};
+ghost use Rattle.pm_frame.specs.Damage.{DifferWithinEight};
 ghost use Rattle.pm_frame.specs.Fault.{whole_answer};
-ghost use Rattle.pm_frame.specs.Layout.{IsWrite, IsRequest, IsAnswer, is_read_message};
+ghost use Rattle.pm_frame.specs.Layout.{AreBytes, IsWrite, IsRequest, IsAnswer, is_read_message};
 ghost use Rattle.pm_device.specs.declared.config.Config.{Config};
 ghost use Rattle.pm_device.specs.declared.heard.Ending.{Ending};
 ghost use Rattle.pm_device.specs.Start.{IsSound};
@@ -13,24 +15,25 @@ ghost use Rattle.pm_world.specs.declared.event.Arrival.TheVariants as arrival;
 ghost use Rattle.pm_world.specs.declared.event.Back.TheVariants as back;
 ghost use Rattle.pm_world.specs.declared.event.Event.{Event};
 ghost use Rattle.pm_world.specs.declared.event.Event.TheVariants as event;
-ghost use Rattle.pm_world.specs.Damage.{IsBetrayedDamage};
+ghost use Rattle.pm_world.specs.Damage.{AreOthers, IsBetrayedDamage};
 ghost use Rattle.pm_world.specs.Legal.{frame_of, is_legal_hearing, is_legal_return};
 ghost use Rattle.pm_world.specs.Life.{AreTaken, now};
 ghost use Rattle.pm_world.specs.Setup.{setup_of};
 ghost use Rattle.pm_world.specs.State.{IsTaken, answer_to, event_limit};
 
 use crate::laws::lives_are_followed;
-use pm_frame::{answers_are_exact, betrayal_is_refused, damage_is_betrayed, writes_are_exact};
+use pm_frame::{
+    answers_are_exact, betrayal_is_refused, bursts_are_betrayed, damage_is_betrayed,
+    writes_are_exact,
+};
 use pm_host::{frames_are_named, transcripts_are_followed};
 
 /// Where other bytes come in place of a write's frame, and what changed lies within eight neighbouring
 /// bits, or is one, two or three bits of at most 15 bytes, or an odd number of bits, they are a legal
 /// hearing, however they end (`heard`). Likewise where they come in place of the answer to the host's
-/// own request, they are a legal return (`came_back`).
-///
-/// So no such damage stops a run: a world that isn't full takes the delivery of a write that is
-/// damaged so (`delivered`), and the exchange of a whole request whose answer is (`exchanged`).
-pub fn betrayed_damage_is_taken()
+/// own request, they are a legal return (`came_back`). Where a request is changed within eight
+/// neighbouring bits into another one, the answer to that is a legal return too (`answered`).
+pub fn betrayed_damage_is_legal()
     ensures heard { (addr : ℕ) (message : Message) (frame bytes : List ℕ) (ending : Ending) →
         IsWrite addr message frame → IsBetrayedDamage frame bytes →
         is_legal_hearing frame bytes ending ≡ true }
@@ -39,6 +42,23 @@ pub fn betrayed_damage_is_taken()
         IsRequest addr request frame → IsAnswer addr request payload answer →
         IsBetrayedDamage answer bytes →
         is_legal_return frame (whole_answer request) whole answer bytes ≡ true }
+    ensures answered { (addr : ℕ) (request other : Message)
+        (frame heard payload answer : List ℕ) (whole : Bool) →
+        IsRequest addr request frame → IsRequest addr other heard →
+        IsAnswer addr other payload answer → AreOthers frame heard →
+        DifferWithinEight frame heard → AreBytes answer →
+        is_legal_return frame (whole_answer request) whole answer answer ≡ true }
+{
+    writes_are_exact();
+    answers_are_exact();
+    betrayal_is_refused();
+    damage_is_betrayed();
+    bursts_are_betrayed();
+}
+
+/// So such damage stops no run: a world that isn't full takes the delivery of a write that is
+/// damaged so (`delivered`), and the exchange of a whole request whose answer is (`exchanged`).
+pub fn betrayed_damage_is_taken()
     ensures delivered { (config : Config) (passes : ℕ) (events : List Event) (message : Message)
         (bytes : List ℕ) (ending : Ending) →
         IsSound config → IsSetup (setup_of config passes) → AreTaken config passes events →
@@ -60,8 +80,5 @@ pub fn betrayed_damage_is_taken()
     lives_are_followed();
     transcripts_are_followed();
     frames_are_named();
-    writes_are_exact();
-    answers_are_exact();
-    betrayal_is_refused();
-    damage_is_betrayed();
+    betrayed_damage_is_legal();
 }

@@ -12,7 +12,7 @@ mod stop;
 mod world;
 
 pub use confirmed::confirmed_settings_are_held;
-pub use damage::betrayed_damage_is_taken;
+pub use damage::{betrayed_damage_is_legal, betrayed_damage_is_taken};
 pub use event::{Arrival, Back, Event};
 pub use honest::{frames_are_few, honest_orders_go_through, learned_formats_are_true};
 pub use laws::lives_are_followed;
