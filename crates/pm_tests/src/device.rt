@@ -1,5 +1,6 @@
 ghost use Rattle.std.specs.Prelude.{◌≡◌, ◌<◌};
 
+mod bursts;
 mod configurations;
 mod frames;
 mod reads;
