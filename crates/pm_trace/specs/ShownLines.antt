@@ -1,5 +1,5 @@
 -- What a decoder shows of a line, seen as what the line says.
-use Rattle.std.specs.Prelude.{ℕ, Option, Some, None, option_map}
+use Rattle.std.specs.Prelude.{ℕ, option_map}
 use Rattle.pm_trace.specs.declared.shown.Shown.{Shown}
 use Rattle.pm_trace.specs.declared.shown.Shown.TheVariants as shown
 use Rattle.pm_trace.specs.Trace.{Told, Judged, Accepted, Faulty, BadSyntax, BadHex}
