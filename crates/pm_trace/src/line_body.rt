@@ -28,7 +28,7 @@ impl LineBody {
     ghost use Rattle.pm_trace.specs.OpenLines.{body_of, body_takes, body_parts, body_goes_on, body_read, is_skipped_kind, is_empty_kind};
     ghost use Rattle.pm_trace.specs.OpenLines.{body_with, body_judged, body_with_pairs, is_between_bytes};
     ghost use Rattle.pm_trace.specs.Pairs.{behind_pairs};
-    ghost use Rattle.pm_trace.specs.ShownLines.{judged_in};
+    ghost use Rattle.pm_trace.specs.ShownLines.{judged_in, HasShortAnswer};
     ghost use Rattle.pm_trace.specs.Trace.{line_read};
 
     /// A line without bytes.
@@ -167,7 +167,8 @@ impl LineBody {
 
     /// What the line says as it stands.
     pub(crate) fn shown(&self) -> Shown<'_>
-        ensures { judged_in result ≡ body_judged self.now }
+        ensures judged { judged_in result ≡ body_judged self.now }
+        ensures short { HasShortAnswer result }
     {
         match self.parts() {
             Ok((write, read)) => packet_shown(write, read),
