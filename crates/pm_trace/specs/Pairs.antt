@@ -1,9 +1,13 @@
 -- Pairs of digits that stand one behind another, with spaces between them or none. This project's own
 -- choice.
-use Rattle.std.specs.Prelude.{ℕ, ◌&&◌, if◌then◌else◌, List, [], ◌∷◌}
+use Rattle.std.specs.Prelude.{ℕ, ◌&&◌, if◌then◌else◌, List, [], ◌∷◌, Option, Some, None}
 use Rattle.hex.specs.Hex.{is_hex_digit}
 use Rattle.pm_lines.specs.Lines.{is_space}
 use Rattle.pm_trace.specs.Trace.{byte_of}
+
+-- the byte that two digits write
+abbrev pub pair_of : ℕ → ℕ → Option ℕ
+pair_of high low = if is_hex_digit high && is_hex_digit low then Some (byte_of high low) else None
 
 -- the bytes that the pairs at the front write
 abbrev pub paired_bytes : List ℕ → List ℕ

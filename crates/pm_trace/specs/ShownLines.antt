@@ -1,5 +1,5 @@
 -- What a decoder shows of a line, seen as what the line says.
-use Rattle.std.specs.Prelude.{ℕ, ◌≤◌, length, Option, Some, None, option_map, ⊤}
+use Rattle.std.specs.Prelude.{ℕ, ◌≤◌, length, Some, None, option_map, ⊤}
 use Rattle.std.specs.Borrow.{Bor}
 use Rattle.pm_trace.specs.declared.shown.Shown.{Shown}
 use Rattle.pm_trace.specs.declared.shown.Shown.TheVariants as shown

@@ -1,6 +1,6 @@
 ghost use Rattle.std.specs.Prelude.{◌≡◌};
 
-use crate::hex_digit::{byte_of, is_digit};
+use crate::hex_digit::pair_of;
 use arrayvec::ArrayVec;
 use std::marker::Model;
 
@@ -59,8 +59,11 @@ impl Part {
         'pairs: loop {
             match rest {
                 [b' ', more @ ..] => rest = more,
-                [high, low, more @ ..] if is_digit(*high) && is_digit(*low) => {
-                    self.take(byte_of(*high, *low));
+                [high, low, more @ ..] => {
+                    let Some(byte) = pair_of(*high, *low) else {
+                        return rest;
+                    };
+                    self.take(byte);
                     rest = more;
                 }
                 _ => return rest,
