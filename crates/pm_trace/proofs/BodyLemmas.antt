@@ -1,7 +1,7 @@
 -- What is kept of a line with one byte more at its end.
-use Rattle.std.proofs.Common.{◌≡◌, ℕ, ◌+◌, ◌<◌, ◌≤◌, eqb, ltb, Bool, true, false, cond, not, ◌||◌, ◌&&◌, List, [], ◌∷◌, ◌++◌, length, take, suc, Option, Some, None, refl, sym, ap, ◌∙◌, arith, append_assoc, append-nil, length-append, ◌⊎◌, inl, inr}
-use Rattle.std.specs.Prelude.{flat_map, is_some, nat_lt, nat_eq}
-use Rattle.std.specs.List.{list_any, list_all, slice_split, ends_with}
+use Rattle.std.proofs.Common.{◌≡◌, ℕ, eqb, ltb, Bool, true, false, cond, not, ◌||◌, ◌&&◌, List, [], ◌∷◌, ◌++◌, length, take, Option, Some, None, refl, sym, ap, ◌∙◌, arith, append_assoc, append-nil, length-append, inl, inr}
+use Rattle.std.specs.Prelude.{flat_map, is_some}
+use Rattle.std.specs.List.{list_any, list_all}
 use Rattle.std.proofs.Math.Bool.{or-true, or-false, or_assoc}
 use Rattle.std.proofs.lemmas.Bool.{or_parts, cases_lt}
 use Rattle.std.proofs.lemmas.Bool.Decides.{nat_tests}
@@ -9,17 +9,14 @@ use Rattle.std.proofs.lemmas.List.{take-append-le, take_all, length-take-le}
 use Rattle.std.proofs.lemmas.List.Folds.{list_any-append, list_all-append}
 use Rattle.std.proofs.lemmas.Grind.{flat_map-append}
 use Rattle.hex.specs.Hex.{is_hex_digit}
-use Rattle.pm_lines.specs.Lines.{is_space, without_return, carriage_return}
+use Rattle.pm_lines.specs.Lines.{is_space}
 use Rattle.pm_trace.specs.Marks.{ended, since, before, after}
 use Rattle.pm_trace.specs.Trace.{is_slash, is_separator, byte_of, unpaired, word_bytes, is_bad_word, part_bytes}
 use Rattle.pm_trace.specs.Parts.{Collected, part_of, part_takes}
-use Rattle.pm_trace.specs.OpenLines.{kind_of, kind_takes, body_of, body_takes, body_parts, body_goes_on, body_with, body_paired, line_of, line_takes, body_with_return}
-use Rattle.pm_trace.specs.declared.line_body.LineBody.{LineBody}
-use Rattle.pm_trace.specs.declared.line_kind.LineKind.{LineKind}
-use Rattle.pm_trace.specs.declared.line_kind.LineKind.TheVariants.{Empty, Blank, Comment, Packet}
-use Rattle.pm_trace.specs.declared.open_line.OpenLine.{OpenLine}
+use Rattle.pm_trace.specs.OpenLines.{kind_of, kind_takes, body_of, body_takes, body_parts, body_goes_on}
+use Rattle.pm_trace.specs.declared.line_kind.LineKind.TheVariants.{Blank, Comment, Packet}
 use Rattle.pm_trace.specs.declared.part.TheConstants.{PART_BYTES}
-use Rattle.pm_trace.proofs.MarkLemmas.{ended_none, since_none, before_none, after_none, ended-mark, ended-other, since-mark, since-other, split-ended, before-marked, before-unmarked, after-marked, after-unmarked}
+use Rattle.pm_trace.proofs.MarkLemmas.{before_none, after_none, ended-mark, ended-other, since-mark, since-other, split-ended, before-marked, before-unmarked, after-marked, after-unmarked}
 
 -- ---- pairs of digits
 

@@ -1,14 +1,14 @@
 -- What a call that takes bytes leaves, by the first line of these bytes.
-use Rattle.std.proofs.Common.{◌≡◌, ℕ, ◌+◌, false, List, length, take, Option, Some, None, refl, sym, ap, subst, ◌∙◌}
+use Rattle.std.proofs.Common.{◌≡◌, ℕ, ◌+◌, false, List, length, take, Some, None, refl, sym, ap, subst, ◌∙◌}
 use Rattle.std.specs.Prelude.{position}
 use Rattle.std.specs.List.{fold}
 use Rattle.pm_trace.specs.declared.gathered.Gathered.{Gathered}
 use Rattle.pm_trace.specs.Counts.{Counts, IsNewCode}
 use Rattle.pm_lines.specs.Lines.{is_line_feed}
 use Rattle.pm_trace.specs.Gathered.{kept_in, shown_in}
-use Rattle.pm_trace.specs.Decoding.{Kept, next, told, some_told, first_line, line_ended, line_told, CarriesNew}
+use Rattle.pm_trace.specs.Decoding.{next, told, some_told, first_line, line_ended, line_told, CarriesNew}
 use Rattle.pm_trace.specs.OpenLines.{line_takes}
-use Rattle.pm_trace.proofs.RunLemmas.{RunsOpen, RunsEnded, runs_open, runs_ended, kept_with}
+use Rattle.pm_trace.proofs.RunLemmas.{runs_open, runs_ended, kept_with}
 
 -- with bytes without a line feed behind those that it took
 abbrev pub gathered_with : Gathered → List ℕ → Gathered

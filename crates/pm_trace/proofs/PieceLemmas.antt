@@ -1,19 +1,18 @@
 -- A decoder that is called again and again.
-use Rattle.std.proofs.Common.{◌≡◌, ℕ, ◌+◌, ◌-◌, Bool, true, false, cond, eqb, List, [], ◌∷◌, ◌++◌, length, take, drop, Option, Some, None, refl, sym, ap, subst, ◌∙◌, arith, append_assoc, append-nil, length-append, take-append-drop}
+use Rattle.std.proofs.Common.{◌≡◌, ℕ, ◌+◌, ◌-◌, Bool, true, false, cond, List, [], ◌∷◌, ◌++◌, length, take, drop, None, refl, sym, ap, subst, ◌∙◌, arith, append_assoc, append-nil, take-append-drop}
 use Rattle.std.specs.Prelude.{flat_map}
 use Rattle.std.specs.List.{concat, count_by}
 use Rattle.std.proofs.lemmas.List.Sums.{sum_by-cons}
-use Rattle.std.proofs.Math.Seq.{take-append_seam, drop-append_seam}
+use Rattle.std.proofs.Math.Seq.{take-append_seam}
 use Rattle.pm_lines.specs.declared.text.TheConstants.{MAX_TEXT}
-use Rattle.pm_trace.specs.declared.standing.Standing.{Standing}
-use Rattle.pm_trace.specs.declared.standing.Standing.TheVariants.{Open, Finished, Failed}
+use Rattle.pm_trace.specs.declared.standing.Standing.TheVariants.{Open}
 use Rattle.pm_lines.specs.Lines.{is_line_feed}
-use Rattle.pm_trace.specs.Counts.{Counts, counts_of, counts_with, one_counted, lines_in, is_accepted, is_faulty, is_bad}
-use Rattle.pm_trace.specs.Trace.{Told, Judged, Accepted, Faulty, BadSyntax, BadHex, trace_of}
+use Rattle.pm_trace.specs.Counts.{counts_of, counts_with, lines_in, is_accepted, is_faulty, is_bad}
+use Rattle.pm_trace.specs.Trace.{Told, Accepted, Faulty, BadSyntax, BadHex, trace_of}
 use Rattle.pm_trace.specs.OpenLines.{is_begun}
-use Rattle.pm_trace.specs.Decoding.{Kept, Holding, IsFresh, Feeds, Finishes, now, said, next, told, some_told, told_at_end, kept_at_end, line_told, line_ended, first_line, taken_by, taken_of, told_by, kept_by}
+use Rattle.pm_trace.specs.Decoding.{Holding, IsFresh, Feeds, Finishes, now, said, next, told, some_told, told_at_end, kept_at_end, line_told, line_ended, first_line, taken_by, taken_of, told_by, kept_by}
 use Rattle.pm_trace.specs.Pieces.{Call, Calls, Decodes, TakesWhole, taken_in}
-use Rattle.pm_trace.proofs.SaidLemmas.{now-append, said-append, trace_of-end, counts-at_end, counts_of-snoc}
+use Rattle.pm_trace.proofs.SaidLemmas.{now-append, said-append, trace_of-end, counts-at_end}
 
 -- the first line is a front
 first_front : (bytes : List ℕ) → (rest : List ℕ) × (bytes ≡ first_line bytes ++ rest)

@@ -1,7 +1,7 @@
 -- What is kept and said of a text with one byte more at its end, with more bytes, and at its end.
-use Rattle.std.proofs.Common.{◌≡◌, ℕ, ◌+◌, ◌-◌, ◌<◌, ◌≤◌, eqb, ltb, Bool, true, false, cond, not, ◌||◌, ◌&&◌, List, [], ◌∷◌, ◌++◌, length, map, filter, take, Option, Some, None, Result, Ok, Err, refl, sym, ap, subst, ◌∙◌, arith, append_assoc, append-nil, length-append}
-use Rattle.std.specs.Prelude.{is_some, nat_eq, codes}
-use Rattle.std.specs.List.{list_any, list_all, slice_split, starts_with, ends_with, enumerate_from, filter_map, fold, count_by, sum_by}
+use Rattle.std.proofs.Common.{◌≡◌, ℕ, ◌+◌, ◌-◌, ◌≤◌, eqb, Bool, true, false, cond, not, ◌||◌, ◌&&◌, List, [], ◌∷◌, ◌++◌, length, map, filter, take, Option, Some, None, Ok, Err, refl, sym, ap, ◌∙◌, arith, append_assoc, append-nil, length-append}
+use Rattle.std.specs.Prelude.{is_some, nat_eq}
+use Rattle.std.specs.List.{list_any, list_all, ends_with, enumerate_from, filter_map, count_by}
 use Rattle.std.proofs.Math.Bool.{and-true, or-true, or-false, or_assoc}
 use Rattle.std.proofs.lemmas.Bool.{or_parts}
 use Rattle.std.proofs.lemmas.Bool.Decides.{nat_tests}
@@ -9,16 +9,15 @@ use Rattle.std.proofs.lemmas.List.{map-append, take_all}
 use Rattle.std.proofs.lemmas.List.Elements.{filter-append, filter_map-append}
 use Rattle.std.proofs.lemmas.List.Folds.{list_any-append}
 use Rattle.std.proofs.lemmas.List.Sums.{sum_by-append, fold-append}
-use Rattle.pm_lines.specs.Lines.{Numbered, is_line_feed, is_space, is_skipped, is_unskipped, has_bytes, without_return, without_empty_last, carriage_return, lines_of, unskipped_from}
+use Rattle.pm_lines.specs.Lines.{is_line_feed, is_space, is_skipped, is_unskipped, has_bytes, without_return, without_empty_last, carriage_return, lines_of, unskipped_from}
 use Rattle.pm_trace.specs.Marks.{ended, since, before, after}
-use Rattle.pm_trace.specs.Trace.{Told, told_of, Judged, Accepted, Faulty, BadSyntax, BadHex, is_slash, is_separator, is_bad_word, has_bad_word, is_long, is_misshapen, part_bytes, parts_of, line_read, line_judged, reading_judged, trace_of, unpaired}
-use Rattle.pm_trace.specs.Counts.{Counts, counts_of, counts_with, one_counted, one_more, counted, code_told, is_accepted, is_faulty, is_bad}
+use Rattle.pm_trace.specs.Trace.{Told, told_of, Accepted, Faulty, BadSyntax, BadHex, is_slash, is_separator, is_bad_word, has_bad_word, is_long, is_misshapen, part_bytes, parts_of, line_read, line_judged, reading_judged, trace_of, unpaired}
+use Rattle.pm_trace.specs.Counts.{counts_of, counts_with, one_counted, one_more, counted, code_told, is_accepted, is_faulty, is_bad}
 use Rattle.pm_trace.specs.Parts.{part_of}
 use Rattle.pm_trace.specs.OpenLines.{kind_of, is_skipped_kind, is_empty_kind, body_of, body_read, body_judged, line_of, line_takes, is_begun}
-use Rattle.pm_trace.specs.Decoding.{Kept, now, said, kept_takes, next, told, some_told, line_told, line_ended, told_at_end}
-use Rattle.pm_trace.specs.declared.line_fault.LineFault.{LineFault}
+use Rattle.pm_trace.specs.Decoding.{now, said, kept_takes, next, told, some_told, line_told, line_ended, told_at_end}
 use Rattle.pm_trace.specs.declared.line_fault.LineFault.TheVariants as fault
-use Rattle.pm_trace.specs.declared.line_kind.LineKind.TheVariants.{Empty, Blank, Comment, Packet}
+use Rattle.pm_trace.specs.declared.line_kind.LineKind.TheVariants.{Blank, Comment, Packet}
 use Rattle.pm_trace.specs.declared.part.TheConstants.{PART_BYTES}
 use Rattle.pm_trace.specs.declared.trace_line.TraceLine.{TraceLine}
 use Rattle.hex.specs.Hex.{is_hex_digit}

@@ -1,10 +1,10 @@
 -- What a decoder keeps of the bytes that it has taken, and what it says of the lines that end:
 -- `now` and `said`, a look back over all its bytes, and `next` and `told`, what further bytes make
 -- of it. This project's own choice.
-use Rattle.std.specs.Prelude.{◌≡◌, ℕ, ◌+◌, ◌-◌, Bool, true, false, ◌&&◌, nat_le, if◌then◌else◌, List, [], ◌∷◌, ◌++◌, length, map, take, drop, filter, Option, Some, None}
-use Rattle.std.specs.List.{list_any, fold, filter_map, enumerate_from}
+use Rattle.std.specs.Prelude.{◌≡◌, ℕ, ◌+◌, ◌-◌, Bool, false, ◌&&◌, nat_le, if◌then◌else◌, List, [], ◌∷◌, ◌++◌, length, map, take, filter, Option, Some, None}
+use Rattle.std.specs.List.{list_any, fold, enumerate_from}
 use Rattle.pm_lines.specs.declared.fault.TextFault.{TextFault}
-use Rattle.pm_lines.specs.declared.fault.TextFault.TheVariants.{TooLong, Memory}
+use Rattle.pm_lines.specs.declared.fault.TextFault.TheVariants.{TooLong}
 use Rattle.pm_lines.specs.declared.text.TheConstants.{MAX_TEXT}
 use Rattle.pm_trace.specs.declared.standing.Standing.{Standing}
 use Rattle.pm_trace.specs.declared.standing.Standing.TheVariants.{Open, Finished, Failed}
@@ -12,7 +12,7 @@ use Rattle.pm_trace.specs.declared.fed.Fed.{Fed}
 use Rattle.pm_trace.specs.declared.open_line.OpenLine.{OpenLine}
 use Rattle.pm_lines.specs.Lines.{has_bytes, is_line_feed, is_unskipped, without_return}
 use Rattle.pm_trace.specs.Marks.{ended, since}
-use Rattle.pm_trace.specs.Trace.{Told, told_of, Judged}
+use Rattle.pm_trace.specs.Trace.{Told, told_of}
 use Rattle.pm_trace.specs.Counts.{Counts, counts_of, counts_with, IsNewCode}
 use Rattle.pm_trace.specs.OpenLines.{line_of, line_takes, is_begun, is_skipped_kind, body_judged}
 

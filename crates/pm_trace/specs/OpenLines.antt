@@ -1,8 +1,8 @@
 -- What is kept of a line of a trace while its bytes come one after another, as a look back over its
 -- bytes so far (`kind_of`, `body_of`, `line_of`), and what one more byte makes of it
 -- (`kind_takes`, `body_takes`, `line_takes`). This project's own choice.
-use Rattle.std.specs.Prelude.{ℕ, Bool, true, false, not, ◌&&◌, ◌||◌, ◌==◌, nat_lt, nat_eq, if◌then◌else◌, List, [], ◌∷◌, ◌++◌, length, take, is_some, Option, Some, None, Result, Ok, Err}
-use Rattle.std.specs.List.{list_any, list_all, ends_with}
+use Rattle.std.specs.Prelude.{ℕ, Bool, true, false, not, ◌&&◌, ◌||◌, ◌==◌, nat_eq, if◌then◌else◌, List, [], ◌∷◌, is_some, Option, Some, None, Result, Ok, Err}
+use Rattle.std.specs.List.{fold, list_any, list_all, ends_with}
 use Rattle.hex.specs.Hex.{is_hex_digit}
 use Rattle.pm_lines.specs.Lines.{is_space, without_return, carriage_return}
 use Rattle.pm_trace.specs.Marks.{ended, since, before, after}
@@ -14,7 +14,8 @@ use Rattle.pm_trace.specs.declared.line_kind.LineKind.TheVariants.{Empty, Blank,
 use Rattle.pm_trace.specs.declared.trace_line.TraceLine.{TraceLine}
 use Rattle.pm_trace.specs.declared.line_body.LineBody.{LineBody}
 use Rattle.pm_trace.specs.declared.open_line.OpenLine.{OpenLine}
-use Rattle.pm_trace.specs.Parts.{Collected, part_of, part_takes}
+use Rattle.pm_trace.specs.Pairs.{paired_bytes}
+use Rattle.pm_trace.specs.Parts.{part_of, part_takes}
 
 -- ---- whether a line is skipped
 
@@ -63,6 +64,13 @@ body_with body byte = record body {
   read = if body.has_slash then part_takes body.read byte else body.read;
 }
 
+-- the part that goes on, with the bytes of the pairs of digits at the front of these
+abbrev pub body_with_pairs : LineBody → List ℕ → LineBody
+body_with_pairs body bytes = record body {
+  write = if body.has_slash then body.write else fold part_takes body.write (paired_bytes bytes);
+  read = if body.has_slash then fold part_takes body.read (paired_bytes bytes) else body.read;
+}
+
 -- a digit, which makes a byte with the one before it, where there is one
 abbrev pub body_paired : LineBody → Option ℕ → ℕ → LineBody
 body_paired body None byte = record body { digit = Some byte }
@@ -90,6 +98,10 @@ body_goes_on body byte = body_paired (record body {
 unfoldable pub body_takes : LineBody → ℕ → LineBody
 body_takes body byte =
     if is_separator byte then body_parts body byte else body_goes_on body byte
+
+-- it isn't skipped, and no digit waits for another
+abbrev pub is_between_bytes : LineBody → Bool
+is_between_bytes body = not (is_skipped_kind body.kind) && not (is_some body.digit)
 
 -- what a line reads as that ends here
 unfoldable pub body_read : LineBody → Result TraceLine LineFault

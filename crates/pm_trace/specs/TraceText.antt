@@ -1,7 +1,7 @@
 -- What is written of a trace: a line for each of its lines that isn't skipped, a line for each code
 -- that was carried, and the counts. The forms are this project's own choice; names are printed as
 -- in PMBus 1.3 Part II.
-use Rattle.std.specs.Prelude.{ℕ, ◌==◌, Bool, if◌then◌else◌, List, [], ◌∷◌, ◌++◌, flat_map, unwrap_or, decimal, codes, Option, Some, None, ⊤}
+use Rattle.std.specs.Prelude.{ℕ, ◌==◌, if◌then◌else◌, List, [], ◌∷◌, ◌++◌, flat_map, unwrap_or, decimal, codes, Option, Some, None, ⊤}
 use Rattle.std.specs.Option.{option_map_or}
 use Rattle.std.specs.Fmt.{signed_decimal}
 use Rattle.pm_table.specs.Commands.{line_of}

@@ -5,6 +5,7 @@ use crate::gathered::Gathered;
 use crate::shown::Shown;
 use crate::standing::Standing;
 use crate::tally::Tally;
+use crate::verdict::Verdict;
 use pm_lines::{MAX_TEXT, TextFault};
 use std::alloc::Global;
 use std::marker::Model;
@@ -37,7 +38,7 @@ impl Decoder {
     ghost use Rattle.std.specs.Prelude.{[], ◌⊎◌, ◌≤◌, ◌<◌, ◌^◌, length, None, Some, IfOk, IfErr, OnOk, OnErr, IsOk, option_map};
     ghost use Rattle.pm_trace.specs.Counts.{lines_in};
     ghost use Rattle.pm_trace.specs.Decoding.{IsFresh, Feeds, Finishes, Fails, CarriesNew, refusal_of, taken_of, told, told_by, some_told};
-    ghost use Rattle.pm_trace.specs.ShownLines.{told_in};
+    ghost use Rattle.pm_trace.specs.ShownLines.{told_in, verdict_told};
     ghost use Rattle.pm_lines.specs.declared.text.TheConstants.{MAX_TEXT};
 
     /// A decoder that took no byte. Takes no memory.
@@ -145,6 +146,16 @@ impl Decoder {
             return None;
         }
         Some((self.gathered.ended, self.gathered.line.body.shown()))
+    }
+
+    /// The same without a view of the bytes.
+    pub(crate) fn verdict(&self) -> Option<(u64, &Verdict)>
+        ensures { option_map verdict_told result ≡ self.now.shown }
+    {
+        match &self.gathered.verdict {
+            Some(verdict) => Some((self.gathered.ended, verdict)),
+            None => None,
+        }
     }
 
     /// How many lines ended that are not skipped, and how many of these were accepted, have a faulty

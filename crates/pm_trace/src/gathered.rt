@@ -5,6 +5,7 @@ ghost use Rattle.pm_lines.specs.declared.text.TheConstants.{MAX_TEXT};
 use crate::fed::Fed;
 use crate::open_line::OpenLine;
 use crate::tally::Tally;
+use crate::verdict::Verdict;
 use std::alloc::{AllocError, Global};
 
 /// What a decoder gathered of the bytes that it took.
@@ -14,6 +15,8 @@ pub(crate) struct Gathered {
     pub(crate) tally: Tally,
     /// The line that goes on, or the one that ended last.
     pub(crate) line: OpenLine,
+    /// What the line says that ended last, where it is shown.
+    pub(crate) verdict: Option<Verdict>,
     /// How many bytes were taken.
     pub(crate) taken: usize,
     /// How many lines ended, the skipped ones too.
@@ -23,10 +26,10 @@ pub(crate) struct Gathered {
 }
 
 impl Gathered {
-    ghost use Rattle.std.specs.Prelude.{[], false, ◌+◌, ◌≤◌, ◌<◌, ◌^◌, length, if◌then◌else◌, IfOk, OnOk, OnErr};
+    ghost use Rattle.std.specs.Prelude.{[], None, false, ◌+◌, ◌≤◌, ◌<◌, ◌^◌, length, if◌then◌else◌, IfOk, OnOk, OnErr};
     ghost use Rattle.std.specs.List.{fold, list_any};
     ghost use Rattle.pm_trace.specs.Counts.{lines_in};
-    ghost use Rattle.pm_trace.specs.Gathered.{kept_in, shown_in, IsBounded};
+    ghost use Rattle.pm_trace.specs.Gathered.{kept_in, shown_in, IsBounded, IsJudged};
     ghost use Rattle.pm_trace.specs.Decoding.{now, next, told, some_told, first_line, line_ended, line_told, CarriesNew};
     ghost use Rattle.pm_trace.specs.OpenLines.{line_of, line_takes};
 
@@ -40,6 +43,7 @@ impl Gathered {
         Gathered {
             tally: Tally::new(alloc),
             line: OpenLine::new(),
+            verdict: None,
             taken: 0,
             ended: 0,
             has_ended: false,
@@ -50,6 +54,7 @@ impl Gathered {
     pub(crate) fn begin(&mut self)
         ensures { self.new ≡ record self.old {
           line = if self.old.has_ended then line_of [] else self.old.line;
+          verdict = None;
           has_ended = false;
         } }
     {
@@ -57,6 +62,7 @@ impl Gathered {
             self.line.clear();
             self.has_ended = false;
         }
+        self.verdict = None;
     }
 
     /// Takes bytes up to the first line feed, and with it, or all of them. What they are is said
@@ -65,6 +71,7 @@ impl Gathered {
     #[tactic(auto, unfolding(crate::specs::Decoding::kept_takes))]
     pub(crate) fn take_line(&mut self, bytes: &[u8]) -> Result<Fed, AllocError>
         requires open { self.old.has_ended ≡ false }
+        requires unjudged { self.old.verdict ≡ None }
         requires bounded { IsBounded 0 self.old }
         requires room { self.old.taken + length bytes.now ≤ MAX_TEXT }
         ensures taken { IfOk result (λ fed. fed.taken ≡ length (first_line bytes.now)) }
@@ -115,10 +122,12 @@ impl Gathered {
     /// changes.
     pub(crate) fn end_line(&mut self) -> Result<(), AllocError>
         requires open { self.old.has_ended ≡ false }
+        requires unjudged { self.old.verdict ≡ None }
         requires counted { lines_in self.old.tally ≤ self.old.ended }
         requires ended { self.old.ended ≤ MAX_TEXT }
         ensures kept { OnOk result (kept_in self.new ≡ line_ended (kept_in self.old)) }
         ensures shown { OnOk result (shown_in self.new ≡ line_told (kept_in self.old)) }
+        ensures judged { OnOk result (IsJudged self.new) }
         ensures ended { OnOk result (self.new.ended ≡ self.old.ended + 1) }
         ensures taken { self.new.taken ≡ self.old.taken }
         ensures counted { OnOk result (lines_in self.new.tally ≤ self.new.ended) }
@@ -127,7 +136,9 @@ impl Gathered {
         ensures unchanged { OnErr result (self.new ≡ self.old) }
     {
         if !self.line.body.is_skipped() {
-            self.tally.count(&self.line.body.shown())?;
+            let shown = self.line.body.shown();
+            self.tally.count(&shown)?;
+            self.verdict = Some(Verdict::of(&shown));
         }
         self.ended += 1;
         self.has_ended = true;

@@ -25,6 +25,7 @@ mod standing;
 mod tally;
 mod trace_line;
 mod traces;
+mod verdict;
 
 pub use byte_list::ByteList;
 pub use decode_end::DecodeEnd;

@@ -26,8 +26,9 @@ pub(crate) struct LineBody {
 impl LineBody {
     ghost use Rattle.std.specs.Prelude.{[], option_map, IfOk, IfErr, Ok, Err};
     ghost use Rattle.pm_trace.specs.OpenLines.{body_of, body_takes, body_parts, body_goes_on, body_read, is_skipped_kind, is_empty_kind};
-    ghost use Rattle.pm_trace.specs.OpenLines.{body_with, body_judged};
-    ghost use Rattle.pm_trace.specs.ShownLines.{judged_in};
+    ghost use Rattle.pm_trace.specs.OpenLines.{body_with, body_judged, body_with_pairs, is_between_bytes};
+    ghost use Rattle.pm_trace.specs.Pairs.{behind_pairs};
+    ghost use Rattle.pm_trace.specs.ShownLines.{judged_in, HasShortAnswer};
     ghost use Rattle.pm_trace.specs.Trace.{line_read};
 
     /// A line without bytes.
@@ -120,6 +121,27 @@ impl LineBody {
         }
     }
 
+    /// Whether no digit waits for another in a line that isn't skipped: then pairs of digits and
+    /// spaces change its part alone.
+    pub(crate) fn is_between_bytes(&self) -> bool
+        ensures { result ≡ is_between_bytes self.now }
+    {
+        matches!(self.kind, LineKind::Packet) && self.digit.is_none()
+    }
+
+    /// Takes the pairs of digits at the front, for the part that goes on, and gives what stands
+    /// behind them.
+    pub(crate) fn take_pairs<'a>(&mut self, bytes: &'a [u8]) -> &'a [u8]
+        ensures taken { self.new ≡ body_with_pairs self.old bytes.entry.now }
+        ensures rest { result.now ≡ behind_pairs bytes.entry.now }
+    {
+        if self.has_slash {
+            self.read.take_pairs(bytes)
+        } else {
+            self.write.take_pairs(bytes)
+        }
+    }
+
     /// The write part and the read part of the line as it stands.
     #[tactic(auto, unfolding(crate::specs::OpenLines::body_read))]
     pub(crate) fn parts(&self) -> Result<(&[u8], Option<&[u8]>), LineFault>
@@ -145,7 +167,8 @@ impl LineBody {
 
     /// What the line says as it stands.
     pub(crate) fn shown(&self) -> Shown<'_>
-        ensures { judged_in result ≡ body_judged self.now }
+        ensures judged { judged_in result ≡ body_judged self.now }
+        ensures short { HasShortAnswer result }
     {
         match self.parts() {
             Ok((write, read)) => packet_shown(write, read),

@@ -1,5 +1,6 @@
 ghost use Rattle.std.specs.Prelude.{◌≡◌};
 
+use crate::hex_digit::pair_of;
 use arrayvec::ArrayVec;
 use std::marker::Model;
 
@@ -22,7 +23,9 @@ impl Model for Part {
 }
 
 impl Part {
+    ghost use Rattle.pm_trace.specs.Pairs.{paired_bytes, behind_pairs};
     ghost use Rattle.pm_trace.specs.Parts.{part_of, part_takes};
+    ghost use Rattle.std.specs.List.{fold};
     ghost use Rattle.std.specs.Prelude.{[]};
 
     /// A part without bytes.
@@ -43,6 +46,28 @@ impl Part {
     {
         if self.bytes.try_push(byte).is_err() {
             self.is_long = true;
+        }
+    }
+
+    /// Takes the bytes that the pairs of digits at the front write, up to what is no such pair, and
+    /// gives what stands behind them.
+    pub(crate) fn take_pairs<'a>(&mut self, digits: &'a [u8]) -> &'a [u8]
+        ensures taken { self.new ≡ fold part_takes self.old (paired_bytes digits.entry.now) }
+        ensures rest { result.now ≡ behind_pairs digits.entry.now }
+    {
+        let mut rest = digits;
+        'pairs: loop {
+            match rest {
+                [b' ', more @ ..] => rest = more,
+                [high, low, more @ ..] => {
+                    let Some(byte) = pair_of(*high, *low) else {
+                        return rest;
+                    };
+                    self.take(byte);
+                    rest = more;
+                }
+                _ => return rest,
+            }
         }
     }
 

@@ -1,47 +1,56 @@
 //! The text of a line that is shown.
 ghost use Rattle.std.specs.Prelude.{◌≡◌, ◌++◌, [], OnOk, string_bytes, option_map, unwrap_or, decimal, codes};
 ghost use Rattle.std.specs.Fmt.{signed_decimal};
-ghost use Rattle.pm_trace.specs.ShownLines.{judged_in};
+ghost use Rattle.pm_frame.specs.Layout.{payload_bytes};
+ghost use Rattle.pm_trace.specs.ShownLines.{verdict_in};
 ghost use Rattle.pm_trace.specs.TraceText.{told_text, judged_text, address_text, fault_text, message_text};
-ghost use Rattle.pm_trace.specs.TraceText.{plain_text, page_text, payload_text, asked_text, numbers_text, code_name};
+ghost use Rattle.pm_trace.specs.TraceText.{plain_text, page_text, payload_text, written_text, asked_text, numbers_text, code_name};
 ghost use Rattle.pm_table.specs.Coefficients.{coefficients_of};
 
-use crate::shown::Shown;
-use pm_frame::{FrameFault, FrameView, Message};
+use crate::verdict::Verdict;
+use pm_frame::{FrameFault, Message, Payload};
 use pm_lines::{push_decimal, push_hex, push_hex_number, push_signed};
 use pm_table::{Code, Coefficients, known};
 use std::alloc::AllocError;
 
 /// Puts the text of a line behind a text, with the line's number and without a line feed.
 #[tactic(auto, using(crate::proofs::Joins::joins), unfolding(crate::specs::TraceText::told_text))]
-pub(crate) fn push_line(text: &mut String, number: u64, shown: &Shown<'_>) -> Result<(), AllocError>
+pub(crate) fn push_line(text: &mut String, number: u64, verdict: &Verdict) -> Result<(), AllocError>
     ensures { OnOk result (string_bytes text.new
-        ≡ string_bytes text.old ++ told_text (number, judged_in shown.now)) }
+        ≡ string_bytes text.old ++ told_text (number, verdict_in verdict.now)) }
 {
     push_decimal(text, number)?;
     text.push_str(" ")?;
-    push_shown(text, shown)
+    push_verdict(text, verdict)
 }
 
 // What the line says.
 #[tactic(auto, using(crate::proofs::Joins::joins))]
-fn push_shown(text: &mut String, shown: &Shown<'_>) -> Result<(), AllocError>
+fn push_verdict(text: &mut String, verdict: &Verdict) -> Result<(), AllocError>
     ensures { OnOk result (string_bytes text.new
-        ≡ string_bytes text.old ++ judged_text (judged_in shown.now)) }
+        ≡ string_bytes text.old ++ judged_text (verdict_in verdict.now)) }
 {
-    match shown {
-        Shown::Accepted { addr, view, answer } => {
+    match verdict {
+        Verdict::Accepted {
+            addr,
+            message,
+            answer,
+        } => {
+            let answer = match answer {
+                Some(answer) => Some(answer.as_slice()),
+                None => None,
+            };
             push_hex(text, *addr)?;
             text.push_str(" ")?;
-            push_message(text, view, *answer)
+            push_message(text, *message, answer)
         }
-        Shown::Faulty { addr, read, fault } => {
+        Verdict::Faulty { addr, read, fault } => {
             push_address(text, *addr)?;
             text.push_str(if *read { " read " } else { " write " })?;
             push_fault(text, *fault)
         }
-        Shown::BadSyntax => text.push_str("X1 Syntax"),
-        Shown::BadHex => text.push_str("X2 BadHex"),
+        Verdict::BadSyntax => text.push_str("X1 Syntax"),
+        Verdict::BadHex => text.push_str("X2 BadHex"),
     }
 }
 
@@ -82,41 +91,68 @@ fn push_placed(text: &mut String, name: &str, place: usize) -> Result<(), AllocE
 }
 
 // What a packet says that was accepted.
-#[tactic(auto, using(crate::proofs::Joins::joins))]
+#[tactic(auto, using(crate::proofs::Joins::joins), unfolding(crate::specs::TraceText::plain_text))]
 fn push_message(
     text: &mut String,
-    view: &FrameView<'_>,
+    message: Message,
     answer: Option<&[u8]>,
 ) -> Result<(), AllocError>
     ensures { OnOk result (string_bytes text.new ≡ string_bytes text.old
-        ++ message_text view.now (option_map (λ bytes. bytes.now) answer.entry)) }
+        ++ message_text message (option_map (λ bytes. bytes.now) answer.entry)) }
 {
-    match view.message() {
+    match message {
+        Message::SendByte { code } => push_plain(text, None, code, Payload::Empty, answer),
+        Message::WriteByte { code, byte } => push_plain(
+            text,
+            None,
+            code,
+            Payload::Byte(byte),
+            answer,
+        ),
+        Message::WriteWord { code, word } => push_plain(
+            text,
+            None,
+            code,
+            Payload::Word(word),
+            answer,
+        ),
+        Message::PagePlusWrite {
+            page,
+            code,
+            payload,
+        } => { push_plain(text, Some(page), code, payload, answer) }
+        Message::ReadCommand { code } => push_plain(text, None, code, Payload::Empty, answer),
+        Message::PagePlusRead { page, code } => {
+            push_plain(text, Some(page), code, Payload::Empty, answer)
+        }
         Message::ReadCoefficients { code, side } => {
             push_coefficients(text, code, side, answered(answer))
         }
-        Message::SendByte { .. }
-        | Message::WriteByte { .. }
-        | Message::WriteWord { .. }
-        | Message::PagePlusWrite { .. }
-        | Message::ReadCommand { .. }
-        | Message::PagePlusRead { .. } => push_plain(text, view, answer),
     }
 }
 
 // The page that a packet names, its code's name, and what it carries.
-#[tactic(auto, using(crate::proofs::Joins::joins), unfolding(crate::specs::TraceText::plain_text))]
+#[tactic(auto, using(crate::proofs::Joins::joins))]
 fn push_plain(
     text: &mut String,
-    view: &FrameView<'_>,
+    page: Option<u8>,
+    code: u8,
+    payload: Payload,
     answer: Option<&[u8]>,
 ) -> Result<(), AllocError>
     ensures { OnOk result (string_bytes text.new ≡ string_bytes text.old
-        ++ plain_text view.now (option_map (λ bytes. bytes.now) answer.entry)) }
+        ++ (page_text page ++ (code_name code
+        ++ payload_text (payload_bytes payload) (option_map (λ bytes. bytes.now) answer.entry)))) }
 {
-    push_page(text, view.page())?;
-    text.push_str(name_of(view.code()))?;
-    push_payload(text, view.payload(), answer)
+    push_page(text, page)?;
+    text.push_str(name_of(code))?;
+    match answer {
+        Some(answer) => {
+            text.push_str(" read ")?;
+            push_hex_number(text, answer)
+        }
+        None => push_written(text, payload),
+    }
 }
 
 // The page, where one is named.
@@ -132,21 +168,21 @@ fn push_page(text: &mut String, page: Option<u8>) -> Result<(), AllocError>
     text.push_str(" ")
 }
 
-// What a write carries, or what a read was answered.
+// What a write carries.
 #[tactic(auto, using(crate::proofs::Joins::joins))]
-fn push_payload(text: &mut String, payload: &[u8], answer: Option<&[u8]>) -> Result<(), AllocError>
-    ensures { OnOk result (string_bytes text.new ≡ string_bytes text.old
-        ++ payload_text payload.now (option_map (λ bytes. bytes.now) answer.entry)) }
+fn push_written(text: &mut String, payload: Payload) -> Result<(), AllocError>
+    ensures { OnOk result (string_bytes text.new
+        ≡ string_bytes text.old ++ written_text (payload_bytes payload)) }
 {
-    match (answer, payload) {
-        (Some(answer), _) => {
-            text.push_str(" read ")?;
-            push_hex_number(text, answer)
-        }
-        (None, []) => text.push_str(" send"),
-        (None, _) => {
+    match payload {
+        Payload::Empty => text.push_str(" send"),
+        Payload::Byte(byte) => {
             text.push_str(" write ")?;
-            push_hex_number(text, payload)
+            push_hex_number(text, &[byte])
+        }
+        Payload::Word(word) => {
+            text.push_str(" write ")?;
+            push_hex_number(text, &word.to_le_bytes())
         }
     }
 }

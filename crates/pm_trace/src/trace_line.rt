@@ -7,6 +7,7 @@ use crate::line_body::LineBody;
 use crate::line_fault::LineFault;
 use crate::shown::packet_shown;
 use crate::shown_text::push_line;
+use crate::verdict::Verdict;
 use pm_lines::TextFault;
 use std::alloc::Global;
 
@@ -63,10 +64,7 @@ pub fn render_line(alloc: Global, number: u64, line: &TraceLine) -> Result<Strin
         None => None,
     };
     let mut text = String::new(alloc);
-    push_line(
-        &mut text,
-        number,
-        &packet_shown(line.write.as_slice(), read),
-    )?;
+    let shown = packet_shown(line.write.as_slice(), read);
+    push_line(&mut text, number, &Verdict::of(&shown))?;
     Ok(text)
 }

@@ -164,10 +164,10 @@ fn push_shown(text: &mut String, decoder: &Decoder) -> Result<(), AllocError>
     ensures { OnOk result (string_bytes text.new
         ≡ string_bytes text.old ++ told_lines (some_told decoder.now.shown)) }
 {
-    let Some((number, shown)) = decoder.line() else {
+    let Some((number, verdict)) = decoder.verdict() else {
         return Ok(());
     };
-    push_line(text, number, &shown)?;
+    push_line(text, number, verdict)?;
     text.push_str("\n")
 }
 

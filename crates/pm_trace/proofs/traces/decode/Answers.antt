@@ -1,4 +1,4 @@
-use Rattle.std.proofs.Common.{◌≡◌, ◌∙◌, ◌⊎◌, inl, inr, string_bytes}
+use Rattle.std.proofs.Common.{◌≡◌, ◌∙◌, inr, string_bytes}
 use Rattle.pm_trace.proofs.DecodeLemmas.{whole_input, end_all, end_front, end_counts, end_memory, as_front, as_all}
 use Rattle.pm_trace.proofs.traces.decode.Goals as goal
 

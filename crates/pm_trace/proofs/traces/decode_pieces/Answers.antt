@@ -1,5 +1,4 @@
-use Rattle.std.proofs.Common.{◌≡◌, ◌∙◌, refl, [], ◌++◌, true, false, take, sym, ap, arith, length, string_bytes, rules}
-use Rattle.std.proofs.lemmas.Result.{err_from_is_err_and}
+use Rattle.std.proofs.Common.{◌≡◌, ◌∙◌, refl, [], ◌++◌, true, false, take, arith, string_bytes, rules}
 use Rattle.std.proofs.lemmas.List.{length-take}
 use Rattle.pm_trace.proofs.DecodeLemmas.{written_none, written_room, put_front, put_memory, put_too_long, written_more, grown_more, from_empty, at_whole, as_front, as_all}
 use Rattle.pm_trace.proofs.traces.decode_pieces.Goals as goal

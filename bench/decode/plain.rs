@@ -1,0 +1,191 @@
+//! The same by a plain Rust program, line by line over a text in memory, without proofs: the
+//! milliseconds of the best of nine runs, and the bytes written. Built by bench/decode/run.sh.
+use std::collections::HashMap;
+use std::fmt::Write;
+use std::time::Instant;
+
+struct Info(&'static str, usize, bool, bool);
+
+fn info(code: u8) -> Option<Info> {
+    Some(match code {
+        0x00 => Info("PAGE", 1, true, true),
+        0x01 => Info("OPERATION", 1, true, true),
+        0x03 => Info("CLEAR_FAULTS", 0, false, true),
+        0x05 => Info("PAGE_PLUS_WRITE", 0, false, true),
+        0x06 => Info("PAGE_PLUS_READ", 0, true, false),
+        0x10 => Info("WRITE_PROTECT", 1, true, true),
+        0x20 => Info("VOUT_MODE", 1, true, false),
+        0x21 => Info("VOUT_COMMAND", 2, true, true),
+        0x30 => Info("COEFFICIENTS", 0, true, false),
+        0x8B => Info("READ_VOUT", 2, true, false),
+        _ => return None,
+    })
+}
+
+fn pec(mut code: u8, bytes: &[u8], table: &[u8; 256]) -> u8 {
+    for byte in bytes {
+        code = table[(code ^ byte) as usize];
+    }
+    code
+}
+
+// The bytes of a part, or None for a word that isn't an even number of digits.
+fn part(text: &str, bytes: &mut Vec<u8>) -> Option<()> {
+    bytes.clear();
+    for word in text.split(' ') {
+        if word.len() % 2 == 1 {
+            return None;
+        }
+        for pair in word.as_bytes().chunks(2) {
+            let high = (pair[0] as char).to_digit(16)?;
+            let low = (pair[1] as char).to_digit(16)?;
+            bytes.push((high * 16 + low) as u8);
+        }
+    }
+    Some(())
+}
+
+fn write_says(bytes: &[u8], table: &[u8; 256]) -> Result<(Option<u8>, u8, usize), String> {
+    let short = || format!("F2 Short {}", bytes.len());
+    if bytes.len() < 3 {
+        return Err(short());
+    }
+    let code = bytes[1];
+    let wanted = match info(code) {
+        Some(Info(_, length, _, true)) if code != 5 => length + 3,
+        _ if code == 5 => bytes[2] as usize + 4,
+        _ => bytes.len(),
+    };
+    if bytes.len() < wanted {
+        return Err(short());
+    }
+    if bytes.len() > wanted {
+        return Err(format!("F3 Long {wanted}"));
+    }
+    let last = bytes.len() - 1;
+    if pec(0, &bytes[..last], table) != bytes[last] {
+        return Err(format!("F5 WrongPec {last}"));
+    }
+    match code {
+        5 => Ok((Some(bytes[3]), bytes[4], 5)),
+        _ => Ok((None, code, 2)),
+    }
+}
+
+fn read_says(
+    write: &[u8],
+    read: &[u8],
+    table: &[u8; 256],
+) -> Result<(Option<u8>, u8, usize), String> {
+    if write.len() < 2 {
+        return Err("write F2 Short 1".to_string());
+    }
+    let plain = write[1] != 6;
+    let code = if plain { write[1] } else { write[4] };
+    let Some(Info(_, length, true, _)) = info(code) else {
+        return Err("write F6 UnknownCode 1".to_string());
+    };
+    let wanted = length + if plain { 2 } else { 3 };
+    if read.len() != wanted {
+        return Err(format!("read F2 Short {}", read.len()));
+    }
+    let last = read.len() - 1;
+    if pec(pec(0, write, table), &read[..last], table) != read[last] {
+        return Err(format!("read F5 WrongPec {last}"));
+    }
+    if plain {
+        Ok((None, code, 1))
+    } else {
+        Ok((Some(write[3]), code, 2))
+    }
+}
+
+fn decode(text: &str, table: &[u8; 256]) -> String {
+    let mut out = String::new();
+    let (mut write, mut read) = (Vec::new(), Vec::new());
+    let (mut accepted, mut faults, mut bad, mut lines) = (0, 0, 0, 0);
+    let mut order = Vec::new();
+    let mut counts: HashMap<u8, u64> = HashMap::new();
+    for (place, line) in text.lines().enumerate() {
+        if line.trim_matches(' ').is_empty() || line.starts_with('#') {
+            continue;
+        }
+        lines += 1;
+        let (front, back) = match line.split_once('/') {
+            Some((front, back)) => (front, Some(back)),
+            None => (line, None),
+        };
+        let number = place + 1;
+        let fine = part(front, &mut write).is_some()
+            && back.is_none_or(|back| part(back, &mut read).is_some());
+        if !fine {
+            bad += 1;
+            writeln!(out, "{number} X2 BadHex").unwrap();
+            continue;
+        }
+        let addr = write.first().map_or(0, |byte| byte / 2);
+        let says = match back {
+            None => write_says(&write, table).map_err(|fault| format!("write {fault}")),
+            Some(_) => read_says(&write, &read, table),
+        };
+        match says {
+            Ok((page, code, start)) => {
+                accepted += 1;
+                if !counts.contains_key(&code) {
+                    order.push(code);
+                }
+                *counts.entry(code).or_insert(0) += 1;
+                write!(out, "{number} {addr:02X} ").unwrap();
+                if let Some(page) = page {
+                    write!(out, "page {page} ").unwrap();
+                }
+                let bytes = if back.is_some() { &read } else { &write };
+                let way = if back.is_some() { "read" } else { "write" };
+                write!(out, "{} {way} ", info(code).map_or("", |line| line.0)).unwrap();
+                for byte in bytes[start..bytes.len() - 1].iter().rev() {
+                    write!(out, "{byte:02X}").unwrap();
+                }
+                out.push('\n');
+            }
+            Err(fault) => {
+                faults += 1;
+                writeln!(out, "{number} {addr:02X} {fault}").unwrap();
+            }
+        }
+    }
+    for code in order {
+        writeln!(out, "count {} {}", info(code).map_or("", |line| line.0), counts[&code]).unwrap();
+    }
+    writeln!(out, "lines {lines} accepted {accepted} faults {faults} bad {bad}").unwrap();
+    out
+}
+
+fn main() {
+    let words: Vec<String> = std::env::args().collect();
+    let size: usize = words[2].parse().unwrap();
+    let long = " 5A".repeat(298);
+    let lines = match words[1].as_str() {
+        "short" => "B0 05 04 00 21 CD 34 5A\nB0 06 02 00 21 / B1 02 CD 34 B9\nB0 05 04 01 21 CD 34 5A\nb0 10 80 34\nB0 9\n".to_string(),
+        "long" => format!("B0 99{long}\n"),
+        _ => format!("B0 99{long} / B1 99{long}\n"),
+    };
+    let mut text = lines.repeat(size / lines.len() + 1);
+    text.truncate(size);
+    let mut table = [0; 256];
+    for (place, entry) in table.iter_mut().enumerate() {
+        let mut code = place as u8;
+        for _ in 0..8 {
+            code = (code << 1) ^ if code > 127 { 7 } else { 0 };
+        }
+        *entry = code;
+    }
+    let mut best = u128::MAX;
+    let mut written = 0;
+    for _ in 0..9 {
+        let start = Instant::now();
+        let out = decode(&text, &table);
+        best = best.min(start.elapsed().as_micros());
+        written = out.len();
+    }
+    println!("{best} {written}");
+}
