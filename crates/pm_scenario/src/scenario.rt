@@ -1,4 +1,5 @@
-ghost use Rattle.std.specs.Prelude.{◌≡◌, ◌⊎◌, Ok, Err, IfOk, IfErr, IsErrOf};
+ghost use Rattle.std.specs.Prelude.{◌≡◌, ◌⊎◌, ◌<◌, length, Ok, Err, IfOk, IfErr, IsErrOf};
+ghost use Rattle.pm_lines.specs.Faults.{IsOfText};
 ghost use Rattle.pm_lines.specs.declared.fault.TextFault.TheVariants.{Memory};
 ghost use Rattle.pm_scenario.specs.ScenarioText.{HasEvent, HasFirst, IsOfScenario, as_text_fault, events_in, scenario_of};
 
@@ -41,7 +42,8 @@ pub fn read_scenario(alloc: Global, text: &[u8]) -> Result<Scenario, TextFault>
     ensures fault { IfErr result (λ fault. (fault ≡ Memory) ⊎ (scenario_of text.now ≡ Err fault)) }
     ensures faults { IfErr result IsOfScenario }
 
-    // Memory is wanted only for an event.
+    // X3 comes only for more bytes than a text may have, and memory is wanted only for an event.
+    ensures too_long { IsErrOf result TextFault.TooLong → MAX_TEXT < length text.now }
     ensures memory { IsErrOf result Memory → HasEvent text.now }
 {
     if text.len() > MAX_TEXT {
@@ -62,7 +64,7 @@ fn events(alloc: Global, rows: &mut Rows<'_>) -> Result<Vec<Event>, TextFault>
     ensures events { IfOk result (λ events. events_in rows.old.lines ≡ Ok events.items) }
     ensures fault { IfErr result (λ fault. (fault ≡ Memory)
         ⊎ (as_text_fault (events_in rows.old.lines) ≡ Err fault)) }
-    ensures faults { IfErr result IsOfScenario }
+    ensures faults { IfErr result IsOfText }
     ensures memory { IsErrOf result Memory → HasFirst rows.old.lines }
 {
     let mut events = Vec::new(alloc);

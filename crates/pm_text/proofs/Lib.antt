@@ -1,3 +1,4 @@
 pub mod CountingLemmas
 pub mod FloorLemmas
 pub mod Joins
+pub mod ReplayLemmas

@@ -4,6 +4,8 @@ use Rattle.pm_world.specs.Life.{AreTaken, StopsAt, now, taken_events}
 use Rattle.pm_world.specs.Setup.{setup_fault}
 use Rattle.pm_world.specs.declared.stop.SetupFault.{SetupFault}
 use Rattle.pm_world.specs.declared.stop.Stop.{Stop}
+use Rattle.pm_lines.specs.declared.fault.TextFault.{TextFault}
+use Rattle.pm_lines.specs.declared.fault.TextFault.TheVariants.{Syntax, BadHex, TooLong, Read, Write, Memory, Setup}
 use Rattle.pm_scenario.specs.ScenarioText.{scenario_of}
 use Rattle.pm_scenario.specs.declared.scenario.Scenario.{Scenario}
 use Rattle.pm_text.specs.Report.{report_text}
@@ -44,3 +46,13 @@ pub record RefusesSetup (input : List ℕ) (fault : SetupFault) : Type 0 where
   pub scenario : Scenario
   pub reads : scenario_of input ≡ Ok scenario
   pub refuses : setup_fault scenario.config scenario.passes ≡ Some fault
+
+-- the faults of a replay of a text that isn't too long
+abbrev pub IsOfReplay : TextFault → Type 0
+IsOfReplay (Syntax line) = ⊤
+IsOfReplay (BadHex line) = ⊤
+IsOfReplay TooLong = ⊥
+IsOfReplay Read = ⊥
+IsOfReplay Write = ⊥
+IsOfReplay Memory = ⊤
+IsOfReplay (Setup fault) = ⊤

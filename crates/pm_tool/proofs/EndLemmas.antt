@@ -276,8 +276,8 @@ usage_ends remaining input words kind end (inr among) (inl usage) = inr (inl (re
 usage_ends remaining input words kind end (inl memory) (inl usage) = absurd (none end (subst (λ k. UsageEnds k end) memory usage))
   where
     none : (end : End) → UsageEnds OutOfMemory end → ⊥
-    none (Printed status text) h = let e : 1 ≡ 0 = h.1 in omega arith
-    none (CutShort text) h = let e : 1 ≡ 0 = h in omega arith
+    none (Printed status text) h = let e : ◌≡◌ {A = ℕ} 1 0 = h.1 in omega arith
+    none (CutShort text) h = let e : ◌≡◌ {A = ℕ} 1 0 = h in omega arith
     none (Refused status words) h = h
     none (Broken text words) h = h
     none (Misused text) h = let e : 1 ≡ 2 = h in omega arith

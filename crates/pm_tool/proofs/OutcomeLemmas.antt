@@ -3,7 +3,7 @@ use Rattle.std.proofs.Common.{◌≡◌, ℕ, ◌<◌, ◌≤◌, true, false, L
 use Rattle.std.proofs.lemmas.Bool.Decides.{nat_tests}
 use Rattle.std.specs.Io.KnownBytes.{Consumes}
 use Rattle.pm_lines.specs.declared.fault.TextFault.{TextFault}
-use Rattle.pm_lines.specs.declared.fault.TextFault.TheVariants.{Syntax, BadHex, TooLong, Read, Write, Memory}
+use Rattle.pm_lines.specs.declared.fault.TextFault.TheVariants.{Syntax, BadHex, TooLong, Read, Write, Memory, Setup}
 use Rattle.pm_lines.specs.declared.text.TheConstants.{MAX_TEXT}
 use Rattle.pm_lines.specs.Streams.{IsWholeText}
 use Rattle.pm_lines.specs.Faults.{IsOfReading}
@@ -61,6 +61,7 @@ same-read old new TooLong of long =
 same-read old new Read of long = unsettled old (Err Read) (λ settled. settled)
 same-read old new Write of long = absurd of
 same-read old new Memory of long = unsettled old (Err Memory) (λ settled. settled)
+same-read old new (Setup reason) of long = absurd of
 
 -- what a text that was read whole, as it was handed on, and then refused comes to
 pub same-refused : (old new : Option (List ℕ)) (text handed : List ℕ) (fault : TextFault) → IsWholeText old new text

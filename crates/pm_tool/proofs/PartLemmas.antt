@@ -5,7 +5,7 @@ use Rattle.std.specs.Option.{option_and_then}
 use Rattle.std.specs.Borrow.{Bor}
 use Rattle.std.specs.Str.{bytes_eq}
 use Rattle.std.proofs.lemmas.Str.Pattern.{IsSplitOnceResult, split_parts}
-use Rattle.pm_tool.specs.Digits.{are_digits, decimal_of, digit, fits, natural_of, place_sum, signed_of}
+use Rattle.pm_lines.specs.Digits.{are_digits, decimal_of, digit, fits, natural_of, place_sum, signed_of}
 use Rattle.pm_tool.specs.Question.{before_parts, direct_format, exponent_format, format_by, parts}
 
 abbrev Text : Type 0

@@ -1,4 +1,4 @@
-use Rattle.std.proofs.Common.{◌≡◌, ◌∙◌, ap, refl, sym, subst, [], ◌∷◌, List, Result, Ok, Err, IfOk, IsErrAnd, IsSomeAnd, Option, Some, codes, ⊎_elim, map, unwrap_or}
+use Rattle.std.proofs.Common.{◌≡◌, ◌∙◌, ℕ, ap, arith, get_or, refl, sym, subst, [], ◌∷◌, List, Result, Ok, Err, IfOk, IsErrAnd, IsSomeAnd, Option, Some, codes, ⊎_elim, map, unwrap_or}
 use Rattle.clap.specs.Words.{FailsBy, HasKind, Kinds, Row, Text, fault_of, subcommand_of}
 use Rattle.clap.specs.Walk.{texts}
 use Rattle.clap.specs.declared.error.Error.{Error}
@@ -22,6 +22,10 @@ refused : (r : Result Chosen Error) (words : List Text) (kind : ErrorKind) (kind
 refused (Ok chosen) words kind kinds fails is = let e : kind ∷ kinds ≡ [] = sym is ∙ fails in absurd (cc)
 refused (Err e) words kind kinds fails is = subst (λ (k : Kinds). HasKind k e) is fails
 
+-- the names of the commands begin with different letters
+first_byte : Text → ℕ
+first_byte text = get_or text 0 0
+
 -- ---- what the parser makes of the words of the laws
 
 hear_met : (program : Text) → subcommand_of pmb (program ∷ codes "hear" ∷ []) ≡ Some (codes "hear", [])
@@ -34,9 +38,9 @@ hear_passes program = refl
 
 hear_chosen : (rows : List Row) (chosen : Chosen) → Asks (codes "hear") rows chosen → chosen ≡ Hear
 hear_chosen rows Hear asks = refl
-hear_chosen rows Replay asks = let e : codes "hear" ≡ codes "replay" = asks in absurd (cc)
-hear_chosen rows Decode asks = let e : codes "hear" ≡ codes "decode" = asks in absurd (cc)
-hear_chosen rows (Number format word micro) asks = let e : codes "hear" ≡ codes "number" = asks.0 in absurd (cc)
+hear_chosen rows Replay asks = let e : 104 ≡ 114 = ap first_byte asks in absurd (omega arith)
+hear_chosen rows Decode asks = let e : 104 ≡ 100 = ap first_byte asks in absurd (omega arith)
+hear_chosen rows (Number format word micro) asks = let e : 104 ≡ 110 = ap first_byte asks.0 in absurd (omega arith)
 
 replay_met : (program : Text) → subcommand_of pmb (program ∷ codes "replay" ∷ []) ≡ Some (codes "replay", [])
 unfolding clap_on_literals
@@ -47,10 +51,10 @@ unfolding clap_on_literals
 replay_passes program = refl
 
 replay_chosen : (rows : List Row) (chosen : Chosen) → Asks (codes "replay") rows chosen → chosen ≡ Replay
-replay_chosen rows Hear asks = let e : codes "replay" ≡ codes "hear" = asks in absurd (cc)
+replay_chosen rows Hear asks = let e : 114 ≡ 104 = ap first_byte asks in absurd (omega arith)
 replay_chosen rows Replay asks = refl
-replay_chosen rows Decode asks = let e : codes "replay" ≡ codes "decode" = asks in absurd (cc)
-replay_chosen rows (Number format word micro) asks = let e : codes "replay" ≡ codes "number" = asks.0 in absurd (cc)
+replay_chosen rows Decode asks = let e : 114 ≡ 100 = ap first_byte asks in absurd (omega arith)
+replay_chosen rows (Number format word micro) asks = let e : 114 ≡ 110 = ap first_byte asks.0 in absurd (omega arith)
 
 decode_met : (program : Text) → subcommand_of pmb (program ∷ codes "decode" ∷ []) ≡ Some (codes "decode", [])
 unfolding clap_on_literals
@@ -61,15 +65,15 @@ unfolding clap_on_literals
 decode_passes program = refl
 
 decode_chosen : (rows : List Row) (chosen : Chosen) → Asks (codes "decode") rows chosen → chosen ≡ Decode
-decode_chosen rows Hear asks = let e : codes "decode" ≡ codes "hear" = asks in absurd (cc)
-decode_chosen rows Replay asks = let e : codes "decode" ≡ codes "replay" = asks in absurd (cc)
+decode_chosen rows Hear asks = let e : 100 ≡ 104 = ap first_byte asks in absurd (omega arith)
+decode_chosen rows Replay asks = let e : 100 ≡ 114 = ap first_byte asks in absurd (omega arith)
 decode_chosen rows Decode asks = refl
-decode_chosen rows (Number format word micro) asks = let e : codes "decode" ≡ codes "number" = asks.0 in absurd (cc)
+decode_chosen rows (Number format word micro) asks = let e : 100 ≡ 110 = ap first_byte asks.0 in absurd (omega arith)
 
 given_chosen : (given : List Given) (chosen : Chosen) → Asks (codes "number") (map row given) chosen → HasValuesOf given chosen
-given_chosen given Hear asks = let e : codes "number" ≡ codes "hear" = asks in absurd (cc)
-given_chosen given Replay asks = let e : codes "number" ≡ codes "replay" = asks in absurd (cc)
-given_chosen given Decode asks = let e : codes "number" ≡ codes "decode" = asks in absurd (cc)
+given_chosen given Hear asks = let e : 110 ≡ 104 = ap first_byte asks in absurd (omega arith)
+given_chosen given Replay asks = let e : 110 ≡ 114 = ap first_byte asks in absurd (omega arith)
+given_chosen given Decode asks = let e : 110 ≡ 100 = ap first_byte asks in absurd (omega arith)
 given_chosen given (Number format word micro) asks = (
   asks.1 ∙ ap (λ o. unwrap_or o []) (first_text (codes "format") given),
   asks.2 ∙ first_text (codes "word") given,

@@ -21,4 +21,4 @@ returns c =
     let with_hear = c.in_ok-with_hear.ensures.shape (no_globals _ _ hear refl) ∙ ap₂ with_subcommand top (ap (λ (a : App). a.top) hear) in
     let with_replay = c.in_ok-with_replay.ensures.shape (no_globals _ _ replay refl) ∙ ap₂ with_subcommand with_hear (ap (λ (a : App). a.top) replay) in
     let with_decode = c.in_ok-with_decode.ensures.shape (no_globals _ _ decode refl) ∙ ap₂ with_subcommand with_replay (ap (λ (a : App). a.top) decode) in
-    IfOk-weaker c.subcommand-2.result _ _ (λ command h. h.shape (no_globals _ _ numbers refl) ∙ ap₂ with_subcommand with_decode (ap (λ (a : App). a.top) numbers)) c.subcommand-2.ensures
+    IfOk-weaker c.subcommand-4.result _ _ (λ command h. h.shape (no_globals _ _ numbers refl) ∙ ap₂ with_subcommand with_decode (ap (λ (a : App). a.top) numbers)) c.subcommand-4.ensures

@@ -8,7 +8,7 @@ ghost use Rattle.pm_world.specs.declared.stop.SetupFault.{SetupFault as NoSetup}
 ghost use Rattle.pm_lines.specs.Streams.{AppendsFront, IsWholeText};
 ghost use Rattle.pm_lines.specs.declared.text.TheConstants.{MAX_TEXT};
 ghost use Rattle.pm_scenario.specs.ScenarioText.{scenario_of};
-ghost use Rattle.pm_text.specs.Replay.{IsReplay, IsRun, RefusesSetup, end_by, taken_by};
+ghost use Rattle.pm_text.specs.Replay.{IsOfReplay, IsReplay, IsRun, RefusesSetup, end_by, taken_by};
 ghost use Rattle.pm_text.specs.declared.replay_end.ReplayEnd.{ReplayEnd as Ending};
 
 use crate::ran::Ran;
@@ -94,7 +94,7 @@ fn report_on(alloc: Global, input: &[u8]) -> Result<(String, ReplayEnd), TextFau
     ensures setup { (fault : NoSetup) → IsErrOf result (TextFault.Setup fault) →
         RefusesSetup input.now fault }
     ensures memory { IsErrOf result TextFault.Memory → 0 < length input.now }
-    ensures faults { IfErr result IsOfScenario }
+    ensures faults { IfErr result IsOfReplay }
 {
     let scenario = read_scenario(alloc, input)?;
     let run = run_of(&scenario)?;
