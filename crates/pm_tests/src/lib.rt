@@ -1,5 +1,5 @@
-//! Tests over the public calls of the other crates, a module for each crate that is tested. There
-//! is nothing here to use.
+//! Tests over the public calls of the converter, the host and the world, a module for each thing that
+//! is tested. There is nothing here to use.
 #![tactic(auto)]
 
 #[cfg(test)]
@@ -7,16 +7,8 @@ mod confirmed;
 #[cfg(test)]
 mod device;
 #[cfg(test)]
-mod fakes;
-#[cfg(test)]
 mod host;
 #[cfg(test)]
 mod model;
 #[cfg(test)]
 mod orders;
-#[cfg(test)]
-mod streams;
-#[cfg(test)]
-mod text;
-#[cfg(test)]
-mod tool;

@@ -1,5 +1,5 @@
 -- How a run ends, by what its calls did.
-use Rattle.std.proofs.Common.{◌≡◌, ◌≢◌, ◌∙◌, ◌++◌, ◌<◌, ◌≤◌, ◌↔◌, ◌⊎◌, ℕ, Bool, true, false, List, [], length, Option, Some, None, Result, Ok, Err, IsTrue, IsFalse, OnOk, OnErr, is_err, refl, sym, ap, subst, inl, inr, append-nil, codes, arith}
+use Rattle.std.proofs.Common.{◌≡◌, ◌≢◌, ◌∙◌, ◌++◌, ◌<◌, ◌≤◌, ◌↔◌, ◌⊎◌, ℕ, Bool, true, false, List, [], length, Option, Some, Result, Ok, Err, IsTrue, IsFalse, OnOk, OnErr, is_err, refl, sym, subst, inl, inr, append-nil, codes, arith}
 use Rattle.std.specs.Io.KnownBytes.{Appends, Consumes, Keeps}
 use Rattle.std.proofs.KnownBytes.{Appends-kept}
 use Rattle.clap.specs.declared.error.kind.ErrorKind.{ErrorKind}
@@ -14,7 +14,7 @@ use Rattle.clap.specs.Kinds.{IsAmong}
 use Rattle.clap.specs.Words.{Text, fault_of}
 use Rattle.pm_num.specs.declared.fault.NumFault.{NumFault}
 use Rattle.pm_tool.specs.Commandline.{pmb, status_by}
-use Rattle.pm_tool.specs.Execution.{End, Printed, CutShort, Refused, Broken, Misused, GaveMore, GaveSome, GaveText, HearEnds, IsDone, IsEnd, NumberEnds, NumberRefuses, DecodeBreaks, DecodeEnds, GaveFaulty, ReplayEnds, ReplayRefuses, decode_status, replay_status, Says, UsageEnds, WordsEnd, line_words, no_words_end, refusal_line, text_refusal, wants_memory}
+use Rattle.pm_tool.specs.Execution.{End, Printed, CutShort, Refused, Broken, Misused, GaveMore, GaveSome, GaveText, HearEnds, IsDone, IsEnd, NumberEnds, NumberRefuses, DecodeBreaks, DecodeEnds, GaveFaulty, ReplayEnds, ReplayRefuses, decode_status, replay_status, Says, UsageEnds, WordsEnd, no_words_end, refusal_line, text_refusal, wants_memory}
 use Rattle.pm_tool.specs.Outcome.{IsOfHear}
 use Rattle.pm_tool.specs.NumberFaults.{refusal_status, refusal_words}
 use Rattle.pm_tool.specs.NumberText.{IsCommandLineFault, IsNumberText, IsOfNumber, RefusesNumber}

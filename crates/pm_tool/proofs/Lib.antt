@@ -6,5 +6,6 @@ pub mod PartLemmas
 pub mod RangeLemmas
 pub mod RefusalLemmas
 pub mod ScriptLemmas
+pub mod SetupLemmas
 pub mod WordLemmas
 pub mod Writing

@@ -1,5 +1,5 @@
 -- The events of a text, line by line, and the lines that are written of them.
-use Rattle.std.proofs.Common.{◌≡◌, ◌∙◌, ◌<◌, ◌+◌, ℕ, List, [], ◌∷◌, ◌++◌, length, Result, Ok, Err, refl, sym, ap, append_assoc, append-nil, arith}
+use Rattle.std.proofs.Common.{◌≡◌, ◌∙◌, ◌<◌, ℕ, List, [], ◌∷◌, ◌++◌, length, Result, Ok, Err, refl, sym, ap, append_assoc, append-nil, arith}
 use Rattle.pm_device.specs.Effect.{Event}
 use Rattle.pm_device.specs.Held.{Held}
 use Rattle.pm_device.specs.History.{next, start_of}

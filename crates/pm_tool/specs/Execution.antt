@@ -1,6 +1,6 @@
 -- How a run of the program ends: its status, what standard output got, and the one line that
 -- standard error gets. This project's own choice.
-use Rattle.std.specs.Prelude.{◌≡◌, ◌≢◌, ◌⊎◌, ◌↔◌, ◌<◌, ◌≤◌, ℕ, List, [], ◌++◌, length, Option, Some, None}
+use Rattle.std.specs.Prelude.{◌≡◌, ◌⊎◌, ◌↔◌, ◌<◌, ◌≤◌, ℕ, List, [], ◌++◌, length, Option, Some, None}
 use Rattle.std.specs.Prelude.{Result, Ok, Err, IsTrue, IsFalse, IsSomeAnd, codes, decimal, ⊤}
 use Rattle.std.specs.Io.KnownBytes.{Appends, Consumes}
 use Rattle.std.specs.declared.io.ErrorKind.{ErrorKind as IoKind}
@@ -35,7 +35,7 @@ use Rattle.pm_tool.specs.Question.{asked_by}
 use Rattle.pm_tool.specs.declared.commandline.choice.Chosen.{Chosen}
 use Rattle.pm_tool.specs.declared.commandline.choice.Chosen.TheVariants.{Hear, Replay, Decode, Number as NumberChosen}
 use Rattle.pm_tool.specs.declared.numbers.fault.NumberFault.{NumberFault}
-use Rattle.pm_tool.specs.declared.numbers.fault.NumberFault.TheVariants.{OneOf, Format, Word, Micro, Num, Text as OfText}
+use Rattle.pm_tool.specs.declared.numbers.fault.NumberFault.TheVariants.{Num, Text as OfText}
 use Rattle.pm_tool.specs.declared.numbers.question.Question.{Question}
 
 -- ---- how a run ends, and what its streams get

@@ -200,7 +200,11 @@ fn show_usage<W: Write, E: Write>(
     };
     match error.kind() {
         ErrorKind::OutOfMemory => refuse_memory(errors),
-        ErrorKind::DisplayHelp | ErrorKind::DisplayVersion => print_whole(text.as_bytes(), output, errors),
+        ErrorKind::DisplayHelp | ErrorKind::DisplayVersion => print_whole(
+            text.as_bytes(),
+            output,
+            errors,
+        ),
         _ => {
             let _ = errors.put(text.as_bytes());
             2

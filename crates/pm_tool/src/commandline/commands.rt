@@ -10,10 +10,12 @@ use std::alloc::{AllocError, Global};
 const VERSION: &str = "0.1.0";
 
 /// What the help of the whole program shows at its end.
-const EXAMPLE: &str = "Each command but number reads standard input: pmb replay < examples/one-order.scenario";
+const EXAMPLE: &str =
+    "Each command but number reads standard input: pmb replay < examples/one-order.scenario";
 
 /// What the help of `hear` shows at its end.
-const HEAR: &str = "A line is a frame in hexadecimal, which a stop ends; a frame and /, where a repeated start follows
+const HEAR: &str =
+    "A line is a frame in hexadecimal, which a stop ends; a frame and /, where a repeated start follows
 it; or restart. Printed are the converter's answers, and then each output's VOUT_COMMAND.
 
   $ echo 'B0 05 04 00 21 CD 34 5A' | pmb hear
@@ -22,14 +24,16 @@ it; or restart. Printed are the converter's answers, and then each output's VOUT
   output 1 VOUT_COMMAND 1000";
 
 /// What the help of `replay` shows at its end.
-const REPLAY: &str = "A scenario says what a converter and a host are made from, and what happens between them: orders,
+const REPLAY: &str =
+    "A scenario says what a converter and a host are made from, and what happens between them: orders,
 deliveries, lost answers, damaged bytes, restarts. Printed is what the converter then holds,
 commands and shows, and what the host knows. Status 1 where an event can't happen.
 
   $ pmb replay < examples/one-order.scenario";
 
 /// What the help of `decode` shows at its end.
-const DECODE: &str = "A line is the write part of a packet in hexadecimal, and / and the read part where a repeated start
+const DECODE: &str =
+    "A line is the write part of a packet in hexadecimal, and / and the read part where a repeated start
 follows. Printed is a line for each, and then the counts. Status 1 where a line is bad.
 
   $ echo 'B0 05 04 00 21 CD 34 5A' | pmb decode
@@ -47,12 +51,18 @@ pub(super) fn pmb_command<'a>(alloc: Global) -> Result<Command<'a>, AllocError>
 {
     let hearing = text_command(
         alloc,
-        ("hear", "Lets a model converter hear the frames of standard input"),
+        (
+            "hear",
+            "Lets a model converter hear the frames of standard input",
+        ),
         HEAR,
     );
     let replaying = text_command(
         alloc,
-        ("replay", "Replays a scenario between a host and a converter, and reports"),
+        (
+            "replay",
+            "Replays a scenario between a host and a converter, and reports",
+        ),
         REPLAY,
     );
     let decoding = text_command(
@@ -94,7 +104,10 @@ fn number_command<'a>(alloc: Global) -> Result<Command<'a>, AllocError>
 {
     let number = text_command(
         alloc,
-        ("number", "Prints a word of a number format, its exact value and its whole millionths"),
+        (
+            "number",
+            "Prints a word of a number format, its exact value and its whole millionths",
+        ),
         NUMBER,
     );
     let formatted = with_option(

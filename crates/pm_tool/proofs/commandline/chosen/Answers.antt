@@ -1,4 +1,4 @@
-use Rattle.std.proofs.Common.{◌≡◌, ◌∙◌, ℕ, ap, arith, get_or, refl, sym, subst, [], ◌∷◌, List, Result, Ok, Err, IfOk, IsErrAnd, IsSomeAnd, Option, Some, codes, ⊎_elim, map, unwrap_or}
+use Rattle.std.proofs.Common.{◌≡◌, ◌∙◌, ℕ, false, true≢false, eqb, eq-eqb, ap, get_or, refl, sym, subst, [], ◌∷◌, List, Result, Ok, Err, IfOk, IsErrAnd, IsSomeAnd, Option, Some, codes, ⊎_elim, map, unwrap_or}
 use Rattle.clap.specs.Words.{FailsBy, HasKind, Kinds, Row, Text, fault_of, subcommand_of}
 use Rattle.clap.specs.Walk.{texts}
 use Rattle.clap.specs.declared.error.Error.{Error}
@@ -23,8 +23,12 @@ refused (Ok chosen) words kind kinds fails is = let e : kind ∷ kinds ≡ [] = 
 refused (Err e) words kind kinds fails is = subst (λ (k : Kinds). HasKind k e) is fails
 
 -- the names of the commands begin with different letters
-first_byte : Text → ℕ
+abbrev first_byte : Text → ℕ
 first_byte text = get_or text 0 0
+
+-- two letters that a test tells apart
+apart : {P : Type 0} (a b : ℕ) → a ≡ b → eqb a b ≡ false → P
+apart a b same differs = absurd (true≢false (sym (eq-eqb a b same) ∙ differs))
 
 -- ---- what the parser makes of the words of the laws
 
@@ -38,9 +42,9 @@ hear_passes program = refl
 
 hear_chosen : (rows : List Row) (chosen : Chosen) → Asks (codes "hear") rows chosen → chosen ≡ Hear
 hear_chosen rows Hear asks = refl
-hear_chosen rows Replay asks = let e : 104 ≡ 114 = ap first_byte asks in absurd (omega arith)
-hear_chosen rows Decode asks = let e : 104 ≡ 100 = ap first_byte asks in absurd (omega arith)
-hear_chosen rows (Number format word micro) asks = let e : 104 ≡ 110 = ap first_byte asks.0 in absurd (omega arith)
+hear_chosen rows Replay asks = apart 104 114 (ap first_byte asks) refl
+hear_chosen rows Decode asks = apart 104 100 (ap first_byte asks) refl
+hear_chosen rows (Number format word micro) asks = apart 104 110 (ap first_byte asks.0) refl
 
 replay_met : (program : Text) → subcommand_of pmb (program ∷ codes "replay" ∷ []) ≡ Some (codes "replay", [])
 unfolding clap_on_literals
@@ -51,10 +55,10 @@ unfolding clap_on_literals
 replay_passes program = refl
 
 replay_chosen : (rows : List Row) (chosen : Chosen) → Asks (codes "replay") rows chosen → chosen ≡ Replay
-replay_chosen rows Hear asks = let e : 114 ≡ 104 = ap first_byte asks in absurd (omega arith)
+replay_chosen rows Hear asks = apart 114 104 (ap first_byte asks) refl
 replay_chosen rows Replay asks = refl
-replay_chosen rows Decode asks = let e : 114 ≡ 100 = ap first_byte asks in absurd (omega arith)
-replay_chosen rows (Number format word micro) asks = let e : 114 ≡ 110 = ap first_byte asks.0 in absurd (omega arith)
+replay_chosen rows Decode asks = apart 114 100 (ap first_byte asks) refl
+replay_chosen rows (Number format word micro) asks = apart 114 110 (ap first_byte asks.0) refl
 
 decode_met : (program : Text) → subcommand_of pmb (program ∷ codes "decode" ∷ []) ≡ Some (codes "decode", [])
 unfolding clap_on_literals
@@ -65,15 +69,15 @@ unfolding clap_on_literals
 decode_passes program = refl
 
 decode_chosen : (rows : List Row) (chosen : Chosen) → Asks (codes "decode") rows chosen → chosen ≡ Decode
-decode_chosen rows Hear asks = let e : 100 ≡ 104 = ap first_byte asks in absurd (omega arith)
-decode_chosen rows Replay asks = let e : 100 ≡ 114 = ap first_byte asks in absurd (omega arith)
+decode_chosen rows Hear asks = apart 100 104 (ap first_byte asks) refl
+decode_chosen rows Replay asks = apart 100 114 (ap first_byte asks) refl
 decode_chosen rows Decode asks = refl
-decode_chosen rows (Number format word micro) asks = let e : 100 ≡ 110 = ap first_byte asks.0 in absurd (omega arith)
+decode_chosen rows (Number format word micro) asks = apart 100 110 (ap first_byte asks.0) refl
 
 given_chosen : (given : List Given) (chosen : Chosen) → Asks (codes "number") (map row given) chosen → HasValuesOf given chosen
-given_chosen given Hear asks = let e : 110 ≡ 104 = ap first_byte asks in absurd (omega arith)
-given_chosen given Replay asks = let e : 110 ≡ 114 = ap first_byte asks in absurd (omega arith)
-given_chosen given Decode asks = let e : 110 ≡ 100 = ap first_byte asks in absurd (omega arith)
+given_chosen given Hear asks = apart 110 104 (ap first_byte asks) refl
+given_chosen given Replay asks = apart 110 114 (ap first_byte asks) refl
+given_chosen given Decode asks = apart 110 100 (ap first_byte asks) refl
 given_chosen given (Number format word micro) asks = (
   asks.1 ∙ ap (λ o. unwrap_or o []) (first_text (codes "format") given),
   asks.2 ∙ first_text (codes "word") given,

@@ -1,5 +1,5 @@
-use Rattle.std.proofs.Common.{◌≡◌, ap, subst, sym, refl, codes, [], Some}
-use Rattle.pm_tool.specs.Execution.{End, Refused, Says, said_by, status_of}
+use Rattle.std.proofs.Common.{ap, subst, sym}
+use Rattle.pm_tool.specs.Execution.{Says, said_by, status_of}
 use Rattle.pm_tool.proofs.EndLemmas.{other_words}
 use Rattle.pm_tool.proofs.execution.no_words.Goals as goal
 

@@ -1,7 +1,5 @@
-use Rattle.std.proofs.Common.{◌≡◌, ◌∙◌, ◌++◌, [], ap, subst, sym, Ok, Err, Result, Some}
-use Rattle.pm_tool.specs.Execution.{End, IsEnd, NumberEnds, Says, refusal_line}
+use Rattle.std.proofs.Common.{ap, Err}
 use Rattle.pm_tool.specs.NumberFaults.{refusal_words}
-use Rattle.pm_tool.specs.declared.numbers.fault.NumberFault.{NumberFault}
 use Rattle.pm_tool.proofs.EndLemmas.{numbered, number_refused, said_as}
 use Rattle.pm_tool.proofs.execution.run_number.Goals as goal
 

@@ -1,4 +1,4 @@
-use Rattle.std.proofs.Common.{◌∙◌, sym, refl, inl, inr}
+use Rattle.std.proofs.Common.{◌∙◌, refl, inl, inr}
 use Rattle.pm_tool.specs.Execution.{Misused, wants_memory}
 use Rattle.pm_tool.proofs.EndLemmas.{put_said, status_other}
 use Rattle.pm_tool.proofs.execution.show_usage.Goals as goal

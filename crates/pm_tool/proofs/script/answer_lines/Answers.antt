@@ -1,5 +1,4 @@
-use Rattle.std.proofs.Common.{◌≡◌, ◌∙◌, ◌<◌, [], ◌∷◌, ◌++◌, length, ap, arith}
-use Rattle.pm_lines.specs.Lines.{unskipped_from}
+use Rattle.std.proofs.Common.{◌∙◌, [], ◌∷◌, ◌++◌, length, ap, arith}
 use Rattle.pm_tool.specs.LineEvent.{event_of}
 use Rattle.pm_tool.specs.Script.{events_in}
 use Rattle.pm_tool.proofs.ScriptLemmas.{events-more, held-more, lines-more, prepended, unskipped-some}
