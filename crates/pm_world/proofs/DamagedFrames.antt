@@ -12,6 +12,8 @@ use Rattle.pm_frame.specs.Layout.{AreBytes, IsWrite, IsRequest, IsAnswer, fits_l
 use Rattle.pm_device.specs.declared.config.Config.{Config}
 use Rattle.pm_device.specs.declared.heard.Ending.{Ending}
 use Rattle.pm_device.specs.declared.heard.Ending.TheVariants.{Restart}
+use Rattle.pm_device.specs.Held.{Held}
+use Rattle.pm_device.specs.Reply.{reply_of}
 use Rattle.pm_device.specs.Start.{IsSound}
 use Rattle.pm_host.specs.Frames.{CanSend}
 use Rattle.pm_host.specs.Now.{now as host_now, AreTold}
@@ -23,8 +25,8 @@ use Rattle.pm_world.specs.declared.event.Back.TheVariants as back
 use Rattle.pm_world.specs.declared.event.Event.{Event}
 use Rattle.pm_world.specs.declared.event.Event.TheVariants.{Deliver, Exchange}
 use Rattle.pm_world.specs.declared.stop.Cause.TheVariants.{WrongKind, NotBetrayed}
-use Rattle.pm_world.specs.Damage.{IsBetrayedDamage, burst, few, odd}
-use Rattle.pm_world.specs.Legal.{frame_of, heard_ending, is_restart, is_heard_whole, is_legal_hearing, is_legal_return}
+use Rattle.pm_world.specs.Damage.{AreOthers, IsBetrayedDamage, burst, few, odd}
+use Rattle.pm_world.specs.Legal.{answer_in, frame_of, heard_ending, is_restart, is_heard_whole, is_legal_hearing, is_legal_return}
 use Rattle.pm_world.specs.Life.{life, now, state_of, AreTaken}
 use Rattle.pm_world.specs.Setup.{setup_of}
 use Rattle.pm_world.specs.State.{State, delivery_cause, exchange_cause, answer_to, rule, IsTaken, event_limit}
@@ -78,6 +80,8 @@ pub record LegalLaws : Type 0 where
   pub heard : (addr : ℕ) (message : Message) (frame bytes : List ℕ) (ending : Ending) → IsWrite addr message frame → IsBetrayedDamage frame bytes → is_legal_hearing frame bytes ending ≡ true
   pub came_back : (addr : ℕ) (request : Message) (frame payload answer bytes : List ℕ) (whole : Bool) → IsRequest addr request frame → IsAnswer addr request payload answer →
       IsBetrayedDamage answer bytes → is_legal_return frame (whole_answer request) whole answer bytes ≡ true
+  pub answered : (held : Held) (request : Message) (frame heard : List ℕ) (whole : Bool) → AreOthers frame heard → DifferWithinEight frame heard → AreBytes (answer_in (reply_of held heard Restart)) →
+      is_legal_return frame (whole_answer request) whole (answer_in (reply_of held heard Restart)) (answer_in (reply_of held heard Restart)) ≡ true
 
 delivery-free : LegalLaws → (s : State) (message : Message) (bytes : List ℕ) (ending : Ending) → is_read_message message ≡ false → fits_layout message ≡ true →
     IsBetrayedDamage (frame_of s.host.setup.addr message) bytes → delivery_cause s (arrival.Bytes (record { items = bytes }) ending) (Some message) ≡ None
@@ -96,6 +100,18 @@ exchange-free laws s request payload bytes is damage =
     exchange_cause-by s arrival.Whole (back.Bytes (record { items = bytes })) request true true true is.reads
     (ap (is_legal_hearing frame frame) ends ∙ whole-hearing frame)
     (laws.came_back addr request frame payload answer bytes (is_heard_whole frame frame (heard_ending request arrival.Whole)) (is_request addr request is.reads is.fits) is damage)
+
+restart-legal : (frame bytes : List ℕ) → is_legal_hearing frame bytes Restart ≡ true
+unfolding is_legal_hearing
+restart-legal frame bytes = refl
+
+misheard-free : LegalLaws → (s : State) (request : Message) (bytes : List ℕ) → is_read_message request ≡ true → AreOthers (frame_of s.host.setup.addr request) bytes →
+    DifferWithinEight (frame_of s.host.setup.addr request) bytes → AreBytes (answer_to s.device s.host.setup.addr request (arrival.Bytes (record { items = bytes }) Restart)) →
+    exchange_cause s (arrival.Bytes (record { items = bytes }) Restart) back.Whole (Some request) ≡ None
+misheard-free laws s request bytes asks others within are =
+    let frame = frame_of s.host.setup.addr request in
+    exchange_cause-by s (arrival.Bytes (record { items = bytes }) Restart) back.Whole request true true true asks (restart-legal frame bytes)
+    (laws.answered s.device request frame bytes (is_heard_whole frame bytes Restart) others within are)
 
 -- such an event is taken
 pub record TakingLaws : Type 0 where
@@ -135,5 +151,23 @@ exchanged-taken laws config passes events request payload bytes room sending is 
           ∙ exchange-free laws.legal s request payload bytes
           (subst (λ (u : Setup). IsAnswer u.addr request payload (answer_to s.device u.addr request arrival.Whole)) setup is)
           (subst (λ (u : Setup). IsBetrayedDamage (answer_to s.device u.addr request arrival.Whole) bytes) setup damage));
+      word = tt;
+    }
+
+pub misheard-taken : TakingLaws → (config : Config) (passes : ℕ) (events : List Event) (request : Message) (bytes : List ℕ) → (now config passes events).taken < event_limit →
+    sending_in (now config passes events).host ≡ Some request → is_read_message request ≡ true → AreOthers (frame_of config.addr request) bytes → DifferWithinEight (frame_of config.addr request) bytes →
+    AreBytes (answer_to (now config passes events).device config.addr request (arrival.Bytes (record { items = bytes }) Restart)) →
+    IsTaken (now config passes events) (Exchange (arrival.Bytes (record { items = bytes }) Restart) back.Whole)
+misheard-taken laws config passes events request bytes room sending asks others within are =
+    let s = now config passes events in
+    let heard = arrival.Bytes (record { items = bytes }) Restart in
+    let setup = sym (now-setup config passes events) in
+    record {
+      free = free s (Exchange heard back.Whole) room
+          (ap (exchange_cause s heard back.Whole) sending
+          ∙ misheard-free laws.legal s request bytes asks
+          (subst (λ (u : Setup). AreOthers (frame_of u.addr request) bytes) setup others)
+          (subst (λ (u : Setup). DifferWithinEight (frame_of u.addr request) bytes) setup within)
+          (subst (λ (u : Setup). AreBytes (answer_to s.device u.addr request (arrival.Bytes (record { items = bytes }) Restart))) setup are));
       word = tt;
     }
