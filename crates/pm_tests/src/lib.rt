@@ -13,6 +13,8 @@ mod model;
 #[cfg(test)]
 mod orders;
 #[cfg(test)]
+mod scenario;
+#[cfg(test)]
 mod streams;
 #[cfg(test)]
 mod text;
