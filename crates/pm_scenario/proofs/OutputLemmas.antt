@@ -5,9 +5,10 @@ use Rattle.std.proofs.lemmas.List.{take-replicate}
 use Rattle.pm_device.specs.declared.config.OutputStart.{OutputStart}
 use Rattle.pm_lines.specs.Lines.{Numbered}
 use Rattle.pm_scenario.specs.Reading.{Rest, line_as}
-use Rattle.pm_scenario.specs.ScenarioText.{first_eight, no_start, output_line, outputs_in, start_before}
+use Rattle.pm_scenario.specs.ScenarioText.{counted, first_eight, no_start, output_line, outputs_in, start_before, starts_of}
 use Rattle.pm_scenario.specs.declared.line_fault.LineFault.{LineFault}
 use Rattle.pm_scenario.specs.declared.line_fault.LineFault.TheVariants.{Syntax}
+use Rattle.pm_scenario.specs.declared.starts.Starts.{Starts}
 
 -- one more of a list that is kept up to a length, with others behind it
 kept-push : {A : Type 0} (k m : ℕ) (xs : List A) (x y : A) → k ≤ length xs + m
@@ -24,6 +25,11 @@ first_eight-push given start = kept-push 8 8 given start no_start (omega arith)
 
 pub length-first_eight : (given : List OutputStart) → length (first_eight given) ≡ 8
 length-first_eight given = length-take-le 8 (given ++ replicate 8 no_start) (omega (arith, length-append given (replicate 8 no_start)))
+
+-- what is kept of outputs is made of its parts
+pub starts-made : (count : ℕ) (starts given : List OutputStart) → count ≡ counted given → starts ≡ first_eight given
+    → (let made : Starts = record { count = count; starts = starts } in made ≡ starts_of given)
+starts-made count starts given counts firsts = rw (counts, firsts) refl
 
 -- the outputs that were read, and those of the lines behind them
 abbrev pub behind : List OutputStart → Result (List OutputStart × Rest) LineFault → Result (List OutputStart × Rest) LineFault

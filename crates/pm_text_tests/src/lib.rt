@@ -7,6 +7,8 @@ mod fakes;
 #[cfg(test)]
 mod replays;
 #[cfg(test)]
+mod scenarios;
+#[cfg(test)]
 mod streams;
 #[cfg(test)]
 mod tool;

@@ -1,9 +1,9 @@
-use Rattle.std.proofs.Common.{◌≡◌, ◌≤◌, ◌<◌, ◌++◌, ◌∷◌, [], length, arith, length-append, ap, refl, sym, ◌∙◌}
+use Rattle.std.proofs.Common.{◌≡◌, ◌≤◌, ◌<◌, ◌++◌, ◌∷◌, [], length, arith, length-append, ap, sym, ◌∙◌}
 use Rattle.std.specs.Prelude.{slice_set}
 use Rattle.std.proofs.lemmas.List.{set_past}
-use Rattle.pm_scenario.specs.ScenarioText.{counted, first_eight}
+use Rattle.pm_scenario.specs.ScenarioText.{first_eight}
 use Rattle.pm_scenario.specs.declared.starts.Starts.{Starts}
-use Rattle.pm_scenario.proofs.OutputLemmas.{first_eight-push, length-first_eight}
+use Rattle.pm_scenario.proofs.OutputLemmas.{first_eight-push, length-first_eight, starts-made}
 use Rattle.pm_scenario.proofs.starts.Starts.push.Goals as goal
 use Rattle.pm_scenario.proofs.starts.Starts.push.Goals.{then-place-lt8, else-place-lt8}
 
@@ -23,6 +23,4 @@ returns c = λ given same.
     ] in
     let kept : c.if-place-lt8.self.count ≡ c.args.self.now.count =
     elim c.if-place-lt8.branch [ then-place-lt8 w ↦ ap (λ (s : Starts). s.count) w.self-is | else-place-lt8 w ↦ ap (λ (s : Starts). s.count) w.self-is ] in
-    let count : c.saturating_add-self.result ≡ counted (given ++ start ∷ []) =
-    omega (arith, kept, before, length-append given (start ∷ [])) in
-    rw (starts, count) refl
+    starts-made _ _ (given ++ start ∷ []) (omega (arith, kept, before, length-append given (start ∷ []))) starts

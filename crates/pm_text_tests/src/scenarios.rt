@@ -1,0 +1,232 @@
+//! Scenarios: the worked one, each kind of line, and outputs past the eighth.
+
+mod faults;
+
+use pm_device::{Config, OutputStart};
+use pm_lines::TextFault;
+use pm_scenario::{Scenario, read_scenario};
+use pm_table::Coefficients;
+use std::alloc::{AllocError, Global};
+use std::test::Fail;
+
+/// The lines before the events.
+const HEAD: [&str; 7] = [
+    "scenario 1",
+    "address 58",
+    "passes 2",
+    "protect 00",
+    "coefficients 1 0 0",
+    "output 14 80 1000 4000 1100 0F00",
+    "begin",
+];
+
+/// A whole scenario of two outputs and four events.
+const WORKED: &str =
+    "scenario 1\naddress 58\npasses 2\nprotect 00\ncoefficients 1 0 0\noutput 14 80 1000 4000 1100 0F00\noutput 14 80 1000 4000 1100 0F00\nbegin\norder 0 VOUT_COMMAND 34CD\ndeliver whole\nfinish ack\nexchange whole whole\n";
+
+const START: OutputStart = OutputStart {
+    mode: 0x14,
+    operation: 0x80,
+    command: 0x1000,
+    max: 0x4000,
+    high: 0x1100,
+    low: 0x0F00,
+};
+
+const NO_START: OutputStart = OutputStart {
+    mode: 0,
+    operation: 0,
+    command: 0,
+    max: 0,
+    high: 0,
+    low: 0,
+};
+
+// The lines before the events, with another one at this place, counted from 0.
+fn head_with(alloc: Global, place: usize, line: &str) -> Result<String, AllocError> {
+    let mut text = String::new(alloc);
+    for (i, usual) in HEAD.iter().enumerate() {
+        text.push_str(if i == place { line } else { *usual })?;
+        text.push('\n')?;
+    }
+    Ok(text)
+}
+
+// The scenario of an event line, which is line 8.
+fn with_event(alloc: Global, line: &str) -> Result<String, AllocError> {
+    let mut text = head_with(alloc, 7, "")?;
+    text.push_str(line)?;
+    Ok(text)
+}
+
+fn fault_of(alloc: Global, text: &str) -> Option<TextFault> {
+    read_scenario(alloc, text.as_bytes()).err()
+}
+
+// What stands in the only event of a scenario, as it is printed to debug.
+fn event_of(alloc: Global, text: &str) -> Result<String, Fail> {
+    let scenario = read_scenario(alloc, text.as_bytes())?;
+    Ok(format!(in alloc; "{:?}", scenario.events.as_slice())?)
+}
+
+#[test]
+fn the_worked_scenario_is_read(rt: HostRuntime) -> Result<(), Fail> {
+    let Scenario {
+        config,
+        passes,
+        events,
+    } = read_scenario(rt.alloc(), WORKED.as_bytes())?;
+    let mut starts = [NO_START; 8];
+    starts[0] = START;
+    starts[1] = START;
+    let wanted = Config {
+        addr: 0x58,
+        count: 2,
+        starts,
+        protect: 0x00,
+        coefficients: Coefficients { m: 1, b: 0, r: 0 },
+    };
+    assert_eq!(rt; config, wanted);
+    assert_eq!(rt; passes, 2);
+    assert_eq!(rt; events.as_slice().len(), 4);
+    let text = format!(in rt.alloc(); "{:?}", events.into_vec())?;
+    assert_eq!(rt;
+        text.as_str(),
+        "[Order(Out(0, VoutCommand), 13517), Deliver(Whole), Finish(true), Exchange(Whole, Whole)]",
+    );
+    Ok(())
+}
+
+#[test]
+fn each_event_line_is_read(rt: HostRuntime) -> Result<(), Fail> {
+    let rows = [
+        (
+            "order 0 VOUT_COMMAND 34CD",
+            "[Order(Out(0, VoutCommand), 13517)]",
+        ),
+        (
+            "order 255 OPERATION 80",
+            "[Order(Out(255, Operation), 128)]",
+        ),
+        ("  order   -  WRITE_PROTECT 4f  ", "[Order(Protect, 79)]"),
+        ("order 01 VOUT_MAX abCD", "[Order(Out(1, VoutMax), 43981)]"),
+        ("volts 0 OPERATION 5", "[OrderMicro(Out(0, Operation), 5)]"),
+        (
+            "volts 1 VOUT_MARGIN_LOW -0",
+            "[OrderMicro(Out(1, MarginLow), 0)]",
+        ),
+        (
+            "volts 0 VOUT_MARGIN_HIGH -009223372036854775808",
+            "[OrderMicro(Out(0, MarginHigh), -9223372036854775808)]",
+        ),
+        (
+            "volts 0 VOUT_COMMAND 9223372036854775807",
+            "[OrderMicro(Out(0, VoutCommand), 9223372036854775807)]",
+        ),
+        ("check 7 VOUT_MARGIN_HIGH", "[Check(Out(7, MarginHigh))]"),
+        ("check - WRITE_PROTECT", "[Check(Protect)]"),
+        ("learn 1", "[Learn(1)]"),
+        ("clear 0", "[Clear(0)]"),
+        ("deliver whole", "[Deliver(Whole)]"),
+        (
+            "deliver cut 000000000000000000000255",
+            "[Deliver(Cut(255))]",
+        ),
+        ("deliver bytes b0 stop", "[Deliver(Bytes([176], Stop))]"),
+        (
+            "deliver bytes 000102030405060708090A0B0C0D0E0F restart",
+            "[Deliver(Bytes([0, 1, 2, 3, 4, 5, 6, 7, 8, 9, 10, 11, 12, 13, 14, 15], Restart))]",
+        ),
+        ("finish ack", "[Finish(true)]"),
+        ("finish nack", "[Finish(false)]"),
+        ("exchange whole whole", "[Exchange(Whole, Whole)]"),
+        ("exchange cut 1 cut 0", "[Exchange(Cut(1), Cut(0))]"),
+        (
+            "exchange bytes B020 restart bytes B114ED",
+            "[Exchange(Bytes([176, 32], Restart), Bytes([177, 20, 237]))]",
+        ),
+        ("restart device", "[RestartDevice]"),
+        ("restart host", "[RestartHost]"),
+        ("reading 1 READ_VOUT 3000", "[Reading(1, Code(139), 12288)]"),
+        ("reading 0 READ_IOUT FFFF", "[Reading(0, Code(140), 65535)]"),
+        ("reading - READ_VIN 0c00", "[Reading(0, Code(136), 3072)]"),
+        (
+            "reading - READ_TEMPERATURE_1 0000",
+            "[Reading(0, Code(141), 0)]",
+        ),
+        ("", "[]"),
+        ("# learn", "[]"),
+    ];
+    for (line, wanted) in rows {
+        let text = with_event(rt.alloc(), line)?;
+        let event = event_of(rt.alloc(), &text)?;
+        assert_eq!(rt; event.as_str(), wanted, "{line}");
+    }
+    Ok(())
+}
+
+#[test]
+fn numbers_before_the_events_are_read_by_their_value(rt: HostRuntime) -> Result<(), Fail> {
+    let rows = [
+        ("coefficients 1 0 0", (1, 0, 0)),
+        ("coefficients -0 00 -000128", (0, 0, -128)),
+        ("coefficients -32768 32767 127", (-32768, 32767, 127)),
+        (" coefficients  10  -5  -2 ", (10, -5, -2)),
+    ];
+    for (line, (m, b, r)) in rows {
+        let text = head_with(rt.alloc(), 4, line)?;
+        let scenario = read_scenario(rt.alloc(), text.as_bytes())?;
+        assert_eq!(rt;
+            scenario.config.coefficients,
+            Coefficients { m, b, r },
+            "{line}"
+        );
+    }
+    let text = head_with(rt.alloc(), 1, "address 5b")?;
+    assert_eq!(rt;
+        read_scenario(rt.alloc(), text.as_bytes())?.config.addr,
+        0x5B
+    );
+    let text = head_with(rt.alloc(), 2, "passes 0000255")?;
+    assert_eq!(rt; read_scenario(rt.alloc(), text.as_bytes())?.passes, 255);
+    let text = head_with(rt.alloc(), 3, "protect 8f")?;
+    assert_eq!(rt;
+        read_scenario(rt.alloc(), text.as_bytes())?.config.protect,
+        0x8F
+    );
+    Ok(())
+}
+
+#[test]
+fn outputs_past_the_eighth_are_counted(rt: HostRuntime) -> Result<(), Fail> {
+    // How many lines `output` there are, and how many outputs that are told.
+    let rows = [
+        (0, 0),
+        (1, 1),
+        (8, 8),
+        (9, 9),
+        (255, 255),
+        (256, 255),
+        (264, 255),
+    ];
+    for (lines, count) in rows {
+        let mut text = String::from_str(
+            rt.alloc(),
+            "scenario 1\naddress 58\npasses 2\nprotect 00\ncoefficients 1 0 0\n",
+        )?;
+        for _ in 0..lines {
+            text.push_str("output 14 80 1000 4000 1100 0F00\n")?;
+        }
+        let faulty = format!(in rt.alloc(); "{text}output 14 80 1000 4000 1100 0F0\nbegin")?;
+        text.push_str("begin")?;
+        let config = read_scenario(rt.alloc(), text.as_bytes())?.config;
+        assert_eq!(rt; config.count, count, "{lines}");
+        for (place, start) in config.starts.iter().enumerate() {
+            let wanted = if place < lines { START } else { NO_START };
+            assert_eq!(rt; *start, wanted, "{lines} {place}");
+        }
+        let fault = TextFault::BadHex(lines as u64 + 6);
+        assert_eq!(rt; fault_of(rt.alloc(), &faulty), Some(fault), "{lines}");
+    }
+    Ok(())
+}

@@ -1,0 +1,215 @@
+//! The faults of scenarios, and the numbers of their lines.
+
+use super::{fault_of, head_with, with_event};
+use pm_lines::{MAX_TEXT, TextFault};
+use pm_scenario::read_scenario;
+use std::test::Fail;
+
+#[test]
+fn a_word_that_is_not_what_stands_at_its_place_is_a_fault(rt: HostRuntime) -> Result<(), Fail> {
+    let rows = [
+        " # x",
+        "learn\t1",
+        "Learn 1",
+        "begin",
+        "wait",
+        "order",
+        "order 0 34CD",
+        "order 0 FOO ZZ",
+        "order 0 VOUT_COMMAND",
+        "order 0 VOUT_COMMAND 34CD 34CD",
+        "order 256 OPERATION 80",
+        "order -0 OPERATION 80",
+        "order +0 OPERATION 80",
+        "order - OPERATION 80",
+        "order 0 WRITE_PROTECT 80",
+        "order 0 READ_VOUT 80",
+        "volts - WRITE_PROTECT 5",
+        "volts 0 WRITE_PROTECT 5",
+        "volts 0 VOUT_COMMAND",
+        "volts 0 VOUT_COMMAND +1",
+        "volts 0 VOUT_COMMAND -",
+        "volts 0 VOUT_COMMAND 0x5",
+        "volts 0 VOUT_COMMAND 9223372036854775808",
+        "volts 0 VOUT_COMMAND -9223372036854775809",
+        "check",
+        "check -",
+        "check - VOUT_MAX",
+        "check 0",
+        "check 0 VOUT_MAX 0",
+        "learn",
+        "learn -",
+        "learn 256",
+        "learn 1 1",
+        "clear",
+        "clear -1",
+        "clear 0 0",
+        "deliver",
+        "deliver cut",
+        "deliver cut 256",
+        "deliver cut -0",
+        "deliver cut +1",
+        "deliver cut FF",
+        "deliver part",
+        "deliver whole stop",
+        "deliver bytes",
+        "deliver bytes B0",
+        "deliver bytes B0 begin",
+        "deliver bytes B0 stop stop",
+        "finish",
+        "finish Ack",
+        "finish ack ack",
+        "exchange whole",
+        "exchange whole part",
+        "exchange whole cut 256",
+        "exchange whole bytes",
+        "exchange whole bytes B1 stop",
+        "exchange whole whole whole",
+        "restart",
+        "restart world",
+        "restart host host",
+        "reading 0 READ_VIN 0000",
+        "reading - READ_VOUT 0000",
+        "reading 0 VOUT_MODE 0000",
+        "reading - READ_VIN",
+        "reading - READ_VIN 0000 0",
+    ];
+    for line in rows {
+        let text = with_event(rt.alloc(), line)?;
+        assert_eq!(rt;
+            fault_of(rt.alloc(), &text),
+            Some(TextFault::Syntax(8)),
+            "{line}"
+        );
+    }
+    Ok(())
+}
+
+#[test]
+fn a_word_that_should_be_hexadecimal_and_is_not_is_a_fault(rt: HostRuntime) -> Result<(), Fail> {
+    let rows = [
+        "deliver bytes stop",
+        "deliver bytes B stop",
+        "deliver bytes B0B stop",
+        "deliver bytes ZZ x",
+        "deliver bytes 000102030405060708090A0B0C0D0E0F10 stop",
+        "deliver bytes +0 stop",
+        "exchange whole bytes B",
+        "exchange bytes - whole",
+        "order 0 VOUT_COMMAND ZZZZ x",
+        "order 0 VOUT_COMMAND 80",
+        "order 0 VOUT_COMMAND 034CD",
+        "order 0 VOUT_COMMAND +4CD",
+        "order 0 OPERATION 0080",
+        "order - WRITE_PROTECT 0080",
+        "order - WRITE_PROTECT 8",
+        "reading 0 READ_VOUT 00",
+        "reading - READ_VIN 0x00 0",
+    ];
+    for line in rows {
+        let text = with_event(rt.alloc(), line)?;
+        assert_eq!(rt;
+            fault_of(rt.alloc(), &text),
+            Some(TextFault::BadHex(8)),
+            "{line}"
+        );
+    }
+    Ok(())
+}
+
+#[test]
+fn a_faulty_line_before_the_events_is_told(rt: HostRuntime) -> Result<(), Fail> {
+    // The place of the line, counted from 0, and the line.
+    let rows = [
+        (0, "scenario 01", TextFault::Syntax(1)),
+        (0, "scenario 2", TextFault::Syntax(1)),
+        (0, "scenario 1 1", TextFault::Syntax(1)),
+        (0, "scenario", TextFault::Syntax(1)),
+        (0, " # x", TextFault::Syntax(1)),
+        (0, "address 58", TextFault::Syntax(1)),
+        (1, "address", TextFault::Syntax(2)),
+        (1, "address 58 58", TextFault::Syntax(2)),
+        (1, "address 058", TextFault::BadHex(2)),
+        (1, "address +8", TextFault::BadHex(2)),
+        (1, "address 5G 58", TextFault::BadHex(2)),
+        (2, "passes 256", TextFault::Syntax(3)),
+        (2, "passes -0", TextFault::Syntax(3)),
+        (2, "passes +1", TextFault::Syntax(3)),
+        (2, "passes 1 1", TextFault::Syntax(3)),
+        (3, "protect 0", TextFault::BadHex(4)),
+        (3, "protect 0000", TextFault::BadHex(4)),
+        (3, "protect", TextFault::Syntax(4)),
+        (4, "coefficients 1 0", TextFault::Syntax(5)),
+        (4, "coefficients 1 0 0 0", TextFault::Syntax(5)),
+        (4, "coefficients 32768 0 0", TextFault::Syntax(5)),
+        (4, "coefficients 1 -32769 0", TextFault::Syntax(5)),
+        (4, "coefficients 1 0 128", TextFault::Syntax(5)),
+        (4, "coefficients +1 0 0", TextFault::Syntax(5)),
+        (5, "output 14 80 begin", TextFault::BadHex(6)),
+        (5, "output 14 80 1000 4000 1100", TextFault::Syntax(6)),
+        (
+            5,
+            "output 14 80 1000 4000 1100 0F00 0",
+            TextFault::Syntax(6),
+        ),
+        (
+            5,
+            "output 14 0080 1000 4000 1100 0F00",
+            TextFault::BadHex(6),
+        ),
+        (5, "output 14 80 10 4000 1100 0F00", TextFault::BadHex(6)),
+        (5, "learn 1", TextFault::Syntax(6)),
+        (6, "begin 1", TextFault::Syntax(7)),
+        (6, "learn 1", TextFault::Syntax(7)),
+    ];
+    for (place, line, fault) in rows {
+        let text = head_with(rt.alloc(), place, line)?;
+        assert_eq!(rt; fault_of(rt.alloc(), &text), Some(fault), "{line}");
+    }
+    Ok(())
+}
+
+#[test]
+fn the_first_faulty_line_counts(rt: HostRuntime) -> Result<(), Fail> {
+    let rows = [
+        ("", TextFault::Syntax(1)),
+        ("\n\n# x", TextFault::Syntax(4)),
+        ("scenario 1", TextFault::Syntax(2)),
+        ("scenario 1\n", TextFault::Syntax(2)),
+        ("scenario 1\r", TextFault::Syntax(2)),
+        ("scenario 1\n\r", TextFault::Syntax(3)),
+        ("scenario 1\r\r\n", TextFault::Syntax(1)),
+        (
+            "scenario 1\r\n\r\n#\r\n  \r\naddress ZZ\r\npasses x",
+            TextFault::BadHex(5),
+        ),
+        (
+            "scenario 1\naddress 58\npasses x\nprotect ZZ",
+            TextFault::Syntax(3),
+        ),
+    ];
+    for (text, fault) in rows {
+        assert_eq!(rt; fault_of(rt.alloc(), text), Some(fault), "{text}");
+    }
+    let events = [
+        ("learn x\norder 0 OPERATION Z", TextFault::Syntax(8)),
+        ("order 0 OPERATION Z\nlearn x", TextFault::BadHex(8)),
+        ("learn 1\r\n\n# x\nlearn x\nlearn y", TextFault::Syntax(11)),
+    ];
+    for (lines, fault) in events {
+        let text = with_event(rt.alloc(), lines)?;
+        assert_eq!(rt; fault_of(rt.alloc(), &text), Some(fault), "{lines}");
+    }
+    Ok(())
+}
+
+#[test]
+fn a_text_has_no_more_than_its_most_bytes(rt: HostRuntime) -> Result<(), Fail> {
+    let mut text = vec![in rt.alloc(); b'#'; MAX_TEXT]?;
+    let fault = read_scenario(rt.alloc(), &text).err();
+    assert_eq!(rt; fault, Some(TextFault::Syntax(2)));
+    text.push(b'#')?;
+    let fault = read_scenario(rt.alloc(), &text).err();
+    assert_eq!(rt; fault, Some(TextFault::TooLong));
+    Ok(())
+}
