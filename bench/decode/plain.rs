@@ -1,5 +1,5 @@
 //! The same by a plain Rust program, line by line over a text in memory, without proofs: the
-//! milliseconds of the best of nine runs, and the bytes written. Built by bench/decode/run.sh.
+//! microseconds of the best of nine runs, and the bytes written. Built by bench/decode/run.sh.
 use std::collections::HashMap;
 use std::fmt::Write;
 use std::time::Instant;

@@ -1,12 +1,12 @@
 //! Traces: the worked one, the faults of its lines, and a decoder in pieces.
 
-ghost use Rattle.std.specs.Prelude.{Some};
+ghost use Rattle.std.specs.Prelude.{Some, ◌≤◌};
 
 use pm_lines::{MAX_TEXT, Sink, Source, TextFault};
 use pm_trace::{DecodeEnd, Decoder, decode, read_trace_line, render_line};
 use std::alloc::{AllocError, Global};
 use std::io;
-use std::io::Read;
+use std::io::{Read, Write};
 use std::test::Fail;
 
 const TRACE: &str =
@@ -25,7 +25,7 @@ fn decoded(alloc: Global, trace: &str) -> (Result<DecodeEnd, TextFault>, Vec<u8>
 
 #[test]
 fn a_trace_is_written_line_by_line(rt: HostRuntime) -> Result<(), Fail> {
-    let rows: [(&str, DecodeEnd, &str); 10] = [
+    let rows: [(&str, DecodeEnd, &str); 11] = [
         (TRACE, DecodeEnd::BadLines, TEXT),
         ("", DecodeEnd::Clean, "lines 0 accepted 0 faults 0 bad 0\n"),
         (
@@ -62,6 +62,11 @@ fn a_trace_is_written_line_by_line(rt: HostRuntime) -> Result<(), Fail> {
             "B0 // B1\nB/0\nB0 / / Z",
             DecodeEnd::BadLines,
             "1 X1 Syntax\n2 X2 BadHex\n3 X2 BadHex\nlines 3 accepted 0 faults 0 bad 3\n",
+        ),
+        (
+            "  b010 8034  \nB0 1\r0 80 34\nb0\t10 80 34\nB 010 80 34\n#b0 10 80 34\nB0108034\n",
+            DecodeEnd::BadLines,
+            "1 58 WRITE_PROTECT write 80\n2 X2 BadHex\n3 X2 BadHex\n4 X2 BadHex\n6 58 WRITE_PROTECT write 80\ncount WRITE_PROTECT 2\nlines 5 accepted 2 faults 0 bad 3\n",
         ),
         (
             "B0 30 02 21 00 / B1 05 01 00 00 00 03 6B\nB0 03 46",
@@ -245,4 +250,108 @@ fn a_line_is_read_and_rendered_alone(rt: HostRuntime) -> Result<(), Fail> {
         }
     }
     Ok(())
+}
+
+// A writer that takes no memory, of 300 bytes.
+#[derive(Drop)]
+struct Sheet {
+    bytes: [u8; 300],
+    len: usize,
+    ghost within: { len ≤ 300 },
+}
+
+impl Sheet {
+    fn new() -> Sheet {
+        Sheet {
+            bytes: [0; 300],
+            len: 0,
+        }
+    }
+
+    fn text(&self) -> &[u8] {
+        &self.bytes[..self.len]
+    }
+}
+
+impl Write for Sheet {
+    fn write(&mut self, buf: &[u8]) -> io::Result<usize> {
+        let count = buf.len().min(300 - self.len);
+        self.bytes[self.len..self.len + count].copy_from_slice(&buf[..count]);
+        self.len += count;
+        Ok(count)
+    }
+
+    fn flush(&mut self) -> io::Result<()> {
+        Ok(())
+    }
+}
+
+// The next tests hold also where an allocation is refused, wherever that is.
+
+#[test]
+fn want_of_memory_leaves_a_front_of_the_text(rt: HostRuntime) {
+    let mut reader = Source::new(TRACE.as_bytes());
+    let mut writer = Sink::new(Sheet::new());
+    let end = decode(rt.alloc(), &mut reader, &mut writer);
+    let sheet = writer.into_inner();
+    match end {
+        Ok(end) => {
+            assert_eq!(rt; end, DecodeEnd::BadLines);
+            assert!(rt; sheet.text() == TEXT.as_bytes());
+        }
+        Err(fault) => {
+            assert_eq!(rt; fault, TextFault::Memory);
+            assert!(rt; TEXT.as_bytes().starts_with(sheet.text()));
+        }
+    }
+}
+
+#[test]
+fn want_of_memory_is_repeated(rt: HostRuntime) {
+    let mut decoder = Decoder::new(rt.alloc());
+    match decoder.feed(b"b0 10 80 34\nB0 03 46") {
+        Ok(fed) => {
+            assert_eq!(rt; (fed.taken, fed.ended), (12, true));
+            assert!(rt; decoder.line().is_some());
+            assert_eq!(rt; decoder.counts(), (1, 1, 0, 0));
+        }
+        Err(fault) => {
+            assert_eq!(rt; fault, TextFault::Memory);
+            assert!(rt; decoder.line().is_none());
+            assert_eq!(rt; decoder.feed(b"x"), Err(TextFault::Memory));
+            assert_eq!(rt; decoder.finish(), Err(TextFault::Memory));
+            assert_eq!(rt; decoder.counts(), (0, 0, 0, 0));
+        }
+    }
+}
+
+#[test]
+fn want_of_memory_at_the_end_is_repeated(rt: HostRuntime) {
+    let mut decoder = Decoder::new(rt.alloc());
+    assert!(rt; decoder.feed(b"b0 10 80 34").is_ok());
+    match decoder.finish() {
+        Ok(ended) => {
+            assert!(rt; ended);
+            assert_eq!(rt; decoder.counts(), (1, 1, 0, 0));
+        }
+        Err(fault) => {
+            assert_eq!(rt; fault, TextFault::Memory);
+            assert!(rt; decoder.line().is_none());
+            assert_eq!(rt; decoder.finish(), Err(TextFault::Memory));
+            assert_eq!(rt; decoder.counts(), (0, 0, 0, 0));
+        }
+    }
+}
+
+#[test]
+fn want_of_memory_refuses_a_line_alone(rt: HostRuntime) {
+    match read_trace_line(rt.alloc(), b"B0 06 02 00 21 / B1 02 CD 34 B9") {
+        Ok(parts) => match render_line(rt.alloc(), 12, &parts) {
+            Ok(text) => {
+                assert_eq!(rt; text.as_str(), "12 58 page 0 VOUT_COMMAND read 34CD");
+            }
+            Err(fault) => assert_eq!(rt; fault, TextFault::Memory),
+        },
+        Err(fault) => assert_eq!(rt; fault, TextFault::Memory),
+    }
 }

@@ -5,6 +5,7 @@ pub mod GatheredLemmas
 pub mod Joins
 pub mod MarkLemmas
 pub mod OpenLineLemmas
+pub mod OutcomeLemmas
 pub mod PairLemmas
 pub mod PieceLemmas
 pub mod RunLemmas

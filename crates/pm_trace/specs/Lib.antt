@@ -3,6 +3,7 @@ pub mod Decoding
 pub mod Gathered
 pub mod Marks
 pub mod OpenLines
+pub mod Outcome
 pub mod Pairs
 pub mod Parts
 pub mod Pieces

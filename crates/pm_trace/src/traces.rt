@@ -1,6 +1,6 @@
 //! Traces from a reader, and what they say, to a writer.
 ghost use Rattle.std.specs.Prelude.{◌≡◌, ◌⊎◌, ◌+◌, ◌<◌, ◌≤◌, ◌↔◌, ℕ, List, ◌++◌, length, drop};
-ghost use Rattle.std.specs.Prelude.{IfOk, IfErr, OnOk, IsErrOf, IsTrue, IsFalse, string_bytes};
+ghost use Rattle.std.specs.Prelude.{IfSome, IfOk, IfErr, OnOk, IsErrOf, IsTrue, IsFalse, string_bytes};
 ghost use Rattle.std.specs.Io.KnownBytes.{Appends, Consumes, IsAtEnd};
 ghost use Rattle.pm_trace.specs.declared.standing.Standing.{Standing};
 ghost use Rattle.pm_lines.specs.declared.text.TheConstants.{MAX_TEXT};
@@ -8,6 +8,7 @@ ghost use Rattle.pm_trace.specs.Counts.{counts_of};
 ghost use Rattle.pm_trace.specs.Decoding.{said, told, some_told, told_at_end, kept_at_end, IsFresh};
 ghost use Rattle.pm_trace.specs.Written.{PushesFront, Written};
 ghost use Rattle.pm_lines.specs.Streams.{AppendsFront, IsWholeText};
+ghost use Rattle.pm_trace.specs.Outcome.{outcome_of, IsSettled};
 ghost use Rattle.pm_trace.specs.Trace.{trace_of};
 ghost use Rattle.pm_trace.specs.TraceText.{trace_text, told_lines, counts_text, end_of, IsOfDecode};
 
@@ -67,6 +68,10 @@ pub fn decode<R: Read, W: Write>(
         × Consumes (R.remaining reader.old.inner) (R.remaining reader.new.inner) front
         × (told_lines (said front) ≡ text ++ rest)
         × Appends (W.contents writer.old.inner) (W.contents writer.new.inner) text }
+
+    // What comes of it follows from the bytes, however they are cut.
+    ensures same { IfSome (R.remaining reader.old.inner)
+        (λ input. IsSettled result → result ≡ outcome_of input) }
 
     // X1, X2 and X7 never come, and the streams say whether they failed.
     ensures faults { IfErr result IsOfDecode }

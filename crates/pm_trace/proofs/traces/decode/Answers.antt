@@ -1,5 +1,7 @@
-use Rattle.std.proofs.Common.{◌≡◌, ◌∙◌, inr, string_bytes}
+use Rattle.std.proofs.Common.{ap, Err, ◌≡◌, ◌∙◌, inr, string_bytes}
 use Rattle.pm_trace.proofs.DecodeLemmas.{whole_input, end_all, end_front, end_counts, end_memory, as_front, as_all}
+use Rattle.std.proofs.lemmas.Result.{err_from_is_err_and}
+use Rattle.pm_trace.proofs.OutcomeLemmas.{same-whole, same-refused}
 use Rattle.pm_trace.proofs.traces.decode.Goals as goal
 
 pub returns-in_err-text-clause-memory : goal.returns-in_err-text-clause-memory
@@ -18,6 +20,18 @@ returns-in_err-put-clause-write g c = λ is.
         end_front _ _ _ _ _ input c.decode_pieces.new.decoder written _ c.in_ok-text.ensures.text (as_front _ _ _ _ shown c.in_err-put.ensures.front),
       ),
     )
+
+pub returns-in_err-decode_pieces-clause-same : goal.returns-in_err-decode_pieces-clause-same
+returns-in_err-decode_pieces-clause-same g c =
+    let p = err_from_is_err_and c.from_residual.result c.from_residual.ensures.1 in
+    rw (p.1, p.2) (same-refused (g.R.Read.remaining c.args.reader.now.inner) (g.R.Read.remaining c.decode_pieces.new.reader.inner) _ c.in_err-decode_pieces.ensures.faults
+    (λ e. let (front, more, many, some, given, written) = c.in_err-decode_pieces.ensures.too_long (ap Err e) in (front, more, many, some, given)))
+
+pub returns-clause-same : goal.returns-clause-same
+returns-clause-same g c =
+    let (input, written, at_end) = c.in_ok-decode_pieces.ensures.ok in
+    same-whole _ _ input _ (whole_input _ _ _ _ (g.W.Write.contents c.decode_pieces.new.writer.inner) input c.decode_pieces.new.decoder written at_end)
+    (end_counts _ _ _ _ (g.W.Write.contents c.decode_pieces.new.writer.inner) input c.decode_pieces.new.decoder written c.text_at_end.new.decoder _ c.in_ok-text.ensures.kept c.end_in.ensures)
 
 pub returns-clause-ok : goal.returns-clause-ok
 returns-clause-ok g c =
