@@ -2,13 +2,13 @@
 # How long `pmb` takes for texts of 512 KiB and 1 MiB, the longest there may be: traces that are decoded,
 # scenarios that are replayed, lines that `hear` answers. Each row is the best of five runs of either size in
 # milliseconds, what twice the text takes of the time (it should be about 2), and the peak of the memory in
-# KiB at either size. Build the program first: (cd crates/pmb && rt run -- hear < stdin); PMB may name
+# KiB at either size, by /usr/bin/time. Build the program first: (cd crates/pmb && rt run -- hear < stdin); PMB may name
 # another one.
 set -eu
 cd "$(dirname "$0")/.."
 export PMB=${PMB:-crates/pmb/out/pmb}
 python3 - <<'PY'
-import os, tempfile, time
+import os, subprocess, tempfile, time
 
 PMB = os.environ["PMB"]
 HEAD = "scenario 1\naddress 58\npasses 2\nprotect 00\ncoefficients 1 0 0\n"
@@ -46,21 +46,23 @@ def text_of(before, lines, size):
     return before + lines * count if count else (before + lines)[:size]
 
 
+def ran(command, path):
+    with open(path, "rb") as text:
+        code = subprocess.run(command, stdin=text, stdout=subprocess.DEVNULL, stderr=subprocess.PIPE, check=False)
+    if code.returncode > 1:
+        raise SystemExit(f"{command} {path}: status {code.returncode}")
+    return code.stderr
+
+
 def measured(command, path):
     """The time of the best of five runs in milliseconds, and the peak of the memory in KiB."""
-    best = peak = 0
+    times = []
     for _ in range(5):
-        began, child = time.perf_counter(), os.fork()
-        if child == 0:
-            os.dup2(os.open(path, os.O_RDONLY), 0)
-            os.dup2(os.open(os.devnull, os.O_WRONLY), 1)
-            os.execv(PMB, [PMB, command])
-        _, status, usage = os.wait4(child, 0)
-        took = (time.perf_counter() - began) * 1000
-        if os.waitstatus_to_exitcode(status) > 1:
-            raise SystemExit(f"{command} {path}: status {status}")
-        best, peak = took if best == 0 else min(best, took), max(peak, usage.ru_maxrss)
-    return best, peak
+        began = time.perf_counter()
+        ran([PMB, command], path)
+        times.append((time.perf_counter() - began) * 1000)
+    peak = ran(["/usr/bin/time", "-f", "%M", PMB, command], path).split()[-1]
+    return min(times), int(peak)
 
 
 print(f"{'':35}   512 KiB     1 MiB   ratio   peak memory")

@@ -1,10 +1,13 @@
-"""Tries the plain model on worked cases: `python3 -m plain` in scripts/. Status 1 where one fails."""
+"""Tries the plain model on worked cases, and what is promised of both ends together on random scenarios:
+`python3 -m plain [SEED [TEXTS]]` in scripts/. Status 1 where one fails."""
+import random
 import sys
 
 from .commands import hear, number
 from .converter import COMMAND, OPERATION, PROTECT
 from .host import Host
 from .packets import answer_fault, answer_of, fault_words, request_fault, request_message, write_fault
+from .promises import try_promises
 from .report import replay
 from .trace import decode
 
@@ -167,6 +170,9 @@ def host_cases():
 
 def cases():
     yield from host_cases()
+    refused = replay(text_of([ORDER, *PASS, *PASS], {3: "protect 40"}))[1].splitlines()
+    yield (refused[4], refused[-3:]), (
+        "VOUT_COMMAND 1000 host confirmed 1000", ["cml 80", "restart seen no", "job differs 1000"])
     for events, *wanted in RUNS:
         status, told, errors = replay(text_of(events))
         lines = told.splitlines()
@@ -210,7 +216,13 @@ def main():
         if found != wanted:
             faults += 1
             print(f"{found}, and not {wanted}")
-    print(f"{count} cases, {faults} faults")
+    seed = int(sys.argv[1]) if len(sys.argv) > 1 else 1
+    texts = int(sys.argv[2]) if len(sys.argv) > 2 else 200
+    for text, broken in try_promises(random.Random(seed), texts):
+        if broken:
+            faults += 1
+            print(f"{broken[0]}: {text!r}")
+    print(f"{count} cases, {texts} scenarios, {faults} faults")
     return 1 if faults else 0
 
 
