@@ -1,11 +1,12 @@
 #!/usr/bin/env python3
 """Makes each allocation of a run of `pmb` fail in turn, for each run of the table below.
 
-What comes of it must be `pmb: X6 Memory` alone, with status 1 and nothing written, or the very
-result of the run in which no allocation fails, where that one could be done without. Anything else
-is printed, and the status is then 1.
+What comes of it must be `pmb: X6 Memory` alone, with status 1 and nothing written (by `decode`, which
+writes line by line, a front of the text), or the very result of the run in which no allocation fails,
+where that one could be done without. Anything else is printed, and the status is then 1.
 
-It needs the program, (cd crates/pmb && rt run -- hear < stdin), a C compiler and glibc. With the
+It needs the program, (cd crates/pmb && rt run -- hear < stdin), or the environment variable PMB that
+names one, a C compiler and glibc. With the
 toolchain alone `rt try --fail-alloc N -- hear < stdin` in crates/pmb does the same for one
 allocation, the Nth, of one run, and takes some 20 seconds.
 """
@@ -15,7 +16,7 @@ import sys
 import tempfile
 
 ROOT = os.path.dirname(os.path.dirname(os.path.abspath(__file__)))
-PROGRAM = os.path.join(ROOT, "crates/pmb/out/pmb")
+PROGRAM = os.environ.get("PMB", os.path.join(ROOT, "crates/pmb/out/pmb"))
 
 # Stands before the C library: counts the allocations, refuses one, and tells how many there were.
 REFUSER = r"""
@@ -47,6 +48,22 @@ __attribute__((destructor)) static void tell(void) {
 }
 """
 
+HEAD = b"scenario 1\naddress 58\npasses 2\nprotect 00\ncoefficients 1 0 0\n"
+OUTPUT = b"output 14 80 1000 4000 1100 0F00\n"
+ORDER = b"order 0 VOUT_COMMAND 34CD\ndeliver whole\nfinish ack\nexchange whole whole\n"
+FRAMES = b"deliver bytes B005040021CD345A stop\n" * 40
+LEARN = b"learn 0\nexchange whole whole\nvolts 0 VOUT_COMMAND 3300000\n"
+# A line for each code that a trace may count, plain.
+CODES = b"""B0 00 01 ED
+B0 01 80 6E
+B0 03 46
+B0 10 80 34
+B0 20 / B1 14 ED
+B0 05 04 00 21 CD 34 5A
+B0 7E / B1 80 00
+B0 30 02 21 00 / B1 05 01 00 00 00 03 6B
+"""
+
 # The arguments and the standard input of each run.
 RUNS = [
     (["hear"], b"B0 05 04 00 21 CD 34 5A\n"),
@@ -61,6 +78,26 @@ RUNS = [
     (["hear"], b"# a comment\n\nB0 05\nB0 05\n"),
     (["hear"], b"ZZ\n"),
     (["hear"], b"/" * 1_048_577),
+    (["replay"], b""),
+    (["replay"], HEAD),
+    (["replay"], HEAD + b"begin\n"),
+    (["replay"], HEAD + OUTPUT * 2 + b"begin\n"),
+    (["replay"], HEAD + OUTPUT * 2 + b"begin\n" + ORDER),
+    (["replay"], HEAD + OUTPUT * 8 + b"begin\n" + ORDER * 40),
+    (["replay"], HEAD + OUTPUT + b"begin\norder 0 VOUT_COMMAND 34CD\n" + FRAMES),
+    (["replay"], HEAD + OUTPUT + b"begin\n" + LEARN + ORDER),
+    (["replay"], HEAD + OUTPUT + b"begin\nfinish ack\n"),
+    (["replay"], HEAD + OUTPUT + b"begin\n" + ORDER * 1000 + b"order 0\n"),
+    (["replay"], HEAD + OUTPUT + b"begin\n" + ORDER * 3000),
+    (["replay"], b"#\n" * 100_000 + HEAD + OUTPUT * 9 + b"begin\n" + ORDER),
+    (["replay"], b"/" * 1_048_577),
+    (["decode"], b""),
+    (["decode"], b"B0 05 04 00 21 CD 34 5A\nB0 06 02 00 21 / B1 02 CD 34 B9\nB0 05\nB0 9\n/ /\n"),
+    (["decode"], CODES),
+    (["decode"], CODES * 300),
+    (["decode"], b"99" * 300 + b"/" + b"99" * 300 + b"\n"),
+    (["decode"], b"/\n" * 20_000),
+    (["decode"], b"B0 03 46\n#\n" + b"/" * 1_048_577),
     (["number", "--format=linear11", "--word=87FF"], b""),
     (["number", "--format=ulinear16:-12", "--micro=3300000"], b""),
     (["number", "--format=direct:-1:5:-1", "--word=0003"], b""),
@@ -70,12 +107,21 @@ RUNS = [
     (["number"], b""),
     (["number", "--word=1", "--word=2"], b""),
     (["number", "--help"], b""),
+    (["replay", "--help"], b""),
+    (["decode", "--help"], b""),
     (["--help"], b""),
     (["listen"], b""),
     ([], b""),
 ]
 
-WANT_OF_MEMORY = (1, b"", b"pmb: X6 Memory\n")
+WANT_OF_MEMORY = b"pmb: X6 Memory\n"
+
+
+def wants_memory(arguments, found, whole):
+    """Whether a result is want of memory, with nothing written, or by `decode` a front of the text."""
+    status, written, told = found
+    is_front = written == b"" or arguments == ["decode"] and whole[1].startswith(written)
+    return status == 1 and is_front and told == WANT_OF_MEMORY
 
 
 def result_of(refuser, arguments, text, refused=0):
@@ -98,9 +144,10 @@ def main():
             wanting = unneeded = 0
             for refused in range(1, made + 1):
                 found, _ = result_of(refuser, arguments, text, refused)
-                wanting += found == WANT_OF_MEMORY
+                is_wanting = wants_memory(arguments, found, whole)
+                wanting += is_wanting
                 unneeded += found == whole
-                if found not in (WANT_OF_MEMORY, whole):
+                if not is_wanting and found != whole:
                     faults += 1
                     print(f"allocation {refused} refused: {found}")
             shown = text[:24].decode() + (" .." if len(text) > 24 else "")

@@ -1,22 +1,78 @@
 #!/usr/bin/env python3
-"""Runs the built program `pmb` on a table of command lines and inputs, and compares its status and
-what it wrote on both streams with the table: each status, each kind of line on standard error, a
-full output and closed streams. What differs is printed, and the status is then 1.
+"""Runs the built program `pmb` on all of examples/ and on a table of command lines and inputs, and
+compares its status and what it wrote on both streams: each status, each kind of line on standard error,
+a full output and closed streams. What differs is printed, and the status is then 1.
 
-It needs the program: (cd crates/pmb && rt run -- hear < stdin).
+It needs the program, (cd crates/pmb && rt run -- hear < stdin), or the environment variable PMB that
+names one.
 """
+import glob
 import os
 import subprocess
 import sys
 
 ROOT = os.path.dirname(os.path.dirname(os.path.abspath(__file__)))
-PROGRAM = os.path.join(ROOT, "crates/pmb/out/pmb")
+PROGRAM = os.environ.get("PMB", os.path.join(ROOT, "crates/pmb/out/pmb"))
 
 FRAME = b"B0 05 04 00 21 CD 34 5A\n"
 TAKEN = b"taken\noutput 0 VOUT_COMMAND 34CD\noutput 1 VOUT_COMMAND 1000\n"
 NONE = b"output 0 VOUT_COMMAND 1000\noutput 1 VOUT_COMMAND 1000\n"
 LINEAR11 = ["number", "--format=linear11"]
 DIRECT = "--format=direct:"
+
+HEAD = ["scenario 1", "address 58", "passes 2", "protect 00", "coefficients 1 0 0"]
+OUTPUT = "output 14 80 1000 4000 1100 0F00"
+DIRECT_OUTPUT = "output 40 80 1000 4000 1100 0F00"
+ORDER = ["order 0 VOUT_COMMAND 34CD", "deliver whole", "finish ack", "exchange whole whole"]
+
+
+def scenario(outputs, events=(), **changed):
+    """A scenario, some lines of its head changed."""
+    head = [changed.get(line.split()[0], line) for line in HEAD]
+    return "".join(line + "\n" for line in [*head, *outputs, "begin", *events]).encode()
+
+
+def setup(words, outputs=(OUTPUT, OUTPUT), **changed):
+    """A run of a scenario whose setup is refused."""
+    text = scenario(outputs, **changed)
+    return ["replay"], text, 1, b"", f"pmb: X7 Setup {words}\n".encode()
+
+
+def faulty(words, text, command="replay"):
+    """A run of a text that is refused."""
+    return [command], text, 1, b"", f"pmb: {words}\n".encode()
+
+
+def setups():
+    """Each way in which a setup is refused."""
+    mode = lambda byte: OUTPUT.replace("14", byte, 1)
+    yield setup("V1 OutputCount", ())
+    yield setup("V1 OutputCount", [OUTPUT] * 9)
+    yield setup("V1 OutputCount", [OUTPUT] * 256)
+    yield setup("V2 BadStart 0 OPERATION", [OUTPUT.replace("80", "B0")])
+    yield setup("V2 BadStart 7 OPERATION", [OUTPUT] * 7 + [OUTPUT.replace("80", "FF")])
+    yield setup("V2 BadStart WRITE_PROTECT", protect="protect 01")
+    yield setup("V3 Address", address="address 07")
+    yield setup("V3 Address", address="address 78")
+    yield setup("V4 BadMode 0 C3 RelativeMode", [mode("94")])
+    yield setup("V4 BadMode 0 C1 VidMode", [mode("20")])
+    yield setup("V4 BadMode 1 C2 HalfMode", [OUTPUT, mode("60")])
+    yield setup("V4 BadMode 1 C4 BadParameter", [OUTPUT, mode("41")])
+    yield setup("V5 BadCoefficients N1 ZeroSlope", [DIRECT_OUTPUT], coefficients="coefficients 0 0 0")
+    yield setup("V5 BadCoefficients N2 ExponentRange", [DIRECT_OUTPUT], coefficients="coefficients 1 0 13")
+    yield setup("H2 Passes", passes="passes 0")
+    yield setup("H2 Passes", passes="passes 16")
+
+
+def stopped(words):
+    """The report of one output at its start, where an event wasn't taken."""
+    job = "pending" if words.startswith("1") else "none"
+    unknown = "".join(f"{name} {word} host unknown\n" for name, word in [
+        ("OPERATION", "80"), ("VOUT_COMMAND", "1000"), ("VOUT_MAX", "4000"), ("VOUT_MARGIN_HIGH", "1100"),
+        ("VOUT_MARGIN_LOW", "0F00")])
+    return (f"stopped {words}\nprotect 00 host unknown\noutput 0 on commanded 4096/4096 1000000 uV\n{unknown}"
+            f"status 00 0000 00\ncml 00\nrestart seen no\njob {job}\n").encode()
+
 
 # The arguments, the standard input, the status, standard output, standard error. None for a text
 # that is the parser's own, and isn't empty.
@@ -28,6 +84,23 @@ RUNS = [
     (["hear"], b"/ /\n", 1, b"", b"pmb: X1 Syntax line 1\n"),
     (["hear"], b"\n" * 299 + b"B0 0", 1, b"", b"pmb: X2 BadHex line 300\n"),
     (["hear"], b"#" * 1_048_577, 1, b"", b"pmb: X3 TooLong\n"),
+    faulty("X1 Syntax line 1", b""),
+    faulty("X1 Syntax line 7", "\n".join(HEAD + [OUTPUT]).encode()),
+    faulty("X1 Syntax line 12", scenario([OUTPUT] * 2, ORDER[:3] + ["finish"])),
+    faulty("X2 BadHex line 6", scenario(["output 14 8Z 1000"])),
+    faulty("X3 TooLong", scenario([OUTPUT]) + b"#" * 1_048_576),
+    *setups(),
+    (["replay"], scenario([OUTPUT], ["finish ack"]), 1, stopped("0 S2 NothingSent"), b""),
+    (["replay"], scenario([OUTPUT], ["check 0 VOUT_MAX", "finish ack"]), 1, stopped("1 S3 WrongKind"), b""),
+    (["replay"], scenario([OUTPUT], ORDER[:1] + ["deliver bytes B01000BD stop"]), 1,
+     stopped("1 S1 NotBetrayed"), b""),
+    (["replay"], scenario([OUTPUT], ["learn 1"]), 1, stopped("0 S4 Host H4 UnknownOutput"), b""),
+    (["decode"], b"", 0, b"lines 0 accepted 0 faults 0 bad 0\n", b""),
+    (["decode"], b"B0 03 47\n/\n", 0,
+     b"1 58 write F5 WrongPec 2\n2 -- write F1 NotOurs\nlines 2 accepted 0 faults 2 bad 0\n", b""),
+    (["decode"], b"B0 03 46\n#\n/ /\n0\n", 1, b"1 58 CLEAR_FAULTS send\n3 X1 Syntax\n4 X2 BadHex\n"
+     b"count CLEAR_FAULTS 1\nlines 3 accepted 1 faults 0 bad 2\n", b""),
+    (["decode"], b"/\n" + b"#" * 1_048_575, 1, b"1 -- write F1 NotOurs\n", b"pmb: X3 TooLong\n"),
     (LINEAR11 + ["--word=87FF"], b"", 0, b"word 87FF value -1/65536 micro -16\n", b""),
     (["number", DIRECT + "0:5:3", "--word=0001"], b"", 1, b"", b"pmb: N1 ZeroSlope\n"),
     (["number", DIRECT + "1:5:13", "--word=0001"], b"", 1, b"", b"pmb: N2 ExponentRange\n"),
@@ -43,12 +116,20 @@ RUNS = [
     (["number", b"--word=\xFF"], b"", 2, b"", b"pmb: bad arguments\n"),
     (["--help"], b"", 0, None, b""),
     (["number", "--help"], b"", 0, None, b""),
+    (["hear", "--help"], b"", 0, None, b""),
+    (["replay", "--help"], b"", 0, None, b""),
+    (["decode", "--help"], b"", 0, None, b""),
+    (["--version"], b"", 0, None, b""),
     ([], b"", 2, b"", None),
     (["listen"], b"", 2, b"", None),
     (["help"], b"", 2, b"", None),
     (["hear", "more"], b"", 2, b"", None),
+    (["replay", "more"], b"", 2, b"", None),
+    (["decode", "--word=1"], b"", 2, b"", None),
     (LINEAR11 + ["--word=1", "--word=2"], b"", 2, b"", None),
 ]
+
+ONE_ORDER = f"< '{os.path.join(ROOT, 'examples/one-order.scenario')}'"
 
 # What the shell does to the streams, the arguments, the status, standard error. A closed standard
 # error leaves the status alone.
@@ -64,7 +145,35 @@ STREAMS = [
     ("2>&-", LINEAR11, 2, b""),
     ("2>&-", ["listen"], 2, b""),
     ("2>&-", ["hear"], 0, b""),
+    ("> /dev/full", ["decode"], 1, b"pmb: X5 Write\n"),
+    (">&-", ["decode"], 1, b"pmb: X5 Write\n"),
+    ("< /", ["decode"], 1, b"pmb: X4 Read\n"),
+    ("<&-", ["decode"], 1, b"pmb: X4 Read\n"),
+    ("2>&-", ["decode"], 0, b""),
+    (ONE_ORDER + " > /dev/full", ["replay"], 1, b"pmb: X5 Write\n"),
+    (ONE_ORDER + " >&-", ["replay"], 1, b"pmb: X5 Write\n"),
+    ("< /", ["replay"], 1, b"pmb: X4 Read\n"),
+    ("<&-", ["replay"], 1, b"pmb: X4 Read\n"),
+    ("< /dev/null 2>&-", ["replay"], 1, b""),
 ]
+
+
+# The texts of the examples and their answers.
+KINDS = [("replay", "scenario", "report"), ("hear", "frames", "answers"), ("decode", "trace", "lines")]
+
+
+def examples():
+    """Runs of the examples. A trace with a bad line and a stopped scenario have status 1."""
+    for command, text, answer in KINDS:
+        for path in sorted(glob.glob(os.path.join(ROOT, "examples", "*." + text))):
+            wanted = contents(path.removesuffix(text) + answer)
+            is_bad = wanted.startswith(b"stopped") or command == "decode" and not wanted.endswith(b" bad 0\n")
+            yield [command], contents(path), int(is_bad), wanted, b""
+
+
+def contents(path):
+    with open(path, "rb") as file:
+        return file.read()
 
 
 def is_as_wanted(found, wanted):
@@ -72,8 +181,8 @@ def is_as_wanted(found, wanted):
 
 
 def main():
-    faults = 0
-    for arguments, text, status, output, errors in RUNS:
+    faults, runs = 0, [*RUNS, *examples()]
+    for arguments, text, status, output, errors in runs:
         ran = subprocess.run([PROGRAM, *arguments], input=text, capture_output=True)
         good = ran.returncode == status
         good = good and is_as_wanted(ran.stdout, output) and is_as_wanted(ran.stderr, errors)
@@ -86,7 +195,7 @@ def main():
         if (ran.returncode, ran.stderr) != (status, errors):
             faults += 1
             print(f"{arguments} {streams}: {ran.returncode}, {ran.stderr!r}")
-    print(f"{len(RUNS) + len(STREAMS)} runs, {faults} faults")
+    print(f"{len(runs) + len(STREAMS)} runs, {faults} faults")
     return 1 if faults else 0
 
 
