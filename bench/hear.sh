@@ -2,7 +2,7 @@
 # How long `pmb hear` takes for texts of up to 1 MiB: one frame as one long word and as many words of
 # one byte, whose code is unknown, so that the PEC of all bytes is computed; and many lines, of short
 # writes, of reads, of restarts and of empty reads, which make the longest text. Build the program
-# first: (cd crates/pmb && rt run -- hear < stdin). Each row is the best of five runs; twice the text
+# first: (cd crates/pmb && rt run -- replay < stdin). Each row is the best of five runs; twice the text
 # should take about twice the time.
 set -eu
 cd "$(dirname "$0")/.."

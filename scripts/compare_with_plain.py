@@ -6,7 +6,7 @@ kind of line came.
 
     scripts/compare_with_plain.py [SEED [TEXTS [COMMAND ..]]]
 
-It needs the program, (cd crates/pmb && rt run -- hear < stdin), or the environment variable PMB that names
+It needs the program, (cd crates/pmb && rt run -- replay < stdin), or the environment variable PMB that names
 one.
 """
 import os

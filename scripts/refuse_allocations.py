@@ -5,7 +5,7 @@ What comes of it must be `pmb: X6 Memory` alone, with status 1 and nothing writt
 writes line by line, a front of the text), or the very result of the run in which no allocation fails,
 where that one could be done without. Anything else is printed, and the status is then 1.
 
-It needs the program, (cd crates/pmb && rt run -- hear < stdin), or the environment variable PMB that
+It needs the program, (cd crates/pmb && rt run -- replay < stdin), or the environment variable PMB that
 names one, a C compiler and glibc. With the
 toolchain alone `rt try --fail-alloc N -- hear < stdin` in crates/pmb does the same for one
 allocation, the Nth, of one run, and takes some 20 seconds.

@@ -3,7 +3,7 @@
 compares its status and what it wrote on both streams: each status, each kind of line on standard error,
 a full output and closed streams. What differs is printed, and the status is then 1.
 
-It needs the program, (cd crates/pmb && rt run -- hear < stdin), or the environment variable PMB that
+It needs the program, (cd crates/pmb && rt run -- replay < stdin), or the environment variable PMB that
 names one.
 """
 import glob

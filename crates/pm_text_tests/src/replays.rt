@@ -10,8 +10,7 @@ use std::test::Fail;
 const HEAD: &str =
     "scenario 1\naddress 58\npasses 2\nprotect 00\ncoefficients 1 0 0\noutput 14 80 1000 4000 1100 0F00\noutput 14 80 1000 4000 1100 0F00\nbegin\n";
 
-const EVENTS: &str =
-    "order 0 VOUT_COMMAND 34CD\ndeliver whole\nfinish ack\nexchange whole whole\n";
+const EVENTS: &str = "order 0 VOUT_COMMAND 34CD\ndeliver whole\nfinish ack\nexchange whole whole\n";
 
 const REST_OF_0: &str =
     "VOUT_MAX 4000 host unknown\nVOUT_MARGIN_HIGH 1100 host unknown\nVOUT_MARGIN_LOW 0F00 host unknown\nstatus 00 0000 00\n";
@@ -70,7 +69,14 @@ fn replays_are_reported(rt: HostRuntime) -> Result<(), Fail> {
     let alloc = rt.alloc();
     let unknown = "1000 host unknown";
     let rows = [
-        (EVENTS, ReplayEnd::Ran, "ran 4", HELD, "34CD host confirmed 34CD", "done"),
+        (
+            EVENTS,
+            ReplayEnd::Ran,
+            "ran 4",
+            HELD,
+            "34CD host confirmed 34CD",
+            "done",
+        ),
         ("", ReplayEnd::Ran, "ran 0", START, unknown, "none"),
         (
             "order 0 VOUT_COMMAND 34CD\ndeliver bytes B005040121CD344C stop\n",
@@ -80,7 +86,14 @@ fn replays_are_reported(rt: HostRuntime) -> Result<(), Fail> {
             unknown,
             "pending",
         ),
-        ("finish ack\n", ReplayEnd::Stopped, "stopped 0 S2 NothingSent", START, unknown, "none"),
+        (
+            "finish ack\n",
+            ReplayEnd::Stopped,
+            "stopped 0 S2 NothingSent",
+            START,
+            unknown,
+            "none",
+        ),
         (
             "check 0 VOUT_COMMAND\nfinish ack\n",
             ReplayEnd::Stopped,

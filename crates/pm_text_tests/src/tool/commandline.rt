@@ -2,11 +2,14 @@ use pm_tool::{Chosen, chosen};
 use std::test::Fail;
 
 #[test]
-fn hear_is_chosen(rt: HostRuntime) -> Result<(), Fail> {
-    assert_eq!(rt;
-        chosen(rt.alloc(), ["pmb", "hear"].as_slice())?,
-        Chosen::Hear
-    );
+fn commands_are_chosen_by_their_names(rt: HostRuntime) -> Result<(), Fail> {
+    for (name, command) in [
+        ("hear", Chosen::Hear),
+        ("replay", Chosen::Replay),
+        ("decode", Chosen::Decode),
+    ] {
+        assert_eq!(rt; chosen(rt.alloc(), ["pmb", name].as_slice())?, command);
+    }
     Ok(())
 }
 

@@ -118,6 +118,89 @@ fn every_status_has_its_texts(rt: HostRuntime) {
 }
 
 #[test]
+fn replays_and_traces_have_their_status(rt: HostRuntime) {
+    let alloc = rt.alloc();
+    for (command, text, status, output, errors) in [
+        ("replay", "", 1, "", "pmb: X1 Syntax line 1\n"),
+        (
+            "replay",
+            "scenario 1\naddress 5\n",
+            1,
+            "",
+            "pmb: X2 BadHex line 2\n",
+        ),
+        ("decode", "", 0, "lines 0 accepted 0 faults 0 bad 0\n", ""),
+        (
+            "decode",
+            "B0 9",
+            1,
+            "1 X2 BadHex\nlines 1 accepted 0 faults 0 bad 1\n",
+            "",
+        ),
+        (
+            "decode",
+            "B0",
+            0,
+            "1 58 write F2 Short 1\nlines 1 accepted 0 faults 1 bad 0\n",
+            "",
+        ),
+        ("--version", "", 0, "pmb 0.1.0\n", ""),
+    ] {
+        let found = run_on(alloc, &["pmb", command], text);
+        assert!(rt; found.is(status, output, errors), "{command} {text}");
+    }
+    let stopped =
+        "scenario 1\naddress 58\npasses 2\nprotect 00\ncoefficients 1 0 0\noutput 14 80 1000 4000 1100 0F00\nbegin\nfinish ack\n";
+    let found = run_on(alloc, &["pmb", "replay"], stopped);
+    assert_eq!(rt; found.status, 1);
+    assert!(rt;
+        found
+            .output
+            .taken
+            .as_slice()
+            .starts_with(b"stopped 0 S2 NothingSent\n")
+    );
+    assert!(rt; found.errors.taken.is_empty());
+}
+
+#[test]
+fn a_refused_setup_is_told(rt: HostRuntime) {
+    for (text, errors) in [
+        (
+            "scenario 1\naddress 58\npasses 2\nprotect 00\ncoefficients 1 0 0\nbegin\n",
+            "pmb: X7 Setup V1 OutputCount\n",
+        ),
+        (
+            "scenario 1\naddress 58\npasses 2\nprotect 00\ncoefficients 1 0 0\noutput 14 90 1000 4000 1100 0F00\nbegin\n",
+            "pmb: X7 Setup V2 BadStart 0 OPERATION\n",
+        ),
+        (
+            "scenario 1\naddress 58\npasses 2\nprotect 10\ncoefficients 1 0 0\noutput 14 80 1000 4000 1100 0F00\nbegin\n",
+            "pmb: X7 Setup V2 BadStart WRITE_PROTECT\n",
+        ),
+        (
+            "scenario 1\naddress 07\npasses 2\nprotect 00\ncoefficients 1 0 0\noutput 14 80 1000 4000 1100 0F00\nbegin\n",
+            "pmb: X7 Setup V3 Address\n",
+        ),
+        (
+            "scenario 1\naddress 58\npasses 2\nprotect 00\ncoefficients 1 0 0\noutput 21 80 1000 4000 1100 0F00\nbegin\n",
+            "pmb: X7 Setup V4 BadMode 0 C1 VidMode\n",
+        ),
+        (
+            "scenario 1\naddress 58\npasses 2\nprotect 00\ncoefficients 0 0 0\noutput 40 80 1000 4000 1100 0F00\nbegin\n",
+            "pmb: X7 Setup V5 BadCoefficients N1 ZeroSlope\n",
+        ),
+        (
+            "scenario 1\naddress 58\npasses 16\nprotect 00\ncoefficients 1 0 0\noutput 14 80 1000 4000 1100 0F00\nbegin\n",
+            "pmb: X7 Setup H2 Passes\n",
+        ),
+    ] {
+        let found = run_on(rt.alloc(), &["pmb", "replay"], text);
+        assert!(rt; found.is(1, "", errors), "{errors}");
+    }
+}
+
+#[test]
 fn a_failed_reader_and_an_endless_one_are_told(rt: HostRuntime) {
     let alloc = rt.alloc();
     let hear = ["pmb", "hear"];
