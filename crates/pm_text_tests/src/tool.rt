@@ -3,3 +3,4 @@ mod commandline;
 mod hear;
 mod numbers;
 mod run;
+mod usage;

@@ -11,15 +11,15 @@ const TAKEN: &str = "taken\noutput 0 VOUT_COMMAND 34CD\noutput 1 VOUT_COMMAND 10
 
 /// What a run over memory comes to: the status, and what was written on both streams.
 #[derive(Drop)]
-struct Ran {
-    status: u8,
-    output: Paper,
-    errors: Paper,
+pub(super) struct Ran {
+    pub(super) status: u8,
+    pub(super) output: Paper,
+    pub(super) errors: Paper,
 }
 
 impl Ran {
     /// Whether the run ended so.
-    fn is(&self, status: u8, output: &str, errors: &str) -> bool {
+    pub(super) fn is(&self, status: u8, output: &str, errors: &str) -> bool {
         self.status == status
             && self.output.taken.as_slice() == output.as_bytes()
             && self.errors.taken.as_slice() == errors.as_bytes()
@@ -27,7 +27,7 @@ impl Ran {
 }
 
 /// Runs the program with its output and its errors going to such writers.
-fn run_with<R: Read>(
+pub(super) fn run_with<R: Read>(
     alloc: Global,
     words: Result<&[&str], ErrorKind>,
     input: &mut Source<R>,
@@ -47,7 +47,7 @@ fn run_with<R: Read>(
 }
 
 /// Runs the program on a text.
-fn run_on(alloc: Global, words: &[&str], text: &str) -> Ran {
+pub(super) fn run_on(alloc: Global, words: &[&str], text: &str) -> Ran {
     let mut input = Source::new(in_pieces(text.as_bytes(), 7));
     run_with(
         alloc,
@@ -303,95 +303,4 @@ fn a_failed_standard_error_leaves_the_status(rt: HostRuntime) {
             assert_eq!(rt; found.errors.taken.as_slice(), front, "at {fails_at}");
         }
     }
-}
-
-static MISSING: &str = "error: 'pmb' requires a subcommand but one was not provided
-  [subcommands: hear, number]
-
-Usage: pmb <COMMAND>
-
-For more information, try '--help'.
-";
-
-static UNKNOWN: &str = "error: unrecognized subcommand 'listen'
-
-Usage: pmb <COMMAND>
-
-For more information, try '--help'.
-";
-
-static NO_SUCH_OPTION: &str = "error: unexpected argument '--bits' found
-
-Usage: pmb number [OPTIONS]
-
-For more information, try '--help'.
-";
-
-static NO_VALUE: &str = "error: a value is required for '--word <HHHH>' but none was supplied
-
-For more information, try '--help'.
-";
-
-static TWICE: &str = "error: the argument '--word <HHHH>' cannot be used multiple times
-
-Usage: pmb number [OPTIONS]
-
-For more information, try '--help'.
-";
-
-static HELP: &str = "PMBus packets and numbers, by proved engines
-
-Usage: pmb <COMMAND>
-
-Commands:
-  hear    Lets a model converter hear the frames of standard input
-  number  Prints a word of a number format, its exact value and its whole millionths
-
-Options:
-  -h, --help  Print help
-";
-
-static NUMBER_HELP: &str =
-    "Prints a word of a number format, its exact value and its whole millionths
-
-Usage: pmb number [OPTIONS]
-
-Options:
-      --format <F>   The format: linear11, ulinear16:N (N from -16 to 15) or direct:M:B:R
-      --word <HHHH>  The word, as four hexadecimal digits
-      --micro <K>    A value of K millionths, whose nearest word is taken
-  -h, --help         Print help
-";
-
-#[test]
-fn the_parsers_texts_go_where_they_belong(rt: HostRuntime) {
-    for (words, status, output, errors) in [
-        (["pmb"].as_slice(), 2, "", MISSING),
-        (["pmb", "listen"].as_slice(), 2, "", UNKNOWN),
-        (
-            ["pmb", "number", "--bits=1"].as_slice(),
-            2,
-            "",
-            NO_SUCH_OPTION,
-        ),
-        (["pmb", "number", "--word"].as_slice(), 2, "", NO_VALUE),
-        (
-            ["pmb", "number", "--word=1", "--word=2"].as_slice(),
-            2,
-            "",
-            TWICE,
-        ),
-        (["pmb", "--help"].as_slice(), 0, HELP, ""),
-        (["pmb", "number", "--help"].as_slice(), 0, NUMBER_HELP, ""),
-    ] {
-        let found = run_on(rt.alloc(), words, FRAME);
-        assert!(rt; found.is(status, output, errors), "{words:?}");
-    }
-    let alloc = rt.alloc();
-    let mut input = Source::new(in_pieces(b"", 1));
-    let mut output = blank_paper(alloc, 1);
-    output.fails_at = 3;
-    let words = ["pmb", "--help"];
-    let found = run_with(alloc, Ok(&words), &mut input, output, blank_paper(alloc, 1));
-    assert!(rt; found.is(1, "PM", "pmb: X5 Write\n"));
 }
