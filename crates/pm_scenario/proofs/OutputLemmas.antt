@@ -1,5 +1,5 @@
 -- The outputs of a scenario, one after another.
-use Rattle.std.proofs.Common.{◌≡◌, ℕ, zero, suc, ◌+◌, ◌≤◌, List, [], ◌∷◌, ◌++◌, length, Option, Some, None, Result, Ok, Err, refl, ap, sym, ◌∙◌, arith, add-one, append_assoc, append-nil, length-append, length-take-le}
+use Rattle.std.proofs.Common.{◌≡◌, ℕ, zero, suc, ◌+◌, ◌≤◌, List, [], ◌∷◌, ◌++◌, length, Some, None, Result, Ok, Err, refl, ap, sym, ◌∙◌, arith, add-one, append_assoc, append-nil, length-append, length-take-le}
 use Rattle.std.specs.Prelude.{replicate, slice_set, take}
 use Rattle.std.proofs.lemmas.List.{take-replicate}
 use Rattle.pm_device.specs.declared.config.OutputStart.{OutputStart}

@@ -1,6 +1,6 @@
 -- The event lines of a scenario, each with its words in their order. The forms are this project's own
 -- choice.
-use Rattle.std.specs.Prelude.{ℕ, Bool, true, false, List, [], ◌∷◌, Option, Some, None, codes}
+use Rattle.std.specs.Prelude.{ℕ, true, false, List, [], ◌∷◌, Option, Some, None, codes}
 use Rattle.pm_table.specs.declared.cell.Cell.{Cell}
 use Rattle.pm_table.specs.declared.cell.Cell.TheVariants.{Out}
 use Rattle.pm_device.specs.declared.heard.Ending.{Ending}
@@ -13,7 +13,7 @@ use Rattle.pm_world.specs.declared.event.Event.{Event}
 use Rattle.pm_world.specs.declared.event.Event.TheVariants.{Order, OrderMicro, Check, Learn, Clear, Deliver, Finish, Exchange, RestartDevice, RestartHost, Reading as Measure}
 use Rattle.pm_lines.specs.Digits.{hex_of, signed_of, small_of}
 use Rattle.pm_scenario.specs.Kinds.{place_of, register_named, device_cell_named, output_reading_named, device_reading_named, cell_word, frame_bytes}
-use Rattle.pm_scenario.specs.Reading.{◌>>=◌, ◌>>◌, Field, field, gives, named, one_of}
+use Rattle.pm_scenario.specs.Reading.{◌>>=◌, Field, field, gives, named, one_of}
 use Rattle.pm_scenario.specs.declared.line_fault.LineFault.TheVariants.{Syntax, BadHex}
 
 -- `O NAME`, or `- WRITE_PROTECT`

@@ -4,7 +4,7 @@
 use Rattle.std.specs.Prelude.{◌≡◌, ℕ, ◌+◌, List, [], ◌∷◌, Option, Some, None, Result, Ok, Err, bytes_eq, if◌then◌else◌}
 use Rattle.pm_lines.specs.Lines.{Numbered, WordsLeft, words_of}
 use Rattle.pm_scenario.specs.declared.line_fault.LineFault.{LineFault}
-use Rattle.pm_scenario.specs.declared.line_fault.LineFault.TheVariants.{Syntax, BadHex}
+use Rattle.pm_scenario.specs.declared.line_fault.LineFault.TheVariants.{Syntax}
 
 abbrev pub Reading : Type 0 → Type 0 → Type 0
 Reading S A = S → Result (A × S) LineFault

@@ -1,6 +1,6 @@
 -- The text of a scenario, line by line: what both ends are made from, and what happens between them.
 -- The form is this project's own choice.
-use Rattle.std.specs.Prelude.{◌≡◌, ⊤, ℕ, suc, nat_lt, min, if◌then◌else◌, List, [], ◌∷◌, ◌++◌, length, replicate, take, Option, Some, None, Result, Ok, Err, IsOk, IsOkAnd, codes}
+use Rattle.std.specs.Prelude.{⊤, ℕ, suc, nat_lt, min, if◌then◌else◌, List, [], ◌∷◌, ◌++◌, length, replicate, take, Option, Some, None, Result, Ok, Err, IsOk, IsOkAnd, codes}
 use Rattle.pm_table.specs.declared.coefficients.Coefficients.{Coefficients}
 use Rattle.pm_device.specs.declared.config.Config.{Config}
 use Rattle.pm_device.specs.declared.config.OutputStart.{OutputStart}
@@ -12,7 +12,7 @@ use Rattle.pm_lines.specs.declared.fault.TextFault.TheVariants as text
 use Rattle.pm_lines.specs.declared.text.TheConstants.{MAX_TEXT}
 use Rattle.pm_scenario.specs.EventLines.{event_line}
 use Rattle.pm_scenario.specs.Kinds.{is_word}
-use Rattle.pm_scenario.specs.Reading.{◌>>=◌, ◌>>◌, Field, Part, Rest, field, gives, line, line_as, one_of, read_on}
+use Rattle.pm_scenario.specs.Reading.{◌>>=◌, Field, Part, Rest, field, gives, line, line_as, one_of}
 use Rattle.pm_scenario.specs.declared.line_fault.LineFault.{LineFault}
 use Rattle.pm_scenario.specs.declared.line_fault.LineFault.TheVariants as fault
 use Rattle.pm_scenario.specs.declared.scenario.Scenario.{Scenario}

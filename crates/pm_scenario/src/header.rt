@@ -118,7 +118,7 @@ fn outputs(rows: &mut Rows<'_>) -> Result<Starts, LineFault>
     Ok(starts)
 }
 
-// `output MODE OPERATION COMMAND MAX HIGH LOW`, or `begin`: None.
+// A line that is an output, or `begin`: None.
 fn output_line(line: Line<'_>) -> Result<Option<OutputStart>, LineFault>
     ensures { result ≡ line_as spec.output_line (line.entry.number, line.entry.text.now) }
 {
@@ -128,6 +128,7 @@ fn output_line(line: Line<'_>) -> Result<Option<OutputStart>, LineFault>
     Ok(start)
 }
 
+// `output MODE OPERATION COMMAND MAX HIGH LOW`, or `begin`.
 #[tactic(auto, unfolding(crate::specs::ScenarioText::output_line))]
 fn output_or_begin(fields: &mut Fields<'_>) -> Result<Option<OutputStart>, LineFault>
     ensures { Reads result fields.new (spec.output_line fields.old) }

@@ -1,5 +1,4 @@
-use Rattle.std.proofs.Common.{◌≡◌, ◌≤◌, ◌<◌, ◌++◌, ◌∷◌, [], length, arith, length-append, ap, sym, ◌∙◌}
-use Rattle.std.specs.Prelude.{slice_set}
+use Rattle.std.proofs.Common.{◌≡◌, ◌≤◌, ◌++◌, ◌∷◌, [], length, arith, length-append, ap, sym, ◌∙◌}
 use Rattle.std.proofs.lemmas.List.{set_past}
 use Rattle.pm_scenario.specs.ScenarioText.{first_eight}
 use Rattle.pm_scenario.specs.declared.starts.Starts.{Starts}
