@@ -8,6 +8,11 @@ from .packets import TABLE, pec
 STRANGE_BYTES = [0, 1, 2, 3, 4, 5, 6, 0x10, 0x21, 0x30, 0xB0, 0xFF]
 
 
+# Writes that matter to what follows: WRITE_PROTECT, and VOUT_COMMAND above VOUT_MAX.
+FIRST = [[0xB0, 0x10, word, pec([0xB0, 0x10, word])] for word in (0x20, 0x40, 0x80)]
+FIRST += [[*frame, pec(frame)] for frame in ([0xB0, 5, 4, 0, 0x21, 0, 0x50], [0xB0, 5, 4, 1, 0x21, 0, 0x50])]
+
+
 def write_frame(dice, address=0x58):
     """A write that is good, or nearly."""
     code = dice.choice([*TABLE, 0x99, *[0x21] * 6, 0x24, 0x24, 0x00, 0x00, 0x10, 0x01])
@@ -92,6 +97,8 @@ def hear_text(dice):
     strange = dice.choice([0, 0, 0, 0.15])
     for _ in range(dice.choice([0, 1, 1, 2, 5, 20])):
         lines.insert(dice.randrange(len(lines) + 1), hear_line(dice, strange))
+    if dice.random() < 0.2:
+        lines.insert(0, spelled(dice, dice.choice(FIRST)))
     return text_of_lines(dice, lines)
 
 
