@@ -92,6 +92,16 @@ def hear_line(dice, strange):
     return line
 
 
+def latched_lines(dice):
+    """VOUT_COMMAND of both outputs is above VOUT_MAX and back again; status is cleared, and read."""
+    writes = [[5, 4, page, 0x21, 0x00, high] for high in (0x50, 0x10) for page in (0, 1)]
+    writes.append(dice.choice([[5, 2, 0, 0x03], [0x03], [5, 3, 1, 0x7A, dice.choice([0x08, 0xFF, 0xF7, 0x00])]]))
+    for write in writes:
+        yield spelled(dice, [0xB0, *write, pec([0xB0, *write])])
+    for page in (0, 1):
+        yield spelled(dice, [0xB0, 0x06, 2, page, 0x7A]) + b"/"
+
+
 def hear_text(dice):
     lines = skipped_lines(dice)
     strange = dice.choice([0, 0, 0, 0.15])
@@ -99,6 +109,8 @@ def hear_text(dice):
         lines.insert(dice.randrange(len(lines) + 1), hear_line(dice, strange))
     if dice.random() < 0.2:
         lines.insert(0, spelled(dice, dice.choice(FIRST)))
+    elif dice.random() < 0.05:
+        lines = [*latched_lines(dice), *lines]
     return text_of_lines(dice, lines)
 
 

@@ -180,6 +180,15 @@ def draw_surprise(dice, setup):
                 ("check", cell), check]
 
 
+def draw_latched(dice, setup):
+    """Outputs that were cut and aren't any more; then the status of one is cleared."""
+    outputs = range(min(setup["count"], 2))
+    for word in (0x0000, 0x7FFF, 0xFFFF):
+        for output in outputs:
+            yield from whole_order((output, MAX), word)
+    yield from [("clear", dice.choice(outputs)), ("deliver", ("whole",)), ("finish", True)]
+
+
 def draw_events(dice, world, setup):
     """Events, up to one that isn't taken, and a few more."""
     if chance(dice, 0.04):
@@ -187,6 +196,8 @@ def draw_events(dice, world, setup):
         return
     if chance(dice, 0.1):
         yield from draw_surprise(dice, setup)
+    elif chance(dice, 0.03):
+        yield from draw_latched(dice, setup)
     calm = dice.choice([0, 0.1, 0.2, 0.29])
     other, out_of_turn = dice.choice([0, 0.03, 0.15]), dice.choice([0, 0, 0.01, 0.03])
     likely, has_delivered = draw_cell(dice, setup), False
