@@ -8,6 +8,11 @@ from .packets import TABLE, pec
 STRANGE_BYTES = [0, 1, 2, 3, 4, 5, 6, 0x10, 0x21, 0x30, 0xB0, 0xFF]
 
 
+# Writes that matter to what follows: WRITE_PROTECT, and VOUT_COMMAND above VOUT_MAX.
+FIRST = [[0xB0, 0x10, word, pec([0xB0, 0x10, word])] for word in (0x20, 0x40, 0x80)]
+FIRST += [[*frame, pec(frame)] for frame in ([0xB0, 5, 4, 0, 0x21, 0, 0x50], [0xB0, 5, 4, 1, 0x21, 0, 0x50])]
+
+
 def write_frame(dice, address=0x58):
     """A write that is good, or nearly."""
     code = dice.choice([*TABLE, 0x99, *[0x21] * 6, 0x24, 0x24, 0x00, 0x00, 0x10, 0x01])
@@ -87,11 +92,25 @@ def hear_line(dice, strange):
     return line
 
 
+def latched_lines(dice):
+    """VOUT_COMMAND of both outputs is above VOUT_MAX and back again; status is cleared, and read."""
+    writes = [[5, 4, page, 0x21, 0x00, high] for high in (0x50, 0x10) for page in (0, 1)]
+    writes.append(dice.choice([[5, 2, 0, 0x03], [0x03], [5, 3, 1, 0x7A, dice.choice([0x08, 0xFF, 0xF7, 0x00])]]))
+    for write in writes:
+        yield spelled(dice, [0xB0, *write, pec([0xB0, *write])])
+    for page in (0, 1):
+        yield spelled(dice, [0xB0, 0x06, 2, page, 0x7A]) + b"/"
+
+
 def hear_text(dice):
     lines = skipped_lines(dice)
     strange = dice.choice([0, 0, 0, 0.15])
     for _ in range(dice.choice([0, 1, 1, 2, 5, 20])):
         lines.insert(dice.randrange(len(lines) + 1), hear_line(dice, strange))
+    if dice.random() < 0.2:
+        lines.insert(0, spelled(dice, dice.choice(FIRST)))
+    elif dice.random() < 0.05:
+        lines = [*latched_lines(dice), *lines]
     return text_of_lines(dice, lines)
 
 

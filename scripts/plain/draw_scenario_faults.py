@@ -9,7 +9,8 @@ WORDS = [
     b"9223372036854775808", b"-9223372036854775808", b"0" * 30 + b"1",
 ]
 LINES = [
-    b"order 0 34CD", b"order 0 FOO ZZ", b"order 0 VOUT_COMMAND ZZZZ x", b"order 0 VOUT_COMMAND", b"order",
+    b"deliver bytes " + 17 * b"B0" + b" stop", b"exchange whole bytes " + 17 * b"B1", b"deliver bytes B0050 stop",
+    b"deliver bytes " + 16 * b"B0" + b" stop x", b"order 0 34CD", b"order 0 FOO ZZ", b"order 0 VOUT_COMMAND ZZZZ x", b"order 0 VOUT_COMMAND", b"order",
     b"order 0 OPERATION 34CD", b"order 0 WRITE_PROTECT 40", b"order - VOUT_COMMAND 34CD", b"order - WRITE_PROTECT 0040",
     b"volts - WRITE_PROTECT 5", b"volts 0 WRITE_PROTECT 5", b"volts 0 OPERATION 5", b"volts 0 VOUT_MAX 5.0",
     b"volts 0 VOUT_MAX 9223372036854775808", b"volts 0 VOUT_MAX -9223372036854775809", b"check 0", b"check -",
@@ -61,15 +62,15 @@ def with_faults(dice, lines):
         for _ in range(dice.choice([1, 1, 2])):
             place = dice.randrange(len(lines))
             lines[place] = spoil_words(dice, lines[place] or [b"x"])
-    elif part < 0.13:
+    elif part < 0.14:
         lines.insert(dice.randrange(len(lines) + 1), [dice.choice(LINES)])
-    elif part < 0.16:
-        lines.append([dice.choice(LINES)])
-    elif part < 0.17:
-        lines = lines[: dice.randrange(len(lines) + 1)]
     elif part < 0.18:
-        del lines[dice.randrange(len(lines))]
+        lines.append([dice.choice(LINES)])
     elif part < 0.19:
+        lines = lines[: dice.randrange(len(lines) + 1)]
+    elif part < 0.20:
+        del lines[dice.randrange(len(lines))]
+    elif part < 0.21:
         a, b = dice.randrange(len(lines)), dice.randrange(len(lines))
         lines[a], lines[b] = lines[b], lines[a]
     spelled = [spelled_words(dice, words) for words in lines]

@@ -53,7 +53,7 @@ def draw_word(dice, cell):
 
 def draw_micro(dice, world, output):
     form = world.host.format(output) if output < world.host.outputs else None
-    if form is None or chance(dice, 0.03):
+    if form is None or chance(dice, 0.1):
         return dice.choice([0, -1, 3300000, 10**15 + 1, -(10**15) - 1, 2**63 - 1, -(2**63), 10**15])
     return near_value(dice, form)
 
@@ -68,7 +68,7 @@ def draw_job(dice, world, setup, likely):
         return kind, cell
     if kind == "volts":
         cell = (output, dice.choice(REGISTERS[1:]) if chance(dice, 0.97) else OPERATION)
-        if world.host.format(output) is None and not chance(dice, 0.03):
+        if world.host.format(output) is None and not chance(dice, 0.06):
             return "learn", output
         return kind, cell, draw_micro(dice, world, output)
     return kind, cell, draw_word(dice, cell)
@@ -98,9 +98,10 @@ def draw_arrival(dice, frame, setup, calm):
     if chance(dice, 0.2):
         return "bytes", frame[:16], ending
     if chance(dice, 0.2):
-        # Any bytes may end in a repeated start: these are requests of registers.
+        # Any bytes may end in a repeated start: these are requests of registers and of coefficients.
         page, code = dice.randrange(setup["count"] + 1), dice.choice([0x20, 0x21, 0x79, 0x7E, 0x8B, 0x99, 0x03])
-        return "bytes", write_part(setup["address"], ("read", page, code)), "restart"
+        message = dice.choice([("read", page, code), ("coefficients", code, dice.randrange(3))])
+        return "bytes", write_part(setup["address"], message), "restart"
     return "bytes", damaged(dice, frame, chance(dice, 0.08)), ending
 
 
@@ -147,11 +148,18 @@ def draw_out_of_turn(dice, world, setup, likely):
     ])
 
 
+def whole_order(cell, word):
+    return [("order", cell, word), ("deliver", ("whole",)), ("finish", True), ("exchange", ("whole",), ("whole",))]
+
+
 def draw_uncertain(dice, world, setup):
     """Orders whose answers are all lost: in the end the host refuses another word."""
     cell = (0, 0x21)
     yield from [("check", cell), ("exchange", ("whole",), ("whole",))]
-    words = dice.sample(range(65536), 17)
+    words, other = dice.sample(range(65536), 17), None
+    if chance(dice, 0.4):
+        other = (0, 0x25)
+        yield from whole_order(other, dice.randrange(65536))
     for word in words:
         yield "order", cell, word if chance(dice, 0.97) else words[0]
         while world.host.sending() is not None:
@@ -160,13 +168,25 @@ def draw_uncertain(dice, world, setup):
                 yield ("finish", chance(dice, 0.5))
             else:
                 yield "exchange", ("whole",), ("cut", 1)
+        if word == words[15] and other:
+            # A restart that is seen by another cell: any word is possible now, and the next one is taken.
+            yield from [("restart", "device"), ("check", other), ("exchange", ("whole",), ("whole",))]
 
 
 def draw_surprise(dice, setup):
     """A word that is confirmed, and lost by a restart that the next check may notice."""
-    cell, read = draw_cell(dice, setup), ("exchange", ("whole",), ("whole",))
-    yield from [("check", cell), read, ("order", cell, draw_word(dice, cell)), ("deliver", ("whole",)),
-                ("finish", chance(dice, 0.5)), read, ("restart", "device"), ("check", cell), read]
+    cell, check = draw_cell(dice, setup), ("exchange", ("whole",), ("whole",))
+    yield from [("check", cell), check, *whole_order(cell, draw_word(dice, cell)), ("restart", "device"),
+                ("check", cell), check]
+
+
+def draw_latched(dice, setup):
+    """Outputs that were cut and aren't any more; then the status of one is cleared."""
+    outputs = range(min(setup["count"], 2))
+    for word in (0x0000, 0x7FFF, 0xFFFF):
+        for output in outputs:
+            yield from whole_order((output, MAX), word)
+    yield from [("clear", dice.choice(outputs)), ("deliver", ("whole",)), ("finish", True)]
 
 
 def draw_events(dice, world, setup):
@@ -176,6 +196,8 @@ def draw_events(dice, world, setup):
         return
     if chance(dice, 0.1):
         yield from draw_surprise(dice, setup)
+    elif chance(dice, 0.03):
+        yield from draw_latched(dice, setup)
     calm = dice.choice([0, 0.1, 0.2, 0.29])
     other, out_of_turn = dice.choice([0, 0.03, 0.15]), dice.choice([0, 0, 0.01, 0.03])
     likely, has_delivered = draw_cell(dice, setup), False

@@ -21,6 +21,9 @@ def spoiled_answer(dice, frame, answer):
         answer[dice.randrange(len(answer))] = dice.choice([0x00, 0x01, 0x02, 0xB0, 0xB1, dice.randrange(256)])
         if dice.random() < 0.5:
             answer[-1] = pec([*frame, *answer[:-1]])
+    if dice.random() < 0.05 and len(answer) > 2:
+        answer[1] = dice.choice([0, 1, 2, 3, 5, 6])
+        answer = answer[:-1] if dice.random() < 0.5 else answer + [0]
     if dice.random() < 0.08:
         answer = answer[: dice.randrange(len(answer) + 1)]
     if dice.random() < 0.05:
@@ -29,7 +32,7 @@ def spoiled_answer(dice, frame, answer):
 
 
 def any_bytes(dice):
-    count = dice.choice([0, 1, 2, 3, 8, 16, 100, 258, 299, 300, 301, 302, 400])
+    count = dice.choice([0, 1, 2, 3, 4, 5, 5, 6, 7, 8, 16, 100, 258, 299, 300, 301, 302, 400])
     frame = [dice.randrange(256) for _ in range(count)]
     if frame and dice.random() < 0.8:
         frame[:5] = [0xB0, 0x05, dice.choice([0, 1, 2, 3, 4, max(count - 4, 0) % 256, 255]), 0, 0x21][:count]
