@@ -2,8 +2,8 @@
 # How long `pmb` takes for texts of 512 KiB and 1 MiB, the longest there may be: traces that are decoded,
 # scenarios that are replayed, lines that `hear` answers. Each row is the best of five runs of either size in
 # milliseconds, what twice the text takes of the time (it should be about 2), and the peak of the memory in
-# KiB at either size, by /usr/bin/time. Build the program first: (cd crates/pmb && rt run -- hear < stdin); PMB may name
-# another one.
+# KiB at either size, by /usr/bin/time. Build the program first: (cd crates/pmb && rt run -- hear < stdin); the
+# environment variable PMB may name another one.
 set -eu
 cd "$(dirname "$0")/.."
 export PMB=${PMB:-crates/pmb/out/pmb}
@@ -20,13 +20,13 @@ ORDER = "order 0 VOUT_COMMAND {}\ndeliver whole\nfinish ack\nexchange whole whol
 ROWS = [
     ("decode", "", WRITE + "\n", "writes"),
     ("decode", "", READ + "\n", "reads"),
-    ("decode", "", "B0 20 / B1 14 ED\nB0 03 46\nB0 05 04 01 21 CD 34 5A\nB0 9\n# skipped\n\n", "lines of all kinds"),
+    ("decode", "", "B0 20 / B1 14 ED\nB0 03 46\nB0 05 04 01 21 CD 34 5A\nB0 9\n#\n\n", "lines of all kinds"),
     ("decode", "", "/\n", "lone slashes"),
     ("decode", "", "99" * 300 + "\n", "the longest parts"),
     ("decode", "", "#\n", "skipped lines"),
     ("decode", "", "99" * 1_048_576, "one line that is too long"),
     ("replay", HEAD + OUTPUT * 2 + "begin\n", ORDER.format("34CD"), "one order again and again"),
-    ("replay", HEAD + OUTPUT * 8 + "begin\n", ORDER.format("34CD") + ORDER.format("1000"), "two words, 8 outputs"),
+    ("replay", HEAD + OUTPUT * 8 + "begin\n", ORDER.format("34CD") + ORDER.format("1000"), "two words"),
     ("replay", HEAD + OUTPUT + "begin\nlearn 0\nexchange whole whole\n",
      ORDER.replace("order", "volts").format("3300000"), "volts"),
     ("replay", HEAD + OUTPUT + "begin\n", "restart device\n", "restarts"),
@@ -48,10 +48,10 @@ def text_of(before, lines, size):
 
 def ran(command, path):
     with open(path, "rb") as text:
-        code = subprocess.run(command, stdin=text, stdout=subprocess.DEVNULL, stderr=subprocess.PIPE, check=False)
-    if code.returncode > 1:
-        raise SystemExit(f"{command} {path}: status {code.returncode}")
-    return code.stderr
+        run = subprocess.run(command, stdin=text, stdout=subprocess.DEVNULL, stderr=subprocess.PIPE)
+    if run.returncode > 1:
+        raise SystemExit(f"{command} {path}: status {run.returncode}")
+    return run.stderr
 
 
 def measured(command, path):

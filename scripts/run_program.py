@@ -1,7 +1,8 @@
 #!/usr/bin/env python3
 """Runs the built program `pmb` on all of examples/ and on a table of command lines and inputs, and
 compares its status and what it wrote on both streams: each status, each kind of line on standard error,
-a full output and closed streams. What differs is printed, and the status is then 1.
+a full output and closed streams; the examples also byte by byte. What differs is printed, and the status
+is then 1.
 
 It needs the program, (cd crates/pmb && rt run -- replay < stdin), or the environment variable PMB that
 names one.
@@ -176,6 +177,15 @@ def contents(path):
         return file.read()
 
 
+def ran_by_bytes(arguments, text):
+    """The status and standard output of a run that gets its input byte by byte."""
+    pipe = subprocess.PIPE
+    with subprocess.Popen([PROGRAM, *arguments], stdin=pipe, stdout=pipe, bufsize=0) as run:
+        for byte in text:
+            run.stdin.write(bytes([byte]))
+        return run.communicate()[0], run.returncode
+
+
 def is_as_wanted(found, wanted):
     return len(found) > 0 if wanted is None else found == wanted
 
@@ -189,13 +199,17 @@ def main():
         if not good:
             faults += 1
             print(f"{arguments} on {text[:24]!r}: {ran.returncode}, {ran.stdout!r}, {ran.stderr!r}")
+    for arguments, text, status, output, _ in examples():
+        if ran_by_bytes(arguments, text) != (output, status):
+            faults += 1
+            print(f"{arguments} on {text[:24]!r}, byte by byte: not as whole")
     for streams, arguments, status, errors in STREAMS:
         command = f'"$0" "$@" {streams}'
         ran = subprocess.run(["sh", "-c", command, PROGRAM, *arguments], input=FRAME, capture_output=True)
         if (ran.returncode, ran.stderr) != (status, errors):
             faults += 1
             print(f"{arguments} {streams}: {ran.returncode}, {ran.stderr!r}")
-    print(f"{len(runs) + len(STREAMS)} runs, {faults} faults")
+    print(f"{len(runs) + len(list(examples())) + len(STREAMS)} runs, {faults} faults")
     return 1 if faults else 0
 
 

@@ -89,16 +89,23 @@ FRAMES = [
     (write_fault, "B005FF0021" + 255 * "00", "F3 Long 259"),
     (request_fault, "B0060200", "F2 Short 4"), (request_fault, "B006030021", "F4 WrongCount 2"),
     (request_fault, "B006020003", "F7 WrongDirection 4"), (request_fault, "B02100", "F3 Long 2"),
-    (None, "B103CD34B9", "F4 WrongCount 1"), (None, "B102CD3400", "F5 WrongPec 4"), (None, "B102CD", "F2 Short 3"),
+    (None, "B103CD34B9", "F4 WrongCount 1"), (None, "B102CD3400", "F5 WrongPec 4"),
+    (None, "B102CD", "F2 Short 3"),
 ]
 HEARD = [
     ("B0 00 01 ED,restart,B0 21 CD 34 38", "taken,restarted,taken"), ("B0 20 /", "answer B1 14 ED"),
     ("B0 10 80 34,B0 05 04 00 21 CD 34 5A,B0 7E /", "taken,refused K5 Protected,answer B1 80 00"),
     ("B0 05 04 00 21 00 50 65,B0 05 03 00 7A 08 86,B0 7A/", "taken,taken,answer B1 08 1A"),
     ("B0 30 02 21 00 /", "refused K3 UnsupportedData"), ("B0 05 03 00 00 01 99", "refused K6 Nested"),
-    ("/", "silent"), ("B0 00 02 E4", "refused K4 BadPage"), ("B0 05 03 00 01 B0 92", "refused K3 UnsupportedData"),
+    ("/", "silent"), ("B0 00 02 E4", "refused K4 BadPage"),
+    ("B0 05 03 00 01 B0 92", "refused K3 UnsupportedData"),
 ]
-TRACE = "B0 05 04 00 21 CD 34 5A\nB0 06 02 00 21 / B1 02 CD 34 B9\nB0 05 04 01 21 CD 34 5A\nb0 10 80 34\nB0 9\n"
+TRACE = """B0 05 04 00 21 CD 34 5A
+B0 06 02 00 21 / B1 02 CD 34 B9
+B0 05 04 01 21 CD 34 5A
+b0 10 80 34
+B0 9
+"""
 SHOWN = """1 58 page 0 VOUT_COMMAND write 34CD
 2 58 page 0 VOUT_COMMAND read 34CD
 3 58 write F5 WrongPec 7

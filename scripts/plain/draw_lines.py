@@ -2,6 +2,7 @@
 from fractions import Fraction
 from math import floor
 
+from .lines import MOST_BYTES
 from .numbers import value_of
 from .packets import TABLE, pec
 
@@ -70,7 +71,15 @@ def spelled(dice, frame):
 def text_of_lines(dice, lines):
     """The lines, with ends of all kinds."""
     end = dice.choice([b"\n", b"\n", b"\r\n"])
-    return end.join(lines) + dice.choice([b"", b"\n", b"\r\n", b"\n\r", b"\n\n", b"\r" if dice.random() < 0.9 else b"\r\r\n"])
+    last = b"\r" if dice.random() < 0.9 else b"\r\r\n"
+    return end.join(lines) + dice.choice([b"", b"\n", b"\r\n", b"\n\r", b"\n\n", last])
+
+
+def lengthened(dice, text, lines):
+    """The text, again and again, in about the most bytes that there may be, or past them; its end may
+    fall into a line."""
+    text += b"\n" + lines
+    return (text * (MOST_BYTES // len(text) + 1))[: MOST_BYTES + dice.choice([-1, 0, 0, 1, 2, 700])]
 
 
 def skipped_lines(dice):
@@ -95,7 +104,8 @@ def hear_line(dice, strange):
 def latched_lines(dice):
     """VOUT_COMMAND of both outputs is above VOUT_MAX and back again; status is cleared, and read."""
     writes = [[5, 4, page, 0x21, 0x00, high] for high in (0x50, 0x10) for page in (0, 1)]
-    writes.append(dice.choice([[5, 2, 0, 0x03], [0x03], [5, 3, 1, 0x7A, dice.choice([0x08, 0xFF, 0xF7, 0x00])]]))
+    cleared = dice.choice([0x08, 0xFF, 0xF7, 0x00])
+    writes.append(dice.choice([[5, 2, 0, 0x03], [0x03], [5, 3, 1, 0x7A, cleared]]))
     for write in writes:
         yield spelled(dice, [0xB0, *write, pec([0xB0, *write])])
     for page in (0, 1):
@@ -111,7 +121,8 @@ def hear_text(dice):
         lines.insert(0, spelled(dice, dice.choice(FIRST)))
     elif dice.random() < 0.05:
         lines = [*latched_lines(dice), *lines]
-    return text_of_lines(dice, lines)
+    text = text_of_lines(dice, lines)
+    return lengthened(dice, text, b"#" + b" " * 9000 + b"\n") if dice.random() < 0.003 else text
 
 
 def near_value(dice, form):

@@ -1,28 +1,35 @@
 """Spoils the lines of a scenario: words and lines that are changed, missing or too many; and lines that
 are skipped."""
+from .lines import MOST_BYTES
 
 WORDS = [
-    b"-", b"0", b"00", b"1", b"256", b"255", b"-1", b"+1", b"-0", b"007", b"18446744073709551616", b"ZZ", b"0G", b"FFF",
-    b"FFFF", b"12345", b"x", b"begin", b"output", b"OPERATION", b"VOUT_COMMAND", b"VOUT_MIN", b"WRITE_PROTECT",
-    b"READ_VOUT", b"READ_VIN", b"STATUS_CML", b"vout_command", b"whole", b"cut", b"bytes", b"stop", b"restart", b"ack",
-    b"device", b"\t", b"#", b"\r", b"/", b"\x00", b"\xff", b"B0" * 16, b"B0" * 17, b"B0005", b"32768", b"-32769", b"-129",
-    b"9223372036854775808", b"-9223372036854775808", b"0" * 30 + b"1",
+    b"-", b"0", b"00", b"1", b"256", b"255", b"-1", b"+1", b"-0", b"007", b"18446744073709551616",
+    b"ZZ", b"0G", b"FFF", b"FFFF", b"12345", b"x", b"begin", b"output", b"OPERATION", b"VOUT_COMMAND",
+    b"VOUT_MIN", b"WRITE_PROTECT", b"READ_VOUT", b"READ_VIN", b"STATUS_CML", b"vout_command", b"whole",
+    b"cut", b"bytes", b"stop", b"restart", b"ack", b"device", b"\t", b"#", b"\r", b"/", b"\x00",
+    b"\xff", b"B0" * 16, b"B0" * 17, b"B0005", b"32768", b"-32769", b"-129", b"9223372036854775808",
+    b"-9223372036854775808", b"0" * 30 + b"1",
 ]
 LINES = [
-    b"deliver bytes " + 17 * b"B0" + b" stop", b"exchange whole bytes " + 17 * b"B1", b"deliver bytes B0050 stop",
-    b"deliver bytes " + 16 * b"B0" + b" stop x", b"order 0 34CD", b"order 0 FOO ZZ", b"order 0 VOUT_COMMAND ZZZZ x", b"order 0 VOUT_COMMAND", b"order",
-    b"order 0 OPERATION 34CD", b"order 0 WRITE_PROTECT 40", b"order - VOUT_COMMAND 34CD", b"order - WRITE_PROTECT 0040",
-    b"volts - WRITE_PROTECT 5", b"volts 0 WRITE_PROTECT 5", b"volts 0 OPERATION 5", b"volts 0 VOUT_MAX 5.0",
-    b"volts 0 VOUT_MAX 9223372036854775808", b"volts 0 VOUT_MAX -9223372036854775809", b"check 0", b"check -",
-    b"check - OPERATION", b"check 256 OPERATION", b"learn -", b"learn 0 0", b"clear -1", b"clear", b"deliver",
-    b"deliver bytes stop", b"deliver bytes B0", b"deliver bytes B0 x", b"deliver bytes B005 stop x", b"deliver cut",
-    b"deliver cut 256", b"deliver cut -1", b"deliver cut 000000000000000000000255 x", b"deliver Whole", b"finish",
-    b"finish ACK", b"finish ack nack", b"exchange whole", b"exchange whole bytes", b"exchange whole bytes B1 stop",
-    b"exchange bytes B0 whole", b"exchange cut 1", b"exchange whole cut 256", b"restart", b"restart both",
-    b"reading 0 READ_VIN 0000", b"reading - READ_VOUT 0000", b"reading 0 READ_VOUT 00", b"reading 0 READ_VOUT",
-    b"reading - READ_TEMPERATURE_1 12345", b" # comment", b"\t", b"\r\r", b"store", b"restore", b"scenario 1", b"begin",
-    b"output 14 80 1000 4000 1100 0F00", b"output 14 80 begin", b"output 14 8Z 1000", b"output 14 80 1000 4000 1100",
-    b"output 14 80 1000 4000 1100 0F00 0000", b"passes 1", b"B0 05 04 00 21 CD 34 5A", b"order 0 VOUT_MIN 0000",
+    b"deliver bytes " + 17 * b"B0" + b" stop", b"exchange whole bytes " + 17 * b"B1",
+    b"deliver bytes B0050 stop", b"deliver bytes " + 16 * b"B0" + b" stop x", b"order 0 34CD",
+    b"order 0 FOO ZZ", b"order 0 VOUT_COMMAND ZZZZ x", b"order 0 VOUT_COMMAND", b"order",
+    b"order 0 OPERATION 34CD", b"order 0 WRITE_PROTECT 40", b"order - VOUT_COMMAND 34CD",
+    b"order - WRITE_PROTECT 0040", b"volts - WRITE_PROTECT 5", b"volts 0 WRITE_PROTECT 5",
+    b"volts 0 OPERATION 5", b"volts 0 VOUT_MAX 5.0", b"volts 0 VOUT_MAX 9223372036854775808",
+    b"volts 0 VOUT_MAX -9223372036854775809", b"check 0", b"check -", b"check - OPERATION",
+    b"check 256 OPERATION", b"learn -", b"learn 0 0", b"clear -1", b"clear", b"deliver",
+    b"deliver bytes stop", b"deliver bytes B0", b"deliver bytes B0 x", b"deliver bytes B005 stop x",
+    b"deliver cut", b"deliver cut 256", b"deliver cut -1", b"deliver cut 000000000000000000000255 x",
+    b"deliver Whole", b"finish", b"finish ACK", b"finish ack nack", b"exchange whole",
+    b"exchange whole bytes", b"exchange whole bytes B1 stop", b"exchange bytes B0 whole",
+    b"exchange cut 1", b"exchange whole cut 256", b"restart", b"restart both",
+    b"reading 0 READ_VIN 0000", b"reading - READ_VOUT 0000", b"reading 0 READ_VOUT 00",
+    b"reading 0 READ_VOUT", b"reading - READ_TEMPERATURE_1 12345", b" # comment", b"\t", b"\r\r",
+    b"store", b"restore", b"scenario 1", b"begin", b"output 14 80 1000 4000 1100 0F00",
+    b"output 14 80 begin", b"output 14 8Z 1000", b"output 14 80 1000 4000 1100",
+    b"output 14 80 1000 4000 1100 0F00 0000", b"passes 1", b"B0 05 04 00 21 CD 34 5A",
+    b"order 0 VOUT_MIN 0000",
 ]
 SKIPPED = [b"", b" ", b"   ", b"#", b"# comment", b"#order 0 VOUT_COMMAND 34CD"]
 
@@ -47,7 +54,8 @@ def spoil_words(dice, words):
         words[place] = dice.choice(WORDS)
     elif kind == 3:
         at = dice.randrange(len(words[place]) + 1)
-        words[place] = words[place][:at] + dice.choice([b"0", b"Z", b"-", b"\t", b"\r", b"1"]) + words[place][at:]
+        put = dice.choice([b"0", b"Z", b"-", b"\t", b"\r", b"1"])
+        words[place] = words[place][:at] + put + words[place][at:]
     else:
         at = dice.randrange(max(len(words[place]), 1))
         words[place] = words[place][:at] + words[place][at + 1:]
@@ -81,5 +89,5 @@ def with_faults(dice, lines):
     if dice.random() < 0.002:
         # Past the most bytes, or just not.
         size = sum(len(line) + 1 for line in spelled)
-        spelled.append(b"#" * (1_048_576 - size - dice.choice([-2, 0, 3, 1000])))
+        spelled.append(b"#" * (MOST_BYTES - size - dice.choice([-2, 0, 3, 1000])))
     return spelled

@@ -7,7 +7,9 @@ from .packets import CODES, length_of, name_of, pec, write_part
 from .world import World, world_fault
 
 OPERATIONS = [0x80, 0x80, 0x80, 0x94, 0x98, 0xA4, 0xA8, 0x40, 0x00, 0x8F, 0x97, 0xAB]
-COEFFICIENTS = [(1, 0, 0), (1, 0, 3), (-1, 5, 3), (7, -100, 2), (-1, 5, -1), (32767, -32768, -12), (-32768, 1, 12)]
+COEFFICIENTS = [(1, 0, 0), (1, 0, 3), (-1, 5, 3), (7, -100, 2), (-1, 5, -1), (32767, -32768, -12),
+                (-32768, 1, 12)]
+BAD_COEFFICIENTS = [(0, 1, 2), (0, 0, 13), (1, 0, 13), (1, 0, -13), (5, 0, -128), (1, 2, 127)]
 STARTS = [0x1000, 0x1000, 0x4000, 0x0F00, 0x1100, 0x0000, 0x7FFF, 0x8000, 0xFFFF, 0x03E8]
 
 
@@ -27,11 +29,10 @@ def draw_setup(dice):
         words[MAX] = dice.choice([words[MAX], 0x4000, 0xF000])
         words[OPERATION] = pick(OPERATIONS, [0x90, 0xB0, 0xFF, 0x93, 0xA0, 0xAC])
         outputs.append((pick(modes, [0x80, 0xFF, 0x20, 0x3F, 0x60, 0x7F, 0x41, 0x5F]), words))
-    coefficients = pick(COEFFICIENTS, [(0, 1, 2), (0, 0, 13), (1, 0, 13), (1, 0, -13), (5, 0, -128), (1, 2, 127)])
     setup = {
         "address": pick([0x58, 0x58, 0x08, 0x77, 0x10], [0x00, 0x07, 0x78, 0xFF]), "count": count,
         "outputs": outputs, "protect": pick([0, 0, 0, 0, 0, 0x20, 0x40, 0x80], [1, 0x10, 0xFF, 0x60]),
-        "coefficients": coefficients,
+        "coefficients": pick(COEFFICIENTS, BAD_COEFFICIENTS),
     }
     return setup, pick([1, 2, 2, 3, 15], [0, 16, 255])
 
@@ -39,8 +40,10 @@ def draw_setup(dice):
 def draw_cell(dice, setup):
     if chance(dice, 0.1):
         return PROTECT
-    output = setup["count"] + dice.choice([0, 0, 100]) if chance(dice, 0.01) else dice.randrange(max(setup["count"], 1))
-    return min(output, 255), dice.choice([0x21, 0x21, *REGISTERS])
+    output = dice.randrange(max(setup["count"], 1))
+    if chance(dice, 0.01):
+        output = min(setup["count"] + dice.choice([0, 0, 100]), 255)
+    return output, dice.choice([0x21, 0x21, *REGISTERS])
 
 
 def draw_word(dice, cell):
@@ -99,7 +102,8 @@ def draw_arrival(dice, frame, setup, calm):
         return "bytes", frame[:16], ending
     if chance(dice, 0.2):
         # Any bytes may end in a repeated start: these are requests of registers and of coefficients.
-        page, code = dice.randrange(setup["count"] + 1), dice.choice([0x20, 0x21, 0x79, 0x7E, 0x8B, 0x99, 0x03])
+        page = dice.randrange(setup["count"] + 1)
+        code = dice.choice([0x20, 0x21, 0x79, 0x7E, 0x8B, 0x99, 0x03])
         message = dice.choice([("read", page, code), ("coefficients", code, dice.randrange(3))])
         return "bytes", write_part(setup["address"], message), "restart"
     return "bytes", damaged(dice, frame, chance(dice, 0.08)), ending
@@ -137,7 +141,7 @@ def draw_other(dice, setup):
     if chance(dice, 0.5):
         return "restart", dice.choice(["device", "device", "host"])
     name = dice.choice(["READ_VIN", "READ_TEMPERATURE_1", "READ_VOUT", "READ_IOUT"])
-    output = None if name in ("READ_VIN", "READ_TEMPERATURE_1") else dice.randrange(min(setup["count"] + 1, 256))
+    output = dice.randrange(setup["count"] + 1) if name in ("READ_VOUT", "READ_IOUT") else None
     return "reading", output, CODES[name], dice.randrange(65536)
 
 
@@ -149,7 +153,8 @@ def draw_out_of_turn(dice, world, setup, likely):
 
 
 def whole_order(cell, word):
-    return [("order", cell, word), ("deliver", ("whole",)), ("finish", True), ("exchange", ("whole",), ("whole",))]
+    read = ("exchange", ("whole",), ("whole",))
+    return [("order", cell, word), ("deliver", ("whole",)), ("finish", True), read]
 
 
 def draw_uncertain(dice, world, setup):
@@ -175,9 +180,9 @@ def draw_uncertain(dice, world, setup):
 
 def draw_surprise(dice, setup):
     """A word that is confirmed, and lost by a restart that the next check may notice."""
-    cell, check = draw_cell(dice, setup), ("exchange", ("whole",), ("whole",))
-    yield from [("check", cell), check, *whole_order(cell, draw_word(dice, cell)), ("restart", "device"),
-                ("check", cell), check]
+    cell, read = draw_cell(dice, setup), ("exchange", ("whole",), ("whole",))
+    yield from [("check", cell), read, *whole_order(cell, draw_word(dice, cell)), ("restart", "device"),
+                ("check", cell), read]
 
 
 def draw_latched(dice, setup):

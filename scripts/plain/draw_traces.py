@@ -1,5 +1,5 @@
 """Random traces: good lines, spoiled ones, foreign ones, bad ones."""
-from .draw_lines import request, skipped_lines, spelled, spoiled, text_of_lines, write_frame
+from .draw_lines import lengthened, request, skipped_lines, spelled, spoiled, text_of_lines, write_frame
 from .packets import answer_of, answer_shape, pec, request_fault, request_message
 
 ADDRESSES = [0x58, 0x58, 0x58, 0x08, 0x77, 0x10, 0x07, 0x78, 0x00, 0x7F]
@@ -62,11 +62,11 @@ def frame_line(dice):
 
 def trace_line(dice, strange):
     line = frame_line(dice)
+    others = [b"/", b"/ /", b"\r", b"\t", b"G", b"0", b"0", b"#", b" # x", b"\x00", b"\xff", b"-"]
     if dice.random() < strange:
         for _ in range(dice.choice([1, 1, 2])):
             place = dice.randrange(len(line) + 1)
-            put = dice.choice([b"/", b"/ /", b"\r", b"\t", b"G", b"0", b"0", b"#", b" # x", b"\x00", b"\xff", b"-"])
-            line = line[:place] + put + line[place:]
+            line = line[:place] + dice.choice(others) + line[place:]
     return line
 
 
@@ -76,9 +76,5 @@ def trace_text(dice):
     for _ in range(dice.choice([0, 1, 1, 2, 5, 20, 60])):
         lines.insert(dice.randrange(len(lines) + 1), trace_line(dice, strange))
     text = text_of_lines(dice, lines)
-    if dice.random() < 0.003:
-        # A text of about 1 MiB, at its very end or past it; the end may fall into a line.
-        text += b"# " + b"x" * 1000 + b"\n"
-        text = text * (1_048_576 // len(text) + 1)
-        text = text[: 1_048_576 + dice.choice([-1, 0, 1, 2, 700])]
-    return text
+    filler = dice.choice([b"# " + b"x" * 1000, b"0" + b" " * 300]) + b"\n"
+    return lengthened(dice, text, filler) if dice.random() < 0.004 else text
