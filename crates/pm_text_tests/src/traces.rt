@@ -7,6 +7,7 @@ use pm_trace::{DecodeEnd, Decoder, decode, read_trace_line, render_line};
 use std::alloc::{AllocError, Global};
 use std::io;
 use std::io::{Read, Write};
+use std::process::Abort;
 use std::test::Fail;
 
 const TRACE: &str =
@@ -23,63 +24,59 @@ fn decoded(alloc: Global, trace: &str) -> (Result<DecodeEnd, TextFault>, Vec<u8>
     (end, writer.into_inner())
 }
 
+// Each trace is written as this text, and ends so.
+fn expect_texts(rt: &(impl Abort + AllocGlobal), end: DecodeEnd, rows: &[(&str, &str)]) {
+    for (trace, text) in rows {
+        let (result, written) = decoded(rt.alloc(), trace);
+        assert_eq!(rt; result, Ok(end), "{trace}");
+        assert_eq!(rt; written.as_slice(), text.as_bytes(), "{trace}");
+    }
+}
+
 #[test]
-fn a_trace_is_written_line_by_line(rt: HostRuntime) -> Result<(), Fail> {
-    let rows: [(&str, DecodeEnd, &str); 11] = [
-        (TRACE, DecodeEnd::BadLines, TEXT),
-        ("", DecodeEnd::Clean, "lines 0 accepted 0 faults 0 bad 0\n"),
-        (
-            "\n\r\n  \n# x\r\n",
-            DecodeEnd::Clean,
-            "lines 0 accepted 0 faults 0 bad 0\n",
-        ),
-        (
-            " # x",
-            DecodeEnd::BadLines,
-            "1 X2 BadHex\nlines 1 accepted 0 faults 0 bad 1\n",
-        ),
+fn a_trace_is_written_line_by_line(rt: HostRuntime) {
+    let rows = [
+        ("", "lines 0 accepted 0 faults 0 bad 0\n"),
+        ("\n\r\n  \n# x\r\n", "lines 0 accepted 0 faults 0 bad 0\n"),
         (
             "b010 80 34\r",
-            DecodeEnd::Clean,
             "1 58 WRITE_PROTECT write 80\ncount WRITE_PROTECT 1\nlines 1 accepted 1 faults 0 bad 0\n",
         ),
         (
-            "b010 80 34\r\r\n",
-            DecodeEnd::BadLines,
-            "1 X2 BadHex\nlines 1 accepted 0 faults 0 bad 1\n",
-        ),
-        (
             "/\n/ B1\nB1 00\n0E 00\nF0 00\n",
-            DecodeEnd::Clean,
             "1 -- write F1 NotOurs\n2 -- write F1 NotOurs\n3 -- write F1 NotOurs\n4 -- write F1 NotOurs\n5 -- write F1 NotOurs\nlines 5 accepted 0 faults 5 bad 0\n",
         ),
         (
             "B0 20 /\nB0 20 / B1 14 ED",
-            DecodeEnd::Clean,
             "1 58 read F1 NotOurs\n2 58 VOUT_MODE read 14\ncount VOUT_MODE 1\nlines 2 accepted 1 faults 1 bad 0\n",
         ),
         (
+            "B0 30 02 21 00 / B1 05 01 00 00 00 03 6B\nB0 03 46",
+            "1 58 COEFFICIENTS of 21 side 0 read m 1 b 0 r 3\n2 58 CLEAR_FAULTS send\ncount COEFFICIENTS 1\ncount CLEAR_FAULTS 1\nlines 2 accepted 2 faults 0 bad 0\n",
+        ),
+    ];
+    expect_texts(&rt, DecodeEnd::Clean, &rows);
+}
+
+#[test]
+fn a_trace_with_bad_lines_is_written_line_by_line(rt: HostRuntime) {
+    let rows = [
+        (TRACE, TEXT),
+        (" # x", "1 X2 BadHex\nlines 1 accepted 0 faults 0 bad 1\n"),
+        (
+            "b010 80 34\r\r\n",
+            "1 X2 BadHex\nlines 1 accepted 0 faults 0 bad 1\n",
+        ),
+        (
             "B0 // B1\nB/0\nB0 / / Z",
-            DecodeEnd::BadLines,
             "1 X1 Syntax\n2 X2 BadHex\n3 X2 BadHex\nlines 3 accepted 0 faults 0 bad 3\n",
         ),
         (
             "  b010 8034  \nB0 1\r0 80 34\nb0\t10 80 34\nB 010 80 34\n#b0 10 80 34\nB0108034\n",
-            DecodeEnd::BadLines,
             "1 58 WRITE_PROTECT write 80\n2 X2 BadHex\n3 X2 BadHex\n4 X2 BadHex\n6 58 WRITE_PROTECT write 80\ncount WRITE_PROTECT 2\nlines 5 accepted 2 faults 0 bad 3\n",
         ),
-        (
-            "B0 30 02 21 00 / B1 05 01 00 00 00 03 6B\nB0 03 46",
-            DecodeEnd::Clean,
-            "1 58 COEFFICIENTS of 21 side 0 read m 1 b 0 r 3\n2 58 CLEAR_FAULTS send\ncount COEFFICIENTS 1\ncount CLEAR_FAULTS 1\nlines 2 accepted 2 faults 0 bad 0\n",
-        ),
     ];
-    for (trace, wanted, text) in rows {
-        let (end, written) = decoded(rt.alloc(), trace);
-        assert_eq!(rt; end, Ok(wanted), "{trace}");
-        assert_eq!(rt; written.as_slice(), text.as_bytes(), "{trace}");
-    }
-    Ok(())
+    expect_texts(&rt, DecodeEnd::BadLines, &rows);
 }
 
 // A reader that gives one byte at a time.
