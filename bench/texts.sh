@@ -2,7 +2,7 @@
 # How long `pmb` takes for texts of 512 KiB and 1 MiB, the longest there may be: traces that are decoded,
 # scenarios that are replayed, lines that `hear` answers. Each row is the best of five runs of either size in
 # milliseconds, what twice the text takes of the time (it should be about 2), and the peak of the memory in
-# KiB at either size, by /usr/bin/time. Build the program first: (cd crates/pmb && rt run -- hear < stdin); the
+# KiB at either size, by /usr/bin/time. Build the program first: (cd crates/pmb && rt run -- replay < stdin); the
 # environment variable PMB may name another one.
 set -eu
 cd "$(dirname "$0")/.."
