@@ -5,7 +5,7 @@ use pm_world::{Arrival, Back, Event, SetupFault, World};
 use std::process::Abort;
 
 // Two outputs that ask for 1 V, in ULINEAR16 with N = -12.
-const OUTPUT: OutputStart = OutputStart {
+pub(crate) const OUTPUT: OutputStart = OutputStart {
     mode: 0x14,
     operation: 0x80,
     command: 0x1000,
@@ -14,7 +14,7 @@ const OUTPUT: OutputStart = OutputStart {
     low: 0x0F00,
 };
 
-const BASE: Config = Config {
+pub(crate) const BASE: Config = Config {
     addr: 0x58,
     count: 2,
     starts: [OUTPUT; 8],
@@ -23,7 +23,7 @@ const BASE: Config = Config {
 };
 
 // VOUT_COMMAND of both outputs.
-const FIRST: Cell = Cell::Out(0, Reg::VoutCommand);
+pub(crate) const FIRST: Cell = Cell::Out(0, Reg::VoutCommand);
 
 const SECOND: Cell = Cell::Out(1, Reg::VoutCommand);
 
@@ -49,7 +49,7 @@ const ORDERED: Standing = Standing::Confirmed(0x34CD);
 
 // What the host says of a cell, and the word that the converter holds; nothing where there is no such
 // cell.
-fn both(world: &World, cell: Cell) -> Option<(Standing, u16)> {
+pub(crate) fn both(world: &World, cell: Cell) -> Option<(Standing, u16)> {
     match cell {
         Cell::Out(output, _) if output >= world.device().count() => None,
         _ => Some((world.host().standing(cell), world.device().word(cell))),

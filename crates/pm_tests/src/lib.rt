@@ -12,3 +12,5 @@ mod host;
 mod model;
 #[cfg(test)]
 mod orders;
+#[cfg(test)]
+mod runs;
