@@ -1,6 +1,7 @@
 pub mod Betrayal
 pub mod Damage
 pub mod Fault
+pub mod FaultWords
 pub mod Layout
 pub mod Pec
 pub mod View

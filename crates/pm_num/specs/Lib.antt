@@ -1,9 +1,12 @@
+-- What the crate promises.
+pub mod AnyFormat
+pub mod FaultWords
+pub mod Formats
+pub mod Nearest
+pub mod Parameters
 pub mod Ratio
 pub mod Value
-pub mod Nearest
-pub mod NearestWord
-pub mod Formats
-pub mod Parameters
-pub mod AnyFormat
-pub mod Steps
+-- How it is kept.
 pub mod Laws
+pub mod NearestWord
+pub mod Steps

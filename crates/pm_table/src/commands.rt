@@ -1,6 +1,7 @@
-ghost use Rattle.std.specs.Prelude.{◌≡◌, ◌≤◌, ℕ, IfSome};
+ghost use Rattle.std.specs.Prelude.{◌≡◌, ◌≤◌, IfSome};
 ghost use Rattle.std.specs.Option.{option_map};
-ghost use Rattle.pm_table.specs.Commands.{line_of, payload_length, line_seen, setting as spec_setting, reading as spec_reading, action as spec_action};
+ghost use Rattle.pm_table.specs.Laws.{PayloadsAreShort};
+ghost use Rattle.pm_table.specs.Commands.{line_of, line_seen, setting as spec_setting, reading as spec_reading, action as spec_action};
 
 /// A command code of PMBus, any of the 256 bytes.
 #[derive(Clone, Copy, Debug, PartialEq, Eq)]
@@ -8,6 +9,51 @@ pub struct Code(pub u8);
 
 impl Code {
     ghost use Rattle.pm_table.specs.Commands.{is_known, is_read, is_written, payload_length};
+
+    /// PAGE.
+    pub const PAGE: Code = Code(0x00);
+    /// OPERATION.
+    pub const OPERATION: Code = Code(0x01);
+    /// CLEAR_FAULTS.
+    pub const CLEAR_FAULTS: Code = Code(0x03);
+    /// PAGE_PLUS_WRITE.
+    pub const PAGE_PLUS_WRITE: Code = Code(0x05);
+    /// PAGE_PLUS_READ.
+    pub const PAGE_PLUS_READ: Code = Code(0x06);
+    /// WRITE_PROTECT.
+    pub const WRITE_PROTECT: Code = Code(0x10);
+    /// CAPABILITY.
+    pub const CAPABILITY: Code = Code(0x19);
+    /// VOUT_MODE.
+    pub const VOUT_MODE: Code = Code(0x20);
+    /// VOUT_COMMAND.
+    pub const VOUT_COMMAND: Code = Code(0x21);
+    /// VOUT_MAX.
+    pub const VOUT_MAX: Code = Code(0x24);
+    /// VOUT_MARGIN_HIGH.
+    pub const VOUT_MARGIN_HIGH: Code = Code(0x25);
+    /// VOUT_MARGIN_LOW.
+    pub const VOUT_MARGIN_LOW: Code = Code(0x26);
+    /// COEFFICIENTS.
+    pub const COEFFICIENTS: Code = Code(0x30);
+    /// STATUS_BYTE.
+    pub const STATUS_BYTE: Code = Code(0x78);
+    /// STATUS_WORD.
+    pub const STATUS_WORD: Code = Code(0x79);
+    /// STATUS_VOUT.
+    pub const STATUS_VOUT: Code = Code(0x7A);
+    /// STATUS_CML.
+    pub const STATUS_CML: Code = Code(0x7E);
+    /// READ_VIN.
+    pub const READ_VIN: Code = Code(0x88);
+    /// READ_VOUT.
+    pub const READ_VOUT: Code = Code(0x8B);
+    /// READ_IOUT.
+    pub const READ_IOUT: Code = Code(0x8C);
+    /// READ_TEMPERATURE_1.
+    pub const READ_TEMPERATURE_1: Code = Code(0x8D);
+    /// PMBUS_REVISION.
+    pub const PMBUS_REVISION: Code = Code(0x98);
 
     /// Whether the code stands in the command table.
     pub fn is_known(self) -> bool
@@ -74,29 +120,29 @@ pub fn known(code: Code) -> Option<Info>
     ensures line { option_map line_seen result ≡ line_of code.0 }
     ensures short { IfSome result (λ line. line.length ≤ 2) }
 {
-    match code.0 {
-        0x00 => Some(setting("PAGE", 1, false)),
-        0x01 => Some(setting("OPERATION", 1, true)),
-        0x03 => Some(action("CLEAR_FAULTS", 0, true)),
-        0x05 => Some(action("PAGE_PLUS_WRITE", 0, false)),
-        0x06 => Some(reading("PAGE_PLUS_READ", 0, false)),
-        0x10 => Some(setting("WRITE_PROTECT", 1, false)),
-        0x19 => Some(reading("CAPABILITY", 1, false)),
-        0x20 => Some(reading("VOUT_MODE", 1, true)),
-        0x21 => Some(setting("VOUT_COMMAND", 2, true)),
-        0x24 => Some(setting("VOUT_MAX", 2, true)),
-        0x25 => Some(setting("VOUT_MARGIN_HIGH", 2, true)),
-        0x26 => Some(setting("VOUT_MARGIN_LOW", 2, true)),
-        0x30 => Some(reading("COEFFICIENTS", 0, false)),
-        0x78 => Some(reading("STATUS_BYTE", 1, true)),
-        0x79 => Some(reading("STATUS_WORD", 2, true)),
-        0x7A => Some(setting("STATUS_VOUT", 1, true)),
-        0x7E => Some(setting("STATUS_CML", 1, false)),
-        0x88 => Some(reading("READ_VIN", 2, false)),
-        0x8B => Some(reading("READ_VOUT", 2, true)),
-        0x8C => Some(reading("READ_IOUT", 2, true)),
-        0x8D => Some(reading("READ_TEMPERATURE_1", 2, false)),
-        0x98 => Some(reading("PMBUS_REVISION", 1, false)),
+    match code {
+        Code::PAGE => Some(setting("PAGE", 1, false)),
+        Code::OPERATION => Some(setting("OPERATION", 1, true)),
+        Code::CLEAR_FAULTS => Some(action("CLEAR_FAULTS", 0, true)),
+        Code::PAGE_PLUS_WRITE => Some(action("PAGE_PLUS_WRITE", 0, false)),
+        Code::PAGE_PLUS_READ => Some(reading("PAGE_PLUS_READ", 0, false)),
+        Code::WRITE_PROTECT => Some(setting("WRITE_PROTECT", 1, false)),
+        Code::CAPABILITY => Some(reading("CAPABILITY", 1, false)),
+        Code::VOUT_MODE => Some(reading("VOUT_MODE", 1, true)),
+        Code::VOUT_COMMAND => Some(setting("VOUT_COMMAND", 2, true)),
+        Code::VOUT_MAX => Some(setting("VOUT_MAX", 2, true)),
+        Code::VOUT_MARGIN_HIGH => Some(setting("VOUT_MARGIN_HIGH", 2, true)),
+        Code::VOUT_MARGIN_LOW => Some(setting("VOUT_MARGIN_LOW", 2, true)),
+        Code::COEFFICIENTS => Some(reading("COEFFICIENTS", 0, false)),
+        Code::STATUS_BYTE => Some(reading("STATUS_BYTE", 1, true)),
+        Code::STATUS_WORD => Some(reading("STATUS_WORD", 2, true)),
+        Code::STATUS_VOUT => Some(setting("STATUS_VOUT", 1, true)),
+        Code::STATUS_CML => Some(setting("STATUS_CML", 1, false)),
+        Code::READ_VIN => Some(reading("READ_VIN", 2, false)),
+        Code::READ_VOUT => Some(reading("READ_VOUT", 2, true)),
+        Code::READ_IOUT => Some(reading("READ_IOUT", 2, true)),
+        Code::READ_TEMPERATURE_1 => Some(reading("READ_TEMPERATURE_1", 2, false)),
+        Code::PMBUS_REVISION => Some(reading("PMBUS_REVISION", 1, false)),
         _ => None,
     }
 }
@@ -137,7 +183,7 @@ fn action(name: &'static str, length: u8, paged: bool) -> Info
 /// No payload in the command table is longer than two bytes: a law of the definitions, of codes of
 /// any size.
 pub fn payloads_are_short()
-    ensures { (code : ℕ) → payload_length code ≤ 2 }
+    ensures { PayloadsAreShort }
 {}
 
 #[cfg(test)]
