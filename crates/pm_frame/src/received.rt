@@ -11,11 +11,11 @@ ghost use Rattle.pm_frame.specs.Fault.{write_fault, request_fault, block_request
 use crate::code::{COEFFICIENTS, PAGE_PLUS_READ, PAGE_PLUS_WRITE};
 use crate::direction::Direction;
 use crate::fault::FrameFault;
-use crate::layout::{read_address, sent, write_address};
 use crate::message::Message;
 use crate::packet_error_code::pec;
 use crate::places::{ANSWER_COUNT, COUNT};
 use crate::rules;
+use crate::sent::{read_address, sent, write_address};
 use crate::view::FrameView;
 use pm_table::payloads_are_short;
 
@@ -37,6 +37,7 @@ pub fn read_write(addr: u8, bytes: &[u8]) -> Result<FrameView<'_>, FrameFault>
     ensures accepts { (message : Message) → IsWrite addr message bytes.now →
         IsOkAnd result (λ found. found ≡ message) }
 {
+    // A law for the prover: it does nothing.
     payloads_are_short();
     written(addr, bytes)?;
     Ok(FrameView::new(bytes))

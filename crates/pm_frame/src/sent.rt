@@ -1,49 +1,15 @@
-//! The layouts as bytes: which messages have one, and what goes out for them.
+//! The bytes that go out for a message: what the host sends, and what the device answers.
 
-ghost use Rattle.std.specs.Prelude.{◌≡◌, ◌≤◌, ◌+◌, ◌∷◌, ◌&&◌, ◌==◌, length, true, false};
+ghost use Rattle.std.specs.Prelude.{◌≡◌, ◌≤◌, ◌+◌, ◌∷◌, length, true, false};
 ghost use Rattle.arrayvec.specs.ArrayVec.{array_vec_len};
 ghost use Rattle.pm_table.specs.Address.{IsAddress};
-ghost use Rattle.pm_table.specs.Commands.{payload_length};
 ghost use Rattle.pm_frame.specs.Layout.{IsWrite, IsRequest, IsAnswer, fits_layout, is_read_message, answer_length, write_address as spec_write_address, read_address as spec_read_address};
-ghost use Rattle.pm_frame.specs.Layout.{is_plain_write as spec_is_plain_write, sent as sent_bytes, answered as answered_bytes, payload_bytes};
+ghost use Rattle.pm_frame.specs.Layout.{sent as sent_bytes, answered as answered_bytes, payload_bytes};
 
 use crate::Frame;
-use crate::code::{
-    COEFFICIENTS, PAGE_PLUS_READ, PAGE_PLUS_WRITE, is_carried, is_plain_read, is_plain_write,
-};
+use crate::code::{COEFFICIENTS, PAGE_PLUS_READ, PAGE_PLUS_WRITE};
 use crate::message::{Message, Payload};
 use crate::packet_error_code::{pec, pec_after};
-use pm_table::Code;
-
-/// Whether the code of the message has this layout: it is written, or read, in a packet of this
-/// kind, and has a payload of this length. PAGE_PLUS doesn't carry 00h, 05h, 06h and 30h.
-/// COEFFICIENTS may be asked of any code and side.
-pub fn fits(m: &Message) -> bool
-    ensures { result ≡ fits_layout m.now }
-{
-    match *m {
-        Message::SendByte { code } => is_plain(code, 0),
-        Message::WriteByte { code, byte: _ } => is_plain(code, 1),
-        Message::WriteWord { code, word: _ } => is_plain(code, 2),
-        Message::PagePlusWrite {
-            page: _,
-            code,
-            payload,
-        } => is_carried(code)
-            && Code(code).is_written()
-            && Code(code).payload_length() == payload.len(),
-        Message::ReadCommand { code } => is_plain_read(code),
-        Message::PagePlusRead { page: _, code } => is_carried(code) && Code(code).is_read(),
-        Message::ReadCoefficients { code: _, side: _ } => true,
-    }
-}
-
-// A plain packet writes the code, with this many bytes of payload.
-fn is_plain(code: u8, length: usize) -> bool
-    ensures { result ≡ (spec_is_plain_write code && payload_length code == length) }
-{
-    is_plain_write(code) && Code(code).payload_length() == length
-}
 
 /// What the host puts on the wire for the message to the device of this address: a whole packet,
 /// PEC included, for a write; the request before the repeated start for a read. At most 8 bytes.
