@@ -14,14 +14,13 @@
 #![tactic(auto)]
 
 mod betrayal;
-mod code;
-mod direction;
 mod fault;
 mod laws;
 mod message;
 mod packet_error_code;
 mod places;
 mod received;
+mod row;
 mod rules;
 mod sent;
 #[cfg(test)]

@@ -1,8 +1,8 @@
 ghost use Rattle.std.specs.Prelude.{◌≡◌, ◌≤◌, ◌&&◌, ◌==◌, if◌then◌else◌, length};
 ghost use Rattle.pm_table.specs.Commands.{payload_length};
-ghost use Rattle.pm_frame.specs.Layout.{fits_layout, is_plain_write as spec_is_plain_write};
+ghost use Rattle.pm_frame.specs.Layout.{fits_layout, is_plain_write};
 
-use crate::code::{is_carried, is_plain_read, is_plain_write};
+use crate::row::{Direction, Row};
 use pm_table::Code;
 
 /// What a write carries beside its code.
@@ -176,18 +176,23 @@ pub fn fits(m: &Message) -> bool
             page: _,
             code,
             payload,
-        } => is_carried(code)
-            && Code(code).is_written()
-            && Code(code).payload_length() == payload.len(),
-        Message::ReadCommand { code } => is_plain_read(code),
-        Message::PagePlusRead { page: _, code } => is_carried(code) && Code(code).is_read(),
+        } => {
+            let row = Row::of(Code(code));
+            row.is_carried() && row.goes(Direction::Write) && row.payload_length() == payload.len()
+        }
+        Message::ReadCommand { code } => Row::of(Code(code)).is_plain_read(),
+        Message::PagePlusRead { page: _, code } => {
+            let row = Row::of(Code(code));
+            row.is_carried() && row.goes(Direction::Read)
+        }
         Message::ReadCoefficients { code: _, side: _ } => true,
     }
 }
 
 // A plain packet writes the code, with this many bytes of payload.
 fn is_plain(code: u8, length: usize) -> bool
-    ensures { result ≡ (spec_is_plain_write code && payload_length code == length) }
+    ensures { result ≡ (is_plain_write code && payload_length code == length) }
 {
-    is_plain_write(code) && Code(code).payload_length() == length
+    let row = Row::of(Code(code));
+    row.is_plain_write() && row.payload_length() == length
 }

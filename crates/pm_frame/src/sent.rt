@@ -3,13 +3,14 @@
 ghost use Rattle.std.specs.Prelude.{◌≡◌, ◌≤◌, ◌+◌, ◌∷◌, length, true, false};
 ghost use Rattle.arrayvec.specs.ArrayVec.{array_vec_len};
 ghost use Rattle.pm_table.specs.Address.{IsAddress};
+ghost use Rattle.pm_table.specs.Codes as command;
 ghost use Rattle.pm_frame.specs.Layout.{IsWrite, IsRequest, IsAnswer, fits_layout, is_read_message, answer_length, write_address as spec_write_address, read_address as spec_read_address};
 ghost use Rattle.pm_frame.specs.Layout.{sent as sent_bytes, answered as answered_bytes, payload_bytes};
 
 use crate::Frame;
-use crate::code::{COEFFICIENTS, PAGE_PLUS_READ, PAGE_PLUS_WRITE};
 use crate::message::{Message, Payload};
 use crate::packet_error_code::{pec, pec_after};
+use pm_table::Code;
 
 /// What the host puts on the wire for the message to the device of this address: a whole packet,
 /// PEC included, for a write; the request before the repeated start for a read. At most 8 bytes.
@@ -65,10 +66,10 @@ pub(crate) fn sent(addr: u8, m: &Message) -> Frame
             payload,
         } => page_plus_write(first, page, code, payload),
         Message::PagePlusRead { page, code } => {
-            frame_of(&[first, PAGE_PLUS_READ, 2, page, code])
+            frame_of(&[first, Code::PAGE_PLUS_READ.0, 2, page, code])
         }
         Message::ReadCoefficients { code, side } => {
-            frame_of(&[first, COEFFICIENTS, 2, code, side])
+            frame_of(&[first, Code::COEFFICIENTS.0, 2, code, side])
         }
     }
 }
@@ -76,15 +77,15 @@ pub(crate) fn sent(addr: u8, m: &Message) -> Frame
 // The bytes of PAGE_PLUS_WRITE before its PEC.
 fn page_plus_write(first: u8, page: u8, code: u8, payload: Payload) -> Frame
     ensures bytes { let carried = payload_bytes payload in
-        result.items ≡ first ∷ 0x05 ∷ (2 + length carried) ∷ page ∷ code ∷ carried }
+        result.items ≡ first ∷ command.page_plus_write ∷ (2 + length carried) ∷ page ∷ code ∷ carried }
     ensures room { array_vec_len result ≤ 7 }
 {
     match payload {
-        Payload::Empty => frame_of(&[first, PAGE_PLUS_WRITE, 2, page, code]),
-        Payload::Byte(byte) => frame_of(&[first, PAGE_PLUS_WRITE, 3, page, code, byte]),
+        Payload::Empty => frame_of(&[first, Code::PAGE_PLUS_WRITE.0, 2, page, code]),
+        Payload::Byte(byte) => frame_of(&[first, Code::PAGE_PLUS_WRITE.0, 3, page, code, byte]),
         Payload::Word(word) => {
             let [low, high] = word.to_le_bytes();
-            frame_of(&[first, PAGE_PLUS_WRITE, 4, page, code, low, high])
+            frame_of(&[first, Code::PAGE_PLUS_WRITE.0, 4, page, code, low, high])
         }
     }
 }
