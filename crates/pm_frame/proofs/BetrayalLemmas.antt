@@ -23,6 +23,7 @@ is_betrayed-at before (byte ∷ bytes) h = record {
   last = get_or (byte ∷ bytes) (length bytes) 0;
   spelled = last_of byte bytes;
   wrong = λ same.
-      let t : eqb (get_or (byte ∷ bytes) (length bytes) 0) (pec_of (before ++ take (length bytes) (byte ∷ bytes))) ≡ true = eq-eqb _ _ same in
+      let t : eqb (get_or (byte ∷ bytes) (length bytes) 0) (pec_of (before ++ take (length bytes) (byte ∷ bytes))) ≡ true =
+          eq-eqb _ _ same in
       let f : true ≡ false = sym h ∙ ap not t in cc;
 }

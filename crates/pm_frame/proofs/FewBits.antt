@@ -1,5 +1,6 @@
 -- A change of few bits, or of an odd number of bits, changes the packet error code.
-use Rattle.std.proofs.Common.{◌≡◌, ◌≢◌, ◌⊎◌, inl, inr, ℕ, zero, suc, ◌+◌, ◌-◌, ◌*◌, ◌%◌, ◌^◌, ◌<◌, ◌≤◌, Bool, true, eqb, List, [], ◌∷◌, length, map, get_or, bit_xor, refl, sym, ap, ap₂, ◌∙◌, subst, arith, zero-add}
+use Rattle.std.proofs.Common.{◌≡◌, ◌≢◌, ◌⊎◌, inl, inr, ℕ, zero, suc, ◌+◌, ◌-◌, ◌*◌, ◌%◌, ◌^◌, ◌<◌, ◌≤◌, Bool, true, eqb, List, [], ◌∷◌}
+use Rattle.std.proofs.Common.{length, map, get_or, bit_xor, refl, sym, ap, ap₂, ◌∙◌, subst, arith, zero-add}
 use Rattle.std.specs.Prelude.{count_ones}
 use Rattle.std.specs.List.{range_with_len}
 use Rattle.std.proofs.lemmas.Bool.{cases_lt, eqb-true, eq-eqb, agree_below_at}
@@ -25,7 +26,8 @@ ones_below n (suc j) = bit_at n j + ones_below n j
 ones_below-same_bits : (a b count : ℕ) → ((j : ℕ) → j < count → bit_at a j ≡ bit_at b j) → ones_below a count ≡ ones_below b count
 unfolding ones_below
 ones_below-same_bits a b zero h = refl
-ones_below-same_bits a b (suc j) h = ap₂ (λ (x y : ℕ). x + y) (h j (omega arith)) (ones_below-same_bits a b j (λ k below. h k (omega arith)))
+ones_below-same_bits a b (suc j) h =
+    ap₂ (λ (x y : ℕ). x + y) (h j (omega arith)) (ones_below-same_bits a b j (λ k below. h k (omega arith)))
 
 ones_below-cat : (a m n count : ℕ) → m < 2 ^ n → ones_below (a * 2 ^ n + m) (count + n) ≡ ones_below a count + ones_below m n
 unfolding ones_below
@@ -44,7 +46,8 @@ unfolding ones_below
 bits-none e zero j h below = absurd (omega arith)
 bits-none e (suc count) j h below =
     let rest : j < count → bit_at e j ≡ 0 = λ less. bits-none e count j (omega arith) less in
-    let last : count ≤ j → bit_at e j ≡ 0 = λ more. let is : j ≡ count = omega arith in let none : bit_at e count ≡ 0 = omega arith in ap (bit_at e) is ∙ none in
+    let last : count ≤ j → bit_at e j ≡ 0 = λ more. let is : j ≡ count = omega arith in let none : bit_at e count ≡ 0 =
+        omega arith in ap (bit_at e) is ∙ none in
     elim (cases_lt j count) [ inl less ↦ rest less | inr more ↦ last more ]
 
 -- ---- how many bits changed
@@ -68,8 +71,10 @@ changed-ones (x ∷ xs) (y ∷ ys) h k size =
     let sizes : length xs ≡ length ys = omega arith in
     let low = number_of-lt xs (bytes_rest x xs h) in
     let other : number_of ys < 2 ^ n = subst (λ (l : ℕ). number_of ys < 2 ^ (8 * l)) (sym sizes) (number_of-lt ys (bytes_rest y ys k)) in
-    let width : y * 2 ^ (8 * length ys) + number_of ys ≡ y * 2 ^ n + number_of ys = ap (λ (l : ℕ). y * 2 ^ (8 * l) + number_of ys) (sym sizes) in
-    let block : bit_xor (x * 2 ^ n + number_of xs) (y * 2 ^ (8 * length ys) + number_of ys) ≡ bit_xor x y * 2 ^ n + bit_xor (number_of xs) (number_of ys) =
+    let width : y * 2 ^ (8 * length ys) + number_of ys ≡ y * 2 ^ n + number_of ys =
+        ap (λ (l : ℕ). y * 2 ^ (8 * l) + number_of ys) (sym sizes) in
+    let block : bit_xor (x * 2 ^ n + number_of xs) (y * 2 ^ (8 * length ys) + number_of ys) ≡ bit_xor x y * 2 ^ n
+        + bit_xor (number_of xs) (number_of ys) =
     ap (bit_xor (x * 2 ^ n + number_of xs)) width ∙ xor_block n x y (number_of xs) (number_of ys) low other in
     let all : 8 * length (x ∷ xs) ≡ 8 + n = omega arith in
     let rest = changed-ones xs ys (bytes_rest x xs h) (bytes_rest y ys k) sizes in
@@ -119,7 +124,8 @@ ones_below-residue i = eqb-true _ _ (is_odd-residue i)
 ones_below-bit : (b i : ℕ) → b < 2 → ones_below (b * residue i) 8 % 2 ≡ b
 unfolding ones_below
 ones_below-bit zero i h = let none : 0 * residue i ≡ 0 = omega arith in ap (λ (x : ℕ). ones_below x 8 % 2) none
-ones_below-bit (suc zero) i h = let one : 1 * residue i ≡ residue i = omega arith in ap (λ (x : ℕ). ones_below x 8 % 2) one ∙ ones_below-residue i
+ones_below-bit (suc zero) i h = let one : 1 * residue i ≡ residue i =
+    omega arith in ap (λ (x : ℕ). ones_below x 8 % 2) one ∙ ones_below-residue i
 ones_below-bit (suc (suc b)) i h = absurd (omega arith)
 
 ones_below-residues_of : (e after count : ℕ) → ones_below (residues_of e after count) 8 % 2 ≡ ones_below e count % 2
@@ -132,7 +138,8 @@ ones_below-residues_of e after (suc j) =
     let rest = ones_below-residues_of e after j in
     omega arith
 
-pub odd-betrayed : (sent heard : List ℕ) → AreBytes sent → AreBytes heard → length sent ≡ length heard → changed_bits sent heard % 2 ≡ 1 → pec_of sent ≢ pec_of heard
+pub odd-betrayed : (sent heard : List ℕ) → AreBytes sent → AreBytes heard → length sent ≡ length heard → changed_bits sent heard % 2 ≡ 1
+    → pec_of sent ≢ pec_of heard
 unfolding ones_below
 odd-betrayed sent heard h k size odd same =
     let e : ℕ = bit_xor (number_of sent) (number_of heard) in
@@ -161,7 +168,8 @@ record Two (sum after count : ℕ) : Type 0 where
   is : sum ≡ bit_xor (residue (8 + (after + high))) (residue (8 + (after + low)))
 
 clear_bit : (b r rest : ℕ) → b ≡ 0 → bit_xor (b * r) rest ≡ rest
-clear_bit b r rest h = let none : 0 * r ≡ 0 = omega arith in ap (λ (x : ℕ). bit_xor (x * r) rest) h ∙ ap (λ (x : ℕ). bit_xor x rest) none ∙ xor_zero_l rest
+clear_bit b r rest h = let none : 0 * r ≡ 0 =
+    omega arith in ap (λ (x : ℕ). bit_xor (x * r) rest) h ∙ ap (λ (x : ℕ). bit_xor x rest) none ∙ xor_zero_l rest
 
 set_bit : (b r rest : ℕ) → b ≡ 1 → bit_xor (b * r) rest ≡ bit_xor r rest
 set_bit b r rest h = let one : 1 * r ≡ r = omega arith in ap (λ (x : ℕ). bit_xor (x * r) rest) h ∙ ap (λ (x : ℕ). bit_xor x rest) one
@@ -227,20 +235,26 @@ residues-apart p q less near same =
     let alone : p + 0 ≡ p = omega arith in
     let up : doubled_times p (residue d) ≡ residue q = doubled_times-residue p d ∙ ap residue apart in
     let here : doubled_times p (residue 0) ≡ residue p = doubled_times-residue p 0 ∙ ap residue alone in
-    let none : doubled_times p (bit_xor (residue d) (residue 0)) ≡ 0 = doubled_times-xor p (residue d) (residue 0) ∙ ap₂ bit_xor up here ∙ same in
-    let one : residue d ≡ 1 = same_from_xor (residue d) (residue 0) (doubled_times-none p (bit_xor (residue d) (residue 0)) (xor_lt 8 (residue d) (residue 0) (residue-lt d) (residue-lt 0)) none) in
+    let none : doubled_times p (bit_xor (residue d) (residue 0)) ≡ 0 =
+        doubled_times-xor p (residue d) (residue 0) ∙ ap₂ bit_xor up here ∙ same in
+    let one : residue d ≡ 1 =
+        same_from_xor (residue d) (residue 0)
+        (doubled_times-none p (bit_xor (residue d) (residue 0)) (xor_lt 8 (residue d) (residue 0) (residue-lt d) (residue-lt 0)) none) in
     let zero_distance : d ≡ 0 = residue-order d (omega arith) one in
     omega arith
 
-two-betrayed : (sent heard : List ℕ) → AreBytes sent → AreBytes heard → length sent ≡ length heard → length sent ≤ 15 → changed_bits sent heard ≡ 2 → pec_of sent ≢ pec_of heard
+two-betrayed : (sent heard : List ℕ) → AreBytes sent → AreBytes heard → length sent ≡ length heard → length sent ≤ 15
+    → changed_bits sent heard ≡ 2 → pec_of sent ≢ pec_of heard
 two-betrayed sent heard h k size short two same =
     let e : ℕ = bit_xor (number_of sent) (number_of heard) in
     let n : ℕ = 8 * length sent in
     let found = two_set e 0 n (changed-ones sent heard h k size ∙ two) in
-    let none : bit_xor (residue (8 + (0 + found.high))) (residue (8 + (0 + found.low))) ≡ 0 = sym found.is ∙ change-none sent heard h k size same in
+    let none : bit_xor (residue (8 + (0 + found.high))) (residue (8 + (0 + found.low))) ≡ 0 =
+        sym found.is ∙ change-none sent heard h k size same in
     residues-apart (8 + (0 + found.low)) (8 + (0 + found.high)) (omega (arith, found.order)) (omega (arith, found.within)) none
 
-pub few-betrayed : (sent heard : List ℕ) → AreBytes sent → AreBytes heard → length sent ≡ length heard → sent ≢ heard → length sent ≤ 15 → changed_bits sent heard ≤ 3 → pec_of sent ≢ pec_of heard
+pub few-betrayed : (sent heard : List ℕ) → AreBytes sent → AreBytes heard → length sent ≡ length heard → sent ≢ heard → length sent ≤ 15
+    → changed_bits sent heard ≤ 3 → pec_of sent ≢ pec_of heard
 few-betrayed sent heard h k size other short few same = go (changed_bits sent heard) refl few where
   n : ℕ
   n = 8 * length sent
@@ -250,7 +264,8 @@ few-betrayed sent heard h k size other short few same = go (changed_bits sent he
       let e : ℕ = bit_xor (number_of sent) (number_of heard) in
       let ones : ones_below e (8 * length sent) ≡ 0 = changed-ones sent heard h k size ∙ is in
       let none : e ≡ 0 =
-      same_from_bits_below (8 * length sent) e 0 (change-lt sent heard h k size) (pow_pos (8 * length sent)) (λ i below. bits-none e (8 * length sent) i ones below ∙ sym (bit_at-zero i)) in
+      same_from_bits_below (8 * length sent) e 0 (change-lt sent heard h k size) (pow_pos (8 * length sent))
+          (λ i below. bits-none e (8 * length sent) i ones below ∙ sym (bit_at-zero i)) in
       other (same_from_change sent heard h k size none)
   go (suc zero) is le = odd-betrayed sent heard h k size (ap (λ (x : ℕ). x % 2) is) same
   go (suc (suc zero)) is le = two-betrayed sent heard h k size short is same

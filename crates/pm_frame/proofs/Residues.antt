@@ -1,5 +1,6 @@
 -- The packet error code of a message with one byte more, from the code of the message.
-use Rattle.std.proofs.Common.{◌≡◌, ℕ, zero, suc, ◌+◌, ◌*◌, ◌%◌, ◌^◌, ◌<◌, ◌≤◌, List, [], ◌∷◌, ◌++◌, length, take, get_or, bit_xor, refl, sym, ap, ◌∙◌, arith, mod-lt, zero-add, append_assoc}
+use Rattle.std.proofs.Common.{◌≡◌, ℕ, zero, suc, ◌+◌, ◌*◌, ◌%◌, ◌^◌, ◌<◌, ◌≤◌, List, [], ◌∷◌, ◌++◌, length, take, get_or, bit_xor, refl}
+use Rattle.std.proofs.Common.{sym, ap, ◌∙◌, arith, mod-lt, zero-add, append_assoc}
 use Rattle.std.proofs.Math.Nat.{mod-eq_of_lt}
 use Rattle.std.proofs.Math.Numerals.{one-add}
 use Rattle.std.proofs.lemmas.List.{length-append, take_more}
@@ -88,7 +89,9 @@ residue-low (suc (suc (suc (suc (suc (suc (suc (suc i)))))))) h = absurd (omega 
 pub residues_of-lt : (byte after count : ℕ) → residues_of byte after count < 2 ^ 8
 unfolding residues_of
 residues_of-lt byte after zero = omega arith
-residues_of-lt byte after (suc j) = xor_lt 8 _ _ (bit_lt (bit_at byte j) (residue (8 + (after + j))) (bit_at-lt byte j) (residue-lt (8 + (after + j)))) (residues_of-lt byte after j)
+residues_of-lt byte after (suc j) =
+    xor_lt 8 _ _ (bit_lt (bit_at byte j) (residue (8 + (after + j))) (bit_at-lt byte j) (residue-lt (8 + (after + j))))
+    (residues_of-lt byte after j)
   where
     bit_lt : (p r : ℕ) → p < 2 → r < 2 ^ 8 → p * r < 2 ^ 8
     bit_lt zero r hp hr = omega arith
@@ -96,7 +99,8 @@ residues_of-lt byte after (suc j) = xor_lt 8 _ _ (bit_lt (bit_at byte j) (residu
     bit_lt (suc (suc p)) r hp hr = absurd (omega arith)
 
 -- more bits after a byte double its residues as often
-pub residues_of-after : (byte more after count : ℕ) → doubled_times more (residues_of byte after count) ≡ residues_of byte (more + after) count
+pub residues_of-after : (byte more after count : ℕ)
+    → doubled_times more (residues_of byte after count) ≡ residues_of byte (more + after) count
 unfolding residues_of
 residues_of-after byte more after zero = doubled_times-zero more
 residues_of-after byte more after (suc j) =
@@ -142,7 +146,8 @@ pec_of-byte byte h =
     xor_zero_r (residues_of byte 0 8) ∙ residues_of-last byte 8 (omega arith) ∙ ap (doubled_times 8) (mod-eq_of_lt h)
 
 -- one byte more
-pub pec_of-append_byte : (front : List ℕ) (byte : ℕ) → byte < 2 ^ 8 → pec_of (front ++ byte ∷ []) ≡ doubled_times 8 (bit_xor (pec_of front) byte)
+pub pec_of-append_byte : (front : List ℕ) (byte : ℕ) → byte < 2 ^ 8
+    → pec_of (front ++ byte ∷ []) ≡ doubled_times 8 (bit_xor (pec_of front) byte)
 unfolding pec_of
 pec_of-append_byte [] byte h = pec_of-byte byte h
 pec_of-append_byte (x ∷ xs) byte h =

@@ -1,5 +1,6 @@
 -- What follows where a rule doesn't apply, and where it's the first one that does.
-use Rattle.std.proofs.Common.{◌≡◌, ℕ, ◌-◌, ◌<◌, ◌≤◌, Bool, true, false, not, eqb, Option, Some, None, List, [], ◌∷◌, ◌++◌, length, length-append, take, get_or, refl, sym, ◌∙◌, ap, arith}
+use Rattle.std.proofs.Common.{◌≡◌, ℕ, ◌-◌, ◌<◌, ◌≤◌, Bool, true, false, not, eqb, Option, Some, None, List, [], ◌∷◌, ◌++◌, length}
+use Rattle.std.proofs.Common.{length-append, take, get_or, refl, sym, ◌∙◌, ap, arith}
 use Rattle.std.proofs.lemmas.Bool.{eq-eqb, ne_eqb, eqb-true, not-false, or_parts, or_from, not_from_true, le-ltb, ltb-false}
 use Rattle.std.proofs.lemmas.List.{take-append-le, get_or-append_right, take_all}
 use Rattle.std.specs.Option.{option_or}
@@ -46,12 +47,15 @@ address_fault-found wanted (byte ∷ rest) h =
 pub opening_fault-none : (wanted second : ℕ) (bytes : List ℕ) → opening_fault wanted (wanted ∷ second ∷ bytes) ≡ None
 unfolding opening_fault
 opening_fault-none wanted second bytes =
-    none_or _ _ (address_fault-none wanted (second ∷ bytes)) (none_rule _ (Short 1) (eqb-below 1 (length (wanted ∷ second ∷ bytes)) (omega arith)))
+    none_or _ _ (address_fault-none wanted (second ∷ bytes))
+        (none_rule _ (Short 1) (eqb-below 1 (length (wanted ∷ second ∷ bytes)) (omega arith)))
 
-pub opening_fault-found : (wanted : ℕ) (bytes : List ℕ) → opening_fault wanted bytes ≡ None → (second : ℕ) × (rest : List ℕ) × (bytes ≡ wanted ∷ second ∷ rest)
+pub opening_fault-found : (wanted : ℕ) (bytes : List ℕ) → opening_fault wanted bytes ≡ None
+    → (second : ℕ) × (rest : List ℕ) × (bytes ≡ wanted ∷ second ∷ rest)
 unfolding opening_fault
 opening_fault-found wanted bytes h = go bytes (or_none _ _ h) where
-  go : (bytes : List ℕ) → (address_fault wanted bytes ≡ None) × (rule (eqb (length bytes) 1) (Short 1) ≡ None) → (second : ℕ) × (rest : List ℕ) × (bytes ≡ wanted ∷ second ∷ rest)
+  go : (bytes : List ℕ) → (address_fault wanted bytes ≡ None) × (rule (eqb (length bytes) 1) (Short 1) ≡ None)
+      → (second : ℕ) × (rest : List ℕ) × (bytes ≡ wanted ∷ second ∷ rest)
   go [] e = let found = address_fault-found wanted [] e.0 in cc (found.1)
   go (byte ∷ []) e = cc (e.1)
   go (byte ∷ second ∷ rest) e = let found = address_fault-found wanted (byte ∷ second ∷ rest) e.0 in (second, rest, cc (found.1))
@@ -72,17 +76,21 @@ length_fault-found wanted bytes h =
     omega arith
 
 -- what the rule on the PEC says where the last byte is seen
-pub pec_fault-last : (before front : List ℕ) (last : ℕ) → pec_fault before (front ++ last ∷ []) ≡ rule (not (eqb last (pec_of (before ++ front)))) (WrongPec (length front))
+pub pec_fault-last : (before front : List ℕ) (last : ℕ)
+    → pec_fault before (front ++ last ∷ []) ≡ rule (not (eqb last (pec_of (before ++ front)))) (WrongPec (length front))
 unfolding pec_fault
 pec_fault-last before front last =
     let place : length (front ++ last ∷ []) - 1 ≡ length front = rw length-append (omega arith) in
     let start : length front - length front ≡ 0 = omega arith in
-    let at_last : get_or (front ++ last ∷ []) (length front) 0 ≡ last = get_or-append_right front (last ∷ []) (length front) (length front) 0 refl (omega arith) ∙ ap (λ n. get_or (last ∷ []) n 0) start in
-    let before_last : take (length front) (front ++ last ∷ []) ≡ front = take-append-le (length front) front (last ∷ []) (omega arith) ∙ take_all (length front) front (omega arith) in
+    let at_last : get_or (front ++ last ∷ []) (length front) 0 ≡ last =
+        get_or-append_right front (last ∷ []) (length front) (length front) 0 refl (omega arith) ∙ ap (λ n. get_or (last ∷ []) n 0) start in
+    let before_last : take (length front) (front ++ last ∷ []) ≡ front =
+        take-append-le (length front) front (last ∷ []) (omega arith) ∙ take_all (length front) front (omega arith) in
     rw (place, at_last, before_last) refl
 
 pub pec_fault-none : (before front : List ℕ) → pec_fault before (front ++ pec_of (before ++ front) ∷ []) ≡ None
-pec_fault-none before front = pec_fault-last before front _ ∙ none_rule _ (WrongPec (length front)) (not_from_true _ (eqb-same (pec_of (before ++ front))))
+pec_fault-none before front =
+    pec_fault-last before front _ ∙ none_rule _ (WrongPec (length front)) (not_from_true _ (eqb-same (pec_of (before ++ front))))
 
 pub pec_fault-found : (before front : List ℕ) (last : ℕ) → pec_fault before (front ++ last ∷ []) ≡ None → last ≡ pec_of (before ++ front)
 pec_fault-found before front last h =
@@ -100,14 +108,16 @@ unfolding plain_fault
 plain_fault-found direction code h = not-false _ (rule_none _ (WrongDirection 1) (or_none _ _ (or_none _ _ h).1).0)
 
 -- a carried code has no fault exactly where PAGE_PLUS carries it and it goes this way
-pub carried_fault-none : (direction : Direction) (code : ℕ) → is_carried code ≡ true → codes_of direction code ≡ true → carried_fault direction code ≡ None
+pub carried_fault-none : (direction : Direction) (code : ℕ) → is_carried code ≡ true → codes_of direction code ≡ true
+    → carried_fault direction code ≡ None
 unfolding carried_fault
 carried_fault-none direction code carried h =
     none_or _ _ (none_rule _ (Nested 4) (not_from_true _ carried))
     (none_or _ _ (none_rule _ (UnknownCode 4) (not_from_true _ (codes_of-is_known direction code h)))
     (none_or _ _ (none_rule _ (WrongDirection 4) (not_from_true _ h)) refl))
 
-pub carried_fault-found : (direction : Direction) (code : ℕ) → carried_fault direction code ≡ None → (is_carried code ≡ true) × (codes_of direction code ≡ true)
+pub carried_fault-found : (direction : Direction) (code : ℕ) → carried_fault direction code ≡ None
+    → (is_carried code ≡ true) × (codes_of direction code ≡ true)
 unfolding carried_fault
 carried_fault-found direction code h =
     let nested = or_none _ _ h in

@@ -62,9 +62,9 @@ direct-fits (negsuc n) b r x q h between =
     record { size = omega (arith, ints); above = omega (arith, ints); below = omega (arith, ints) }
 
 -- The same at the range l to g and the grid s that the code passed.
-pub found_fits : (m b r : ℤ) (x : Ratio) (q : ℤ) (l g : Ratio) (s : Spacing) → l ≡ direct_value m b r (direct_least m)
+pub found_fits : {x : Ratio} {q : ℤ} {l g : Ratio} {s : Spacing} (m b r : ℤ) → l ≡ direct_value m b r (direct_least m)
     → g ≡ direct_value m b r (direct_greatest m) → IsBetween l g x → s ≡ direct_spacing m b r → IsPlace s x q → FitsWord m q
-found_fits m b r x q l g s e f between is h =
+found_fits {x} {q} {l} {g} m b r e f between is h =
     direct-fits m b r x q (subst (λ (t : Spacing). IsPlace t x q) is h) (between_along l _ g _ x e f between)
 
 -- A product with the sign of m, at the number that the code passed.
@@ -75,11 +75,12 @@ sign_back : (m y q : ℤ) → y ≡ sign m *ℤ q → q ≡ sign m *ℤ y
 sign_back (pos n) y q e = omega (arith, ints)
 sign_back (negsuc n) y q e = omega (arith, ints)
 
-pub direct-nearest : (m b r : ℤ) (x : Ratio) (q : ℤ) (w : ℕ) (s : Spacing) → 0 < unsigned_abs m * upper 10 r → s ≡ direct_spacing m b r
+-- The word at the place that the grid gave is the nearest one.
+pub direct-nearest : {x : Ratio} {q : ℤ} {w : ℕ} {s : Spacing} (m b r : ℤ) → 0 < unsigned_abs m * upper 10 r → s ≡ direct_spacing m b r
     → IsPlace s x q → w < 2 ^ 16 → signed 16 w ≡ sign m *ℤ q → IsNearest (direct_value m b r) one_rank x w
-direct-nearest m b r x q w s den is_s place word is =
+direct-nearest {x} {q} {w} m b r den is_s place word is =
     let h = subst (λ (t : Spacing). IsPlace t x q) is_s place in
-    nearest_word (direct_value m b r) (λ u. sign m *ℤ signed 16 u) (direct_spacing m b r) x w q (λ u _. direct-at_place m b r u) den word
+    nearest_word (λ u. sign m *ℤ signed 16 u) (direct_spacing m b r) (λ u _. direct-at_place m b r u) den word
         (sign_back m (signed 16 w) q is) h.nearest h.lowest
 
 -- The two parts of a numerator are not both large.

@@ -65,11 +65,11 @@ ordered_on_grid g q j h =
     le-times (place_num g q) (place_num g j) g.den (omega (arith, ints))
 
 -- A format whose word u has the number at `place u` of a grid: the word of the nearest number is the nearest word.
-pub nearest_word : (value : ℕ → Ratio) (place : ℕ → ℤ) (g : Spacing) (x : Ratio) (w : ℕ) (q : ℤ)
+pub nearest_word : {value : ℕ → Ratio} {x : Ratio} {w : ℕ} {q : ℤ} (place : ℕ → ℤ) (g : Spacing)
     → ((u : ℕ) → u < 2 ^ 16 → value u ≡ at_place g (place u)) → 0 < g.den → w < 2 ^ 16 → q ≡ place w
     → ((j : ℤ) → Near x (at_place g q) (at_place g j)) → ((j : ℤ) → Near x (at_place g j) (at_place g q) → q ≤ℤ j)
     → IsNearest value one_rank x w
-nearest_word value place g x w q values den word is nearest lowest =
+nearest_word {value = value} {w = w} {q = q} place g values den word is nearest lowest =
     let value_w : value w ≡ at_place g q = values w word ∙ ap (at_place g) (sym is) in
     record {
       word = word;

@@ -144,9 +144,9 @@ rank_by_place (negsuc m) (negsuc n) h k low high =
     omega arith
 
 -- The preferred spelling of a number ranks first among its spellings.
-preferred_first : (y z e f : ℤ) → IsExponent e → IsExponent f → IsPreferred y (place_of e) → IsSpelling z (place_of f)
+preferred_first : {e f : ℤ} (y z : ℤ) → IsExponent e → IsExponent f → IsPreferred y (place_of e) → IsSpelling z (place_of f)
     → z *ℤ pos (2 ^ place_of f) ≡ y *ℤ pos (2 ^ place_of e) → preference e ≤ preference f
-preferred_first y z e f he hf p s same =
+preferred_first {e} {f} y z he hf p s same =
     rank_by_place e f he hf
     (λ low. odd_highest y z (place_of e) (place_of f) (p.odd low) same)
     (λ high. large_lowest y z (place_of e) (place_of f) (p.large high) s same)
@@ -155,10 +155,11 @@ preferred_first y z e f he hf p s same =
 abbrev spelled : ℕ → ℤ
 spelled w = mantissa w *ℤ pos (2 ^ place_of (exponent w))
 
-pub linear11-nearest : (x : Ratio) (p : ℕ) (k : ℤ) (w : ℕ) → 0 < x.den → IsPlaceFor x p
+-- A word that spells the rounded number, and prefers its spelling, is the nearest one.
+pub linear11-nearest : {k : ℤ} {w : ℕ} (x : Ratio) (p : ℕ) → 0 < x.den → IsPlaceFor x p
     → IsRounded (x.num *ℤ pos (2 ^ 16)) (pos (x.den * 2 ^ p)) k → w < 2 ^ 16 → spelled w ≡ k *ℤ pos (2 ^ p)
     → IsPreferred (mantissa w) (place_of (exponent w)) → IsNearest linear11_value linear11_rank x w
-linear11-nearest x p k w den place rounded word is preferred =
+linear11-nearest {k} {w} x p den place rounded word is preferred =
     let a = x.num *ℤ pos (2 ^ 16) in
     let cover = λ (u : ℕ) (h : u < 2 ^ 16). Covers-word x p den place (mantissa u) (place_of (exponent u)) (IsSpelling-word u h) in
     let e = ap (λ (z : ℤ). apart (2 ^ 16) x z) is in
@@ -175,8 +176,7 @@ linear11-nearest x p k w den place rounded word is preferred =
           at_most_over (linear11_value w) (linear11_value u) (2 ^ 16) (spelled w) (spelled u) (Over-linear11 w word) (Over-linear11 u h)
               (omega (arith, ints));
       spelling = λ u h same.
-          preferred_first (mantissa w) (mantissa u) (exponent w) (exponent u) (IsExponent-exponent w word) (IsExponent-exponent u h)
-              preferred (IsSpelling-word u h)
+          preferred_first (mantissa w) (mantissa u) (IsExponent-exponent w word) (IsExponent-exponent u h) preferred (IsSpelling-word u h)
           (same_over_back (linear11_value u) (linear11_value w) (2 ^ 16) (spelled u) (spelled w) (Over-linear11 u h) (Over-linear11 w word)
               same);
     }
@@ -222,12 +222,12 @@ place_of-exponent (pos n) p h = omega (arith, ints)
 place_of-exponent (negsuc n) p h = omega (arith, ints)
 
 -- The word that was put together from the preferred spelling.
-pub linear11-found : (x : Ratio) (p : ℕ) (k : ℤ) (y : ℤ) (i w : ℕ) → IsPlaceFor x p
+pub linear11-found : {x : Ratio} {p : ℕ} {k y : ℤ} {i w : ℕ} → IsPlaceFor x p
     → IsRounded (x.num *ℤ pos (2 ^ 16)) (pos (x.den * 2 ^ p)) k → w < 2 ^ 16 → mantissa w ≡ y → place_of (exponent w) ≡ i
     → y *ℤ pos (2 ^ i) ≡ k *ℤ pos (2 ^ p) → IsPreferred y i → IsNearest linear11_value linear11_rank x w
-linear11-found x p k y i w place rounded word is_y is_i same preferred =
-    let spelled_is : spelled w ≡ y *ℤ pos (2 ^ i) = ap (λ (z : ℤ). z *ℤ pos (2 ^ place_of (exponent w))) is_y
-        ∙ ap (λ (n : ℕ). y *ℤ pos (2 ^ n)) is_i in
+linear11-found {x} {p} {k} {y} {i} {w} place rounded word is_y is_i same preferred =
+    let spelled_is : spelled w ≡ y *ℤ pos (2 ^ i) =
+        ap (λ (z : ℤ). z *ℤ pos (2 ^ place_of (exponent w))) is_y ∙ ap (λ (n : ℕ). y *ℤ pos (2 ^ n)) is_i in
     let q = subst (λ (n : ℕ). IsPreferred y n) (sym is_i) preferred in
     let r = subst (λ (z : ℤ). IsPreferred z (place_of (exponent w))) (sym is_y) q in
-    linear11-nearest x p k w place.den place rounded word (spelled_is ∙ same) r
+    linear11-nearest x p place.den place rounded word (spelled_is ∙ same) r

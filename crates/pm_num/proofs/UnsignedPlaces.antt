@@ -29,5 +29,4 @@ ulinear16-below n x q h between =
 pub ulinear16-nearest : (n : ℤ) (x : Ratio) (q : ℤ) (w : ℕ) → IsPlace (unsigned_spacing n) x q → w < 2 ^ 16 → q ≡ pos w
     → IsNearest (ulinear16_value n) one_rank x w
 ulinear16-nearest n x q w h word is =
-    nearest_word (ulinear16_value n) pos (unsigned_spacing n) x w q (λ u _. ulinear16-at_place n u) (lower-positive n) word is h.nearest
-        h.lowest
+    nearest_word pos (unsigned_spacing n) (λ u _. ulinear16-at_place n u) (lower-positive n) word is h.nearest h.lowest

@@ -19,4 +19,5 @@ returns-clause-sum c =
 pub returns-clause-narrow : goal.returns-clause-narrow
 returns-clause-narrow c =
     let number : ℕ = c.args.number in
-    xor_four-lt 40 (number / 2 ^ 32 * 2 ^ 4 % 2 ^ 128) (number / 2 ^ 32 * 2 ^ 2 % 2 ^ 128) (number / 2 ^ 32 * 2 ^ 1 % 2 ^ 128) (number % 2 ^ 32) (omega arith) (omega arith) (omega arith) (omega arith)
+    xor_four-lt 40 (number / 2 ^ 32 * 2 ^ 4 % 2 ^ 128) (number / 2 ^ 32 * 2 ^ 2 % 2 ^ 128) (number / 2 ^ 32 * 2 ^ 1 % 2 ^ 128)
+        (number % 2 ^ 32) (omega arith) (omega arith) (omega arith) (omega arith)

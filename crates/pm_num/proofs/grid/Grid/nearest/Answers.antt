@@ -13,7 +13,7 @@ place : (c : goal.After-rounded)
 place c =
     let g = c.args.self.now in
     let x = c.args.x.now in
-    rounded_at (moved_num g x) (pos (g.step * x.den)) c.rounded.result _ _ _ c.rounded.ensures
+    rounded_at (moved_num g x) (pos (g.step * x.den)) c.rounded.ensures
     (omega (arith, ints)) (omega (arith, ints)) (omega (arith, ints))
 
 den_above : (c : goal.After-rounded) → 0 < c.args.self.now.den
