@@ -20,11 +20,13 @@ use Rattle.pm_frame.proofs.WriteLaws.{empty_of}
 shaped : Bool → ℕ → List ℕ → List ℕ
 shaped counted addr payload = cond counted (read_address addr ∷ length payload ∷ payload) (read_address addr ∷ payload)
 
+-- how many bytes an answer has before its PEC
 shaped-length : (counted : Bool) (addr : ℕ) (payload : List ℕ) → length (shaped counted addr payload) ≡ cond counted 2 1 + length payload
 unfolding shaped
 shaped-length true addr payload = omega arith
 shaped-length false addr payload = omega arith
 
+-- the payload of an answer stands where the definition looks for it
 shaped-payload : (counted : Bool) (addr : ℕ) (payload : List ℕ) (last : ℕ)
     → slice_range (shaped counted addr payload ++ last ∷ []) (cond counted 2 1) (length (shaped counted addr payload ++ last ∷ []) - 1)
     ≡ payload
@@ -40,6 +42,7 @@ answer-payload addr request payload bytes h =
     subst (λ xs. slice_range xs (cond (has_count request) 2 1) (length xs - 1) ≡ payload) (sym h.spelled)
     (shaped-payload (has_count request) addr payload (pec_of (sent addr request ++ answered addr request payload)))
 
+-- bytes of an answer's layout are as many as a whole answer has
 answer-length : (addr : ℕ) (request : Message) (payload bytes : List ℕ) → IsAnswer addr request payload bytes
     → length bytes ≡ whole_answer request
 unfolding shaped
@@ -63,7 +66,7 @@ answer_fault-spelled addr request payload bytes h =
     none_or _ _ (ap (address_fault (read_address addr)) h.spelled ∙ opened (has_count request) _)
     (none_or _ _ (length_fault-none _ bytes (answer-length addr request payload bytes h))
     (none_or _ _ (none_rule _ (WrongCount 1)
-        (ap (λ xs. has_count request && not (eqb (get_or xs 1 0) (answer_length request))) h.spelled ∙ counted (has_count request) _))
+    (ap (λ xs. has_count request && not (eqb (get_or xs 1 0) (answer_length request))) h.spelled ∙ counted (has_count request) _))
     (none_or _ _ (ap (pec_fault (sent addr request)) h.spelled ∙ pec_fault-none (sent addr request) (answered addr request payload)) refl)))
   where
     opened : (is_counted : Bool) (last : ℕ)
@@ -79,6 +82,7 @@ answer_fault-spelled addr request payload bytes h =
     counted true last = not_from_true _ (eq-eqb _ _ h.counted)
     counted false last = refl
 
+-- the counts of two requests that both have a count, or both none, are one
 three_two : {a b : Bool} → a ≡ b → cond a 3 2 ≡ cond {A = ℕ} b 3 2
 three_two e = ap (λ (b : Bool). cond {A = ℕ} b 3 2) e
 
@@ -98,24 +102,24 @@ answer_fault-found addr request bytes reads fits h =
     let whole = length_fault-found _ bytes sized.0 in
     let found = address_fault-found (read_address addr) bytes opened.0 in
     let payload = of_shape (has_count request) refl found.0 found.1 whole (rule_none _ (WrongCount 1) counted.0) (or_none _ _ counted.1).0
-        in
+    in
     in_place addr request payload.0 bytes payload.1
   where
     of_shape : (is_counted : Bool) → has_count request ≡ is_counted → (rest : List ℕ) → bytes ≡ read_address addr ∷ rest
         → length bytes ≡ cond (has_count request) 3 2 + answer_length request
         → (has_count request && not (eqb (get_or bytes 1 0) (answer_length request))) ≡ false → pec_fault (sent addr request) bytes ≡ None
-            → (payload : List ℕ) × IsAnswer addr request payload bytes
+        → (payload : List ℕ) × IsAnswer addr request payload bytes
     of_shape true is [] split whole count pec = absurd (omega (arith, ap length split, three_two is))
     of_shape true is (number ∷ rest) split whole count pec =
         let size : length rest ≡ answer_length request + 1 = omega (arith, ap length split, three_two is) in
         let parts = last_of rest (omega arith) in
         let front_size : length parts.0 ≡ answer_length request = omega (arith, ap length parts.2, length-append parts.0 (parts.1 ∷ [])) in
         let count_is : number ≡ answer_length request =
-            eqb-true _ _ (not-false _ (sym (ap₂ (λ b xs. b && not (eqb (get_or xs 1 0) (answer_length request))) is split) ∙ count)) in
+        eqb-true _ _ (not-false _ (sym (ap₂ (λ b xs. b && not (eqb (get_or xs 1 0) (answer_length request))) is split) ∙ count)) in
         let all : bytes ≡ (read_address addr ∷ number ∷ parts.0) ++ parts.1 ∷ [] =
-            split ∙ ap (λ xs. read_address addr ∷ number ∷ xs) parts.2 in
+        split ∙ ap (λ xs. read_address addr ∷ number ∷ xs) parts.2 in
         let last_is = pec_fault-found (sent addr request) (read_address addr ∷ number ∷ parts.0) parts.1
-            (sym (ap (pec_fault (sent addr request)) all) ∙ pec) in
+        (sym (ap (pec_fault (sent addr request)) all) ∙ pec) in
         let answer_is : answered addr request parts.0 ≡ read_address addr ∷ number ∷ parts.0 =
         cond-true _ _ _ is ∙ ap (λ n. read_address addr ∷ n ∷ parts.0) (front_size ∙ sym count_is) in (
           parts.0,
@@ -133,7 +137,7 @@ answer_fault-found addr request bytes reads fits h =
         let front_size : length parts.0 ≡ answer_length request = omega (arith, ap length parts.2, length-append parts.0 (parts.1 ∷ [])) in
         let all : bytes ≡ (read_address addr ∷ parts.0) ++ parts.1 ∷ [] = split ∙ ap (λ xs. read_address addr ∷ xs) parts.2 in
         let last_is = pec_fault-found (sent addr request) (read_address addr ∷ parts.0) parts.1
-            (sym (ap (pec_fault (sent addr request)) all) ∙ pec) in
+        (sym (ap (pec_fault (sent addr request)) all) ∙ pec) in
         let answer_is : answered addr request parts.0 ≡ read_address addr ∷ parts.0 = cond-false _ _ _ is in (
           parts.0,
           record {
@@ -158,6 +162,7 @@ pub answer_fault-length : (addr : ℕ) (request : Message) (bytes : List ℕ) �
 unfolding answer_fault
 answer_fault-length addr request bytes h = length_fault-found _ bytes (or_none _ _ (or_none _ _ h).1).0
 
+-- an answer with no fault has none on its PEC
 answer_fault-pec : (addr : ℕ) (request : Message) (bytes : List ℕ) → answer_fault addr request bytes ≡ None
     → pec_fault (sent addr request) bytes ≡ None
 unfolding answer_fault
@@ -190,7 +195,7 @@ answer-ends addr request bytes none =
     let some : 0 < length bytes = omega arith in
     let parts = last_of bytes some in
     let last : parts.1 ≡ pec_of (sent addr request ++ parts.0) =
-        answer-last addr parts.1 request parts.0 (sym (ap (answer_fault addr request) parts.2) ∙ none) in
+    answer-last addr parts.1 request parts.0 (sym (ap (answer_fault addr request) parts.2) ∙ none) in
     record {
       front = sent addr request ++ parts.0;
       is = ap (λ xs. sent addr request ++ xs) parts.2 ∙ sym (append_assoc (sent addr request) parts.0 (parts.1 ∷ []))

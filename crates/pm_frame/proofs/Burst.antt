@@ -23,16 +23,19 @@ same_from_xor a b h =
 
 -- ---- doubling loses nothing
 
+-- one step leaves nothing only of nothing,
 doubled-none : (r : ℕ) → r < 2 ^ 8 → doubled r ≡ 0 → r ≡ 0
 unfolding doubled
 doubled-none r h none =
     eqb-true r 0 (sym (agree_below_at (λ n. eqb (doubled n) 0) (λ n. eqb n 0) 256 r refl h) ∙ eq-eqb (doubled r) 0 none)
 
+-- a register stays a byte over any number of steps,
 doubled_times-lt : (count r : ℕ) → r < 2 ^ 8 → doubled_times count r < 2 ^ 8
 unfolding doubled_times
 doubled_times-lt zero r h = h
 doubled_times-lt (suc count) r h = doubled-lt (doubled_times count r)
 
+-- and any number of steps leave nothing only of nothing
 pub doubled_times-none : (count r : ℕ) → r < 2 ^ 8 → doubled_times count r ≡ 0 → r ≡ 0
 unfolding doubled_times
 doubled_times-none zero r h none = none
@@ -54,7 +57,7 @@ window-none c k n small within none =
     let all : residues_of e 0 (8 + k) ≡ 0 =
     sym (residues_of-more e (8 + k) 0 n above) ∙ ap (residues_of e 0) order ∙ residues_of-more e n 0 (8 + k) within ∙ none in
     let after : doubled_times k (residues_of c 0 8) ≡ 0 =
-        residues_of-after c k 0 8 ∙ ap (λ (p : ℕ). residues_of c p 8) (omega arith) ∙ sym moved ∙ all in
+    residues_of-after c k 0 8 ∙ ap (λ (p : ℕ). residues_of c p 8) (omega arith) ∙ sym moved ∙ all in
     let byte : residues_of c 0 8 ≡ 0 = doubled_times-none k (residues_of c 0 8) (residues_of-lt c 0 8) after in
     let low : c % 2 ^ 8 ≡ c = omega arith in
     doubled_times-none 8 c small (ap (doubled_times 8) (sym low) ∙ sym (residues_of-last c 8 (omega arith)) ∙ byte)
@@ -93,11 +96,12 @@ change-none sent heard h k size same =
     let n : ℕ = 8 * length sent in
     let first = pec_of-number sent h in
     let second : pec_of heard ≡ residues_of (number_of heard) 0 n =
-        pec_of-number heard k ∙ ap (λ (l : ℕ). residues_of (number_of heard) 0 (8 * l)) (sym size) in
+    pec_of-number heard k ∙ ap (λ (l : ℕ). residues_of (number_of heard) 0 (8 * l)) (sym size) in
     residues_of-xor (number_of sent) (number_of heard) 0 n
     ∙ ap₂ bit_xor (sym first ∙ same) (sym second)
     ∙ xor_self (pec_of heard)
 
+-- the change of two messages, as a number, has as many bits as they have
 pub change-lt : (sent heard : List ℕ) → AreBytes sent → AreBytes heard → length sent ≡ length heard
     → bit_xor (number_of sent) (number_of heard) < 2 ^ (8 * length sent)
 change-lt sent heard h k size =
@@ -116,10 +120,12 @@ change-bit sent heard place h k size below same =
     ∙ ap₂ bit_xor (bit_at-number sent place h below ∙ same) other
     ∙ xor_self (message_bit heard (n - 1 - place))
 
+-- no change, no other message
 pub same_from_change : (sent heard : List ℕ) → AreBytes sent → AreBytes heard → length sent ≡ length heard
     → bit_xor (number_of sent) (number_of heard) ≡ 0 → sent ≡ heard
 same_from_change sent heard h k size none = number_of-one sent heard h k size (same_from_xor (number_of sent) (number_of heard) none)
 
+-- what changed within eight neighbouring bits changes the PEC
 pub burst-betrayed : (sent heard : List ℕ) → AreBytes sent → AreBytes heard → length sent ≡ length heard → sent ≢ heard
     → DifferWithinEight sent heard → pec_of sent ≢ pec_of heard
 burst-betrayed sent heard h k size other within same =
@@ -141,6 +147,7 @@ burst-betrayed sent heard h k size other within same =
 
 -- ---- messages that end in their code
 
+-- the PEC of what ends in its own PEC is 0
 pub ends-none : (bytes : List ℕ) → EndsInPec bytes → pec_of bytes ≡ 0
 ends-none bytes ends =
     ap pec_of ends.is

@@ -20,7 +20,7 @@ unbetrayed-ends before byte bytes h =
     let front : List ℕ = take (length bytes) (byte ∷ bytes) in
     let last : ℕ = get_or (byte ∷ bytes) (length bytes) 0 in
     let is : last ≡ pec_of (before ++ front) =
-        eqb-true last (pec_of (before ++ front)) (not-false (eqb last (pec_of (before ++ front))) h) in
+    eqb-true last (pec_of (before ++ front)) (not-false (eqb last (pec_of (before ++ front))) h) in
     record {
       front = before ++ front;
       is = ap (λ xs. before ++ xs) (last_of byte bytes) ∙ sym (append_assoc before front (last ∷ []))
@@ -31,7 +31,7 @@ unbetrayed-ends before byte bytes h =
 same_from_sum : (t a b : ℕ) → bit_xor t a ≡ bit_xor t b → a ≡ b
 same_from_sum t a b h =
     let back : (x : ℕ) → bit_xor t (bit_xor t x) ≡ x =
-        λ x. sym (xor_assoc t t x) ∙ ap (λ (y : ℕ). bit_xor y x) (xor_self t) ∙ xor_zero_l x in
+    λ x. sym (xor_assoc t t x) ∙ ap (λ (y : ℕ). bit_xor y x) (xor_self t) ∙ xor_zero_l x in
     sym (back a) ∙ ap (bit_xor t) h ∙ back b
 
 -- what came before adds the same to the codes of two parts of one length

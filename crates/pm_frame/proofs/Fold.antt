@@ -36,24 +36,50 @@ turned_128 : (x : ℕ) → x < 2 ^ 8 → doubled_times 128 x ≡ doubled_times 1
 unfolding doubled_times doubled
 turned_128 = alike (doubled_times 128) (doubled_times 1) refl
 
--- what stands for x^k: three powers of x
-abbrev pub Stands : ℕ → ℕ → ℕ → ℕ → Type 0
-Stands k p q r = (x : ℕ) → x < 2 ^ 8 → doubled_times k x ≡ bit_xor (bit_xor (doubled_times p x) (doubled_times q x)) (doubled_times r x)
+-- what stands for x^k: three powers of x, none of them higher
+pub record Stands (k p q r : ℕ) : Type 0 where
+  pub turned : (x : ℕ) → x < 2 ^ 8 → doubled_times k x ≡ bit_xor (bit_xor (doubled_times p x) (doubled_times q x)) (doubled_times r x)
+  pub within : k ≤ 128
+  pub first : p ≤ k
+  pub second : q ≤ k
+  pub third : r ≤ k
 
+-- of x^64, of x^32 and of x^16
 pub turned_64 : Stands 64 4 1 0
 unfolding doubled_times doubled
-turned_64 = alike (doubled_times 64) (λ n. bit_xor (bit_xor (doubled_times 4 n) (doubled_times 1 n)) (doubled_times 0 n)) refl
+turned_64 = record {
+  turned = alike (doubled_times 64) (λ n. bit_xor (bit_xor (doubled_times 4 n) (doubled_times 1 n)) (doubled_times 0 n)) refl;
+  within = omega arith;
+  first = omega arith;
+  second = omega arith;
+  third = omega arith;
+}
 
+-- x^32 leaves x^4, x^2 and x,
 pub turned_32 : Stands 32 4 2 1
 unfolding doubled_times doubled
-turned_32 = alike (doubled_times 32) (λ n. bit_xor (bit_xor (doubled_times 4 n) (doubled_times 2 n)) (doubled_times 1 n)) refl
+turned_32 = record {
+  turned = alike (doubled_times 32) (λ n. bit_xor (bit_xor (doubled_times 4 n) (doubled_times 2 n)) (doubled_times 1 n)) refl;
+  within = omega arith;
+  first = omega arith;
+  second = omega arith;
+  third = omega arith;
+}
 
+-- and x^16 leaves x^4, x^2 and 1
 pub turned_16 : Stands 16 4 2 0
 unfolding doubled_times doubled
-turned_16 = alike (doubled_times 16) (λ n. bit_xor (bit_xor (doubled_times 4 n) (doubled_times 2 n)) (doubled_times 0 n)) refl
+turned_16 = record {
+  turned = alike (doubled_times 16) (λ n. bit_xor (bit_xor (doubled_times 4 n) (doubled_times 2 n)) (doubled_times 0 n)) refl;
+  within = omega arith;
+  first = omega arith;
+  second = omega arith;
+  third = omega arith;
+}
 
 -- ---- narrower numbers
 
+-- a number moved up is below the bound moved up
 pub scaled-lt : (a count n : ℕ) → a < 2 ^ count → a * 2 ^ n < 2 ^ (count + n)
 scaled-lt a count n h =
     let power : 2 ^ (count + n) ≡ 2 ^ count * 2 ^ n = pow-add 2 count n in
@@ -61,8 +87,16 @@ scaled-lt a count n h =
     let some : 0 < 2 ^ n = pow_pos n in
     omega arith
 
-pub xor_four-lt : (w a b c d : ℕ) → a < 2 ^ w → b < 2 ^ w → c < 2 ^ w → d < 2 ^ w → bit_xor (bit_xor (bit_xor a b) c) d < 2 ^ w
-xor_four-lt w a b c d ha hb hc hd = xor_lt w _ d (xor_lt w _ c (xor_lt w a b ha hb) hc) hd
+-- four numbers below one bound, whose sum without carry is below it too
+pub record AreBelow (bound a b c d : ℕ) : Type 0 where
+  pub first : a < bound
+  pub second : b < bound
+  pub third : c < bound
+  pub fourth : d < bound
+
+-- the sum of four such numbers
+pub xor_four-lt : (w a b c d : ℕ) → AreBelow (2 ^ w) a b c d → bit_xor (bit_xor (bit_xor a b) c) d < 2 ^ w
+xor_four-lt w a b c d h = xor_lt w _ d (xor_lt w _ c (xor_lt w a b h.first h.second) h.third) h.fourth
 
 -- bits that aren't set add nothing, up to 128 of them
 residues_of-wide : (m n : ℕ) → n ≤ 128 → m < 2 ^ n → residues_of m 0 128 ≡ residues_of m 0 n
@@ -81,13 +115,12 @@ residues_of-up m p count short h =
     ∙ sym (residues_of-wide (m * 2 ^ p) (count + p) short h)
 
 -- the upper bits of a number, brought down to where their powers of x stand
-pub narrowed : (k p q r : ℕ) → Stands k p q r → k ≤ 128 → p ≤ k → q ≤ k → r ≤ k → (upper lower : ℕ) → lower < 2 ^ k
-    → upper < 2 ^ (128 - k)
+pub narrowed : {k p q r : ℕ} → Stands k p q r → (upper lower : ℕ) → lower < 2 ^ k → upper < 2 ^ (128 - k)
     → residues_of (bit_xor (bit_xor (bit_xor (upper * 2 ^ p) (upper * 2 ^ q)) (upper * 2 ^ r)) lower) 0 128
-        ≡ residues_of (upper * 2 ^ k + lower) 0 128
-narrowed k p q r stands within hp hq hr upper lower small above =
+    ≡ residues_of (upper * 2 ^ k + lower) 0 128
+narrowed {k} {p} {q} {r} stands upper lower small above =
     let count : ℕ = 128 - k in
-    let all : 128 ≡ count + k = omega arith in
+    let all : 128 ≡ count + k = omega (arith, stands.within) in
     let sum : ℕ = residues_of upper 0 count in
     let place : k + 0 ≡ 0 + k = omega arith in
     let down : residues_of (upper * 2 ^ k + lower) 0 128 ≡ bit_xor (residues_of upper (0 + k) count) (residues_of lower 0 k) =
@@ -95,16 +128,17 @@ narrowed k p q r stands within hp hq hr upper lower small above =
     let top : residues_of upper (0 + k) count ≡ doubled_times k sum =
     sym (residues_of-after upper k 0 count ∙ ap (λ (n : ℕ). residues_of upper n count) place) in
     let up : (n : ℕ) → n ≤ k → doubled_times n sum ≡ residues_of (upper * 2 ^ n) 0 128 =
-        λ n h. residues_of-up upper n count (omega arith) (scaled-lt upper count n above) in
+    λ n h. residues_of-up upper n count (omega (arith, stands.within)) (scaled-lt upper count n above) in
     let parts : doubled_times k sum
-        ≡ bit_xor (bit_xor (residues_of (upper * 2 ^ p) 0 128) (residues_of (upper * 2 ^ q) 0 128)) (residues_of (upper * 2 ^ r) 0 128) =
-    stands sum (residues_of-lt upper 0 count) ∙ ap₂ bit_xor (ap₂ bit_xor (up p hp) (up q hq)) (up r hr) in
+    ≡ bit_xor (bit_xor (residues_of (upper * 2 ^ p) 0 128) (residues_of (upper * 2 ^ q) 0 128)) (residues_of (upper * 2 ^ r) 0 128) =
+    stands.turned sum (residues_of-lt upper 0 count)
+    ∙ ap₂ bit_xor (ap₂ bit_xor (up p stands.first) (up q stands.second)) (up r stands.third) in
     residues_of-xor (bit_xor (bit_xor (upper * 2 ^ p) (upper * 2 ^ q)) (upper * 2 ^ r)) lower 0 128
     ∙ ap₂ bit_xor
     (residues_of-xor (bit_xor (upper * 2 ^ p) (upper * 2 ^ q)) (upper * 2 ^ r) 0 128
     ∙ ap (λ (x : ℕ). bit_xor x (residues_of (upper * 2 ^ r) 0 128)) (residues_of-xor (upper * 2 ^ p) (upper * 2 ^ q) 0 128)
     ∙ sym (top ∙ parts))
-    (residues_of-wide lower k within small)
+    (residues_of-wide lower k stands.within small)
     ∙ sym down
 
 -- two bytes have the code of the message of these two
@@ -132,7 +166,7 @@ residues_of-block upper lower h k =
     residues_of-after number 1 0 128 ∙ residues_of-cat upper lower 127 1 1 k in
     let top : residues_of upper 128 1 ≡ residues_of (upper * 2 ^ 1) 0 128 =
     sym (residues_of-after upper 128 0 1) ∙ turned_128 (residues_of upper 0 1) (residues_of-lt upper 0 1)
-        ∙ residues_of-up upper 1 1 (omega arith) (omega arith) in
+    ∙ residues_of-up upper 1 1 (omega arith) (omega arith) in
     let rest : residues_of lower 1 127 ≡ residues_of (lower * 2 ^ 1) 0 128 =
     sym (residues_of-after lower 1 0 127) ∙ residues_of-up lower 1 127 (omega arith) (omega arith) in
     residues_of-xor (lower * 2) (upper * 2) 0 128
@@ -189,7 +223,7 @@ AreBytes-part front part rest h place =
 pub pec_of-folded : (before block : List ℕ) (folded moved : ℕ) → AreBytes block → length block ≡ 16
     → pec_of before ≡ residues_of folded 0 128
     → residues_of moved 0 128 ≡ residues_of folded 128 128
-        → pec_of (before ++ block) ≡ residues_of (bit_xor moved (from_be_bytes w128 block)) 0 128
+    → pec_of (before ++ block) ≡ residues_of (bit_xor moved (from_be_bytes w128 block)) 0 128
 pec_of-folded before block folded moved are_bytes size so_far up =
     let bits : 8 * length block ≡ 128 = omega arith in
     let front : doubled_times (8 * length block) (pec_of before) ≡ residues_of moved 0 128 =

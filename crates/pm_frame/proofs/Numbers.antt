@@ -17,9 +17,11 @@ unfoldable pub number_of : List ℕ → ℕ
 number_of [] = 0
 number_of (byte ∷ bytes) = byte * 2 ^ (8 * length bytes) + number_of bytes
 
+-- all but the first of some bytes are bytes
 pub bytes_rest : (byte : ℕ) (bytes : List ℕ) → AreBytes (byte ∷ bytes) → AreBytes bytes
 bytes_rest byte bytes h = λ place. h (suc place)
 
+-- the number of a message has as many bits as the message
 pub number_of-lt : (bytes : List ℕ) → AreBytes bytes → number_of bytes < 2 ^ (8 * length bytes)
 unfolding number_of
 number_of-lt [] h = omega arith
@@ -55,6 +57,7 @@ residues_of-same_bits a b after (suc j) h =
     let top = ap (λ (x : ℕ). x * residue (8 + (after + j))) (h j (omega arith)) in
     (λ i. bit_xor (top i) (residues_of-same_bits a b after j (λ k below. h k (omega arith)) i))
 
+-- 0 has no set bit
 pub residues_of-zero : (after count : ℕ) → residues_of 0 after count ≡ 0
 unfolding residues_of
 residues_of-zero after zero = refl
@@ -123,7 +126,7 @@ bit_at-number (byte ∷ bytes) place h below =
     let m : ℕ = number_of bytes in
     let here : ℕ = 8 * length (byte ∷ bytes) - 1 - place in
     let rest : place < n → bit_at m place ≡ message_bit bytes (n - 1 - place) =
-        λ low. bit_at-number bytes place (bytes_rest byte bytes h) low in
+    λ low. bit_at-number bytes place (bytes_rest byte bytes h) low in
     let lower : place < n → bit_at (byte * 2 ^ n + m) place ≡ message_bit (byte ∷ bytes) here =
     λ low.
     let row : here / 8 ≡ suc ((n - 1 - place) / 8) = omega arith in
@@ -134,7 +137,7 @@ bit_at-number (byte ∷ bytes) place h below =
     let row : here / 8 ≡ 0 = omega arith in
     let column : 7 - here % 8 ≡ place - n = omega arith in
     bit_at_cat_high byte n m place (number_of-lt bytes (bytes_rest byte bytes h)) high
-        ∙ sym (ap₂ (λ r c. bit_at (get_or (byte ∷ bytes) r 0) c) row column) in
+    ∙ sym (ap₂ (λ r c. bit_at (get_or (byte ∷ bytes) r 0) c) row column) in
     elim (cases_lt place n) [ inl low ↦ lower low | inr high ↦ upper high ]
 
 -- one number, one message
@@ -150,6 +153,6 @@ number_of-one (x ∷ xs) (y ∷ ys) h k size same =
     let low = number_of-lt xs (bytes_rest x xs h) in
     let other : number_of ys < 2 ^ (8 * length xs) = omega (arith, number_of-lt ys (bytes_rest y ys k), width) in
     let whole : x * 2 ^ (8 * length xs) + number_of xs ≡ y * 2 ^ (8 * length xs) + number_of ys =
-        same ∙ ap (λ (w : ℕ). y * w + number_of ys) width in
+    same ∙ ap (λ (w : ℕ). y * w + number_of ys) width in
     let parts = same_from_place x (number_of xs) y (number_of ys) (2 ^ (8 * length xs)) low other whole in
     ap₂ (λ a b. a ∷ b) parts.0 (number_of-one xs ys (bytes_rest x xs h) (bytes_rest y ys k) sizes parts.1)

@@ -26,13 +26,15 @@ last_of (byte ∷ next ∷ bytes) h =
 pub take-front : (front : List ℕ) (last n : ℕ) → n ≡ length front → take n (front ++ last ∷ []) ≡ front
 take-front front last n h =
     ap (λ n. take n (front ++ last ∷ [])) h
-        ∙ (take-append-le (length front) front (last ∷ []) (omega arith) ∙ take_all (length front) front (omega arith))
+    ∙ (take-append-le (length front) front (last ∷ []) (omega arith) ∙ take_all (length front) front (omega arith))
 
+-- a payload is the one that its bytes are,
 pub payload_in-bytes : (payload : Payload) → payload_in (payload_bytes payload) ≡ payload
 payload_in-bytes Empty = refl
 payload_in-bytes (Byte byte) = refl
 payload_in-bytes (Word word) = ap (λ n. Word n) (omega arith)
 
+-- and at most two bytes are those of the payload that they are
 pub bytes-payload_in : (bytes : List ℕ) → length bytes ≤ 2 → get_or bytes 0 0 < 256 → payload_bytes (payload_in bytes) ≡ bytes
 bytes-payload_in [] h low = refl
 bytes-payload_in (byte ∷ []) h low = refl
@@ -49,11 +51,13 @@ sent-plain addr code Empty = refl
 sent-plain addr code (Byte byte) = refl
 sent-plain addr code (Word word) = refl
 
+-- such a packet is no read
 pub is_read-plain : (code : ℕ) (payload : Payload) → is_read_message (plain_write code payload) ≡ false
 is_read-plain code Empty = refl
 is_read-plain code (Byte byte) = refl
 is_read-plain code (Word word) = refl
 
+-- and it fits where the code has a payload of that length
 pub fits-plain : (code : ℕ) (payload : Payload) → is_plain_write code ≡ true → payload_length code ≡ length (payload_bytes payload)
     → fits_layout (plain_write code payload) ≡ true
 fits-plain code Empty plain h = and_from _ _ plain (eq-eqb _ _ h)
@@ -67,7 +71,7 @@ pub message_in-plain : (first code : ℕ) (payload : List ℕ) (last : ℕ) → 
 unfolding message_in
 message_in-plain first code payload last not_05 not_06 not_30 =
     let many : eqb (length (first ∷ code ∷ (payload ++ last ∷ []))) 2 ≡ false =
-        eqb-below 2 _ (omega (arith, length-append payload (last ∷ []))) in
+    eqb-below 2 _ (omega (arith, length-append payload (last ∷ []))) in
     let between : slice_range (first ∷ code ∷ (payload ++ last ∷ [])) 2 (length (first ∷ code ∷ (payload ++ last ∷ [])) - 1) ≡ payload =
     take-front payload last _ (omega (arith, length-append payload (last ∷ []))) in
     rw (not_05, not_06, not_30, many) (ap (λ bytes. plain_write code (payload_in bytes)) between)
@@ -79,24 +83,28 @@ pub message_in-carried : (first count page code : ℕ) (payload : List ℕ) (las
 unfolding message_in
 message_in-carried first count page code payload last =
     let between : slice_range (first ∷ command.page_plus_write ∷ count ∷ page ∷ code ∷ (payload ++ last ∷ [])) 5
-        (length (first ∷ command.page_plus_write ∷ count ∷ page ∷ code ∷ (payload ++ last ∷ [])) - 1) ≡ payload =
+    (length (first ∷ command.page_plus_write ∷ count ∷ page ∷ code ∷ (payload ++ last ∷ [])) - 1) ≡ payload =
     take-front payload last _ (omega (arith, length-append payload (last ∷ []))) in
     ap (λ bytes. PagePlusWrite page code (payload_in bytes)) between
 
+-- what stands between a place and the last byte is short where the whole is,
 short_part : (bytes : List ℕ) (place : ℕ) → length bytes ≤ place + 3 → length (slice_range bytes place (length bytes - 1)) ≤ 2
 short_part bytes place h = omega (arith, length-take (length bytes - 1 - place) (drop place bytes), length-drop place bytes)
 
+-- and its first byte is a byte
 low_part : (bytes : List ℕ) (place : ℕ) → get_or bytes place 0 < 256 → get_or (slice_range bytes place (length bytes - 1)) 0 0 < 256
 low_part bytes place h = go (length bytes - 1 - place) where
   go : (n : ℕ) → get_or (take n (drop place bytes)) 0 0 < 256
   go zero = omega arith
   go (suc n) = rw (get_or-take (suc n) (drop place bytes) 0 0 (omega arith), get_or-drop place bytes 0 0) (rw add-zero h)
 
+-- the code of a plain packet that writes,
 message_code-plain : (code : ℕ) (payload : Payload) → message_code (plain_write code payload) ≡ code
 message_code-plain code Empty = refl
 message_code-plain code (Byte byte) = refl
 message_code-plain code (Word word) = refl
 
+-- and its payload, as bytes
 message_payload-plain_write : (code : ℕ) (payload : Payload) → message_payload (plain_write code payload) ≡ payload_bytes payload
 message_payload-plain_write code Empty = refl
 message_payload-plain_write code (Byte byte) = refl
@@ -113,8 +121,8 @@ message_code-other bytes h k =
   where
     go : (coefficients : Bool) → eqb (get_or bytes 1 0) command.coefficients ≡ coefficients → (two : Bool)
         → message_code (cond coefficients (ReadCoefficients (get_or bytes 3 0) (get_or bytes 4 0))
-            (cond two (ReadCommand (get_or bytes 1 0))
-            (plain_write (get_or bytes 1 0) (payload_in (slice_range bytes 2 (length bytes - 1)))))) ≡ get_or bytes 1 0
+        (cond two (ReadCommand (get_or bytes 1 0))
+        (plain_write (get_or bytes 1 0) (payload_in (slice_range bytes 2 (length bytes - 1)))))) ≡ get_or bytes 1 0
     go true is two = sym (eqb-true _ _ is)
     go false is true = refl
     go false is false = message_code-plain _ (payload_in (slice_range bytes 2 (length bytes - 1)))
@@ -139,4 +147,4 @@ message_payload-plain bytes h k l m short low =
     let not_two = ne_eqb _ _ m in
     rw (not_05, not_06, not_30, not_two)
     (message_payload-plain_write _ (payload_in (slice_range bytes 2 (length bytes - 1)))
-        ∙ bytes-payload_in (slice_range bytes 2 (length bytes - 1)) (short_part bytes 2 (omega arith)) (low_part bytes 2 low))
+    ∙ bytes-payload_in (slice_range bytes 2 (length bytes - 1)) (short_part bytes 2 (omega arith)) (low_part bytes 2 low))

@@ -30,6 +30,7 @@ plain-none addr code h =
     (cond-false _ _ _ (not-true _ parts.1)
     ∙ none_or _ _ (plain_fault-none Read code parts.0) (none_rule _ (Long 2) (le-ltb 2 2 (omega arith))))
 
+-- nor has a PAGE_PLUS_READ that fits,
 paged-none : (addr page code : ℕ) → is_carried code ≡ true → is_read code ≡ true
     → request_fault addr (sent addr (PagePlusRead page code)) ≡ None
 unfolding request_fault block_request_fault
@@ -38,6 +39,7 @@ paged-none addr page code carried h =
     none_or _ _ (opening_fault-none (write_address addr) command.page_plus_read (0x02 ∷ page ∷ code ∷ []))
     (none_or _ _ (length_fault-none 5 bytes refl) (none_or _ _ refl (none_or _ _ (carried_fault-none Read code carried h) refl)))
 
+-- nor COEFFICIENTS, of any code and side
 coefficients-none : (addr code side : ℕ) → request_fault addr (sent addr (ReadCoefficients code side)) ≡ None
 unfolding request_fault block_request_fault
 coefficients-none addr code side =
@@ -68,7 +70,7 @@ message_in-request addr message bytes h = ap message_in h.spelled ∙ go message
   go (ReadCommand code) r f =
       let parts = and_parts (is_read code) (not (eqb code command.page_plus_read || eqb code command.coefficients)) f in
       let others = or_parts (eqb code command.page_plus_read) (eqb code command.coefficients)
-          (not-true (eqb code command.page_plus_read || eqb code command.coefficients) parts.1) in
+      (not-true (eqb code command.page_plus_read || eqb code command.coefficients) parts.1) in
       let not_05 = read-is_no_page_plus_write code parts.0 in
       let not_06 = others.0 in
       let not_30 = others.1 in
@@ -86,14 +88,14 @@ block-found addr code rest block h =
     let counted = or_none _ _ sized.1 in
     let count : get_or (write_address addr ∷ code ∷ rest) 2 0 ≡ 2 = eqb-true _ _ (not-false _ (rule_none _ (WrongCount 2) counted.0)) in
     go rest (length_fault-found 5 (write_address addr ∷ code ∷ rest) sized.0) count (eqb code command.page_plus_read) refl
-        (or_none _ _ counted.1).0
+    (or_none _ _ counted.1).0
   where
     paged : (page carried : ℕ) → code ≡ command.page_plus_read → (is_carried carried ≡ true) × (is_read carried ≡ true)
         → IsRequest addr (message_in (write_address addr ∷ code ∷ 2 ∷ page ∷ carried ∷ []))
         (write_address addr ∷ code ∷ 2 ∷ page ∷ carried ∷ [])
     paged page carried is codes =
         subst (λ c. IsRequest addr (message_in (write_address addr ∷ c ∷ 2 ∷ page ∷ carried ∷ []))
-            (write_address addr ∷ c ∷ 2 ∷ page ∷ carried ∷ [])) (sym is)
+        (write_address addr ∷ c ∷ 2 ∷ page ∷ carried ∷ [])) (sym is)
         (record { reads = refl; fits = and_from _ _ codes.0 codes.1; spelled = refl })
 
     coefficients : (asked side : ℕ) → code ≡ command.coefficients
@@ -101,7 +103,7 @@ block-found addr code rest block h =
         (write_address addr ∷ code ∷ 2 ∷ asked ∷ side ∷ [])
     coefficients asked side is =
         subst (λ c. IsRequest addr (message_in (write_address addr ∷ c ∷ 2 ∷ asked ∷ side ∷ []))
-            (write_address addr ∷ c ∷ 2 ∷ asked ∷ side ∷ [])) (sym is)
+        (write_address addr ∷ c ∷ 2 ∷ asked ∷ side ∷ [])) (sym is)
         (record { reads = refl; fits = refl; spelled = refl })
 
     three : (x y : ℕ) (is_paged : Bool) → eqb code command.page_plus_read ≡ is_paged → cond is_paged (carried_fault Read y) None ≡ None
@@ -118,16 +120,17 @@ block-found addr code rest block h =
     go (x ∷ y ∷ []) n c p is e = absurd (omega arith)
     go (x ∷ y ∷ z ∷ []) n c p is e =
         subst (λ k. cond p (carried_fault Read z) None ≡ None
-            → IsRequest addr (message_in (write_address addr ∷ code ∷ k ∷ y ∷ z ∷ [])) (write_address addr ∷ code ∷ k ∷ y ∷ z ∷ [])) (sym c)
-            (three y z p is) e
+        → IsRequest addr (message_in (write_address addr ∷ code ∷ k ∷ y ∷ z ∷ [])) (write_address addr ∷ code ∷ k ∷ y ∷ z ∷ [])) (sym c)
+        (three y z p is) e
     go (x ∷ y ∷ z ∷ w ∷ more) n c p is e = absurd (omega arith)
 
+-- what is found where the request has no count
 plain-found : (addr code : ℕ) (rest : List ℕ) → eqb code command.page_plus_read || eqb code command.coefficients ≡ false
     → is_read code ≡ true → length (write_address addr ∷ code ∷ rest) ≤ 2
     → IsRequest addr (message_in (write_address addr ∷ code ∷ rest)) (write_address addr ∷ code ∷ rest)
 plain-found addr code [] other reads short =
     let request : IsRequest addr (ReadCommand code) (write_address addr ∷ code ∷ []) =
-        record { reads = refl; fits = and_from _ _ reads (not_from_false _ other); spelled = refl } in
+    record { reads = refl; fits = and_from _ _ reads (not_from_false _ other); spelled = refl } in
     subst (λ m. IsRequest addr m (write_address addr ∷ code ∷ [])) (sym (message_in-request addr (ReadCommand code) _ request)) request
 plain-found addr code (byte ∷ rest) other reads short = absurd (omega arith)
 
@@ -152,9 +155,10 @@ request_fault-found addr bytes h =
         → ((second : ℕ) × (rest : List ℕ) × (bytes ≡ write_address addr ∷ second ∷ rest)) → IsRequest addr (message_in bytes) bytes
     go bytes e (code, rest, split) =
         subst (λ xs. cond (eqb (get_or xs 1 0) command.page_plus_read || eqb (get_or xs 1 0) command.coefficients) (block_request_fault xs)
-            (option_or (plain_fault Read (get_or xs 1 0)) (rule (ltb 2 (length xs)) (Long 2))) ≡ None → IsRequest addr (message_in xs) xs)
+        (option_or (plain_fault Read (get_or xs 1 0)) (rule (ltb 2 (length xs)) (Long 2))) ≡ None → IsRequest addr (message_in xs) xs)
         (sym split) (here code rest (eqb code command.page_plus_read || eqb code command.coefficients) refl) e
 
+-- a request with no fault is as long as its code asks
 request_fault-length : (addr : ℕ) (bytes : List ℕ) → request_fault addr bytes ≡ None
     → length bytes ≡ cond (eqb (get_or bytes 1 0) command.page_plus_read || eqb (get_or bytes 1 0) command.coefficients) 5 2
 request_fault-length addr bytes h = let found = request_fault-found addr bytes h in of_message (message_in bytes) bytes found where
@@ -169,6 +173,7 @@ request_fault-length addr bytes h = let found = request_fault-found addr bytes h
   of_message (PagePlusRead page code) bytes r = rw r.spelled refl
   of_message (ReadCoefficients code side) bytes r = rw r.spelled refl
 
+-- so it has two bytes at least
 at_least_two : (block : Bool) (n : ℕ) → n ≡ cond block 5 2 → 2 ≤ n
 at_least_two true n h = omega arith
 at_least_two false n h = omega arith
@@ -182,7 +187,7 @@ request-front addr front rest h k =
     let two : 2 ≤ length front = at_least_two _ _ short in
     let same_code = get_or_append_left front rest 0 1 (omega arith) in
     let same : cond (eqb (get_or (front ++ rest) 1 0) command.page_plus_read || eqb (get_or (front ++ rest) 1 0) command.coefficients) 5 2
-        ≡ cond {A = ℕ} (eqb (get_or front 1 0) command.page_plus_read || eqb (get_or front 1 0) command.coefficients) 5 2 =
+    ≡ cond {A = ℕ} (eqb (get_or front 1 0) command.page_plus_read || eqb (get_or front 1 0) command.coefficients) 5 2 =
     ap (λ (c : ℕ). cond {A = ℕ} (eqb c command.page_plus_read || eqb c command.coefficients) 5 2) same_code in
     empty_of rest (omega (arith, length-append front rest))
 
@@ -196,5 +201,5 @@ request-no_write addr other front rest h k =
     let not_06 = written-is_no_page_plus_read (get_or (front ++ rest) 1 0) written in
     let not_30 = written-is_no_coefficients (get_or (front ++ rest) 1 0) written in
     let two : length (front ++ rest) ≡ 2 =
-        request_fault-length addr (front ++ rest) h ∙ ap₂ (λ a b. cond {A = ℕ} (a || b) 5 2) not_06 not_30 in
+    request_fault-length addr (front ++ rest) h ∙ ap₂ (λ a b. cond {A = ℕ} (a || b) 5 2) not_06 not_30 in
     omega (arith, length-append front rest)

@@ -13,6 +13,7 @@ use Rattle.pm_frame.proofs.Carryless.{xor_exchange, xor_of_parts, twice-xor, bit
 
 -- ---- one step
 
+-- a register stays a byte
 pub doubled-lt : (r : ℕ) → doubled r < 2 ^ 8
 unfolding doubled
 doubled-lt r =
@@ -37,6 +38,7 @@ unfoldable pub doubled_times : ℕ → ℕ → ℕ
 doubled_times zero r = r
 doubled_times (suc count) r = doubled (doubled_times count r)
 
+-- an empty register stays empty
 pub doubled_times-zero : (count : ℕ) → doubled_times count 0 ≡ 0
 unfolding doubled_times doubled
 doubled_times-zero zero = refl
@@ -48,6 +50,7 @@ unfolding doubled_times
 doubled_times-xor zero a b = refl
 doubled_times-xor (suc count) a b = ap doubled (doubled_times-xor count a b) ∙ doubled-xor (doubled_times count a) (doubled_times count b)
 
+-- steps go through a product with a bit
 pub doubled_times-bit : (count p r : ℕ) → p < 2 → doubled_times count (p * r) ≡ p * doubled_times count r
 doubled_times-bit count zero r h =
     let none : 0 * r ≡ 0 = omega arith in
@@ -59,6 +62,7 @@ doubled_times-bit count (suc zero) r h =
     ap (doubled_times count) one ∙ one_after
 doubled_times-bit count (suc (suc p)) r h = absurd (omega arith)
 
+-- steps lead from one power of x to a higher one
 pub doubled_times-residue : (count i : ℕ) → doubled_times count (residue i) ≡ residue (count + i)
 unfolding doubled_times residue
 doubled_times-residue zero i = ap residue (sym (zero-add i))
@@ -68,6 +72,7 @@ doubled_times-residue (suc count) i =
 
 -- ---- the residues of a byte
 
+-- a remainder is a byte,
 pub residue-lt : (i : ℕ) → residue i < 2 ^ 8
 unfolding residue
 residue-lt zero = omega arith
@@ -86,6 +91,7 @@ residue-low (suc (suc (suc (suc (suc (suc zero)))))) h = refl
 residue-low (suc (suc (suc (suc (suc (suc (suc zero))))))) h = refl
 residue-low (suc (suc (suc (suc (suc (suc (suc (suc i)))))))) h = absurd (omega arith)
 
+-- a sum of remainders too,
 pub residues_of-lt : (byte after count : ℕ) → residues_of byte after count < 2 ^ 8
 unfolding residues_of
 residues_of-lt byte after zero = omega arith
@@ -134,6 +140,7 @@ residues_of-last byte (suc j) h =
 
 -- ---- the packet error code
 
+-- and the PEC is a byte
 pub pec_of-lt : (bytes : List ℕ) → pec_of bytes < 2 ^ 8
 unfolding pec_of
 pec_of-lt [] = omega arith

@@ -38,6 +38,7 @@ record Faultless (addr : ℕ) (bytes : List ℕ) : Type 0 where
   code : cond (eqb (get_or bytes 1 0) command.page_plus_write) (carried_fault Write (get_or bytes 4 0))
       (plain_fault Write (get_or bytes 1 0)) ≡ None
 
+-- bytes with no fault have none in any group of rules,
 faultless : (addr : ℕ) (bytes : List ℕ) → write_fault addr bytes ≡ None → Faultless addr bytes
 unfolding write_fault
 faultless addr bytes h =
@@ -46,6 +47,7 @@ faultless addr bytes h =
     let pec = or_none _ _ size.1 in
     record { opening = opening.0; size = size.0; pec = pec.0; code = (or_none _ _ pec.1).0 }
 
+-- and bytes with none in any group have no fault
 write_fault-none : (addr : ℕ) (bytes : List ℕ) → Faultless addr bytes → write_fault addr bytes ≡ None
 unfolding write_fault
 write_fault-none addr bytes h = none_or _ _ h.opening (none_or _ _ h.size (none_or _ _ h.pec (none_or _ _ h.code refl)))
@@ -59,7 +61,7 @@ plain-none addr code payload plain fits =
     let parts = and_parts _ _ plain in
     let not_05 : eqb code command.page_plus_write ≡ false = not-true _ parts.1 in
     let whole : length bytes ≡ payload_length code + 3 =
-        omega (arith, length-append (payload_bytes payload) (pec_of (write_address addr ∷ code ∷ payload_bytes payload) ∷ [])) in
+    omega (arith, length-append (payload_bytes payload) (pec_of (write_address addr ∷ code ∷ payload_bytes payload) ∷ [])) in
     write_fault-none addr bytes record {
       opening = opening_fault-none (write_address addr) code _;
       size = cond-true _ _ _ plain ∙ length_fault-none (payload_length code + 3) bytes whole;
@@ -112,7 +114,7 @@ message_in-write addr message bytes h = ap message_in h.spelled ∙ go message h
   plain code payload f =
       let parts = and_parts _ _ f in
       message_in-plain (write_address addr) code (payload_bytes payload) _ (not-true _ parts.1) (written-is_no_page_plus_read code parts.0)
-          (written-is_no_coefficients code parts.0)
+      (written-is_no_coefficients code parts.0)
       ∙ ap (plain_write code) (payload_in-bytes payload)
 
   go : (message : Message) → is_read_message message ≡ false → fits_layout message ≡ true
@@ -122,7 +124,7 @@ message_in-write addr message bytes h = ap message_in h.spelled ∙ go message h
   go (WriteWord code word) w f = plain code (Word word) (and_parts _ _ f).0
   go (PagePlusWrite page code payload) w f =
       message_in-carried (write_address addr) _ page code (payload_bytes payload) _
-          ∙ ap (PagePlusWrite page code) (payload_in-bytes payload)
+      ∙ ap (PagePlusWrite page code) (payload_in-bytes payload)
   go (ReadCommand code) w f = absurd (false≢true (sym w))
   go (PagePlusRead page code) w f = absurd (false≢true (sym w))
   go (ReadCoefficients code side) w f = absurd (false≢true (sym w))
@@ -151,13 +153,13 @@ plain-found are_short addr code rest are_bytes plain whole pec = go rest are_byt
   go rest are_bytes whole pec (front, last, split) =
       let parts = and_parts _ _ plain in
       let bytes : write_address addr ∷ code ∷ rest ≡ write_address addr ∷ code ∷ (front ++ last ∷ []) =
-          ap (λ xs. write_address addr ∷ code ∷ xs) split in
+      ap (λ xs. write_address addr ∷ code ∷ xs) split in
       let size : length front ≡ payload_length code = omega (arith, length-append front (last ∷ []), ap length split) in
       let low : get_or front 0 0 < 256 = low_of front rest last split (are_bytes 2) in
       let payload : payload_bytes (payload_in front) ≡ front = bytes-payload_in front (omega (arith, are_short code)) low in
       let found : message_in (write_address addr ∷ code ∷ rest) ≡ plain_write code (payload_in front) =
       ap message_in bytes ∙ message_in-plain (write_address addr) code front last (not-true _ parts.1)
-          (written-is_no_page_plus_read code parts.0) (written-is_no_coefficients code parts.0) in
+      (written-is_no_page_plus_read code parts.0) (written-is_no_coefficients code parts.0) in
       let sent_is : sent addr (plain_write code (payload_in front)) ≡ write_address addr ∷ code ∷ front =
       sent-plain addr code (payload_in front) ∙ ap (λ xs. write_address addr ∷ code ∷ xs) payload in
       let last_is : last ≡ pec_of (write_address addr ∷ code ∷ front) =
@@ -169,36 +171,6 @@ plain-found are_short addr code rest are_bytes plain whole pec = go rest are_byt
             ∙ sym (ap (λ m. with_pec [] (sent addr m)) found ∙ ap (with_pec []) sent_is));
       }
 
--- what a faultless PAGE_PLUS_WRITE is made of
-carried-found : AreShort → (addr count page code : ℕ) (rest : List ℕ)
-    → AreBytes (write_address addr ∷ command.page_plus_write ∷ count ∷ page ∷ code ∷ rest) → is_carried code ≡ true → is_written code ≡ true
-    → count ≡ payload_length code + 2 → length rest ≡ payload_length code + 1
-    → pec_fault [] (write_address addr ∷ command.page_plus_write ∷ count ∷ page ∷ code ∷ rest) ≡ None
-    → IsWrite addr (message_in (write_address addr ∷ command.page_plus_write ∷ count ∷ page ∷ code ∷ rest))
-    (write_address addr ∷ command.page_plus_write ∷ count ∷ page ∷ code ∷ rest)
-carried-found are_short addr count page code rest are_bytes carried written counted whole pec = go (last_of rest (omega arith)) where
-  go : ((front : List ℕ) × (last : ℕ) × (rest ≡ front ++ last ∷ []))
-      → IsWrite addr (message_in (write_address addr ∷ command.page_plus_write ∷ count ∷ page ∷ code ∷ rest))
-      (write_address addr ∷ command.page_plus_write ∷ count ∷ page ∷ code ∷ rest)
-  go (front, last, split) =
-      let head : List ℕ → List ℕ = λ xs. write_address addr ∷ command.page_plus_write ∷ count ∷ page ∷ code ∷ xs in
-      let bytes : head rest ≡ head (front ++ last ∷ []) = ap head split in
-      let size : length front ≡ payload_length code = omega (arith, length-append front (last ∷ []), ap length split) in
-      let low : get_or front 0 0 < 256 = low_of front rest last split (are_bytes 5) in
-      let payload : payload_bytes (payload_in front) ≡ front = bytes-payload_in front (omega (arith, are_short code)) low in
-      let found : message_in (head rest) ≡ PagePlusWrite page code (payload_in front) =
-      ap message_in bytes ∙ message_in-carried (write_address addr) count page code front last in
-      let count_is : count ≡ 2 + length (payload_bytes (payload_in front)) = omega (arith, ap length payload) in
-      let sent_is : sent addr (PagePlusWrite page code (payload_in front)) ≡ head front =
-      ap₂ (λ n xs. write_address addr ∷ command.page_plus_write ∷ n ∷ page ∷ code ∷ xs) (sym count_is) payload in
-      let last_is : last ≡ pec_of (head front) = pec_fault-found [] (head front) last (sym (ap (pec_fault []) bytes) ∙ pec) in
-      record {
-        writes = ap is_read_message found;
-        fits = ap fits_layout found ∙ and_from _ _ (and_from _ _ carried written) (eq-eqb _ _ (sym size ∙ sym (ap length payload)));
-        spelled = bytes ∙ (ap (λ x. head (front ++ x ∷ [])) last_is
-            ∙ sym (ap (λ m. with_pec [] (sent addr m)) found ∙ ap (with_pec []) sent_is));
-      }
-
 -- what the size rules and the code rules of a faultless packet say together
 record FoundCarried (bytes : List ℕ) : Type 0 where
   is_wrapper : get_or bytes 1 0 ≡ command.page_plus_write
@@ -207,14 +179,50 @@ record FoundCarried (bytes : List ℕ) : Type 0 where
   written : is_written (get_or bytes 4 0) ≡ true
   counted : get_or bytes 2 0 ≡ payload_length (get_or bytes 4 0) + 2
 
+-- and those of a plain write
 record FoundPlain (bytes : List ℕ) : Type 0 where
   plain : is_plain_write (get_or bytes 1 0) ≡ true
   whole : length bytes ≡ payload_length (get_or bytes 1 0) + 3
 
+-- what a faultless PAGE_PLUS_WRITE is made of
+carried-found : {count page code : ℕ} {rest : List ℕ} → AreShort → (addr : ℕ)
+    → AreBytes (write_address addr ∷ command.page_plus_write ∷ count ∷ page ∷ code ∷ rest)
+    → FoundCarried (write_address addr ∷ command.page_plus_write ∷ count ∷ page ∷ code ∷ rest)
+    → pec_fault [] (write_address addr ∷ command.page_plus_write ∷ count ∷ page ∷ code ∷ rest) ≡ None
+    → IsWrite addr (message_in (write_address addr ∷ command.page_plus_write ∷ count ∷ page ∷ code ∷ rest))
+    (write_address addr ∷ command.page_plus_write ∷ count ∷ page ∷ code ∷ rest)
+carried-found {count} {page} {code} {rest} are_short addr are_bytes f pec =
+    let whole : length rest ≡ payload_length code + 1 = omega (arith, f.whole, f.counted) in
+    go (last_of rest (omega arith)) whole
+  where
+    go : ((front : List ℕ) × (last : ℕ) × (rest ≡ front ++ last ∷ [])) → length rest ≡ payload_length code + 1
+        → IsWrite addr (message_in (write_address addr ∷ command.page_plus_write ∷ count ∷ page ∷ code ∷ rest))
+        (write_address addr ∷ command.page_plus_write ∷ count ∷ page ∷ code ∷ rest)
+    go (front, last, split) whole =
+        let head : List ℕ → List ℕ = λ xs. write_address addr ∷ command.page_plus_write ∷ count ∷ page ∷ code ∷ xs in
+        let bytes : head rest ≡ head (front ++ last ∷ []) = ap head split in
+        let size : length front ≡ payload_length code = omega (arith, length-append front (last ∷ []), ap length split) in
+        let low : get_or front 0 0 < 256 = low_of front rest last split (are_bytes 5) in
+        let payload : payload_bytes (payload_in front) ≡ front = bytes-payload_in front (omega (arith, are_short code)) low in
+        let found : message_in (head rest) ≡ PagePlusWrite page code (payload_in front) =
+        ap message_in bytes ∙ message_in-carried (write_address addr) count page code front last in
+        let count_is : count ≡ 2 + length (payload_bytes (payload_in front)) = omega (arith, f.counted, ap length payload) in
+        let sent_is : sent addr (PagePlusWrite page code (payload_in front)) ≡ head front =
+        ap₂ (λ n xs. write_address addr ∷ command.page_plus_write ∷ n ∷ page ∷ code ∷ xs) (sym count_is) payload in
+        let last_is : last ≡ pec_of (head front) = pec_fault-found [] (head front) last (sym (ap (pec_fault []) bytes) ∙ pec) in
+        record {
+          writes = ap is_read_message found;
+          fits = ap fits_layout found ∙ and_from _ _ (and_from _ _ f.carried f.written) (eq-eqb _ _ (sym size ∙ sym (ap length payload)));
+          spelled = bytes ∙ (ap (λ x. head (front ++ x ∷ [])) last_is
+              ∙ sym (ap (λ m. with_pec [] (sent addr m)) found ∙ ap (with_pec []) sent_is));
+        }
+
+-- where the first part of a false conjunction holds the second does not
 second_false : (a b : Bool) → a ≡ true → (a && b) ≡ false → b ≡ false
 second_false true b h e = e
 second_false false b h e = absurd (false≢true h)
 
+-- what is found where no plain packet writes the code: a PAGE_PLUS_WRITE
 not_plain-cases : (bytes : List ℕ) (wrapper : Bool) → eqb (get_or bytes 1 0) command.page_plus_write ≡ wrapper → size_fault bytes ≡ None
     → cond wrapper (carried_fault Write (get_or bytes 4 0)) (plain_fault Write (get_or bytes 1 0)) ≡ None
     → is_plain_write (get_or bytes 1 0) ≡ false → FoundPlain bytes ⊎ FoundCarried bytes
@@ -228,8 +236,8 @@ not_plain-cases bytes true wrapper size code not_plain =
   where
     go : (two : Bool) → (is_carried (get_or bytes 4 0) ≡ true) × (is_written (get_or bytes 4 0) ≡ true)
         → cond two (Some (Short 2))
-            (cond (eqb (get_or bytes 1 0) command.page_plus_write)
-            (option_or (length_fault (get_or bytes 2 0 + 4) bytes) (carried_count_fault bytes)) None) ≡ None → FoundCarried bytes
+        (cond (eqb (get_or bytes 1 0) command.page_plus_write)
+        (option_or (length_fault (get_or bytes 2 0 + 4) bytes) (carried_count_fault bytes)) None) ≡ None → FoundCarried bytes
     go true codes sized = cc sized
     go false codes sized =
         let both = or_none _ _ (sym (cond-true _ _ _ wrapper) ∙ sized) in
@@ -242,6 +250,7 @@ not_plain-cases bytes true wrapper size code not_plain =
           counted = eqb-true _ _ (not-false _ (second_false _ _ (and_from _ _ codes.0 codes.1) wrong));
         }
 
+-- a faultless packet is a plain write or a PAGE_PLUS_WRITE
 write_cases : (addr : ℕ) (bytes : List ℕ) → Faultless addr bytes → FoundPlain bytes ⊎ FoundCarried bytes
 unfolding size_fault
 write_cases addr bytes h = go (is_plain_write (get_or bytes 1 0)) refl where
@@ -264,11 +273,11 @@ write_fault-found are_short addr bytes are_bytes h =
     five code (count ∷ page ∷ []) b p f = absurd (omega (arith, f.whole, f.counted))
     five code (count ∷ page ∷ carried ∷ rest) b p f =
         subst (λ c. AreBytes (write_address addr ∷ c ∷ count ∷ page ∷ carried ∷ rest)
-            → pec_fault [] (write_address addr ∷ c ∷ count ∷ page ∷ carried ∷ rest) ≡ None
-            → IsWrite addr (message_in (write_address addr ∷ c ∷ count ∷ page ∷ carried ∷ rest))
-            (write_address addr ∷ c ∷ count ∷ page ∷ carried ∷ rest))
-        (sym f.is_wrapper) (λ b p. carried-found are_short addr count page carried rest b f.carried f.written f.counted
-            (omega (arith, f.whole, f.counted)) p) b p
+        → FoundCarried (write_address addr ∷ c ∷ count ∷ page ∷ carried ∷ rest)
+        → pec_fault [] (write_address addr ∷ c ∷ count ∷ page ∷ carried ∷ rest) ≡ None
+        → IsWrite addr (message_in (write_address addr ∷ c ∷ count ∷ page ∷ carried ∷ rest))
+        (write_address addr ∷ c ∷ count ∷ page ∷ carried ∷ rest))
+        (sym f.is_wrapper) (carried-found are_short addr) b f p
 
     here : (code : ℕ) (rest : List ℕ) → AreBytes (write_address addr ∷ code ∷ rest) → Faultless addr (write_address addr ∷ code ∷ rest)
         → FoundPlain (write_address addr ∷ code ∷ rest) ⊎ FoundCarried (write_address addr ∷ code ∷ rest)
@@ -280,7 +289,7 @@ write_fault-found are_short addr bytes are_bytes h =
         → ((second : ℕ) × (rest : List ℕ) × (bytes ≡ write_address addr ∷ second ∷ rest)) → IsWrite addr (message_in bytes) bytes
     go bytes b p f (code, rest, split) =
         subst (λ xs. AreBytes xs → Faultless addr xs → FoundPlain xs ⊎ FoundCarried xs → IsWrite addr (message_in xs) xs) (sym split)
-            (here code rest) b p f
+        (here code rest) b p f
 
 -- a faultless packet has as many bytes as its second and third say
 write_fault-length : (addr : ℕ) (bytes : List ℕ) → write_fault addr bytes ≡ None
@@ -292,10 +301,12 @@ write_fault-length addr bytes h = go (write_cases addr bytes (faultless addr byt
   go (inl f) = f.whole ∙ sym (cond-true _ _ _ f.plain)
   go (inr f) = f.whole ∙ sym (cond-false _ _ _ (ap is_plain_write f.is_wrapper ∙ and_right _ _ refl))
 
+-- so it has three bytes at least
 at_least : (plain : Bool) (n m k : ℕ) → n ≡ cond plain (m + 3) (k + 4) → 3 ≤ n
 at_least true n m k h = omega arith
 at_least false n m k h = omega arith
 
+-- a list of no length is empty
 pub empty_of : (xs : List ℕ) → length xs ≡ 0 → xs ≡ []
 empty_of [] h = refl
 empty_of (x ∷ xs) h = absurd (omega arith)
@@ -307,11 +318,11 @@ write-front addr front rest h k =
     let short = write_fault-length addr front h in
     let long = write_fault-length addr (front ++ rest) k in
     let three : 3 ≤ length front =
-        at_least (is_plain_write (get_or front 1 0)) _ (payload_length (get_or front 1 0)) (get_or front 2 0) short in
+    at_least (is_plain_write (get_or front 1 0)) _ (payload_length (get_or front 1 0)) (get_or front 2 0) short in
     let same_code = get_or_append_left front rest 0 1 (omega arith) in
     let same_count = get_or_append_left front rest 0 2 (omega arith) in
     let same : packet_length (get_or (front ++ rest) 1 0) (get_or (front ++ rest) 2 0)
-        ≡ packet_length (get_or front 1 0) (get_or front 2 0) = ap₂ packet_length same_code same_count in
+    ≡ packet_length (get_or front 1 0) (get_or front 2 0) = ap₂ packet_length same_code same_count in
     empty_of rest (omega (arith, length-append front rest))
 
 -- the last byte of a write is the PEC of those before it

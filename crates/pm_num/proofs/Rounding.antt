@@ -24,7 +24,7 @@ nearest_from_rounded a q d h j =
     by_lt_z j q
     (λ less. let k = lt-times j q d less in omega (arith, ints))
     (λ at_most. by_lt_z q j (λ less. let k = lt-times q j d less in omega (arith, ints))
-        (λ p. let same : q ≡ j = omega (arith, ints) in let e = ap (λ (z : ℤ). unsigned_abs (a -ℤ z *ℤ pos d)) same in omega arith))
+    (λ p. let same : q ≡ j = omega (arith, ints) in let e = ap (λ (z : ℤ). unsigned_abs (a -ℤ z *ℤ pos d)) same in omega arith))
 
 -- and none that is as near is lower.
 pub lower_from_rounded : (a q : ℤ) (d : ℕ) → IsRounded a (pos d) q → (j : ℤ)

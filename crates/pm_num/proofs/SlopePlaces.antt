@@ -81,7 +81,7 @@ pub direct-nearest : {x : Ratio} {q : ℤ} {w : ℕ} {s : Spacing} (m b r : ℤ)
 direct-nearest {x} {q} {w} m b r den is_s place word is =
     let h = subst (λ (t : Spacing). IsPlace t x q) is_s place in
     nearest_word (λ u. sign m *ℤ signed 16 u) (direct_spacing m b r) (λ u _. direct-at_place m b r u) den word
-        (sign_back m (signed 16 w) q is) h.nearest h.lowest
+    (sign_back m (signed 16 w) q is) h.nearest h.lowest
 
 -- The two parts of a numerator are not both large.
 pub parts_small : (r : ℤ) → IsDecimal r → 2 ^ 15 * lower 10 r + 2 ^ 15 * upper 10 r ≤ 2 ^ 55

@@ -36,7 +36,7 @@ nearest_on_grid g x q h r j =
     let f = apart-at_place g x j in
     let n = nearest_from_rounded (moved_num g x) q (g.step * x.den) r j in
     near_over x (at_place g q) (at_place g j) g.den (place_num g q) (place_num g j) (Over-at_place g q h) (Over-at_place g j h)
-        (omega arith)
+    (omega arith)
 
 pub lowest_on_grid : (g : Spacing) (x : Ratio) (q : ℤ) → 0 < g.den → IsRounded (moved_num g x) (pos (g.step * x.den)) q → (j : ℤ)
     → Near x (at_place g j) (at_place g q) → q ≤ℤ j
@@ -44,7 +44,7 @@ lowest_on_grid g x q h r j near =
     let e = apart-at_place g x q in
     let f = apart-at_place g x j in
     let n = near_over_back x (at_place g j) (at_place g q) g.den (place_num g j) (place_num g q) (Over-at_place g j h) (Over-at_place g q h)
-        near in
+    near in
     lower_from_rounded (moved_num g x) q (g.step * x.den) r j (omega arith)
 
 pub above_on_grid : (g : Spacing) (x : Ratio) (q : ℤ) → 0 < g.step * x.den → IsRounded (moved_num g x) (pos (g.step * x.den)) q → (j : ℤ)

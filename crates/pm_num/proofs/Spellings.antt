@@ -78,7 +78,7 @@ Covers-word x p den h y i s =
     let far = h.least q (omega arith) in
     by_lt_z x.num (pos 0)
     (λ negative. Covers-above (x.num *ℤ pos (2 ^ 16)) x.den p (neg_ℤ (pos 512)) (y *ℤ pos (2 ^ i)) (omega (arith, ints))
-        (omega (arith, ints)))
+    (omega (arith, ints)))
     (λ positive. Covers-below (x.num *ℤ pos (2 ^ 16)) x.den p (pos 512) (y *ℤ pos (2 ^ i)) den (omega (arith, ints)) (omega (arith, ints))))
     (λ at_least. Covers-multiple (x.num *ℤ pos (2 ^ 16)) x.den p (y *ℤ pos (2 ^ (i - p))) (y *ℤ pos (2 ^ i)) (lowered y p i at_least))
     (cases_lt i p)
@@ -168,17 +168,17 @@ linear11-nearest {k} {w} x p den place rounded word is preferred =
       nearest = λ u h.
           let n = nearest_by_cover a x.den p k (spelled u) rounded (cover u h) in
           near_over x (linear11_value w) (linear11_value u) (2 ^ 16) (spelled w) (spelled u) (Over-linear11 w word) (Over-linear11 u h)
-              (omega arith);
+          (omega arith);
       lowest = λ u h near.
           let b = near_over_back x (linear11_value u) (linear11_value w) (2 ^ 16) (spelled u) (spelled w) (Over-linear11 u h)
-              (Over-linear11 w word) near in
+          (Over-linear11 w word) near in
           let l = lowest_by_cover a x.den p k (spelled u) rounded (cover u h) (omega arith) in
           at_most_over (linear11_value w) (linear11_value u) (2 ^ 16) (spelled w) (spelled u) (Over-linear11 w word) (Over-linear11 u h)
-              (omega (arith, ints));
+          (omega (arith, ints));
       spelling = λ u h same.
           preferred_first (mantissa w) (mantissa u) (IsExponent-exponent w word) (IsExponent-exponent u h) preferred (IsSpelling-word u h)
           (same_over_back (linear11_value u) (linear11_value w) (2 ^ 16) (spelled u) (spelled w) (Over-linear11 u h) (Over-linear11 w word)
-              same);
+          same);
     }
 
 -- A mantissa as it is rounded, before it is settled.
@@ -227,7 +227,7 @@ pub linear11-found : {x : Ratio} {p : ℕ} {k y : ℤ} {i w : ℕ} → IsPlaceFo
     → y *ℤ pos (2 ^ i) ≡ k *ℤ pos (2 ^ p) → IsPreferred y i → IsNearest linear11_value linear11_rank x w
 linear11-found {x} {p} {k} {y} {i} {w} place rounded word is_y is_i same preferred =
     let spelled_is : spelled w ≡ y *ℤ pos (2 ^ i) =
-        ap (λ (z : ℤ). z *ℤ pos (2 ^ place_of (exponent w))) is_y ∙ ap (λ (n : ℕ). y *ℤ pos (2 ^ n)) is_i in
+    ap (λ (z : ℤ). z *ℤ pos (2 ^ place_of (exponent w))) is_y ∙ ap (λ (n : ℕ). y *ℤ pos (2 ^ n)) is_i in
     let q = subst (λ (n : ℕ). IsPreferred y n) (sym is_i) preferred in
     let r = subst (λ (z : ℤ). IsPreferred z (place_of (exponent w))) (sym is_y) q in
     linear11-nearest x p place.den place rounded word (spelled_is ∙ same) r

@@ -12,5 +12,5 @@ returns c = record {
   answer = λ addr request bytes h none.
       let at = is_betrayed-at (sent addr request) bytes h in
       c.damage_is_refused.ensures.answer_betrayed addr at.last request at.front at.wrong
-          (ap (answer_fault addr request) (sym at.spelled) ∙ none);
+      (ap (answer_fault addr request) (sym at.spelled) ∙ none);
 }

@@ -41,7 +41,7 @@ loop-block-preserved c =
       λ front starts.
           ap pec_of (sym (append_assoc front taken block))
           ∙ pec_of-folded (front ++ taken) block c.loop-block.folded c.moved_up.result (AreBytes-part taken block more are_bytes) size
-              (before.2 front starts) c.moved_up.ensures
+          (before.2 front starts) c.moved_up.ensures
           ∙ ap (λ (x : ℕ). residues_of x 0 128) value,
       xor_lt 128 c.moved_up.result c.from_be_bytes.result c.moved_up.type_inv c.from_be_bytes.type_inv,
     )

@@ -13,7 +13,7 @@ pub new-requires : goal.new-requires
 new-requires c =
     let none : request_fault c.args.addr c.args.bytes.now ≡ None = sym c.in_ok-requested.ensures in
     request-whole c.args.addr (message_in c.args.bytes.now) c.args.bytes.now (request_fault-found c.args.addr c.args.bytes.now none)
-        (λ i. omega (arith, c.type_inv.bytes i))
+    (λ i. omega (arith, c.type_inv.bytes i))
 
 pub returns-clause-message : goal.returns-clause-message
 returns-clause-message c =

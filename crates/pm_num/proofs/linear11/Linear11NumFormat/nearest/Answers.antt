@@ -9,13 +9,13 @@ use Rattle.pm_num.proofs.linear11.Linear11NumFormat.nearest.Goals as goal
 pub settled-requires-clause-above : goal.settled-requires-clause-above
 settled-requires-clause-above c =
     let h = IsUnsettled-rounded c.args.x c.place_for-place.result c.mantissa_at-mantissa.result c.place_for-place.ensures
-        c.mantissa_at-mantissa.ensures in
+    c.mantissa_at-mantissa.ensures in
     omega (arith, ints)
 
 pub settled-requires-clause-below : goal.settled-requires-clause-below
 settled-requires-clause-below c =
     let h = IsUnsettled-rounded c.args.x c.place_for-place.result c.mantissa_at-mantissa.result c.place_for-place.ensures
-        c.mantissa_at-mantissa.ensures in
+    c.mantissa_at-mantissa.ensures in
     omega (arith, ints)
 
 pub settled-requires-clause-far : goal.settled-requires-clause-far
