@@ -9,12 +9,14 @@ OPEN, CLOSED = "({[⟨", ")}]⟩"
 
 
 def files_of(home):
-    """The files of a crate's proofs, by their names from its folder, those of modules' lists left out."""
+    """The files of a crate's proofs, by their names from its folder, those of modules' lists left out; and of its
+    definitions those that hold lemmas alone."""
     found = []
-    for top, _, names in os.walk(os.path.join(home, "proofs")):
-        for name in names:
-            if name.endswith(".antt") and not (name == "Lib.antt" and top.endswith("/proofs")):
-                found.append(os.path.relpath(os.path.join(top, name), home))
+    for folder in ("proofs", os.path.join("specs", "Lemmas")):
+        for top, _, names in os.walk(os.path.join(home, folder)):
+            for name in names:
+                if name.endswith(".antt") and not (name == "Lib.antt" and top.endswith("/proofs")):
+                    found.append(os.path.relpath(os.path.join(top, name), home))
     return sorted(found)
 
 
@@ -28,7 +30,7 @@ class Lemma:
 
     def is_goal(self):
         """An answer or an invariant, which a goal states."""
-        return " : goal." in self.head
+        return self.head.split(" : ", 1)[1].startswith("goal.")
 
     def arguments(self):
         """How many arguments it takes by position: those in parentheses, and the premises."""

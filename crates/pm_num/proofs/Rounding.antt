@@ -62,7 +62,8 @@ greatest_from_floor {b = b} {q = q} a k d h is_b is_e is_r le =
     by_lt_z q k (λ less. let i = lt-times q k d less in absurd (omega (arith, ints))) (λ p. omega (arith, ints))
 
 -- What the code passed and returned, at the numbers that are meant.
-pub same_product : {p q r : ℤ} (a b : ℤ) → SFits w128 p → SFits w128 q → r ≡ to_z w128 (of_z w128 p) *ℤ to_z w128 (of_z w128 q) → p ≡ a → q ≡ b
+pub same_product : {p q r : ℤ} (a b : ℤ) → SFits w128 p → SFits w128 q → r ≡ to_z w128 (of_z w128 p) *ℤ to_z w128 (of_z w128 q) → p ≡ a
+    → q ≡ b
     → r ≡ a *ℤ b
 same_product a b fits_p fits_q e is_p is_q = let f = simp to_z-of_z at e in cc
 

@@ -55,6 +55,7 @@ Covers-below a d p j t positive le above =
       no_lower = λ h. le_from_times (j *ℤ pos (2 ^ p)) t d positive (omega (arith, ints));
     }
 
+-- And so does one between the number and t.
 Covers-above : (a : ℤ) (d p : ℕ) (j t : ℤ) → (j *ℤ pos (2 ^ p)) ≤ℤ t → a ≤ℤ (j *ℤ pos (d * 2 ^ p)) → Covers a d p t
 Covers-above a d p j t le below =
     let e = unit_times j d p in
@@ -83,6 +84,7 @@ Covers-word x p den h y i s =
     (λ at_least. Covers-multiple (x.num *ℤ pos (2 ^ 16)) x.den p (y *ℤ pos (2 ^ (i - p))) (y *ℤ pos (2 ^ i)) (lowered y p i at_least))
     (cases_lt i p)
 
+-- The rounded multiple is as near as each number that is covered,
 nearest_by_cover : (a : ℤ) (d p : ℕ) (k t : ℤ) → IsRounded a (pos (d * 2 ^ p)) k → Covers a d p t
     → unsigned_abs (a -ℤ (k *ℤ pos (2 ^ p)) *ℤ pos d) ≤ unsigned_abs (a -ℤ t *ℤ pos d)
 nearest_by_cover a d p k t r c =
@@ -91,6 +93,7 @@ nearest_by_cover a d p k t r c =
     let h = c.no_nearer in
     omega arith
 
+-- and the lowest of those.
 lowest_by_cover : (a : ℤ) (d p : ℕ) (k t : ℤ) → IsRounded a (pos (d * 2 ^ p)) k → Covers a d p t
     → unsigned_abs (a -ℤ t *ℤ pos d) ≤ unsigned_abs (a -ℤ (k *ℤ pos (2 ^ p)) *ℤ pos d) → (k *ℤ pos (2 ^ p)) ≤ℤ t
 lowest_by_cover a d p k t r c near =
@@ -130,6 +133,7 @@ large_lowest y z i j large s same =
     (λ p. p)
     (cases_lt j i)
 
+-- An exponent whose place is nearer to 0 ranks first.
 rank_by_place : (e f : ℤ) → IsExponent e → IsExponent f → (place_of e < 16 → place_of f ≤ place_of e)
     → (16 < place_of e → place_of e ≤ place_of f) → preference e ≤ preference f
 rank_by_place (pos m) (pos n) h k low high =
@@ -167,18 +171,14 @@ linear11-nearest {k} {w} x p den place rounded word is preferred =
       word = word;
       nearest = λ u h.
           let n = nearest_by_cover a x.den p k (spelled u) rounded (cover u h) in
-          near_over x (linear11_value w) (linear11_value u) (2 ^ 16) (spelled w) (spelled u) (Over-linear11 w word) (Over-linear11 u h)
-          (omega arith);
+          near_over x (Over-linear11 w word) (Over-linear11 u h) (omega arith);
       lowest = λ u h near.
-          let b = near_over_back x (linear11_value u) (linear11_value w) (2 ^ 16) (spelled u) (spelled w) (Over-linear11 u h)
-          (Over-linear11 w word) near in
+          let b = near_over_back x (Over-linear11 u h) (Over-linear11 w word) near in
           let l = lowest_by_cover a x.den p k (spelled u) rounded (cover u h) (omega arith) in
-          at_most_over (linear11_value w) (linear11_value u) (2 ^ 16) (spelled w) (spelled u) (Over-linear11 w word) (Over-linear11 u h)
-          (omega (arith, ints));
+          at_most_over (Over-linear11 w word) (Over-linear11 u h) (omega (arith, ints));
       spelling = λ u h same.
           preferred_first (mantissa w) (mantissa u) (IsExponent-exponent w word) (IsExponent-exponent u h) preferred (IsSpelling-word u h)
-          (same_over_back (linear11_value u) (linear11_value w) (2 ^ 16) (spelled u) (spelled w) (Over-linear11 u h) (Over-linear11 w word)
-          same);
+          (same_over_back (Over-linear11 u h) (Over-linear11 w word) same);
     }
 
 -- A mantissa as it is rounded, before it is settled.
@@ -187,6 +187,7 @@ pub record IsUnsettled (p : ℕ) (k : ℤ) : Type 0 where
   pub below : k ≤ℤ pos 1024
   pub far : 16 < p → IsFar k
 
+-- Above the lowest place the rounded mantissa is a large one,
 rounded_far : (x : Ratio) (p : ℕ) (k : ℤ) → IsPlaceFor x p → IsRounded (x.num *ℤ pos (2 ^ 16)) (pos (x.den * 2 ^ p)) k → 0 < x.den * 2 ^ p
     → 0 < p → IsFar k
 rounded_far x p k h r unit positive =
@@ -197,6 +198,7 @@ rounded_far x p k h r unit positive =
     (λ negative. inl (below_from_rounded a k (x.den * 2 ^ p) unit r (neg_ℤ (pos 512)) (omega (arith, ints))))
     (λ at_least. inr (above_from_rounded a k (x.den * 2 ^ p) unit r (pos 512) (omega (arith, ints))))
 
+-- and within its bounds at any.
 pub IsUnsettled-rounded : (x : Ratio) (p : ℕ) (k : ℤ) → IsPlaceFor x p → IsRounded (x.num *ℤ pos (2 ^ 16)) (pos (x.den * 2 ^ p)) k
     → IsUnsettled p k
 IsUnsettled-rounded x p k h r =

@@ -34,4 +34,5 @@ returns-clause-word c =
     let back : to_z w128 (of_z w128 k) ≡ k = omega (arith, ints) in
     let same = c.preferred.ensures.same ∙ c.settled.ensures.same ∙ ap (λ (z : ℤ). z *ℤ pos (2 ^ p)) back in
     let at_place = place_of-exponent (exponent c.word_of.result) s.place c.word_of.ensures.exponent in
-    linear11-found c.place_for-place.ensures c.mantissa_at-mantissa.ensures word c.word_of.ensures.mantissa at_place same c.preferred.ensures.preferred
+    linear11-found c.place_for-place.ensures c.mantissa_at-mantissa.ensures word c.word_of.ensures.mantissa at_place same
+    c.preferred.ensures.preferred
