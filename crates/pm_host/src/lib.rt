@@ -24,25 +24,29 @@
 #![tactic(auto)]
 
 mod answers;
+mod command;
 mod fault;
-mod formats;
 mod host;
+mod job_end;
 mod knowledge;
 mod laws;
+mod learned;
 mod messages;
-mod places;
 mod possible;
 mod stage;
 mod standing;
 mod step;
 mod told;
+mod turn;
 
 pub use fault::HostFault;
 pub use host::Host;
+pub use job_end::JobEnd;
 pub use laws::{
     frames_are_named, jobs_are_bounded, open_orders_are_uncertain, transcripts_are_followed,
 };
 pub use possible::Possible;
 pub use standing::Standing;
-pub use step::{JobEnd, Step};
+pub use step::Step;
 pub use told::Told;
+pub use turn::Turn;
