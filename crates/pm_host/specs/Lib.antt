@@ -14,7 +14,6 @@ pub mod Summary
 pub mod Told
 pub mod Transcript
 pub mod Turn
-
 -- How it is kept.
 pub mod Known
 pub mod Sound

@@ -2,6 +2,7 @@
 
 ghost use Rattle.std.specs.Prelude.{◌≡◌, true};
 ghost use Rattle.pm_table.specs.Cell.{cell_accepts};
+ghost use Rattle.pm_frame.specs.Layout.{answer_length};
 ghost use Rattle.pm_host.specs.Messages as messages;
 
 use crate::command::Command;
@@ -43,9 +44,11 @@ pub(crate) fn cell_read(cell: Cell) -> Message
     }
 }
 
-/// The read of an output's VOUT_MODE.
+/// The read of an output's VOUT_MODE, which has one byte.
+#[tactic(auto, unfolding(pm_table::specs::Commands::line_of))]
 pub(crate) fn mode_read(page: u8) -> Message
-    ensures { result ≡ messages.mode_read page }
+    ensures message { result ≡ messages.mode_read page }
+    ensures single { answer_length result ≡ 1 }
 {
     Message::PagePlusRead {
         page,
