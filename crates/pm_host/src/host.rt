@@ -12,7 +12,7 @@ ghost use Rattle.pm_host.specs.Frames.{frames_left};
 ghost use Rattle.pm_host.specs.Messages.{IsFrameOf};
 ghost use Rattle.pm_host.specs.Refusals.{IsSetup, setup_fault, asking_fault, output_fault, cell_fault, command_fault, order_fault, micro_fault, micro_word, may_come, sends_read};
 ghost use Rattle.pm_host.specs.Summary.{start, next, step_of, possible_at, standing_at, format_at, sending_in};
-ghost use Rattle.pm_host.specs.Told.{entry_told};
+ghost use Rattle.pm_host.specs.Told.{entry_told, OnEnded};
 ghost use Rattle.pm_host.specs.Transcript.{Setup, Accepted, Restarted, Order, Check, Learn, Send};
 ghost use Rattle.pm_host.specs.Turn.{Shows};
 
@@ -207,6 +207,8 @@ impl Host {
             None => Turn::Idle,
             Some(Sending { stage, frame }) => {
                 let message = stage.message();
+                // Hands the prover that an answer has at most five bytes of payload.
+                let _ = message.answer_length();
                 if message.is_read() {
                     Turn::Request {
                         frame,
@@ -256,6 +258,7 @@ impl Host {
         ensures step { result ≡ step_of self.old (entry_told told.entry) }
         ensures kept { self.new.setup ≡ self.old.setup }
         ensures left { frames_left self.new < frames_left self.old }
+        ensures over { OnEnded result (frames_left self.new ≡ 0) }
     {
         let stage = match &self.sending {
             Some(sending) => sending.stage,

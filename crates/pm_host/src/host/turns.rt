@@ -9,6 +9,7 @@ ghost use Rattle.pm_host.specs.Frames.{frames_from, frames_left};
 ghost use Rattle.pm_host.specs.Marks.{Good};
 ghost use Rattle.pm_host.specs.Possible.{has_room, only};
 ghost use Rattle.pm_host.specs.Sound.{IsOrdering, IsChecking, IsAsking, IsSending, IsStage, HasWord};
+ghost use Rattle.pm_host.specs.Told.{OnEnded};
 ghost use Rattle.pm_host.specs.Summary.{possible_at, goes_on, ends, another as spec_another, marked, writes, read_back as spec_read_back, checked as spec_checked, learned as spec_learned, mode_taken, mode_answered, coefficients_answered, finished};
 
 use crate::command::Command;
@@ -56,6 +57,7 @@ impl Host {
         ensures after { self.new ≡ (spec_another self.old tries stage).after }
         ensures step { result ≡ (spec_another self.old tries stage).step }
         ensures left { frames_left self.new ≤ frames_from self.old.setup.passes stage }
+        ensures over { OnEnded result (frames_left self.new ≡ 0) }
     {
         if tries + 1 == self.passes {
             return self.end(JobEnd::Unknown);
@@ -95,6 +97,7 @@ impl Host {
         ensures after { self.new ≡ (spec_read_back self.old cell word pass read).after }
         ensures step { result ≡ (spec_read_back self.old cell word pass read).step }
         ensures left { frames_left self.new ≤ 2 * (self.old.setup.passes - (pass + 1)) }
+        ensures over { OnEnded result (frames_left self.new ≡ 0) }
     {
         if let Some(read) = read {
             self.note(cell, read);
@@ -119,6 +122,7 @@ impl Host {
         ensures after { self.new ≡ (spec_checked self.old cell tries read).after }
         ensures step { result ≡ (spec_checked self.old cell tries read).step }
         ensures left { frames_left self.new ≤ self.old.setup.passes - (tries + 1) }
+        ensures over { OnEnded result (frames_left self.new ≡ 0) }
     {
         match read {
             Some(read) => {
@@ -144,6 +148,7 @@ impl Host {
         ensures step { result ≡ (mode_answered self.old output tries byte).step }
         ensures left { frames_left self.new
             ≤ (self.old.setup.passes - (tries + 1)) + self.old.setup.passes }
+        ensures over { OnEnded result (frames_left self.new ≡ 0) }
     {
         match byte {
             Some(byte) => self.mode_known(output, VoutMode::read(byte)),
@@ -166,6 +171,7 @@ impl Host {
         ensures after { self.new ≡ (mode_taken self.old output mode).after }
         ensures step { result ≡ (mode_taken self.old output mode).step }
         ensures left { frames_left self.new ≤ self.old.setup.passes }
+        ensures over { OnEnded result (frames_left self.new ≡ 0) }
     {
         match mode {
             Ok(VoutMode::Direct) => self.go_on(Stage::AsksCoefficients { output, tries: 0 }),
@@ -187,6 +193,7 @@ impl Host {
         ensures after { self.new ≡ (coefficients_answered self.old output tries told).after }
         ensures step { result ≡ (coefficients_answered self.old output tries told).step }
         ensures left { frames_left self.new ≤ self.old.setup.passes - (tries + 1) }
+        ensures over { OnEnded result (frames_left self.new ≡ 0) }
     {
         match told {
             Some(told) => self.learned(output, format_of(VoutMode::Direct, told).ok()),
@@ -225,6 +232,7 @@ impl Host {
         ensures after { self.new ≡ (finished self.old (Some (Stage.Sends command tries)) acked).after }
         ensures step { result ≡ (finished self.old (Some (Stage.Sends command tries)) acked).step }
         ensures left { frames_left self.new ≤ self.old.setup.passes - (tries + 1) }
+        ensures over { OnEnded result (frames_left self.new ≡ 0) }
     {
         if acked {
             return self.end(JobEnd::Done);
