@@ -1,3 +1,4 @@
+mod asking;
 mod microvolts;
 mod turns;
 
@@ -10,7 +11,7 @@ ghost use Rattle.pm_num.specs.Nearest.{IsNearest};
 ghost use Rattle.pm_num.specs.Ratio.{micros};
 ghost use Rattle.pm_host.specs.Frames.{frames_left};
 ghost use Rattle.pm_host.specs.Messages.{IsFrameOf};
-ghost use Rattle.pm_host.specs.Refusals.{IsSetup, setup_fault, asking_fault, output_fault, cell_fault, command_fault, order_fault, micro_fault, micro_word, may_come, sends_read};
+ghost use Rattle.pm_host.specs.Refusals.{IsSetup, setup_fault, output_fault, cell_fault, order_fault, micro_fault, micro_word, may_come, sends_read};
 ghost use Rattle.pm_host.specs.Summary.{start, next, step_of, possible_at, standing_at, format_at, sending_in};
 ghost use Rattle.pm_host.specs.Told.{entry_told, OnEnded};
 ghost use Rattle.pm_host.specs.Transcript.{Setup, Accepted, Restarted, Order, Check, Learn, Send};
@@ -351,48 +352,5 @@ impl Host {
         ensures { result ≡ self.now.known.seen }
     {
         self.knowledge.restart_seen()
-    }
-
-    // Begins to send a command.
-    #[tactic(auto, unfolding(crate::specs::Summary::next))]
-    fn send(&mut self, command: Command) -> Result<(), HostFault>
-        ensures fault { result_err result ≡ command_fault self.old command }
-        ensures ok { OnOk result (self.new ≡ next self.old (Accepted (Send command))) }
-        ensures err { OnErr result (self.new ≡ self.old) }
-        ensures kept { self.new.setup ≡ self.old.setup }
-        ensures left { OnOk result (frames_left self.new ≤ 2 * self.new.setup.passes) }
-    {
-        self.is_free(command.is_there(self.outputs))?;
-        self.go_on(Stage::Sends { command, tries: 0 });
-        Ok(())
-    }
-
-    // Refuses where a job is open, or what is asked for isn't there.
-    fn is_free(&self, there: bool) -> Result<(), HostFault>
-        ensures fault { result_err result ≡ asking_fault self.now there }
-        ensures idle { OnOk result (self.now.stage ≡ None) }
-        ensures there { OnOk result (there ≡ true) }
-        ensures some { 1 ≤ self.now.setup.passes }
-    {
-        if self.sending.is_some() {
-            return Err(HostFault::Busy);
-        }
-        if !there {
-            return Err(HostFault::UnknownOutput);
-        }
-        Ok(())
-    }
-
-    // Refuses where a job is open, or the cell isn't there.
-    fn cell_is_free(&self, cell: Cell) -> Result<(), HostFault>
-        ensures fault { result_err result ≡ cell_fault self.now cell }
-        ensures idle { OnOk result (self.now.stage ≡ None) }
-        ensures there { OnOk result (IsCell self.now.setup.outputs cell) }
-        ensures some { 1 ≤ self.now.setup.passes }
-    {
-        self.is_free(match cell {
-            Cell::Out(output, _) => output < self.outputs,
-            Cell::Protect => true,
-        })
     }
 }
