@@ -19,9 +19,9 @@ use Rattle.pm_device.specs.Held.{Held, CmlFaults, Measured, no_readings, no_faul
 use Rattle.pm_device.specs.Start.{start_word, start_words}
 use Rattle.pm_device.specs.Verdict.{verdict_of, CanAct}
 use Rattle.pm_device.specs.Effect.{Event, Hearing, Restarted, Reading, Outcome, Heard, Restarts, Measures, outcome_of, act_taken, act_words, act_page, words_by, page_by}
-use Rattle.pm_device.specs.Status.{CmlBit, Command, Data, Pec, Other, Moment, has_bit, kept, moments, from_last, act_clears_vout, act_clears_cml, clears, sets_cml, is_over, over_at, vout_in, cml_in}
-use Rattle.pm_device.specs.History.{each_output, readings_in, readings_by, now, start_of, cleared, over_by_act, over_by, fault_by, faults_by, after, next}
-use Rattle.pm_device.proofs.OverLemmas.{each_output-by, length-each_output, over_at-each_output}
+use Rattle.pm_device.specs.Status.{CmlBit, Command, Data, Pec, Other, Moment, has_bit, kept, moments, from_last, act_clears_vout, act_clears_cml, clears, sets_cml, is_output_cut, cut_at, vout_in, cml_in}
+use Rattle.pm_device.specs.History.{each_output, readings_in, readings_by, now, start_of, cleared, cut_by_act, cut_by, fault_by, faults_by, after, next}
+use Rattle.pm_device.proofs.CutLemmas.{each_output-by, length-each_output, cut_at-each_output}
 use Rattle.pm_device.proofs.TakenActs.{verdict-can}
 
 -- a look back that stops here
@@ -39,12 +39,12 @@ cml-step config past event bit =
 
 -- one more moment of an output's bit of STATUS_VOUT
 vout-step : (config : Config) (past : List Event) (event : Event) (output : ℕ) → vout_in config (event ∷ past) output
-    ≡ (is_over config (kept config (event ∷ past)).words output || cond (clears (act_clears_vout output) (outcome_of config (kept config past).words (kept config past).page event)) false (vout_in config past output))
+    ≡ (is_output_cut config (kept config (event ∷ past)).words output || cond (clears (act_clears_vout output) (outcome_of config (kept config past).words (kept config past).page event)) false (vout_in config past output))
 unfolding vout_in moments
 vout-step config past event output =
     let outcome = outcome_of config (kept config past).words (kept config past).page event in
-    ap (λ b. is_over config (kept config (event ∷ past)).words output || b)
-    (any-stopped (λ moment. is_over config moment.words output) (clears (act_clears_vout output) outcome) (from_last (clears (act_clears_vout output)) (moments config past)))
+    ap (λ b. is_output_cut config (kept config (event ∷ past)).words output || b)
+    (any-stopped (λ moment. is_output_cut config moment.words output) (clears (act_clears_vout output) outcome) (from_last (clears (act_clears_vout output)) (moments config past)))
 
 -- the words and PAGE after one more event
 kept-step : (config : Config) (past : List Event) (event : Event) → (kept config (event ∷ past)).words ≡ words_by config (kept config past).words (outcome_of config (kept config past).words (kept config past).page event)
@@ -60,7 +60,7 @@ abbrev faults : Bool → Bool → Bool → Bool → CmlFaults
 faults command unsupported pec other = record { command = command; «data» = unsupported; pec = pec; other = other }
 
 abbrev held : Config → Words → ℕ → Measured → List Bool → CmlFaults → Held
-held config words page readings over found = record { config = config; words = words; page = page; readings = readings; over = over; faults = found }
+held config words page readings cut found = record { config = config; words = words; page = page; readings = readings; cut = cut; faults = found }
 
 faults-same : (a b c d a' b' c' d' : Bool) → a ≡ a' → b ≡ b' → c ≡ c' → d ≡ d' → faults a b c d ≡ faults a' b' c' d'
 faults-same a b c d a' b' c' d' ea eb ec ed =
@@ -74,12 +74,12 @@ or-fails : (b : Bool) → (b || false) ≡ b
 or-fails true = refl
 or-fails false = refl
 
-vout-shows_start : (config : Config) (output : ℕ) → is_over config (kept config []).words output ≡ true → vout_in config [] output ≡ true
+vout-shows_start : (config : Config) (output : ℕ) → is_output_cut config (kept config []).words output ≡ true → vout_in config [] output ≡ true
 unfolding vout_in moments kept
 vout-shows_start config output e = ap (λ b. b || false) e
 
 -- what is above VOUT_MAX now shows
-pub vout-shows : (config : Config) (past : List Event) (output : ℕ) → is_over config (kept config past).words output ≡ true → vout_in config past output ≡ true
+pub vout-shows : (config : Config) (past : List Event) (output : ℕ) → is_output_cut config (kept config past).words output ≡ true → vout_in config past output ≡ true
 vout-shows config [] output h = vout-shows_start config output h
 vout-shows config (event ∷ past) output h =
     vout-step config past event output ∙ ap (λ b. b || cond (clears (act_clears_vout output) (outcome_of config (kept config past).words (kept config past).page event)) false (vout_in config past output)) h
@@ -92,7 +92,7 @@ shown false b h = refl
 -- lists of bits
 each_output-same : (f g : ℕ → Bool) → ((output : ℕ) → output < 8 → f output ≡ g output) → each_output f ≡ each_output g
 each_output-same f g same =
-    each_output-by (each_output f) g (length-each_output f) (λ output there. over_at-each_output f output there ∙ same output there)
+    each_output-by (each_output f) g (length-each_output f) (λ output there. cut_at-each_output f output there ∙ same output there)
 
 each_output-set : (f g : ℕ → Bool) (place : ℕ) (bit : Bool) → (place < 8 → bit ≡ g place) → ((output : ℕ) → output < 8 → output ≢ place → f output ≡ g output) → set (each_output f) place bit ≡ each_output g
 each_output-set f g place bit here others =
@@ -106,9 +106,9 @@ each_output-set f g place bit here others =
 
     other : (output : ℕ) → output < 8 → output ≢ place → get_or (set (each_output f) place bit) output false ≡ g output
     other output there ne =
-        get_or-set_other (each_output f) place output bit false ne ∙ (over_at-each_output f output there ∙ others output there ne)
+        get_or-set_other (each_output f) place output bit false ne ∙ (cut_at-each_output f output there ∙ others output there ne)
 
-    at : (output : ℕ) → output < 8 → over_at (set (each_output f) place bit) output ≡ g output
+    at : (output : ℕ) → output < 8 → cut_at (set (each_output f) place bit) output ≡ g output
     at output there = elim (cases_eq output place) [ inl e ↦ same output there e | inr ne ↦ other output there ne ]
 
 -- what the map of cells is, as far as this needs it
@@ -166,9 +166,9 @@ kept-page config [] some = omega arith
 kept-page config (event ∷ past) some = page-kept config (kept config past).words (kept config past).page event some (kept-page config past some)
 
 -- a write for another cell leaves what is above VOUT_MAX
-is_over-kept : (law : IsMap) (config : Config) (words : Words) (cell : Cell) (word output : ℕ) → AreWords words → IsCell 8 cell → output < 8 → ((register : Reg) → same_cell cell (Out output register) ≡ false) → is_over config (with_word words cell word) output ≡ is_over config words output
-unfolding is_over
-is_over-kept law config words cell word output are here there other =
+is_output_cut-kept : (law : IsMap) (config : Config) (words : Words) (cell : Cell) (word output : ℕ) → AreWords words → IsCell 8 cell → output < 8 → ((register : Reg) → same_cell cell (Out output register) ≡ false) → is_output_cut config (with_word words cell word) output ≡ is_output_cut config words output
+unfolding is_output_cut
+is_output_cut-kept law config words cell word output are here there other =
     ap (λ b. ltb output config.count && b)
     (law.cut (value_for config output) (with_word words cell word) words output
     (λ register. law.read words cell (Out output register) word are here there ∙ cond-false _ _ _ (other register)))
@@ -183,60 +183,60 @@ module _ (law : IsMap) (config : Config) (count : IsCount config) (past : List E
   words_now = (kept config past).words
 
   -- a bit that isn't cleared, of an output whose settings stay
-  stays : (output : ℕ) → vout_in config past output ≡ (is_over config (kept config past).words output || vout_in config past output)
-  stays output = sym (shown (is_over config (kept config past).words output) (vout_in config past output) (vout-shows config past output))
+  stays : (output : ℕ) → vout_in config past output ≡ (is_output_cut config (kept config past).words output || vout_in config past output)
+  stays output = sym (shown (is_output_cut config (kept config past).words output) (vout_in config past output) (vout-shows config past output))
 
   -- an act's latches, output by output
-  act-over : (act : Act) → CanAct config.count act → over_by_act config (act_words (kept config past).words (Some act)) (each_output (vout_in config past)) act
-      ≡ each_output (λ output. is_over config (act_words (kept config past).words (Some act)) output || cond (act_clears_vout output act) false (vout_in config past output))
-  act-over (Put (Out place register) word) can =
+  act-cut : (act : Act) → CanAct config.count act → cut_by_act config (act_words (kept config past).words (Some act)) (each_output (vout_in config past)) act
+      ≡ each_output (λ output. is_output_cut config (act_words (kept config past).words (Some act)) output || cond (act_clears_vout output act) false (vout_in config past output))
+  act-cut (Put (Out place register) word) can =
       let words = with_word (kept config past).words (Out place register) word in
-      each_output-set (vout_in config past) (λ output. is_over config words output || vout_in config past output) place (over_at (each_output (vout_in config past)) place || is_over config words place)
-      (λ within. ap (λ b. b || is_over config words place) (over_at-each_output (vout_in config past) place within) ∙ or_comm (vout_in config past place) (is_over config words place))
+      each_output-set (vout_in config past) (λ output. is_output_cut config words output || vout_in config past output) place (cut_at (each_output (vout_in config past)) place || is_output_cut config words place)
+      (λ within. ap (λ b. b || is_output_cut config words place) (cut_at-each_output (vout_in config past) place within) ∙ or_comm (vout_in config past place) (is_output_cut config words place))
       (λ output there ne. stays output
       ∙ ap (λ b. b || vout_in config past output)
-      (sym (is_over-kept law config (kept config past).words (Out place register) word output (kept-words law config past) (omega (arith, can.0, count.few)) there (λ second. other-output place output register second ne))))
-  act-over (Put Protect word) can =
-      each_output-same (vout_in config past) (λ output. is_over config (with_word (kept config past).words Protect word) output || vout_in config past output)
+      (sym (is_output_cut-kept law config (kept config past).words (Out place register) word output (kept-words law config past) (omega (arith, can.0, count.few)) there (λ second. other-output place output register second ne))))
+  act-cut (Put Protect word) can =
+      each_output-same (vout_in config past) (λ output. is_output_cut config (with_word (kept config past).words Protect word) output || vout_in config past output)
       (λ output there. stays output
-      ∙ ap (λ b. b || vout_in config past output) (sym (is_over-kept law config (kept config past).words Protect word output (kept-words law config past) tt there (λ second. refl))))
-  act-over (Select page) can =
-      each_output-same (vout_in config past) (λ output. is_over config (kept config past).words output || vout_in config past output) (λ output there. stays output)
-  act-over (ClearCml byte) can =
-      each_output-same (vout_in config past) (λ output. is_over config (kept config past).words output || vout_in config past output) (λ output there. stays output)
-  act-over (ClearFaults place) can =
-      each_output-set (vout_in config past) (λ output. is_over config (kept config past).words output || cond (eqb place output) false (vout_in config past output)) place (is_over config (kept config past).words place)
-      (λ within. sym (ap (λ b. is_over config (kept config past).words place || cond b false (vout_in config past place)) (eq-eqb place place refl) ∙ or-fails (is_over config (kept config past).words place)))
-      (λ output there ne. stays output ∙ ap (λ b. is_over config (kept config past).words output || cond b false (vout_in config past output)) (sym (ne_eqb place output (λ e. ne (sym e)))))
-  act-over (ClearVout place byte) can = go (has_bit byte 0x08) where
+      ∙ ap (λ b. b || vout_in config past output) (sym (is_output_cut-kept law config (kept config past).words Protect word output (kept-words law config past) tt there (λ second. refl))))
+  act-cut (Select page) can =
+      each_output-same (vout_in config past) (λ output. is_output_cut config (kept config past).words output || vout_in config past output) (λ output there. stays output)
+  act-cut (ClearCml byte) can =
+      each_output-same (vout_in config past) (λ output. is_output_cut config (kept config past).words output || vout_in config past output) (λ output there. stays output)
+  act-cut (ClearFaults place) can =
+      each_output-set (vout_in config past) (λ output. is_output_cut config (kept config past).words output || cond (eqb place output) false (vout_in config past output)) place (is_output_cut config (kept config past).words place)
+      (λ within. sym (ap (λ b. is_output_cut config (kept config past).words place || cond b false (vout_in config past place)) (eq-eqb place place refl) ∙ or-fails (is_output_cut config (kept config past).words place)))
+      (λ output there ne. stays output ∙ ap (λ b. is_output_cut config (kept config past).words output || cond b false (vout_in config past output)) (sym (ne_eqb place output (λ e. ne (sym e)))))
+  act-cut (ClearVout place byte) can = go (has_bit byte 0x08) where
     go : (b : Bool) → cond b (cleared config (kept config past).words (each_output (vout_in config past)) place) (each_output (vout_in config past))
-        ≡ each_output (λ output. is_over config (kept config past).words output || cond (eqb place output && b) false (vout_in config past output))
+        ≡ each_output (λ output. is_output_cut config (kept config past).words output || cond (eqb place output && b) false (vout_in config past output))
     go true =
-        each_output-set (vout_in config past) (λ output. is_over config (kept config past).words output || cond (eqb place output && true) false (vout_in config past output)) place (is_over config (kept config past).words place)
-        (λ within. sym (ap (λ b. is_over config (kept config past).words place || cond (b && true) false (vout_in config past place)) (eq-eqb place place refl) ∙ or-fails (is_over config (kept config past).words place)))
-        (λ output there ne. stays output ∙ ap (λ b. is_over config (kept config past).words output || cond (b && true) false (vout_in config past output)) (sym (ne_eqb place output (λ e. ne (sym e)))))
+        each_output-set (vout_in config past) (λ output. is_output_cut config (kept config past).words output || cond (eqb place output && true) false (vout_in config past output)) place (is_output_cut config (kept config past).words place)
+        (λ within. sym (ap (λ b. is_output_cut config (kept config past).words place || cond (b && true) false (vout_in config past place)) (eq-eqb place place refl) ∙ or-fails (is_output_cut config (kept config past).words place)))
+        (λ output there ne. stays output ∙ ap (λ b. is_output_cut config (kept config past).words output || cond (b && true) false (vout_in config past output)) (sym (ne_eqb place output (λ e. ne (sym e)))))
     go false =
-        each_output-same (vout_in config past) (λ output. is_over config (kept config past).words output || cond (eqb place output && false) false (vout_in config past output))
-        (λ output there. stays output ∙ ap (λ b. is_over config (kept config past).words output || cond b false (vout_in config past output)) (sym (and-fails (eqb place output))))
+        each_output-same (vout_in config past) (λ output. is_output_cut config (kept config past).words output || cond (eqb place output && false) false (vout_in config past output))
+        (λ output there. stays output ∙ ap (λ b. is_output_cut config (kept config past).words output || cond b false (vout_in config past output)) (sym (and-fails (eqb place output))))
       where
         and-fails : (b : Bool) → (b && false) ≡ false
         and-fails true = refl
         and-fails false = refl
 
   -- the latches of any outcome
-  over-step : (outcome : Outcome) → ((act : Act) → outcome ≡ Heard (Takes act) → CanAct config.count act) → over_by config (words_by config (kept config past).words outcome) (each_output (vout_in config past)) outcome
-      ≡ each_output (λ output. is_over config (words_by config (kept config past).words outcome) output || cond (clears (act_clears_vout output) outcome) false (vout_in config past output))
-  over-step (Heard (Takes act)) can = act-over act (can act refl)
-  over-step (Heard Ignores) can =
-      each_output-same (vout_in config past) (λ output. is_over config (kept config past).words output || vout_in config past output) (λ output there. stays output)
-  over-step (Heard (Refuses fault)) can =
-      each_output-same (vout_in config past) (λ output. is_over config (kept config past).words output || vout_in config past output) (λ output there. stays output)
-  over-step (Heard (Answers request)) can =
-      each_output-same (vout_in config past) (λ output. is_over config (kept config past).words output || vout_in config past output) (λ output there. stays output)
-  over-step Restarts can =
-      each_output-same (is_over config (start_words config)) (λ output. is_over config (start_words config) output || false) (λ output there. sym (or-fails (is_over config (start_words config) output)))
-  over-step (Measures output code word) can =
-      each_output-same (vout_in config past) (λ o. is_over config (kept config past).words o || vout_in config past o) (λ o there. stays o)
+  cut-step : (outcome : Outcome) → ((act : Act) → outcome ≡ Heard (Takes act) → CanAct config.count act) → cut_by config (words_by config (kept config past).words outcome) (each_output (vout_in config past)) outcome
+      ≡ each_output (λ output. is_output_cut config (words_by config (kept config past).words outcome) output || cond (clears (act_clears_vout output) outcome) false (vout_in config past output))
+  cut-step (Heard (Takes act)) can = act-cut act (can act refl)
+  cut-step (Heard Ignores) can =
+      each_output-same (vout_in config past) (λ output. is_output_cut config (kept config past).words output || vout_in config past output) (λ output there. stays output)
+  cut-step (Heard (Refuses fault)) can =
+      each_output-same (vout_in config past) (λ output. is_output_cut config (kept config past).words output || vout_in config past output) (λ output there. stays output)
+  cut-step (Heard (Answers request)) can =
+      each_output-same (vout_in config past) (λ output. is_output_cut config (kept config past).words output || vout_in config past output) (λ output there. stays output)
+  cut-step Restarts can =
+      each_output-same (is_output_cut config (start_words config)) (λ output. is_output_cut config (start_words config) output || false) (λ output there. sym (or-fails (is_output_cut config (start_words config) output)))
+  cut-step (Measures output code word) can =
+      each_output-same (vout_in config past) (λ o. is_output_cut config (kept config past).words o || vout_in config past o) (λ o there. stays o)
 
   -- what is taken can be done
   outcome-can : (event : Event) (act : Act) → outcome_of config (kept config past).words (kept config past).page event ≡ Heard (Takes act) → CanAct config.count act
@@ -249,16 +249,16 @@ module _ (law : IsMap) (config : Config) (count : IsCount config) (past : List E
   outcome-can (Reading output code word) act e = cc
 
   vout-table : (event : Event) → each_output (vout_in config (event ∷ past))
-      ≡ over_by config (words_by config (kept config past).words (outcome_of config (kept config past).words (kept config past).page event)) (each_output (vout_in config past)) (outcome_of config (kept config past).words (kept config past).page event)
+      ≡ cut_by config (words_by config (kept config past).words (outcome_of config (kept config past).words (kept config past).page event)) (each_output (vout_in config past)) (outcome_of config (kept config past).words (kept config past).page event)
   vout-table event =
       each_output-same (vout_in config (event ∷ past))
-      (λ output. is_over config (words_by config (kept config past).words (outcome_of config (kept config past).words (kept config past).page event)) output || cond (clears (act_clears_vout output) (outcome_of config (kept config past).words (kept config past).page event)) false (vout_in config past output))
+      (λ output. is_output_cut config (words_by config (kept config past).words (outcome_of config (kept config past).words (kept config past).page event)) output || cond (clears (act_clears_vout output) (outcome_of config (kept config past).words (kept config past).page event)) false (vout_in config past output))
       (λ output there. step output)
-      ∙ sym (over-step (outcome_of config (kept config past).words (kept config past).page event) (outcome-can event))
+      ∙ sym (cut-step (outcome_of config (kept config past).words (kept config past).page event) (outcome-can event))
     where
       step : (output : ℕ) → vout_in config (event ∷ past) output
-          ≡ (is_over config (words_by config (kept config past).words (outcome_of config (kept config past).words (kept config past).page event)) output || cond (clears (act_clears_vout output) (outcome_of config (kept config past).words (kept config past).page event)) false (vout_in config past output))
-      step output = vout-step config past event output ∙ ap (λ w. is_over config w output || cond (clears (act_clears_vout output) (outcome_of config (kept config past).words (kept config past).page event)) false (vout_in config past output)) (kept-step config past event)
+          ≡ (is_output_cut config (words_by config (kept config past).words (outcome_of config (kept config past).words (kept config past).page event)) output || cond (clears (act_clears_vout output) (outcome_of config (kept config past).words (kept config past).page event)) false (vout_in config past output))
+      step output = vout-step config past event output ∙ ap (λ w. is_output_cut config w output || cond (clears (act_clears_vout output) (outcome_of config (kept config past).words (kept config past).page event)) false (vout_in config past output)) (kept-step config past event)
 
   readings-step : (event : Event) → readings_in config (event ∷ past) ≡ readings_by config (readings_in config past) (outcome_of config (kept config past).words (kept config past).page event)
   readings-step (Hearing bytes ending) = refl
@@ -278,8 +278,8 @@ module _ (law : IsMap) (config : Config) (count : IsCount config) (past : List E
 pub now-nil : (config : Config) → now config [] ≡ start_of config
 unfolding now start_of kept vout_in cml_in moments
 now-nil config =
-    ap (λ over. record { config = config; words = start_words config; page = 0; readings = no_readings; over = over; faults = no_faults })
-    (each_output-same (λ output. is_over config (start_words config) output || false) (is_over config (start_words config)) (λ output there. or-fails (is_over config (start_words config) output)))
+    ap (λ cut. record { config = config; words = start_words config; page = 0; readings = no_readings; cut = cut; faults = no_faults })
+    (each_output-same (λ output. is_output_cut config (start_words config) output || false) (is_output_cut config (start_words config)) (λ output there. or-fails (is_output_cut config (start_words config) output)))
 
 -- PAGE names an output
 pub now-page : (config : Config) (past : List Event) → 1 ≤ config.count → (now config past).page < config.count

@@ -21,7 +21,7 @@ use Rattle.pm_frame.specs.View.{message_in, payload_in}
 use Rattle.pm_model.specs.Settings.{word_at, with_word}
 use Rattle.pm_device.specs.declared.act.Act.{Act}
 use Rattle.pm_device.specs.declared.act.Act.TheVariants.{Put, Select, ClearFaults, ClearVout, ClearCml}
-use Rattle.pm_device.specs.declared.heard.DeviceFault.TheVariants.{UnsupportedCode, UnsupportedData, BadPage, Protected}
+use Rattle.pm_device.specs.declared.fault.DeviceFault.TheVariants.{UnsupportedCode, UnsupportedData, BadPage, Protected}
 use Rattle.pm_device.specs.declared.heard.Ending.TheVariants.{Stop, Restart}
 use Rattle.pm_device.specs.declared.heard.Heard.TheVariants.{Answer}
 use Rattle.pm_device.specs.declared.verdict.Verdict.{Verdict}

@@ -16,7 +16,7 @@ ghost use Rattle.pm_frame.specs.View.{payload_in};
 ghost use Rattle.pm_model.specs.Settings.{AreWords, IsCell, word_at, with_word};
 ghost use Rattle.pm_model.specs.Commanded.{is_cut};
 ghost use Rattle.pm_device.specs.declared.config.Config.{Config};
-ghost use Rattle.pm_device.specs.declared.heard.DeviceFault.{DeviceFault};
+ghost use Rattle.pm_device.specs.declared.fault.DeviceFault.{DeviceFault};
 ghost use Rattle.pm_device.specs.declared.heard.Ending.{Ending};
 ghost use Rattle.pm_device.specs.declared.heard.Heard.{Heard};
 ghost use Rattle.pm_device.specs.Held.{Held, mode_for, value_for};
