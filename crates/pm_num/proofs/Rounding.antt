@@ -5,7 +5,7 @@ use Rattle.std.proofs.lemmas.Int.{ints, by_lt_z, to_z-of_z}
 use mir.Syntax.{w128}
 use mir.Val.{SFits, to_z, of_z}
 use Rattle.pm_num.specs.Steps.{IsFloor, IsRounded}
-use Rattle.pm_num.specs.Laws.Integers.{lt-times}
+use Rattle.pm_num.specs.Lemmas.Integers.{lt-times}
 
 -- The quotient whose remainder is not negative is the floor, for a positive divisor.
 pub floor-int_div_euclid : (a d : ℤ) → pos 0 <ℤ d → IsFloor a d (int_div_euclid a d)

@@ -4,8 +4,8 @@ use Rattle.std.proofs.lemmas.Int.{ints}
 use Rattle.pm_num.specs.Ratio.{Ratio, AtMost, IsBetween}
 use Rattle.pm_num.specs.Nearest.{Near, IsNearest, one_rank}
 use Rattle.pm_num.specs.Steps.{IsRounded, Spacing, at_place}
-use Rattle.pm_num.specs.Laws.Integers.{sub-times, times-times, le-times}
-use Rattle.pm_num.specs.Laws.Over.{Over, apart, near_over, near_over_back}
+use Rattle.pm_num.specs.Lemmas.Integers.{sub-times, times-times, le-times}
+use Rattle.pm_num.specs.Lemmas.Over.{Over, apart, near_over, near_over_back}
 use Rattle.pm_num.proofs.Rounding.{nearest_from_rounded, lower_from_rounded, above_from_rounded, below_from_rounded}
 
 -- The numerator of the number at k, over the grid's denominator.

@@ -10,9 +10,9 @@ use Rattle.pm_num.specs.Value.{exponent, mantissa, linear11_value}
 use Rattle.pm_num.specs.Nearest.{preference, linear11_rank, IsNearest}
 use Rattle.pm_num.specs.Formats.{IsExponent}
 use Rattle.pm_num.specs.Steps.{IsRounded, place_of, IsSpelling, IsFar, IsLarge, IsPreferred, IsPlaceFor}
-use Rattle.pm_num.specs.Laws.Integers.{times-times, times-swap, le-times, le_from_times, same_from_times}
-use Rattle.pm_num.specs.Laws.Over.{apart, near_over, near_over_back, at_most_over, same_over_back}
-use Rattle.pm_num.specs.Laws.Spelling.{IsExponent-exponent, IsSpelling-word, Over-linear11}
+use Rattle.pm_num.specs.Lemmas.Integers.{times-times, times-swap, le-times, le_from_times, same_from_times}
+use Rattle.pm_num.specs.Lemmas.Over.{apart, near_over, near_over_back, at_most_over, same_over_back}
+use Rattle.pm_num.specs.Lemmas.Spelling.{IsExponent-exponent, IsSpelling-word, Over-linear11}
 use Rattle.pm_num.proofs.Rounding.{nearest_from_rounded, lower_from_rounded, above_from_rounded, below_from_rounded}
 
 -- The power at a greater place, in two parts.

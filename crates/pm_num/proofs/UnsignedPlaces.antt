@@ -5,7 +5,7 @@ use Rattle.pm_num.specs.Ratio.{Ratio, AtMost, IsBetween}
 use Rattle.pm_num.specs.Value.{upper, lower, ulinear16_value}
 use Rattle.pm_num.specs.Nearest.{IsNearest, one_rank}
 use Rattle.pm_num.specs.Steps.{Spacing, IsPlace, at_place}
-use Rattle.pm_num.specs.Laws.Unsigned.{lower-positive}
+use Rattle.pm_num.specs.Lemmas.Unsigned.{lower-positive}
 use Rattle.pm_num.proofs.Spaced.{nearest_word}
 
 abbrev pub unsigned_spacing : ℤ → Spacing

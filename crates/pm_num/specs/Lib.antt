@@ -2,11 +2,12 @@
 pub mod AnyFormat
 pub mod FaultWords
 pub mod Formats
+pub mod Laws
 pub mod Nearest
+pub mod NearestWord
 pub mod Parameters
 pub mod Ratio
 pub mod Value
 -- How it is kept.
-pub mod Laws
-pub mod NearestWord
+pub mod Lemmas
 pub mod Steps

@@ -8,7 +8,7 @@ use Rattle.pm_table.specs.declared.cell.Reg.TheVariants.{Operation, VoutCommand,
 use Rattle.pm_table.specs.declared.cell.Cell.{Cell}
 use Rattle.pm_table.specs.declared.cell.Cell.TheVariants.{Out, Protect}
 use Rattle.pm_table.specs.Codes as command
-use Rattle.pm_table.specs.Commands.{line_of}
+use Rattle.pm_table.specs.Commands.{name_of}
 
 -- the registers of an output, in their order
 abbrev pub registers : List Reg
@@ -72,7 +72,7 @@ is_voltage_code code = option_map_or is_voltage (register_of code) false
 
 -- the name of a cell's code in the command table
 abbrev pub cell_name : Cell → List ℕ
-cell_name cell = option_map_or (λ line. line.name) (line_of (cell_code cell)) []
+cell_name cell = name_of (cell_code cell)
 
 -- how many bytes the word of a cell has on the wire
 abbrev pub cell_bytes : Cell → ℕ

@@ -2,7 +2,8 @@
 -- lengths are the standard's; read, write and scope are this project's own choice. Every other
 -- question on a code asks `line_of`.
 use Rattle.std.specs.Prelude.{ℕ, Bool, true, false, List, [], ◌∷◌, Option, Some, None, if◌then◌else◌, ◌==◌, is_some, codes}
-use Rattle.std.specs.Option.{option_map_or}
+use Rattle.std.specs.Option.{option_map, option_map_or}
+use Rattle.pm_table.specs.declared.commands.Attributes.{Attributes}
 use Rattle.pm_table.specs.declared.commands.Info.{Info}
 use Rattle.pm_table.specs.Codes as command
 
@@ -94,6 +95,19 @@ line_among (row ∷ rows) code = if code == row.code then Some row.line else lin
 -- what the table says of a code; nothing of a code that has no row
 unfoldable pub line_of : ℕ → Option Line
 line_of code = line_among rows code
+
+-- what it says of a code beside its name
+abbrev pub attributes : ℕ → Bool → Bool → Bool → Attributes
+attributes length paged reads writes =
+    record { length = length; paged = paged; reads = reads; writes = writes }
+
+abbrev pub attributes_of : ℕ → Option Attributes
+attributes_of code =
+    option_map (λ l. attributes l.length l.paged l.reads l.writes) (line_of code)
+
+-- the name of a code as the standard prints it; no text for a code that isn't in the table
+abbrev pub name_of : ℕ → List ℕ
+name_of code = option_map_or (λ l. l.name) (line_of code) []
 
 -- the code stands in the table
 abbrev pub is_known : ℕ → Bool

@@ -3,7 +3,7 @@ ghost use Rattle.pm_table.specs.declared.cell.Cell.{Cell};
 ghost use Rattle.pm_table.specs.Cell.{cell_at};
 ghost use Rattle.pm_table.specs.Laws.{CellsAreToldApart, CellsHavePlaces, RegistersAreInTheTable};
 
-use crate::commands::{Code, known};
+use crate::commands::Code;
 
 /// A register of one output that holds a word.
 #[derive(Clone, Copy, Debug, PartialEq, Eq)]
@@ -107,11 +107,7 @@ impl Cell {
     pub fn name(&self) -> &'static str
         ensures { result.now ≡ cell_name self.now }
     {
-        match known(self.code()) {
-            Some(line) => line.name,
-            // Not so for any cell, by `registers_are_in_the_table`.
-            None => "",
-        }
+        self.code().name()
     }
 
     /// Whether the cell is a voltage, in its output's format.

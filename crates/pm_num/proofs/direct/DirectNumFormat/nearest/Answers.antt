@@ -1,7 +1,7 @@
 use Rattle.std.proofs.Common.{◌≡◌, ◌^◌, ◌<◌, ◌∙◌, to_z, of_z, refl, arith}
 use mir.Syntax.{w128}
 use Rattle.std.proofs.lemmas.Int.{ints}
-use Rattle.pm_num.specs.Laws.Slope.{direct-has_den}
+use Rattle.pm_num.specs.Lemmas.Slope.{direct-has_den}
 use Rattle.pm_num.proofs.Spaced.{between_along}
 use Rattle.pm_num.proofs.SlopePlaces.{found_fits, direct-nearest, signed_at}
 use Rattle.pm_num.proofs.direct.DirectNumFormat.nearest.Goals as goal

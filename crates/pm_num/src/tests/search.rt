@@ -1,6 +1,6 @@
 //! The formats against a search of all words.
 
-use crate::tests::{frac, slope, unsigned};
+use super::{slope, unsigned};
 use crate::{Linear11, NumFormat};
 use std::process::Abort;
 
@@ -106,7 +106,7 @@ fn search(plain: Plain, x: (i32, i32)) -> u16 {
 fn agree<F: NumFormat>(rt: &impl Abort, format: &F, plain: Plain, numbers: &[(i32, i32)]) {
     for (num, den) in numbers {
         let word = search(plain, (*num, *den));
-        let x = frac(rt, i128::from(*num), i128::from(*den));
+        let x = super::frac(rt, i128::from(*num), i128::from(*den));
         assert_eq!(rt; format.nearest(x), Ok(word), "{num}/{den}");
     }
 }

@@ -1,7 +1,7 @@
 use Rattle.pm_frame.proofs.Burst.{burst-betrayed}
 use Rattle.pm_frame.proofs.DamageLemmas.{betrayed-by_code}
 use Rattle.pm_frame.proofs.FewBits.{few-betrayed, odd-betrayed}
-use Rattle.pm_frame.proofs.betrayal.damage_is_betrayed.Goals as goal
+use Rattle.pm_frame.proofs.laws.damage_is_betrayed.Goals as goal
 
 pub returns : goal.returns
 returns c = record {

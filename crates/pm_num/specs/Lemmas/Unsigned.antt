@@ -5,8 +5,8 @@ use Rattle.std.proofs.lemmas.Nat.{pow_pos}
 use Rattle.pm_num.specs.Ratio.{AtMost, IsBetween}
 use Rattle.pm_num.specs.Value.{upper, lower, ulinear16_value}
 use Rattle.pm_num.specs.Nearest.{one_rank}
-use Rattle.pm_num.specs.Laws.Integers.{le-times, same_from_times}
-use Rattle.pm_num.specs.Laws.OneWord.{IsOneWord}
+use Rattle.pm_num.specs.Lemmas.Integers.{le-times, same_from_times}
+use Rattle.pm_num.specs.Lemmas.OneWord.{IsOneWord}
 
 -- ULINEAR16.
 

@@ -9,10 +9,10 @@ use Rattle.pm_num.specs.Value.{upper, lower, signed, exponent, mantissa, linear1
 use Rattle.pm_num.specs.Nearest.{preference, linear11_rank}
 use Rattle.pm_num.specs.Formats.{IsExponent}
 use Rattle.pm_num.specs.Steps.{place_of, IsSpelling}
-use Rattle.pm_num.specs.Laws.Integers.{times-times, le-times, same_from_times}
-use Rattle.pm_num.specs.Laws.Over.{Over, at_most_over, same_over_back}
-use Rattle.pm_num.specs.Laws.OneWord.{IsOneWord}
-use Rattle.pm_num.specs.Laws.Unsigned.{lower-positive}
+use Rattle.pm_num.specs.Lemmas.Integers.{times-times, le-times, same_from_times}
+use Rattle.pm_num.specs.Lemmas.Over.{Over, at_most_over, same_over_back}
+use Rattle.pm_num.specs.Lemmas.OneWord.{IsOneWord}
+use Rattle.pm_num.specs.Lemmas.Unsigned.{lower-positive}
 
 -- LINEAR11.
 

@@ -6,8 +6,8 @@ use Rattle.std.proofs.Math.Nat.{one-le-pow, mul-pos}
 use Rattle.pm_num.specs.Ratio.{AtMost, IsBetween}
 use Rattle.pm_num.specs.Value.{upper, lower, signed, sign, direct_value, direct_least, direct_greatest}
 use Rattle.pm_num.specs.Nearest.{IsValue, one_rank}
-use Rattle.pm_num.specs.Laws.Integers.{le-times, same_from_times}
-use Rattle.pm_num.specs.Laws.OneWord.{IsOneWord}
+use Rattle.pm_num.specs.Lemmas.Integers.{le-times, same_from_times}
+use Rattle.pm_num.specs.Lemmas.OneWord.{IsOneWord}
 
 -- DIRECT.
 

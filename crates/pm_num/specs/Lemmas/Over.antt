@@ -4,7 +4,7 @@ use Rattle.std.proofs.Math.Nat.{mul-le-mul_right, le_of_mul-le-mul_right}
 use Rattle.std.proofs.lemmas.Int.{ints, unsigned_abs-mul}
 use Rattle.pm_num.specs.Ratio.{Ratio, AtMost, SameValue}
 use Rattle.pm_num.specs.Nearest.{gap, Near}
-use Rattle.pm_num.specs.Laws.Integers.{sub-times, times-swap, le-times, le_from_times}
+use Rattle.pm_num.specs.Lemmas.Integers.{sub-times, times-swap, le-times, le_from_times}
 
 -- Fractions over one denominator c: there the talk of order and nearness is one of whole numbers.
 

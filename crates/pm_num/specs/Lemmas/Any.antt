@@ -6,10 +6,10 @@ use Rattle.pm_num.specs.Ratio.{IsBetween}
 use Rattle.pm_num.specs.Value.{exponent, linear11_least, linear11_greatest}
 use Rattle.pm_num.specs.Nearest.{IsValue}
 use Rattle.pm_num.specs.AnyFormat.{any_value, any_rank, any_lowest, any_highest}
-use Rattle.pm_num.specs.Laws.OneWord.{IsOneWord}
-use Rattle.pm_num.specs.Laws.Unsigned.{lower-positive, ulinear16-within, ulinear16-one_word}
-use Rattle.pm_num.specs.Laws.Slope.{direct-has_den, direct-within, direct-one_word, direct-least_met, direct-greatest_met}
-use Rattle.pm_num.specs.Laws.Spelling.{linear11-within, linear11-one_word}
+use Rattle.pm_num.specs.Lemmas.OneWord.{IsOneWord}
+use Rattle.pm_num.specs.Lemmas.Unsigned.{lower-positive, ulinear16-within, ulinear16-one_word}
+use Rattle.pm_num.specs.Lemmas.Slope.{direct-has_den, direct-within, direct-one_word, direct-least_met, direct-greatest_met}
+use Rattle.pm_num.specs.Lemmas.Spelling.{linear11-within, linear11-one_word}
 
 -- A format that is chosen at run time: each fact is the chosen format's.
 

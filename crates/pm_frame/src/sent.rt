@@ -1,49 +1,16 @@
-//! The layouts as bytes: which messages have one, and what goes out for them.
+//! The bytes that go out for a message: what the host sends, and what the device answers.
 
-ghost use Rattle.std.specs.Prelude.{◌≡◌, ◌≤◌, ◌+◌, ◌∷◌, ◌&&◌, ◌==◌, length, true, false};
+ghost use Rattle.std.specs.Prelude.{◌≡◌, ◌≤◌, ◌+◌, ◌∷◌, length, true, false};
 ghost use Rattle.arrayvec.specs.ArrayVec.{array_vec_len};
 ghost use Rattle.pm_table.specs.Address.{IsAddress};
-ghost use Rattle.pm_table.specs.Commands.{payload_length};
+ghost use Rattle.pm_table.specs.Codes as command;
 ghost use Rattle.pm_frame.specs.Layout.{IsWrite, IsRequest, IsAnswer, fits_layout, is_read_message, answer_length, write_address as spec_write_address, read_address as spec_read_address};
-ghost use Rattle.pm_frame.specs.Layout.{is_plain_write as spec_is_plain_write, sent as sent_bytes, answered as answered_bytes, payload_bytes};
+ghost use Rattle.pm_frame.specs.Layout.{sent as sent_bytes, answered as answered_bytes, payload_bytes};
 
 use crate::Frame;
-use crate::code::{
-    COEFFICIENTS, PAGE_PLUS_READ, PAGE_PLUS_WRITE, is_carried, is_plain_read, is_plain_write,
-};
 use crate::message::{Message, Payload};
 use crate::packet_error_code::{pec, pec_after};
 use pm_table::Code;
-
-/// Whether the code of the message has this layout: it is written, or read, in a packet of this
-/// kind, and has a payload of this length. PAGE_PLUS doesn't carry 00h, 05h, 06h and 30h.
-/// COEFFICIENTS may be asked of any code and side.
-pub fn fits(m: &Message) -> bool
-    ensures { result ≡ fits_layout m.now }
-{
-    match *m {
-        Message::SendByte { code } => is_plain(code, 0),
-        Message::WriteByte { code, byte: _ } => is_plain(code, 1),
-        Message::WriteWord { code, word: _ } => is_plain(code, 2),
-        Message::PagePlusWrite {
-            page: _,
-            code,
-            payload,
-        } => is_carried(code)
-            && Code(code).is_written()
-            && Code(code).payload_length() == payload.len(),
-        Message::ReadCommand { code } => is_plain_read(code),
-        Message::PagePlusRead { page: _, code } => is_carried(code) && Code(code).is_read(),
-        Message::ReadCoefficients { code: _, side: _ } => true,
-    }
-}
-
-// A plain packet writes the code, with this many bytes of payload.
-fn is_plain(code: u8, length: usize) -> bool
-    ensures { result ≡ (spec_is_plain_write code && payload_length code == length) }
-{
-    is_plain_write(code) && Code(code).payload_length() == length
-}
 
 /// What the host puts on the wire for the message to the device of this address: a whole packet,
 /// PEC included, for a write; the request before the repeated start for a read. At most 8 bytes.
@@ -99,10 +66,10 @@ pub(crate) fn sent(addr: u8, m: &Message) -> Frame
             payload,
         } => page_plus_write(first, page, code, payload),
         Message::PagePlusRead { page, code } => {
-            frame_of(&[first, PAGE_PLUS_READ, 2, page, code])
+            frame_of(&[first, Code::PAGE_PLUS_READ.0, 2, page, code])
         }
         Message::ReadCoefficients { code, side } => {
-            frame_of(&[first, COEFFICIENTS, 2, code, side])
+            frame_of(&[first, Code::COEFFICIENTS.0, 2, code, side])
         }
     }
 }
@@ -110,15 +77,15 @@ pub(crate) fn sent(addr: u8, m: &Message) -> Frame
 // The bytes of PAGE_PLUS_WRITE before its PEC.
 fn page_plus_write(first: u8, page: u8, code: u8, payload: Payload) -> Frame
     ensures bytes { let carried = payload_bytes payload in
-        result.items ≡ first ∷ 0x05 ∷ (2 + length carried) ∷ page ∷ code ∷ carried }
+        result.items ≡ first ∷ command.page_plus_write ∷ (2 + length carried) ∷ page ∷ code ∷ carried }
     ensures room { array_vec_len result ≤ 7 }
 {
     match payload {
-        Payload::Empty => frame_of(&[first, PAGE_PLUS_WRITE, 2, page, code]),
-        Payload::Byte(byte) => frame_of(&[first, PAGE_PLUS_WRITE, 3, page, code, byte]),
+        Payload::Empty => frame_of(&[first, Code::PAGE_PLUS_WRITE.0, 2, page, code]),
+        Payload::Byte(byte) => frame_of(&[first, Code::PAGE_PLUS_WRITE.0, 3, page, code, byte]),
         Payload::Word(word) => {
             let [low, high] = word.to_le_bytes();
-            frame_of(&[first, PAGE_PLUS_WRITE, 4, page, code, low, high])
+            frame_of(&[first, Code::PAGE_PLUS_WRITE.0, 4, page, code, low, high])
         }
     }
 }
