@@ -7,3 +7,4 @@ pub mod Status
 pub mod Reply
 pub mod History
 pub mod FaultWords
+pub mod Laws

@@ -103,6 +103,16 @@ abbrev pub answers_coefficients : Config → ℕ → ℕ → Bool
 answers_coefficients config code side =
     has_coefficients code && (side == 0x00 || side == 0x01) && has_direct config
 
+-- a request without a fault is answered: its page is there, or its coefficients are
+abbrev pub is_answered : Config → Message → Bool
+is_answered config (ReadCommand code) = true
+is_answered config (PagePlusRead page code) = nat_lt page config.count
+is_answered config (ReadCoefficients code side) = answers_coefficients config code side
+is_answered config (SendByte code) = false
+is_answered config (WriteByte code byte) = false
+is_answered config (WriteWord code word) = false
+is_answered config (PagePlusWrite page code payload) = false
+
 -- what a request without a fault comes to: K4 where there is no such output, K3 where there are no
 -- coefficients to answer
 abbrev pub read_verdict : Config → Message → Verdict

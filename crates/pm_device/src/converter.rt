@@ -11,9 +11,9 @@ ghost use Rattle.pm_device.specs.Reply.{reply_of};
 
 use crate::cml_latches::CmlLatches;
 use crate::config::{Config, ConfigFault, config_fault};
+use crate::cut::each_cut;
 use crate::formats::formats_of;
 use crate::heard::{Ending, Heard};
-use crate::cut::each_cut;
 use crate::readings::Readings;
 use crate::starts::start_settings;
 use pm_model::{Formats, Plain};

@@ -9,7 +9,12 @@ use crate::config::Config;
 use pm_model::{Formats, Plain};
 
 /// Whether the output is there, and its selected value is cut.
-pub(crate) fn is_output_cut(config: &Config, formats: &Formats, settings: &Plain, output: usize) -> bool
+pub(crate) fn is_output_cut(
+    config: &Config,
+    formats: &Formats,
+    settings: &Plain,
+    output: usize,
+) -> bool
     requires shapes { AreFormats config.now formats.now.each }
     requires count { settings.now.count ≡ config.now.count }
     requires few { config.now.count ≤ 8 }

@@ -1,7 +1,7 @@
 //! The settings as they start, by a configuration.
 
 ghost use Rattle.std.specs.Prelude.{◌≡◌, ◌<◌, ℕ, [], slice_index_or};
-ghost use Rattle.pm_device.specs.Start.{IsSound, start_words, start_row, no_start};
+ghost use Rattle.pm_device.specs.Start.{IsSound, no_start, start_row, start_words};
 
 use crate::config::{Config, OutputStart};
 use pm_model::{Plain, settings_are_a_map};
@@ -23,7 +23,17 @@ fn rows(starts: [OutputStart; 8]) -> [[u16; Reg::COUNT]; 8]
     ensures { (output : ℕ) → output < 8 →
         slice_index_or result output [] ≡ start_row (slice_index_or starts output no_start) }
 {
-    std::array::from_fn(|output| row(&starts[output]))
+    let [a, b, c, d, e, f, g, h] = starts;
+    [
+        row(&a),
+        row(&b),
+        row(&c),
+        row(&d),
+        row(&e),
+        row(&f),
+        row(&g),
+        row(&h),
+    ]
 }
 
 // The start words of an output, in the order of its registers.

@@ -118,7 +118,8 @@ impl Verdict {
     {
         let request = view.message();
         match request {
-            Message::ReadCoefficients { code, side } if !config.answers_coefficients(Code(code), side) => {
+            Message::ReadCoefficients { code, side }
+                if !config.answers_coefficients(Code(code), side) => {
                 Verdict::Refuses(DeviceFault::UnsupportedData)
             }
             Message::PagePlusRead { page, code: _ } if page >= config.count => {
