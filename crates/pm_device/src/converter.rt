@@ -1,7 +1,8 @@
-ghost use Rattle.std.specs.Prelude.{◌≡◌, ◌<◌, IfOk, OnOk};
+ghost use Rattle.std.specs.Prelude.{◌≡◌, ◌<◌, true, false, IfOk, OnOk};
 ghost use Rattle.std.specs.Result.{result_err};
-ghost use Rattle.pm_model.specs.Settings.{word_at, IsCell};
-ghost use Rattle.pm_model.specs.Commanded.{commanded};
+ghost use Rattle.pm_table.specs.Cell.{cell_accepts, IsCell};
+ghost use Rattle.pm_model.specs.Settings.{word_at};
+ghost use Rattle.pm_model.specs.Commanded.{commanded, greatest_value, is_above};
 ghost use Rattle.pm_device.specs.Held.{is_reading, value_for};
 ghost use Rattle.pm_device.specs.Start.{IsSound, config_fault as spec_config_fault};
 ghost use Rattle.pm_device.specs.Effect.{Hearing, Restarted, Reading};
@@ -136,10 +137,11 @@ impl Converter {
         self.reply_to(self.verdict(bytes, ending))
     }
 
-    /// The word of a cell that there is.
+    /// The word of a cell that there is, one that the cell accepts.
     pub fn word(&self, cell: Cell) -> u16
         requires { IsCell self.now.config.count cell }
-        ensures { result ≡ word_at self.now.words cell }
+        ensures word { result ≡ word_at self.now.words cell }
+        ensures accepted { cell_accepts cell result ≡ true }
     {
         self.settings.get(cell)
     }
@@ -164,7 +166,9 @@ impl Converter {
     /// word that OPERATION selects, or that of VOUT_MAX where that is less.
     pub fn commanded(&self, output: u8) -> Frac
         requires { output < self.now.config.count }
-        ensures { result ≡ commanded (value_for self.now.config output) self.now.words output }
+        ensures value { result ≡ commanded (value_for self.now.config output) self.now.words output }
+        ensures limited { is_above result
+            (greatest_value (value_for self.now.config output) self.now.words output) ≡ false }
     {
         self.settings.commanded(&self.formats, output)
     }
