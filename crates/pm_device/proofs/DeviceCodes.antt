@@ -115,15 +115,15 @@ plain-alike config words page other message device =
 carried-there : (config : Config) (words : Words) (page output code : ℕ) (payload : Payload) → output < config.count →
     write_verdict config words page (PagePlusWrite output code payload)
     ≡ option_map_or (λ act.
-      cond (selects_no_output config.count act) (Refuses BadPage)
-      (cond (not (is_allowed (word_at words Protect) code)) (Refuses Protected)
-      (cond (not (is_accepted act)) (Refuses UnsupportedData) (Takes act))))
+    cond (selects_no_output config.count act) (Refuses BadPage)
+    (cond (not (is_allowed (word_at words Protect) code)) (Refuses Protected)
+    (cond (not (is_accepted act)) (Refuses UnsupportedData) (Takes act))))
     (act_in code output (payload_word payload)) (Refuses UnsupportedCode)
 carried-there config words page output code payload here =
     ap (λ b. option_map_or (λ act.
-      cond (not b || selects_no_output config.count act) (Refuses BadPage)
-      (cond (not (is_allowed (word_at words Protect) code)) (Refuses Protected)
-      (cond (not (is_accepted act)) (Refuses UnsupportedData) (Takes act))))
+    cond (not b || selects_no_output config.count act) (Refuses BadPage)
+    (cond (not (is_allowed (word_at words Protect) code)) (Refuses Protected)
+    (cond (not (is_accepted act)) (Refuses UnsupportedData) (Takes act))))
     (act_in code output (payload_word payload)) (Refuses UnsupportedCode)) (lt-ltb output config.count here)
 
 pub carried-alike : (config : Config) (words : Words) (page output other code : ℕ) (payload : Payload) →
@@ -133,9 +133,9 @@ pub carried-alike : (config : Config) (words : Words) (page output other code : 
 carried-alike config words page output other code payload device here there =
     carried-there config words page output code payload here
     ∙ (ap (λ found. option_map_or (λ act.
-      cond (selects_no_output config.count act) (Refuses BadPage)
-      (cond (not (is_allowed (word_at words Protect) code)) (Refuses Protected)
-      (cond (not (is_accepted act)) (Refuses UnsupportedData) (Takes act))))
+    cond (selects_no_output config.count act) (Refuses BadPage)
+    (cond (not (is_allowed (word_at words Protect) code)) (Refuses Protected)
+    (cond (not (is_accepted act)) (Refuses UnsupportedData) (Takes act))))
     found (Refuses UnsupportedCode)) (act-alike code output other (payload_word payload) (of-device code device))
     ∙ sym (carried-there config words page other code payload there))
 

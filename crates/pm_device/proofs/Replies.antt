@@ -263,4 +263,3 @@ pub unknown-read : (held : Held) (bytes : List ℕ) (place : ℕ) →
 unfolding reply_of verdict_of
 unknown-read held bytes place e =
     ap (λ fault. reply_to held (unless_faulty fault (read_verdict held.config (message_in bytes)))) e
-
