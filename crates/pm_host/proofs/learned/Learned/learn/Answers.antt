@@ -1,7 +1,7 @@
 use Rattle.std.proofs.Common.{Some, option_map, ap, ◌∙◌, map, set}
 use Rattle.std.proofs.lemmas.List.{map-set}
 use Rattle.pm_num.specs.AnyFormat.{shape_of}
-use Rattle.pm_host.proofs.formats.Formats.learn.Goals as goal
+use Rattle.pm_host.proofs.learned.Learned.learn.Goals as goal
 
 pub returns : goal.returns
 returns c =
