@@ -35,6 +35,7 @@ held-of config after readings cut faults = record {
   faults = faults;
 }
 
+-- and what is held by the same parts
 held-same : (config : Config) (after : Kept) {readings readings' : Measured} {cut cut' : List Bool} {faults faults' : CmlFaults} →
     readings ≡ readings' → cut ≡ cut' → faults ≡ faults' →
     held-of config after readings cut faults ≡ held-of config after readings' cut' faults'
@@ -86,6 +87,7 @@ or-fails : (b : Bool) → (b || false) ≡ b
 or-fails true = refl
 or-fails false = refl
 
+-- and with a bit
 and-fails : (b : Bool) → (b && false) ≡ false
 and-fails true = refl
 and-fails false = refl
@@ -140,6 +142,7 @@ start-words : SettingsAreAMap → (config : Config) → AreWords (start_words co
 unfolding start_words
 start-words map config = (map.made (start_word config)).0
 
+-- and after what an event came to
 words-kept : SettingsAreAMap → (config : Config) (before : Kept) (outcome : Outcome) →
     AreWords before.words → AreWords (kept_by config before outcome).words
 words-kept map config before (Heard (Takes (Put cell word))) are = map.kept before.words cell word are
@@ -153,6 +156,7 @@ words-kept map config before (Heard (Answers request)) are = are
 words-kept map config before Restarts are = start-words map config
 words-kept map config before (Measures output code word) are = are
 
+-- so there is one for each after any past
 pub kept-words : SettingsAreAMap → (config : Config) (past : List Event) → AreWords (kept config past).words
 unfolding kept came
 kept-words map config [] = start-words map config
@@ -183,6 +187,7 @@ page-kept config before (Heard (Answers request)) can some there = there
 page-kept config before Restarts can some there = omega arith
 page-kept config before (Measures output code word) can some there = there
 
+-- so it does after any past
 pub kept-page : (config : Config) (past : List Event) → 1 ≤ config.count → (kept config past).page < config.count
 unfolding kept came
 kept-page config [] some = omega arith

@@ -28,6 +28,7 @@ noted faults fault Data e = rw e refl
 noted faults fault Pec e = rw e refl
 noted faults fault Other e = rw e refl
 
+-- so a refusal changes that bit alone
 after-refused : (held : Held) (verdict : Verdict) (fault : DeviceFault) → reply_to held verdict ≡ Refused fault → after held (effect.Heard verdict) ≡ record held { faults = with_bit held.faults (fault_bit fault) }
 unfolding after
 after-refused held Ignores fault e = cc
@@ -37,10 +38,12 @@ after-refused held (Refuses found) fault e =
     let same : found ≡ fault = cc in
     ap (λ f. record held { faults = f }) (noted held.faults found (fault_bit found) refl ∙ ap (λ f. with_bit held.faults (fault_bit f)) same)
 
+-- the same of what was heard
 pub next-refused : (held : Held) (bytes : List ℕ) (ending : Ending) (fault : DeviceFault) → reply_of held bytes ending ≡ Refused fault → next held (Hearing bytes ending) ≡ record held { faults = with_bit held.faults (fault_bit fault) }
 unfolding reply_of next
 next-refused held bytes ending fault e = after-refused held (verdict_of held.config held.words held.page bytes ending) fault e
 
+-- silence changes nothing
 after-silent : (held : Held) (verdict : Verdict) → reply_to held verdict ≡ Silent → after held (effect.Heard verdict) ≡ held
 unfolding after
 after-silent held Ignores e = refl
@@ -48,10 +51,12 @@ after-silent held (Takes act) e = cc
 after-silent held (Answers request) e = cc
 after-silent held (Refuses found) e = cc
 
+-- the same of what was heard
 pub next-silent : (held : Held) (bytes : List ℕ) (ending : Ending) → reply_of held bytes ending ≡ Silent → next held (Hearing bytes ending) ≡ held
 unfolding reply_of next
 next-silent held bytes ending e = after-silent held (verdict_of held.config held.words held.page bytes ending) e
 
+-- an answer changes nothing
 after-answered : (held : Held) (verdict : Verdict) (request : Message) → verdict ≡ Answers request → after held (effect.Heard verdict) ≡ held
 unfolding after
 after-answered held verdict request e = ap (λ v. after held (effect.Heard v)) e
@@ -63,6 +68,7 @@ read-answered held (Takes act) answer e silent taken refused = absurd (taken (sy
 read-answered held (Refuses fault) answer e silent taken refused = absurd (refused fault (sym e))
 read-answered held (Answers request) answer e silent taken refused = (request, refl)
 
+-- so what is neither silence, taken nor refused changes nothing
 pub next-answered : (held : Held) (bytes : List ℕ) (ending : Ending) → (reply_of held bytes ending ≡ Silent → ⊥) → (reply_of held bytes ending ≡ Taken → ⊥) → ((fault : DeviceFault) → reply_of held bytes ending ≡ Refused fault → ⊥) → next held (Hearing bytes ending) ≡ held
 unfolding reply_of next
 next-answered held bytes ending silent taken refused =
@@ -75,6 +81,7 @@ unset : (b before : Bool) → cond b false before ≡ true → before ≡ true
 unset true before e = cc
 unset false before e = e
 
+-- so a bit that is set after it was set before
 after-taken : (held : Held) (verdict : Verdict) (bit : CmlBit) → reply_to held verdict ≡ Taken → cml_at (after held (effect.Heard verdict)).faults bit ≡ true → cml_at held.faults bit ≡ true
 unfolding after
 after-taken held Ignores bit e h = cc
@@ -85,6 +92,7 @@ after-taken held (Takes act) Data e h = unset (act_clears_cml Data act) held.fau
 after-taken held (Takes act) Pec e h = unset (act_clears_cml Pec act) held.faults.pec h
 after-taken held (Takes act) Other e h = unset (act_clears_cml Other act) held.faults.other h
 
+-- the same of what was heard
 pub next-taken : (held : Held) (bytes : List ℕ) (ending : Ending) (bit : CmlBit) → reply_of held bytes ending ≡ Taken → cml_at (next held (Hearing bytes ending)).faults bit ≡ true → cml_at held.faults bit ≡ true
 unfolding reply_of next
 next-taken held bytes ending bit e h = after-taken held (verdict_of held.config held.words held.page bytes ending) bit e h
@@ -94,6 +102,7 @@ pub vout-looked_up : (config : Config) (past : List Event) (output : ℕ) → ou
 unfolding now
 vout-looked_up config past output there = ap (λ b. marked 0x08 b) (cut_at-each_output (vout_in config past) output there)
 
+-- and those of STATUS_CML
 pub cml-looked_up : (config : Config) (past : List Event) (bit : CmlBit) → cml_at (now config past).faults bit ≡ cml_in config past bit
 unfolding now
 cml-looked_up config past Command = refl
@@ -106,6 +115,7 @@ cut-now : (config : Config) (words : Words) (output : ℕ) → output < config.c
 unfolding is_output_cut
 cut-now config words output there cut = ap (λ b. b && is_cut (value_for config output) words output) (lt-ltb output config.count there) ∙ cut
 
+-- so STATUS_VOUT shows it
 pub now-shows : (config : Config) (past : List Event) (output : ℕ) → config.count ≤ 8 → output < config.count → is_cut (value_for config output) (now config past).words output ≡ true → status_vout (now config past) output ≡ 0x08
 unfolding now
 now-shows config past output few there cut =

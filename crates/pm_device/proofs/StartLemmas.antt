@@ -65,14 +65,17 @@ or-none : {X : Type 0} (x y : Option X) → option_or x y ≡ None → (x ≡ No
 or-none None y e = (refl, e)
 or-none (Some x) y e = cc
 
+-- nor is what a function makes of it
 map-none : {X Y : Type 0} (f : X → Y) (x : Option X) → option_map f x ≡ None → x ≡ None
 map-none f None e = refl
 map-none f (Some x) e = cc
 
+-- a rule that names no fault doesn't apply
 rule-none : {X : Type 0} (b : Bool) (x : X) → cond b (Some x) None ≡ None → b ≡ false
 rule-none false x e = refl
 rule-none true x e = cc
 
+-- a test that names no fault passes
 unless-none : {X : Type 0} (b : Bool) (x : X) → cond b None (Some x) ≡ None → b ≡ true
 unless-none true x e = refl
 unless-none false x e = cc
@@ -105,6 +108,7 @@ accepted-registers from (start ∷ starts) (suc output) register e =
 IsRead : ℕ → Type 0
 IsRead byte = result_err (mode_of byte) ≡ None
 
+-- each output's mode is read
 read-mode : (from : ℕ) (starts : List OutputStart) (output : ℕ) → bad_mode from starts ≡ None → IsRead (get_or starts output no_start).mode
 unfolding IsRead
 read-mode from [] output e = refl
@@ -138,6 +142,7 @@ unwrapped : {X : Type 0} (made : Option X) (x d : X) → made ≡ Some x → mad
 unwrapped None x d e = cc
 unwrapped (Some s) x d e = refl
 
+-- the mode of an output is that of its start
 mode-of_start : (config : Config) (output : ℕ) → mode_for config output ≡ (get_or config.starts output no_start).mode
 mode-of_start config output = get_or-map (λ (start : OutputStart). start.mode) config.starts output no_start
 
@@ -145,6 +150,7 @@ mode-of_start config output = get_or-map (λ (start : OutputStart). start.mode) 
 counted : (count : ℕ) → (eqb count 0 || ltb 8 count) ≡ false → (1 ≤ count) × (count ≤ 8)
 counted count e = (grind (arith, nat_tests, e), grind (arith, nat_tests, e))
 
+-- the address is one that a device may have
 addressed : (addr : ℕ) → (ltb addr 0x08 || ltb 0x77 addr) ≡ false → IsAddress addr
 addressed addr e = (grind (arith, nat_tests, e), grind (arith, nat_tests, e))
 

@@ -39,11 +39,13 @@ chosen false false c found act e = cc
 chosen false true false found act e = cc
 chosen false true true found act e = (refl, refl, refl, cc)
 
-or-false : (a b : Bool) → (a || b) ≡ false → (a ≡ false) × (b ≡ false)
+-- neither of two bits is set
+pub or-false : (a b : Bool) → (a || b) ≡ false → (a ≡ false) × (b ≡ false)
 or-false false false e = (refl, refl)
 or-false false true e = cc
 or-false true b e = cc
 
+-- what a write is whose act is taken
 pub write-taken : (config : Config) (words : Words) (page : ℕ) (message : Message) (act : Act) → write_verdict config words page message ≡ Takes act → IsTaken config words page message act
 write-taken config words page message act e = go (act_in (message_code message) (output_in page message) (written_word message)) refl e where
   go : (found : Option Act) → act_in (message_code message) (output_in page message) (written_word message) ≡ found → option_map_or (λ a. act_verdict config.count (word_at words Protect) message a) found (Refuses UnsupportedCode) ≡ Takes act → IsTaken config words page message act
@@ -75,6 +77,7 @@ cond-not_taken : (b : Bool) (x y : Verdict) (act : Act) → (x ≡ Takes act →
 cond-not_taken true x y act nx ny e = nx e
 cond-not_taken false x y act nx ny e = ny e
 
+-- and so isn't what it comes to
 read-not_taken : (config : Config) (message : Message) (act : Act) → read_verdict config message ≡ Takes act → ⊥
 read-not_taken config (ReadCoefficients code side) act e =
     cond-not_taken (answers_coefficients config code side) (Answers (ReadCoefficients code side)) (Refuses UnsupportedData) act (λ x. cc) (λ x. cc) e
@@ -92,6 +95,7 @@ pub record WasTaken (config : Config) (words : Words) (page : ℕ) (bytes : List
   pub faultless : write_fault config.addr bytes ≡ None
   pub act_taken : IsTaken config words page (message_in bytes) act
 
+-- what a hearing that is taken was
 pub verdict-taken : (config : Config) (words : Words) (page : ℕ) (bytes : List ℕ) (ending : Ending) (act : Act) → verdict_of config words page bytes ending ≡ Takes act → WasTaken config words page bytes ending act
 unfolding verdict_of
 verdict-taken config words page bytes Stop act e = go (write_fault config.addr bytes) refl e where
@@ -121,9 +125,11 @@ acts-on_code code output word false act e = go (register_of code) e where
   go None h = cc
   go (Some register) h = subst (λ a. ActsOn output a) (some-one (Put (Out output register) word) act h) refl
 
+-- two acts that are some are one
 some-act : (x y : Act) → Some x ≡ Some y → x ≡ y
 some-act x y h = cc
 
+-- so the act of any code names it
 pub acts-on : (code output word : ℕ) (act : Act) → act_in code output word ≡ Some act → ActsOn output act
 acts-on code output word act e = first (eqb code command.page) (eqb code command.clear_faults) (eqb code command.status_vout) (eqb code command.status_cml) e where
   rest : Option Act
@@ -159,10 +165,12 @@ can-act count output (ClearFaults named) here on selected accepted = subst (λ n
 can-act count output (ClearVout named byte) here on selected accepted = subst (λ n. n < count) (sym on) here
 can-act count output (ClearCml byte) here on selected accepted = tt
 
+-- so an act that is taken can be done
 pub taken-can : (config : Config) (words : Words) (page : ℕ) (message : Message) (act : Act) → IsTaken config words page message act → page < config.count → CanAct config.count act
 taken-can config words page message act h here =
     can-act config.count (output_in page message) act (output-there config.count page message h.there here) (acts-on (message_code message) (output_in page message) (written_word message) act h.asked) h.selected h.accepted
 
+-- the same of what was heard
 pub verdict-can : (config : Config) (words : Words) (page : ℕ) (bytes : List ℕ) (ending : Ending) (act : Act) → verdict_of config words page bytes ending ≡ Takes act → page < config.count → CanAct config.count act
 verdict-can config words page bytes ending act e here =
     taken-can config words page (message_in bytes) act (verdict-taken config words page bytes ending act e).act_taken here

@@ -162,12 +162,12 @@ cell-written exact held message cell bytes h names =
 
 -- a carried one does where its page is there
 pub carried : WritesAreExact → (held : Held) (output code : ℕ) (payload : Payload) (cell : Cell) (bytes : List ℕ) →
-    IsWrite held.config.addr (PagePlusWrite output code payload) bytes → cell_at code output ≡ Some cell →
+    IsWrite held.config.addr (PagePlusWrite output code payload) bytes × (cell_at code output ≡ Some cell) →
     (words_after held (Hearing bytes Stop)
     ≡ cond (ltb output held.config.count && is_allowed (word_at held.words Protect) code
     && cell_accepts cell (payload_word payload)) (with_word held.words cell (payload_word payload)) held.words)
     × (page_after held (Hearing bytes Stop) ≡ held.page)
-carried exact held output code payload cell bytes h names =
+carried exact held output code payload cell bytes (h, names) =
     let all = cell-written exact held (PagePlusWrite output code payload) cell bytes h names in (
       all.0 ∙ ap (λ b. cond (b && is_allowed (word_at held.words Protect) code && cell_accepts cell (payload_word payload))
           (with_word held.words cell (payload_word payload)) held.words) (not-not (ltb output held.config.count)),
