@@ -5,7 +5,8 @@ use Rattle.pm_device.specs.Status.{cut_at}
 use Rattle.pm_device.specs.History.{each_output}
 
 -- a list of eight bits by its places
-pub each_output-by : (bits : List Bool) (bit_of : ℕ → Bool) → length bits ≡ 8 → ((output : ℕ) → output < 8 → cut_at bits output ≡ bit_of output) → bits ≡ each_output bit_of
+pub each_output-by : (bits : List Bool) (bit_of : ℕ → Bool) → length bits ≡ 8
+    → ((output : ℕ) → output < 8 → cut_at bits output ≡ bit_of output) → bits ≡ each_output bit_of
 unfolding each_output
 each_output-by bits bit_of long at = fill_by_all bit_of bits 8 false long at
 

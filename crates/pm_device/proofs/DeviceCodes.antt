@@ -21,7 +21,8 @@ use Rattle.pm_device.specs.declared.verdict.Verdict.{Verdict}
 use Rattle.pm_device.specs.declared.verdict.Verdict.TheVariants.{Refuses, Takes}
 use Rattle.pm_device.specs.Held.{Held}
 use Rattle.pm_device.specs.Laws.{is_device_code}
-use Rattle.pm_device.specs.Verdict.{act_in, act_verdict, is_accepted, output_in, payload_word, selects_no_output, write_verdict, written_word}
+use Rattle.pm_device.specs.Verdict.{act_in, act_verdict, is_accepted, output_in, payload_word, selects_no_output, write_verdict}
+use Rattle.pm_device.specs.Verdict.{written_word}
 use Rattle.pm_device.specs.Reply.{plain_register, register_word}
 use Rattle.pm_device.proofs.Replies.{line-passes}
 use Rattle.pm_device.proofs.TakenActs.{or-false}
@@ -130,9 +131,9 @@ module _ (config : Config) (words : Words) (page : ℕ) where
   unfolding come
   carried-there output code payload here =
       ap (λ b. option_map_or (λ act.
-        cond (not b || selects_no_output config.count act) (Refuses BadPage)
-        (cond (not (is_allowed (word_at words Protect) code)) (Refuses Protected)
-        (cond (not (is_accepted act)) (Refuses UnsupportedData) (Takes act))))
+      cond (not b || selects_no_output config.count act) (Refuses BadPage)
+      (cond (not (is_allowed (word_at words Protect) code)) (Refuses Protected)
+      (cond (not (is_accepted act)) (Refuses UnsupportedData) (Takes act))))
       (act_in code output (payload_word payload)) (Refuses UnsupportedCode)) (lt-ltb output config.count here)
 
   -- a carried write of a code of the device acts alike on two outputs that are there

@@ -1,5 +1,6 @@
 -- What a converter holds after its past is what one event after another makes of its start.
-use Rattle.std.proofs.Common.{◌≡◌, ◌≢◌, inl, inr, ℕ, ◌<◌, ◌≤◌, Bool, true, false, cond, eqb, ltb, ◌||◌, ◌&&◌, List, [], ◌∷◌, length, get_or, set, refl, sym, ◌∙◌, ap, subst, arith}
+use Rattle.std.proofs.Common.{◌≡◌, ◌≢◌, inl, inr, ℕ, ◌<◌, ◌≤◌, Bool, true, false, cond, eqb, ltb, ◌||◌, ◌&&◌, List, [], ◌∷◌, length, get_or}
+use Rattle.std.proofs.Common.{set, refl, sym, ◌∙◌, ap, subst, arith}
 use Rattle.std.proofs.lemmas.Bool.{cases_eq, cond-false, eq-eqb, ne_eqb}
 use Rattle.std.proofs.lemmas.List.{get_or-set_same, get_or-set_other, length-set}
 use Rattle.std.proofs.Math.Bool.{or_comm}
@@ -18,9 +19,12 @@ use Rattle.pm_device.specs.declared.verdict.Verdict.TheVariants.{Ignores, Refuse
 use Rattle.pm_device.specs.Held.{Held, Measured, CmlFaults, value_for}
 use Rattle.pm_device.specs.Start.{start_word, start_words}
 use Rattle.pm_device.specs.Verdict.{verdict_of, CanAct}
-use Rattle.pm_device.specs.Effect.{Event, Hearing, Restarted, Reading, Kept, Outcome, Heard, Restarts, Measures, outcome_of, kept_by, kept_by_act, restart_words}
-use Rattle.pm_device.specs.Status.{CmlBit, Command, Data, Pec, Other, Moment, has_bit, kept, moments, from_last, act_clears_vout, act_clears_cml, clears, sets_cml, is_output_cut, cut_at, vout_in, cml_in}
-use Rattle.pm_device.specs.History.{each_output, readings_in, readings_by, now, start_of, cleared, cut_by_act, cut_by, fault_by, faults_by, after, next}
+use Rattle.pm_device.specs.Effect.{Event, Hearing, Restarted, Reading, Kept, Outcome, Heard, Restarts, Measures, outcome_of, kept_by}
+use Rattle.pm_device.specs.Effect.{kept_by_act, restart_words}
+use Rattle.pm_device.specs.Status.{CmlBit, Command, Data, Pec, Other, Moment, has_bit, kept, moments, from_last, act_clears_vout}
+use Rattle.pm_device.specs.Status.{act_clears_cml, clears, sets_cml, is_output_cut, cut_at, vout_in, cml_in}
+use Rattle.pm_device.specs.History.{each_output, readings_in, readings_by, now, start_of, cleared, cut_by_act, cut_by, fault_by, faults_by}
+use Rattle.pm_device.specs.History.{after, next}
 use Rattle.pm_device.proofs.CutLemmas.{each_output-by, length-each_output, cut_at-each_output}
 use Rattle.pm_device.proofs.TakenActs.{verdict-can}
 
@@ -322,7 +326,8 @@ module _ (map : SettingsAreAMap) (alone : OutputsStandAlone) (config : Config) (
 
   -- the latches after one more event
   vout-table : (event : Event) → each_output (vout_in config (event ∷ past))
-      ≡ cut_by config (kept_by config (kept config past) (came config past event)).words (each_output (vout_in config past)) (came config past event)
+      ≡ cut_by config (kept_by config (kept config past) (came config past event)).words (each_output (vout_in config past))
+      (came config past event)
   unfolding found before kept came
   vout-table event =
       each_output-same (vout_in config (event ∷ past)) (found (came config past event))

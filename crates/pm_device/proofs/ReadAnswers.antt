@@ -1,5 +1,6 @@
 -- What a request is answered.
-use Rattle.std.proofs.Common.{◌≡◌, ℕ, zero, suc, ◌+◌, ◌*◌, ◌/◌, ◌%◌, ◌<◌, ◌≤◌, Bool, true, false, cond, ltb, ◌||◌, Option, Some, None, List, [], ◌∷◌, length, take, refl, sym, ◌∙◌, ap, ap₂, subst, arith}
+use Rattle.std.proofs.Common.{◌≡◌, ℕ, zero, suc, ◌+◌, ◌*◌, ◌/◌, ◌%◌, ◌<◌, ◌≤◌, Bool, true, false, cond, ltb, ◌||◌, Option, Some, None, List}
+use Rattle.std.proofs.Common.{[], ◌∷◌, length, take, refl, sym, ◌∙◌, ap, ap₂, subst, arith}
 use Rattle.std.proofs.lemmas.Bool.{cond-true, lt-ltb}
 use Rattle.std.proofs.lemmas.Bool.Decides.{nat_tests}
 use Rattle.std.specs.Option.{option_map_or}
@@ -10,7 +11,8 @@ use Rattle.pm_table.specs.Commands.{line_of, payload_length}
 use Rattle.pm_table.specs.Laws.{PayloadsAreShort, RegistersAreInTheTable}
 use Rattle.pm_frame.specs.declared.fault.FrameFault.{FrameFault}
 use Rattle.pm_frame.specs.declared.message.Message.{Message}
-use Rattle.pm_frame.specs.declared.message.Message.TheVariants.{SendByte, WriteByte, WriteWord, PagePlusWrite, ReadCommand, PagePlusRead, ReadCoefficients}
+use Rattle.pm_frame.specs.declared.message.Message.TheVariants.{SendByte, WriteByte, WriteWord, PagePlusWrite, ReadCommand, PagePlusRead}
+use Rattle.pm_frame.specs.declared.message.Message.TheVariants.{ReadCoefficients}
 use Rattle.pm_frame.specs.Fault.{request_fault}
 use Rattle.pm_frame.specs.Laws.{RequestsAreExact}
 use Rattle.pm_frame.specs.Layout.{IsRequest, IsAnswer, sent, answered, with_pec, answer_length, is_read_message}
@@ -111,7 +113,8 @@ verdict-answer held (PagePlusRead page code) items e = go (ltb page held.config.
   go true h = answer-one (answer_bytes held (PagePlusRead page code)) items h
   go false h = cc
 verdict-answer held (ReadCoefficients code side) items e = go (answers_coefficients held.config code side) e where
-  go : (b : Bool) → reply_to held (cond b (Answers (ReadCoefficients code side)) (Refuses UnsupportedData)) ≡ Answer (record { items = items }) →
+  go : (b : Bool) → reply_to held (cond b (Answers (ReadCoefficients code side)) (Refuses UnsupportedData)) ≡ Answer
+      (record { items = items }) →
       items ≡ answer_bytes held (ReadCoefficients code side)
   go true h = answer-one (answer_bytes held (ReadCoefficients code side)) items h
   go false h = cc
@@ -135,8 +138,13 @@ answer-is exact short held bytes items e = go (request_fault held.config.addr by
   go None is h =
       let some = exact.faultless held.config.addr bytes is in
       let places = exact.places held.config.addr some.0 bytes some.1 in
-      let same = verdict-answer held some.0 items (subst (λ m. reply_to held (read_verdict held.config m) ≡ Answer (record { items = items })) places h) in
-      (some.0, some.1, subst (IsAnswer held.config.addr some.0 (payload_for held some.0)) (sym same) (answer-fits short held some.0 bytes some.1))
+      let same = verdict-answer held some.0 items
+      (subst (λ m. reply_to held (read_verdict held.config m) ≡ Answer (record { items = items })) places h) in (
+        some.0,
+        some.1,
+        subst (IsAnswer held.config.addr some.0 (payload_for held some.0)) (sym same)
+            (answer-fits short held some.0 bytes some.1),
+      )
 
 -- what a cell's code is answered
 pub cell-answered : RequestsAreExact → PayloadsAreShort → (held : Held) (output code : ℕ) (cell : Cell) (bytes : List ℕ) →

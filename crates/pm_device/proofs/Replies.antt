@@ -1,5 +1,6 @@
 -- Which replies come after which endings, and for which codes.
-use Rattle.std.proofs.Common.{◌≡◌, ◌≢◌, ◌⊎◌, inl, inr, ℕ, ◌<◌, Bool, true, false, cond, eqb, ltb, not, ◌||◌, ◌&&◌, is_some, Option, Some, None, List, [], ◌∷◌, refl, sym, ◌∙◌, ap, subst}
+use Rattle.std.proofs.Common.{◌≡◌, ◌≢◌, ◌⊎◌, inl, inr, ℕ, ◌<◌, Bool, true, false, cond, eqb, ltb, not, ◌||◌, ◌&&◌, is_some, Option, Some}
+use Rattle.std.proofs.Common.{None, List, [], ◌∷◌, refl, sym, ◌∙◌, ap, subst}
 use Rattle.std.proofs.lemmas.Bool.{and_parts, eqb-true, lt-ltb}
 use Rattle.std.specs.List.{list_all}
 use Rattle.std.specs.Option.{option_map, option_map_or}
@@ -11,7 +12,8 @@ use Rattle.pm_table.specs.Protection.{is_allowed}
 use Rattle.pm_frame.specs.declared.fault.FrameFault.{FrameFault}
 use Rattle.pm_frame.specs.declared.fault.FrameFault.TheVariants as frame
 use Rattle.pm_frame.specs.declared.message.Message.{Message}
-use Rattle.pm_frame.specs.declared.message.Message.TheVariants.{SendByte, WriteByte, WriteWord, PagePlusWrite, ReadCommand, PagePlusRead, ReadCoefficients}
+use Rattle.pm_frame.specs.declared.message.Message.TheVariants.{SendByte, WriteByte, WriteWord, PagePlusWrite, ReadCommand, PagePlusRead}
+use Rattle.pm_frame.specs.declared.message.Message.TheVariants.{ReadCoefficients}
 use Rattle.pm_frame.specs.declared.message.Payload.{Payload}
 use Rattle.pm_frame.specs.Fault.{write_fault, request_fault}
 use Rattle.pm_frame.specs.Laws.{WritesAreExact, RequestsAreExact}
@@ -28,7 +30,8 @@ use Rattle.pm_device.specs.declared.heard.Heard.TheVariants.{Taken, Answer, Refu
 use Rattle.pm_device.specs.declared.verdict.Verdict.{Verdict}
 use Rattle.pm_device.specs.declared.verdict.Verdict.TheVariants.{Ignores, Refuses, Takes, Answers}
 use Rattle.pm_device.specs.Held.{Held}
-use Rattle.pm_device.specs.Verdict.{act_in, act_verdict, answers_coefficients, fault_verdict, is_accepted, names_no_output, output_in, read_verdict, selects_no_output, unless_faulty, verdict_of, write_verdict, written_word}
+use Rattle.pm_device.specs.Verdict.{act_in, act_verdict, answers_coefficients, fault_verdict, is_accepted, names_no_output, output_in}
+use Rattle.pm_device.specs.Verdict.{read_verdict, selects_no_output, unless_faulty, verdict_of, write_verdict, written_word}
 use Rattle.pm_device.specs.Reply.{reply_to, reply_of}
 use Rattle.pm_device.proofs.TakenActs.{or-false, request-not_taken}
 
@@ -94,10 +97,16 @@ write-code (SendByte code) writes fits = unfold IsWrittenCode in plain-code code
 write-code (WriteByte code byte) writes fits = unfold IsWrittenCode in plain-code code _ fits
 write-code (WriteWord code word) writes fits = unfold IsWrittenCode in plain-code code _ fits
 write-code (PagePlusWrite page code payload) writes fits =
-    let both = (and_parts (not (eqb code command.page || eqb code command.page_plus_write || eqb code command.page_plus_read || eqb code command.coefficients) && is_written code) _ fits).0 in
-    let parts = and_parts (not (eqb code command.page || eqb code command.page_plus_write || eqb code command.page_plus_read || eqb code command.coefficients)) (is_written code) both in
-    let none = not-true (eqb code command.page || eqb code command.page_plus_write || eqb code command.page_plus_read || eqb code command.coefficients) parts.0 in
-    let three = (or-false (eqb code command.page || eqb code command.page_plus_write || eqb code command.page_plus_read) (eqb code command.coefficients) none).0 in
+    let both = (and_parts (not
+    (eqb code command.page || eqb code command.page_plus_write || eqb code command.page_plus_read || eqb code command.coefficients) &&
+    is_written code) _ fits).0 in
+    let parts = and_parts (not
+    (eqb code command.page || eqb code command.page_plus_write || eqb code command.page_plus_read || eqb code command.coefficients))
+    (is_written code) both in
+    let none = not-true (eqb code command.page || eqb code command.page_plus_write || eqb code command.page_plus_read || eqb code
+    command.coefficients) parts.0 in
+    let three = (or-false (eqb code command.page || eqb code command.page_plus_write || eqb code command.page_plus_read)
+    (eqb code command.coefficients) none).0 in
     let two = (or-false (eqb code command.page || eqb code command.page_plus_write) (eqb code command.page_plus_read) three).0 in
     (parts.1, (or-false (eqb code command.page) (eqb code command.page_plus_write) two).1)
 write-code (ReadCommand code) writes fits = cc
@@ -157,7 +166,8 @@ pub stop-not_answer : (held : Held) (bytes items : List ℕ) → reply_of held b
 unfolding reply_of verdict_of act-reply
 stop-not_answer held bytes items e = go (write_fault held.config.addr bytes) e where
   acts : (message : Message) (found : Option Act) →
-      reply_to held (option_map_or (λ act. act_verdict held.config.count (word_at held.words Protect) message act) found (Refuses UnsupportedCode))
+      reply_to held (option_map_or (λ act. act_verdict held.config.count (word_at held.words Protect) message act) found
+      (Refuses UnsupportedCode))
       ≡ Answer (record { items = items }) → ⊥
   acts message None h = cc
   acts message (Some act) h =
@@ -195,7 +205,8 @@ write-unknown exact held bytes are e = go (write_fault held.config.addr bytes) r
     where
       acts : (found : Option Act) →
           act_in (message_code message) (output_in held.page message) (written_word message) ≡ found →
-          reply_to held (option_map_or (λ act. act_verdict held.config.count (word_at held.words Protect) message act) found (Refuses UnsupportedCode))
+          reply_to held (option_map_or (λ act. act_verdict held.config.count (word_at held.words Protect) message act) found
+          (Refuses UnsupportedCode))
           ≡ Refused UnsupportedCode → ⊥
       acts None is x =
           let code = write-code message h.writes h.fits in

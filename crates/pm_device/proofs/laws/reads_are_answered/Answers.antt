@@ -15,8 +15,8 @@ returns c =
       cell = λ held output code cell bytes h there names. cell-answered exact short held output code cell bytes (h, there, names);
       protect = λ held bytes h. request-answered exact short held (ReadCommand command.write_protect) bytes h refl;
       mode = λ held output bytes h there.
-        request-answered exact short held (PagePlusRead output command.vout_mode) bytes h (lt-ltb output held.config.count there);
+          request-answered exact short held (PagePlusRead output command.vout_mode) bytes h (lt-ltb output held.config.count there);
       coefficients = λ held bytes h direct.
-        request-answered exact short held (ReadCoefficients command.vout_command 0x00) bytes h direct;
+          request-answered exact short held (ReadCoefficients command.vout_command 0x00) bytes h direct;
       number = read-back c.registers_are_in_the_table.ensures;
     }

@@ -11,7 +11,7 @@ returns c =
     let stand = c.cells_have_places.ensures in
     record {
       read = λ words cell other word full here there.
-        word_at-with_word stand c.cells_are_told_apart.ensures words cell other word (full, here, there);
+          word_at-with_word stand c.cells_are_told_apart.ensures words cell other word (full, here, there);
       kept = λ words cell word full. length-set words (place_of cell) word ∙ full;
       again = λ words cell word. set-set words (place_of cell) word word;
       unchanged = with_word-unchanged stand;
