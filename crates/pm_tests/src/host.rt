@@ -3,15 +3,11 @@ mod refusals;
 ghost use Rattle.std.specs.Prelude.{◌≡◌};
 ghost use Rattle.pm_table.specs.Cell.{IsCell};
 
+use crate::fixtures::{FIRST, SECOND};
 use pm_frame::{Frame, Message, answer, fits, pec};
 use pm_host::{Host, HostFault, JobEnd, Possible, Standing, Step, Told, transcripts_are_followed};
 use pm_num::NumFault;
 use pm_table::{Cell, Reg};
-
-// VOUT_COMMAND of both outputs.
-const FIRST: Cell = Cell::Out(0, Reg::VoutCommand);
-
-const SECOND: Cell = Cell::Out(1, Reg::VoutCommand);
 
 const READ_FIRST: Message = Message::PagePlusRead {
     page: 0,
