@@ -176,6 +176,7 @@ fn very_long_frames_are_refused_or_not_heard(rt: HostRuntime) -> Result<(), Fail
         (259, FrameFault::WrongCount(2)),
         (260, FrameFault::Long(259)),
     ] {
+        assert!(rt; length <= bytes.len());
         let mut converter = Converter::new(BASE)?;
         let heard = converter.hear(&bytes[..length], Ending::Stop);
         let wanted = DeviceFault::Frame(fault);

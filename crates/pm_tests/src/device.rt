@@ -1,3 +1,5 @@
+//! The converter by itself: what it answers to frames, and what it holds then.
+
 ghost use Rattle.std.specs.Prelude.{◌≡◌, ◌<◌};
 
 mod bursts;

@@ -1,3 +1,5 @@
+//! The settings as a map, and what they command.
+
 ghost use Rattle.std.specs.Prelude.{◌≡◌, ◌<◌};
 
 use crate::fixtures::START;

@@ -1,3 +1,5 @@
+//! The world beside the order machine, which is told what each event is to it.
+
 ghost use Rattle.std.specs.Prelude.{◌≡◌};
 
 use crate::fixtures::{ACKED, BASE, CELLS, FIRST, NOT_ACKED, READ, SECOND, START, WHOLE, word};

@@ -34,9 +34,9 @@ impl Watch {
 
     // An order was accepted.
     fn accepts(&mut self, cell: Cell, word: u16) {
-        let is_free = self.machine.pending().is_none();
-        if is_free && self.machine.has(cell) && cell.accepts(word) {
-            self.machine.accept(cell, word);
+        match self.machine.pending() {
+            None if self.machine.has(cell) && cell.accepts(word) => self.machine.accept(cell, word),
+            _ => {}
         }
     }
 

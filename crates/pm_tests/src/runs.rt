@@ -2,8 +2,8 @@
 //! damage that the PEC doesn't betray.
 
 use crate::fixtures::{
-    ACKED, BASE, CHECK, FIRST, LOST, NOT_ACKED, ORDER, READ, READ_LOST, SECOND, WHOLE, frame,
-    standing, word,
+    ACKED, BASE, CHECK, FIRST, LOST, NOT_ACKED, ORDER, READ, READ_LOST, SECOND, WHOLE, arrival,
+    frame, standing, word,
 };
 use pm_device::{Config, Ending};
 use pm_host::{JobEnd, Standing};
@@ -37,8 +37,14 @@ fn runs_end_as_their_events_say(rt: HostRuntime) -> Result<(), SetupFault> {
     ];
     let unknown = (Standing::Unknown, 0x34CD);
     ends(&rt, BASE, &answers_lost, JobEnd::Unknown, unknown, false)?;
-    let falsely_acked = [CHECK, READ, ORDER, LOST, ACKED, READ, WHOLE, ACKED, READ];
+    // The frame itself in its place, and a cut past its end, are heard whole.
     let done = (Standing::Confirmed(0x34CD), 0x34CD);
+    for heard in ["stop: B0 05 04 00 21 CD 34 5A", "cut 8", "cut 200"] {
+        let delivered = Event::Deliver(arrival(&rt, heard));
+        let honest = [ORDER, delivered, ACKED, READ];
+        ends(&rt, BASE, &honest, JobEnd::Done, done, false)?;
+    }
+    let falsely_acked = [CHECK, READ, ORDER, LOST, ACKED, READ, WHOLE, ACKED, READ];
     ends(&rt, BASE, &falsely_acked, JobEnd::Done, done, false)?;
     let restarted = [
         CHECK,

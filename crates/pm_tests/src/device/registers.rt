@@ -200,6 +200,65 @@ fn readings_are_kept_by_a_restart(rt: HostRuntime) -> Result<(), Fail> {
     Ok(())
 }
 
+// STATUS of an output whose VOUT_COMMAND is above its VOUT_MAX; then the coefficients of an output in
+// millivolts; then readings.
+const ABOVE: [&str; 6] = [
+    "B0 05 04 00 21 00 50 65",
+    "B0 06 02 00 78 / B1 01 01 69",
+    "B0 06 02 00 79 / B1 02 01 80 4E",
+    "B0 06 02 00 7A / B1 01 08 7A",
+    "B0 79 / B1 01 80 48",
+    "B0 7A / B1 08 1A",
+];
+
+const MILLIVOLTS: [&str; 10] = [
+    "B0 30 02 21 00 / B1 05 01 00 00 00 03 6B",
+    "B0 30 02 21 01 / B1 05 01 00 00 00 03 78",
+    "B0 30 02 24 00 / B1 05 01 00 00 00 03 F1",
+    "B0 30 02 24 01 / B1 05 01 00 00 00 03 E2",
+    "B0 30 02 25 00 / B1 05 01 00 00 00 03 88",
+    "B0 30 02 25 01 / B1 05 01 00 00 00 03 9B",
+    "B0 30 02 26 00 / B1 05 01 00 00 00 03 03",
+    "B0 30 02 26 01 / B1 05 01 00 00 00 03 10",
+    "B0 30 02 8B 00 / B1 05 01 00 00 00 03 61",
+    "B0 30 02 8B 01 / B1 05 01 00 00 00 03 72",
+];
+
+const MEASURED: [&str; 4] = [
+    "B0 88 / B1 34 12 12",
+    "B0 8D / B1 78 56 20",
+    "B0 06 02 01 8C / B1 02 34 12 CC",
+    "B0 06 02 01 8D / B1 02 78 56 D2",
+];
+
+#[test]
+fn simple_configurations_read_so(rt: HostRuntime) -> Result<(), Fail> {
+    let mut above = Converter::new(BASE)?;
+    hears_rows(&rt, &mut above, &ABOVE);
+    let start = OutputStart {
+        mode: 0x40,
+        ..OUTPUT
+    };
+    let mut direct = Converter::new(Config {
+        count: 1,
+        starts: [start; 8],
+        coefficients: Coefficients { m: 1, b: 0, r: 3 },
+        ..BASE
+    })?;
+    hears_rows(&rt, &mut direct, &MILLIVOLTS);
+    let mut measured = Converter::new(BASE)?;
+    for (output, code, word) in [(0, 0x88, 0x1234), (0, 0x8D, 0x5678), (1, 0x8C, 0x1234)] {
+        assert!(rt;
+            measured.set_reading(output, Code(code), word),
+            "{code:02X}"
+        );
+    }
+    hears_rows(&rt, &mut measured, &MEASURED);
+    measured.restart();
+    hears_rows(&rt, &mut measured, &MEASURED);
+    Ok(())
+}
+
 // Carried writes of both outputs, then a plain one while PAGE is 1; each register is read back.
 const WRITES: [&str; 44] = [
     "B0 00 01 ED",

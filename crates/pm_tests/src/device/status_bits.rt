@@ -8,15 +8,13 @@ use pm_frame::FrameFault;
 use std::process::Abort;
 use std::test::Fail;
 
+const WRONG_PEC: DeviceFault = DeviceFault::Frame(FrameFault::WrongPec(7));
+
 // What latches each bit of STATUS_CML that can be.
 const LATCHES: [(u8, &str, DeviceFault); 4] = [
     (0x80, "B0 03 /", DeviceFault::ReadOnly),
     (0x40, "B0 00 02 E4", DeviceFault::BadPage),
-    (
-        0x20,
-        "B0 10 40 00",
-        DeviceFault::Frame(FrameFault::WrongPec(3)),
-    ),
+    (0x20, "B0 05 04 01 21 CD 34 5A", WRONG_PEC),
     (0x02, "B0", DeviceFault::Frame(FrameFault::Short(1))),
 ];
 

@@ -1,15 +1,5 @@
 use super::*;
 
-const BUSY: Result<(), HostFault> = Err(HostFault::Busy);
-
-const NO_OUTPUT: Result<(), HostFault> = Err(HostFault::UnknownOutput);
-
-const BAD_WORD: Result<(), HostFault> = Err(HostFault::BadWord);
-
-const NO_ROOM: Result<(), HostFault> = Err(HostFault::TooUncertain);
-
-const NO_FORMAT: Result<(), HostFault> = Err(HostFault::FormatUnknown);
-
 #[test]
 fn the_outputs_are_judged_before_the_passes(rt: HostRuntime) {
     for (outputs, passes, wanted) in [
