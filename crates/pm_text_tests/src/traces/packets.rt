@@ -3,6 +3,7 @@
 use super::decoded;
 use pm_text::{TextFault, read_trace_line, render_line};
 use std::alloc::Global;
+use std::process::Abort;
 use std::test::Fail;
 
 /// A line of each code in each layout, what it says, and the code that is counted for it.
@@ -219,7 +220,7 @@ const ACCEPTED: [(&str, &str, &str); 57] = [
 ];
 
 /// A line of each fault at each of its places, and what it says.
-const FAULTY: [(&str, &str); 68] = [
+const FAULTY: [(&str, &str); 71] = [
     ("/", "-- write F1 NotOurs"),
     ("/ B1", "-- write F1 NotOurs"),
     ("B1 00", "-- write F1 NotOurs"),
@@ -262,6 +263,9 @@ const FAULTY: [(&str, &str); 68] = [
     ("B0 30 02 21 00 00 /", "58 write F3 Long 5"),
     ("B0 06 03 00 21 /", "58 write F4 WrongCount 2"),
     ("B0 30 01 21 00 /", "58 write F4 WrongCount 2"),
+    ("B0 99 00 /", "58 write F6 UnknownCode 1"),
+    ("B0 03 00 /", "58 write F7 WrongDirection 1"),
+    ("B0 06 02 00 21 / B1 03 CD", "58 read F2 Short 3"),
     ("B0 99 /", "58 write F6 UnknownCode 1"),
     ("B0 06 02 00 2B /", "58 write F6 UnknownCode 4"),
     ("B0 03 /", "58 write F7 WrongDirection 1"),
@@ -323,39 +327,47 @@ fn rendered(alloc: Global, line: &str) -> Result<String, TextFault> {
     render_line(alloc, 1, &parts)
 }
 
+// A trace of one line says this of it, with its number, and these counts; the line by itself says the same.
+fn expect_said(
+    rt: &(impl Abort + AllocGlobal),
+    line: &str,
+    said: &str,
+    counts: &str,
+) -> Result<(), Fail> {
+    let text = format!(in rt.alloc(); "1 {said}\n{counts}\n")?;
+    assert_eq!(rt;
+        decoded(rt.alloc(), line).1.as_slice(),
+        text.as_bytes(),
+        "{line}"
+    );
+    let alone = rendered(rt.alloc(), line)?;
+    assert!(rt; text.as_str().starts_with(alone.as_str()), "{line}");
+    assert_eq!(rt; alone.len(), said.len().saturating_add(2), "{line}");
+    Ok(())
+}
+
 #[test]
-fn each_line_says_its_packet_or_its_fault(rt: HostRuntime) -> Result<(), Fail> {
-    let alloc = rt.alloc();
+fn each_line_says_its_packet(rt: HostRuntime) -> Result<(), Fail> {
     for (line, said, code) in ACCEPTED {
-        let text = format!(in alloc;
-            "1 {said}\ncount {code} 1\nlines 1 accepted 1 faults 0 bad 0\n"
-        )?;
-        assert_eq!(rt;
-            decoded(alloc, line).1.as_slice(),
-            text.as_bytes(),
-            "{line}"
-        );
-        let wanted = format!(in alloc; "1 {said}")?;
-        assert_eq!(rt; rendered(alloc, line)?.as_str(), wanted.as_str(), "{line}");
+        let counts = format!(in rt.alloc(); "count {code} 1\nlines 1 accepted 1 faults 0 bad 0")?;
+        expect_said(&rt, line, said, counts.as_str())?;
     }
+    Ok(())
+}
+
+#[test]
+fn each_line_says_its_fault(rt: HostRuntime) -> Result<(), Fail> {
     for (line, said) in FAULTY {
-        let text = format!(in alloc; "1 {said}\nlines 1 accepted 0 faults 1 bad 0\n")?;
-        assert_eq!(rt;
-            decoded(alloc, line).1.as_slice(),
-            text.as_bytes(),
-            "{line}"
-        );
-        let wanted = format!(in alloc; "1 {said}")?;
-        assert_eq!(rt; rendered(alloc, line)?.as_str(), wanted.as_str(), "{line}");
+        expect_said(&rt, line, said, "lines 1 accepted 0 faults 1 bad 0")?;
     }
     for (line, said, fault) in BAD {
-        let text = format!(in alloc; "1 {said}\nlines 1 accepted 0 faults 0 bad 1\n")?;
+        let text = format!(in rt.alloc(); "1 {said}\nlines 1 accepted 0 faults 0 bad 1\n")?;
         assert_eq!(rt;
-            decoded(alloc, line).1.as_slice(),
+            decoded(rt.alloc(), line).1.as_slice(),
             text.as_bytes(),
             "{line}"
         );
-        assert_eq!(rt; rendered(alloc, line).err(), Some(fault), "{line}");
+        assert_eq!(rt; rendered(rt.alloc(), line).err(), Some(fault), "{line}");
     }
     Ok(())
 }
