@@ -11,6 +11,8 @@ mod damage;
 #[cfg(test)]
 mod device;
 #[cfg(test)]
+mod driver;
+#[cfg(test)]
 mod faults;
 #[cfg(test)]
 mod fixtures;
