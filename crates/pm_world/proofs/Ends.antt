@@ -1,14 +1,17 @@
 -- A world whose ends were told something.
-use Rattle.std.proofs.Common.{◌≡◌, ℕ, Option, sym, ◌∙◌, ap, subst}
+use Rattle.std.proofs.Common.{◌≡◌, ℕ, Option, Some, None, Ok, refl, sym, ◌∙◌, ap, subst}
 use Rattle.pm_device.specs.declared.config.Config.{Config}
 use Rattle.pm_device.specs.Held.{Held}
 use Rattle.pm_device.specs.Effect as device
 use Rattle.pm_device.specs.History.{next as device_next, after as device_after}
 use Rattle.pm_host.specs.declared.step.JobEnd.{JobEnd}
 use Rattle.pm_host.specs.Summary.{Summary, next as host_next, step_of}
-use Rattle.pm_host.specs.Transcript.{Entry, Setup}
+use Rattle.pm_host.specs.declared.step.Step.TheVariants.{Next}
+use Rattle.pm_host.specs.Transcript.{Entry, Accepted, Job, Order, Setup}
+use Rattle.pm_world.specs.declared.event.Event.{Event}
 use Rattle.pm_world.specs.Setup.{IsMatched}
-use Rattle.pm_world.specs.State.{State, shared, tells, hears, end_by}
+use Rattle.pm_world.specs.State.{State, Acts, HasWord, asked, event_cause, shared, tells, hears, end_by}
+use Rattle.pm_world.proofs.Causes.{asked-share}
 
 -- the parts of a world, put together
 abbrev pub state : Held → Summary → Option JobEnd → ℕ → State
@@ -42,3 +45,28 @@ pub device-heard : (s : State) (held new : Held) (host : Summary) (end : Option 
     state new host end taken ≡ shared s (hears event)
 device-heard s held new host end taken event view is =
     ap (λ (d : Held). state d host end taken) is ∙ ap (λ (t : State). shared t (hears event)) view
+
+-- a job begins
+begun-next : (s : Summary) (job : Job) → step_of s (Accepted job) ≡ Next
+unfolding step_of
+begun-next s (Order cell word) = refl
+begun-next s job = refl
+
+-- the host accepts the job that an event asks for
+pub record Begins (s : State) (event : Event) (job : Job) (new : Summary) : Type 0 where
+  pub free : event_cause s event ≡ None
+  pub word : HasWord s event
+  pub asks : asked s event ≡ Some job
+  pub told : new ≡ host_next s.host (Accepted job)
+
+-- and the event happened
+pub begun : (s inside : State) (event : Event) (job : Job) (new : Summary) → inside ≡ s → Begins inside event job new →
+    Acts s event (Ok tt) (state inside.device new None inside.taken)
+begun s inside event job new view b =
+    subst (λ (t : State). Acts t event (Ok tt) (state inside.device new None inside.taken)) view (
+      b.free,
+      b.word,
+      host-told inside inside.device inside.host new inside.end None inside.taken (Accepted job) refl b.told
+          (sym (ap end_by (begun-next inside.host job)))
+          ∙ ap (shared inside) (sym (asked-share inside event job b.asks)),
+    )

@@ -1,6 +1,7 @@
 -- A word that the host calls confirmed is the converter's, event by event.
 use Rattle.std.proofs.Common.{◌≡◌, ◌⊎◌, inl, inr, ℕ, Bool, true, false, cond, ◌||◌, List, [], ◌∷◌, ◌++◌, Option, Some, None, IsSome, option_map, refl, sym, ◌∙◌, ap, subst}
 use Rattle.std.specs.Prelude.{option_to_list}
+use Rattle.std.specs.Option.{option_map_or}
 use Rattle.std.proofs.lemmas.Option.{none-some, same_Some}
 use Rattle.pm_table.specs.declared.cell.Cell.{Cell}
 use Rattle.pm_table.specs.Cell.{cell_accepts, IsCell, same_cell}
@@ -29,18 +30,19 @@ use Rattle.pm_host.specs.Transcript as host
 use Rattle.pm_world.specs.declared.event.Arrival.{Arrival}
 use Rattle.pm_world.specs.declared.event.Back.{Back}
 use Rattle.pm_world.specs.declared.event.Event.{Event}
-use Rattle.pm_world.specs.declared.event.Event.TheVariants.{Order, OrderMicro, Check, Learn, Clear, Deliver, Finish, Exchange, RestartDevice, RestartHost, Reading}
+use Rattle.pm_world.specs.declared.event.Event.TheVariants.{Deliver, Exchange, RestartDevice, RestartHost}
 use Rattle.pm_world.specs.Confirmed.{reads_cell, restarts_converter, restarted_since, ConfirmedIsHeld}
 use Rattle.pm_world.specs.Legal.{back_bytes}
 use Rattle.pm_world.specs.Life.{life, now, state_of, AreTaken}
 use Rattle.pm_world.specs.Setup.{setup_of}
-use Rattle.pm_world.specs.State.{State, share_of, exchanged, delivered, device_after, next, event_cause, exchange_cause, answer_to, micro_job}
+use Rattle.pm_world.specs.State.{State, asked, share_of, share_beside, tells, exchanged, delivered, device_after, next, event_cause, exchange_cause, answer_to}
+use Rattle.pm_world.proofs.Causes.{taken-free, asked-restarts}
 use Rattle.pm_world.proofs.Hearings.{HearingLaws}
 use Rattle.pm_world.proofs.Learned.{DamageLaws, from_some}
 use Rattle.pm_world.proofs.OpenOrders.{stage_order}
 use Rattle.pm_world.proofs.OrderEvents.{delivered-words, exchanged-words}
 use Rattle.pm_world.proofs.ReadBack.{reads-cell, read-word}
-use Rattle.pm_world.proofs.Sending.{MapLaws, eight, taken-free, told-nothing}
+use Rattle.pm_world.proofs.Sending.{MapLaws, eight, told-nothing}
 use Rattle.pm_world.proofs.Standings.{IsHeld, IsHeldAfter, SameCells, ReadsTrue, accepted-held, got-held, restarted-held}
 use Rattle.pm_world.proofs.TrueHost.{good-same}
 
@@ -144,23 +146,32 @@ deliver-held hearing laws same s setup entries cell restarted arrival knows ther
     (taken-held laws same s setup entries cell restarted _ (stage_order s.host.stage) knows there refl
     (delivered-words hearing s arrival (sending_in s.host) knows.addr refl knows.fits free) so_far)
 
+-- one event that asks for no job
+beside-held : ConfirmedLaws → (s : State) (event : Event) (setup : host.Setup) (entries : List host.Entry) (cell : Cell) (restarted : Bool) → Knows s setup entries → IsCell 8 cell →
+    event_cause s event ≡ None → IsHeld (marks setup entries) cell restarted s.device.words →
+    IsHeldAfter setup entries cell (restarts_converter event || restarted) (share_beside s event).told (device_after s.device (share_beside s event).heard).words
+unfolding device_next device_by
+beside-held laws s (Deliver arrival) setup entries cell restarted knows there free so_far =
+    deliver-held laws.hearing laws.map_laws laws.same s setup entries cell restarted arrival knows there free so_far
+beside-held laws s (Exchange arrival back) setup entries cell restarted knows there free so_far =
+    exchange-held laws.hearing laws.damage laws.same s setup entries cell restarted arrival back (sending_in s.host) knows refl free so_far
+beside-held laws s RestartDevice setup entries cell restarted knows there free so_far = λ word confirmed fresh. cc
+beside-held laws s RestartHost setup entries cell restarted knows there free so_far = restarted-held setup entries cell restarted s.device.words
+beside-held laws s _ setup entries cell restarted knows there free so_far = so_far
+
 -- one event
 event-held : ConfirmedLaws → (s : State) (event : Event) (setup : host.Setup) (entries : List host.Entry) (cell : Cell) (restarted : Bool) → Knows s setup entries → IsCell 8 cell →
     event_cause s event ≡ None → IsHeld (marks setup entries) cell restarted s.device.words →
     IsHeldAfter setup entries cell (restarts_converter event || restarted) (share_of s event).told (next s event).device.words
-unfolding next device_next device_by
-event-held laws s (Order c w) setup entries cell restarted knows there free so_far = accepted-held setup entries cell restarted s.device.words (host.Order c w) so_far
-event-held laws s (OrderMicro c x) setup entries cell restarted knows there free so_far = accepted-held setup entries cell restarted s.device.words (micro_job s.host c x) so_far
-event-held laws s (Check c) setup entries cell restarted knows there free so_far = accepted-held setup entries cell restarted s.device.words (host.Check c) so_far
-event-held laws s (Learn output) setup entries cell restarted knows there free so_far = accepted-held setup entries cell restarted s.device.words (host.Learn output) so_far
-event-held laws s (Clear output) setup entries cell restarted knows there free so_far = accepted-held setup entries cell restarted s.device.words (host.Clear output) so_far
-event-held laws s (Deliver arrival) setup entries cell restarted knows there free so_far = deliver-held laws.hearing laws.map_laws laws.same s setup entries cell restarted arrival knows there free so_far
-event-held laws s (Finish acked) setup entries cell restarted knows there free so_far = so_far
-event-held laws s (Exchange arrival back) setup entries cell restarted knows there free so_far =
-    exchange-held laws.hearing laws.damage laws.same s setup entries cell restarted arrival back (sending_in s.host) knows refl free so_far
-event-held laws s RestartDevice setup entries cell restarted knows there free so_far = λ word confirmed fresh. cc
-event-held laws s RestartHost setup entries cell restarted knows there free so_far = restarted-held setup entries cell restarted s.device.words
-event-held laws s (Reading output code word) setup entries cell restarted knows there free so_far = so_far
+unfolding next
+event-held laws s event setup entries cell restarted knows there free so_far = go (asked s event) refl where
+  go : (o : Option host.Job) → asked s event ≡ o →
+      let share = option_map_or (λ j. tells (host.Accepted j)) o (share_beside s event) in
+      IsHeldAfter setup entries cell (restarts_converter event || restarted) share.told (device_after s.device share.heard).words
+  go None is = beside-held laws s event setup entries cell restarted knows there free so_far
+  go (Some job) is =
+      subst (λ b. IsHeldAfter setup entries cell (b || restarted) (Some (host.Accepted job)) s.device.words)
+      (sym (asked-restarts s event job is)) (accepted-held setup entries cell restarted s.device.words job so_far)
 
 -- the read that an open job sends
 read-sent : (setup : host.Setup) (s : Summary) (job : Option host.Job) (told : List host.Entry) (read : Cell) → read_by job told ≡ Some read →

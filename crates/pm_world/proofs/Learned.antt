@@ -40,7 +40,7 @@ use Rattle.pm_world.specs.declared.stop.Cause.TheVariants.{WrongKind, NotBetraye
 use Rattle.pm_world.specs.Honest.{IsSpelled}
 use Rattle.pm_world.specs.Legal.{frame_of, heard_bytes, heard_ending, is_restart, is_legal_return, is_heard_whole, answer_in, back_bytes}
 use Rattle.pm_world.specs.State.{State, hearing_cause, return_cause, exchange_cause, answer_to, rule}
-use Rattle.pm_world.proofs.Lives.{or-none, rule-none}
+use Rattle.pm_world.proofs.Causes.{or-none, rule-none}
 use Rattle.pm_world.proofs.ReadBack.{ReadLaws, good-answer}
 
 -- the laws of answers that are cut short or betrayed

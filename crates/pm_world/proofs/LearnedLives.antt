@@ -1,5 +1,6 @@
 -- The formats that a host learns in a life.
-use Rattle.std.proofs.Common.{◌≡◌, ℕ, ℤ, ◌<◌, List, [], ◌∷◌, Option, Some, None, IsSome, option_and_then, unwrap_or, refl, sym, ◌∙◌, ap, subst, arith}
+use Rattle.std.proofs.Common.{◌≡◌, ℕ, ℤ, ◌<◌, List, [], ◌∷◌, Option, Some, None, IsSome, option_and_then, option_map, refl, sym, ◌∙◌, ap, subst, arith}
+use Rattle.std.specs.Option.{option_map_or}
 use Rattle.pm_num.specs.AnyFormat.{Shape, shape_value, shape_rank}
 use Rattle.pm_num.specs.NearestWord.{nearest_word}
 use Rattle.pm_num.specs.Ratio.{micros}
@@ -18,10 +19,10 @@ use Rattle.pm_world.specs.declared.event.Event.TheVariants.{OrderMicro}
 use Rattle.pm_world.specs.Honest.{IsSpelled, FormatsAgree, OrdersNearest, MicrosAreNearest}
 use Rattle.pm_world.specs.Life.{life, now, state_of, AreTaken}
 use Rattle.pm_world.specs.Setup.{setup_of, start}
-use Rattle.pm_world.specs.State.{State, next}
+use Rattle.pm_world.specs.State.{State, next, nothing, tells}
 use Rattle.pm_world.proofs.Learned.{DamageLaws, IsTrueHost}
 use Rattle.pm_world.proofs.TrueHost.{Stands, agree-none, next-true}
-use Rattle.pm_world.proofs.Sending.{taken-free}
+use Rattle.pm_world.proofs.Causes.{taken-free}
 use Rattle.pm_world.proofs.Undisturbed.{HonestLaws, now-config, now-setup, now-sound, taken-before, share-entries}
 
 pub record FormatLaws : Type 0 where
@@ -88,7 +89,7 @@ orders-nearest laws config passes before cell x sound spelled made taken =
       word = found.0;
       nearest = found.2;
       ordered = share-entries config passes before (OrderMicro cell x) (host.Accepted (host.Order cell found.0))
-          (ap (λ (w : Option ℕ). Some (host.Accepted (host.Order cell (unwrap_or w 0)))) found.1);
+          (ap (λ (w : Option ℕ). (option_map_or (λ j. tells (host.Accepted j)) (option_map (λ w. host.Order cell w) w) nothing).told) found.1);
     }
 
 pub micros-nearest : FormatLaws → (config : Config) (passes : ℕ) (events : List Event) → IsSound config → IsSpelled config → IsSetup (setup_of config passes) → AreTaken config passes events →

@@ -1,3 +1,4 @@
+mod Causes
 mod DamagedFrames
 mod DamagedRequests
 mod Deliveries

@@ -1,10 +1,10 @@
 -- What an event makes of the converter's words and of the open order, in a world that takes it.
-use Rattle.std.proofs.Common.{◌≡◌, ◌⊎◌, inl, inr, ℕ, ℤ, Bool, true, false, not, List, Option, Some, None, is_some, IsSome, unwrap_or, refl, sym, ◌∙◌, ap, subst}
-use Rattle.std.specs.Option.{option_or, option_and_then, option_map}
+use Rattle.std.proofs.Common.{◌≡◌, ◌⊎◌, inl, inr, ℕ, Bool, true, false, not, List, Option, Some, None, is_some, IsSome, unwrap_or, refl, sym, ◌∙◌, ap, subst}
+use Rattle.std.specs.Option.{option_or, option_map}
 use Rattle.std.proofs.lemmas.Bool.{ltb-true}
 use Rattle.pm_table.specs.declared.cell.Cell.{Cell}
 use Rattle.pm_table.specs.declared.cell.Cell.TheVariants.{Out, Protect}
-use Rattle.pm_table.specs.Cell.{cell_accepts, IsCell, output_of}
+use Rattle.pm_table.specs.Cell.{cell_accepts, IsCell}
 use Rattle.pm_frame.specs.declared.message.Message.{Message}
 use Rattle.pm_frame.specs.declared.message.Payload.TheVariants.{Empty}
 use Rattle.pm_frame.specs.Layout.{IsWrite, is_read_message, fits_layout}
@@ -20,37 +20,21 @@ use Rattle.pm_host.specs.declared.stage.Stage.{Stage}
 use Rattle.pm_host.specs.declared.stage.Stage.TheVariants.{Writes, Reads, Checks, AsksMode, AsksCoefficients, Clears}
 use Rattle.pm_host.specs.Cells.{is_cell}
 use Rattle.pm_host.specs.Messages.{cell_read, cell_write, mode_read, coefficients_read, faults_clear}
-use Rattle.pm_host.specs.Refusals.{is_busy, cell_fault, order_fault, output_fault, micro_fault, micro_word, voltage_fault, range_fault, rule as host_rule}
-use Rattle.pm_host.specs.Summary.{Summary, next as host_next, sending_in, stage_message, idle, format_at}
+use Rattle.pm_host.specs.Refusals.{is_busy, cell_fault, order_fault, output_fault, rule as host_rule}
+use Rattle.pm_host.specs.Summary.{Summary, next as host_next, sending_in, stage_message, idle}
+use Rattle.pm_host.specs.Transcript as host
 use Rattle.pm_world.specs.declared.event.Arrival.{Arrival}
 use Rattle.pm_world.specs.declared.event.Back.{Back as Return}
-use Rattle.pm_world.specs.declared.stop.Cause.{Cause}
 use Rattle.pm_world.specs.declared.stop.Cause.TheVariants.{NotBetrayed, WrongKind}
 use Rattle.pm_world.specs.Legal.{frame_of, heard_bytes, heard_ending, is_legal_hearing}
-use Rattle.pm_world.specs.State.{State, rule, refused, device_after, host_after, delivered, exchanged, delivery_cause, exchange_cause, hearing_cause, return_cause}
+use Rattle.pm_world.specs.State.{State, rule, job_fault, device_after, host_after, delivered, exchanged, delivery_cause, exchange_cause, hearing_cause, return_cause}
+use Rattle.pm_world.proofs.Causes.{or-none, rule-none, not-false}
 use Rattle.pm_world.proofs.Hearings.{HearingLaws, hears-write, hears-request, cell-reached}
 use Rattle.pm_world.proofs.OpenOrders.{stage_order, Goes, answered-order}
-
--- of two, none
-pub or-none : {A : Type 0} (a b : Option A) → option_or a b ≡ None → (a ≡ None) × (b ≡ None)
-or-none None b h = (refl, h)
-or-none (Some x) b h = cc
-
-pub rule-none : (b : Bool) (cause : Cause) → rule b cause ≡ None → b ≡ false
-rule-none false cause h = refl
-rule-none true cause h = cc
 
 host_rule-none : (b : Bool) (fault : HostFault) → host_rule b fault ≡ None → b ≡ false
 host_rule-none false fault h = refl
 host_rule-none true fault h = cc
-
-not-false : (b : Bool) → not b ≡ false → b ≡ true
-not-false true h = refl
-not-false false h = cc
-
-pub refused-none : (fault : Option HostFault) → refused fault ≡ None → fault ≡ None
-refused-none None h = refl
-refused-none (Some fault) h = cc
 
 some-is : (a b : Message) → Some a ≡ Some b → a ≡ b
 some-is a b e = ap (λ o. unwrap_or o a) e
@@ -158,11 +142,17 @@ idle-order s free = go s.stage free where
   go None h = refl
   go (Some stage) h = cc
 
-pub cell-order : (s : Summary) (cell : Cell) → cell_fault s cell ≡ None → stage_order s.stage ≡ None
+cell-order : (s : Summary) (cell : Cell) → cell_fault s cell ≡ None → stage_order s.stage ≡ None
 cell-order s cell h = idle-order s (host_rule-none (is_busy s) _ (or-none (host_rule (is_busy s) _) _ h).0)
 
-pub output-order : (s : Summary) (output : ℕ) → output_fault s output ≡ None → stage_order s.stage ≡ None
+output-order : (s : Summary) (output : ℕ) → output_fault s output ≡ None → stage_order s.stage ≡ None
 output-order s output h = idle-order s (host_rule-none (is_busy s) _ (or-none (host_rule (is_busy s) _) _ h).0)
+
+pub job-order : (s : Summary) (job : host.Job) → job_fault s job ≡ None → stage_order s.stage ≡ None
+job-order s (host.Order cell word) h = cell-order s cell (or-none (cell_fault s cell) _ h).0
+job-order s (host.Check cell) h = cell-order s cell h
+job-order s (host.Learn output) h = output-order s output h
+job-order s (host.Clear output) h = output-order s output h
 
 -- what is_cell says
 cell-there : (outputs : ℕ) (cell : Cell) → is_cell outputs cell ≡ true → IsCell outputs cell
@@ -185,13 +175,3 @@ order-free s cell word h =
       there = cell-there s.setup.outputs cell (not-false _ (host_rule-none (not (is_cell s.setup.outputs cell)) _ (or-none (host_rule (not (is_cell s.setup.outputs cell)) _) _ cells.1).0));
       fits = not-false _ (host_rule-none (not (cell_accepts cell word)) _ words.0);
     }
-
-word-free : (s : Summary) (cell : Cell) (word : Option ℕ) → IsSome word → option_and_then (λ w. order_fault s cell w) word ≡ None → IsFree s cell (unwrap_or word 0)
-word-free s cell None some h = cc
-word-free s cell (Some w) some h = order-free s cell w h
-
-pub micro-free : (s : Summary) (cell : Cell) (x : ℤ) → micro_fault s cell x ≡ None → IsSome (micro_word s cell x) → IsFree s cell (unwrap_or (micro_word s cell x) 0)
-micro-free s cell x h some =
-    let past_voltage = (or-none (voltage_fault s cell) _ h).1 in
-    let past_range = (or-none (option_and_then (λ shape. range_fault shape x) (format_at s (output_of cell))) _ past_voltage).1 in
-    word-free s cell (micro_word s cell x) some (or-none (option_and_then (λ w. order_fault s cell w) (micro_word s cell x)) None past_range).0

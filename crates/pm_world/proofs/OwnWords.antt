@@ -1,6 +1,7 @@
 -- Each cell's word is its own: the start word, or that of an order for this very cell.
-use Rattle.std.proofs.Common.{◌≡◌, inl, inr, ℕ, zero, suc, ◌<◌, ◌≤◌, Bool, true, false, ◌&&◌, cond, List, [], ◌∷◌, is_some, is_none, refl, ◌∙◌, ap, subst, arith}
+use Rattle.std.proofs.Common.{◌≡◌, inl, inr, ℕ, zero, suc, ◌<◌, ◌≤◌, Bool, true, false, ◌&&◌, cond, List, [], ◌∷◌, Option, Some, None, is_some, is_none, refl, ◌∙◌, ap, subst, arith}
 use Rattle.std.specs.List.{Contains}
+use Rattle.std.specs.Option.{option_map_or}
 use Rattle.std.proofs.lemmas.List.Elements.{Contains-append_cases}
 use Rattle.pm_table.specs.declared.cell.Cell.{Cell}
 use Rattle.pm_table.specs.declared.cell.Cell.TheVariants.{Out, Protect}
@@ -13,11 +14,13 @@ use Rattle.pm_device.specs.declared.config.Config.{Config}
 use Rattle.pm_device.specs.Held.{value_for}
 use Rattle.pm_device.specs.Start.{IsSound, start_word, start_words}
 use Rattle.pm_host.specs.Refusals.{IsSetup}
+use Rattle.pm_host.specs.Transcript as host
 use Rattle.pm_world.specs.declared.event.Event.{Event}
-use Rattle.pm_world.specs.declared.event.Event.TheVariants.{Order, OrderMicro, Check, Learn, Clear, Deliver, Finish, Exchange, RestartDevice, RestartHost, Reading}
+use Rattle.pm_world.specs.declared.event.Event.TheVariants.{Deliver, Exchange, RestartDevice, RestartHost}
 use Rattle.pm_world.specs.Life.{now, AreTaken}
-use Rattle.pm_world.specs.Retelling.{start_settings, open_order, told, Retells, nothing, tells, takes, IsOrderRun, WasOrdered, IsOwnWord, CommandsOwn}
+use Rattle.pm_world.specs.Retelling.{start_settings, open_order, order_of, accepts, told, told_beside, Retells, nothing, tells, takes, IsOrderRun, WasOrdered, IsOwnWord, CommandsOwn}
 use Rattle.pm_world.specs.Setup.{setup_of}
+use Rattle.pm_world.specs.State.{asked}
 use Rattle.pm_world.proofs.Retellings.{OrderLaws, same-config, life-run}
 
 -- what the proof takes of the order machine and of the map of cells
@@ -34,23 +37,33 @@ single : (s x : Step) → Contains (s ∷ []) x → s ≡ x
 single s x (zero, below, e) = e
 single s x (suc k, below, e) = absurd (omega (arith, below))
 
+-- an event that asks for no job is told as no order
+told-nothing : (config : Config) (passes : ℕ) (before : List Event) (event : Event) (cell : Cell) (word : ℕ) →
+    Contains (told_beside config passes before event) (Accept cell word) → told_beside config passes before event ≡ Accept cell word ∷ []
+unfolding told_beside
+told-nothing config passes before (Exchange arrival back) cell word h =
+    go (is_some (open_order config passes before) && is_none (open_order config passes (Exchange arrival back ∷ before))) h
+  where
+    go : (b : Bool) → Contains (cond b (End ∷ []) []) (Accept cell word) → cond b (End ∷ []) [] ≡ Accept cell word ∷ []
+    go true h = let bad : End ≡ Accept cell word = single End (Accept cell word) h in cc
+    go false h = absurd (none (Accept cell word) h)
+told-nothing config passes before RestartHost cell word h = let bad : End ≡ Accept cell word = single End (Accept cell word) h in cc
+told-nothing config passes before RestartDevice cell word h = let bad : Back ≡ Accept cell word = single Back (Accept cell word) h in cc
+told-nothing config passes before event cell word h = absurd (none (Accept cell word) h)
+
 -- only orders are told as accepted
 told-accept : (config : Config) (passes : ℕ) (before : List Event) (event : Event) (cell : Cell) (word : ℕ) → Contains (told config passes before event) (Accept cell word) → told config passes before event ≡ Accept cell word ∷ []
 unfolding told
-told-accept config passes before (Order c w) cell word h = ap (λ (s : Step). s ∷ []) (single (Accept c w) (Accept cell word) h)
-told-accept config passes before (OrderMicro c x) cell word h = ap (λ (s : Step). s ∷ []) (single _ (Accept cell word) h)
-told-accept config passes before (Exchange arrival back) cell word h = go (is_some (open_order config passes before) && is_none (open_order config passes (Exchange arrival back ∷ before))) h where
-  go : (b : Bool) → Contains (cond b (End ∷ []) []) (Accept cell word) → cond b (End ∷ []) [] ≡ Accept cell word ∷ []
-  go true h = let bad : End ≡ Accept cell word = single End (Accept cell word) h in cc
-  go false h = absurd (none (Accept cell word) h)
-told-accept config passes before RestartHost cell word h = let bad : End ≡ Accept cell word = single End (Accept cell word) h in cc
-told-accept config passes before RestartDevice cell word h = let bad : Back ≡ Accept cell word = single Back (Accept cell word) h in cc
-told-accept config passes before (Check c) cell word h = absurd (none (Accept cell word) h)
-told-accept config passes before (Learn output) cell word h = absurd (none (Accept cell word) h)
-told-accept config passes before (Clear output) cell word h = absurd (none (Accept cell word) h)
-told-accept config passes before (Deliver arrival) cell word h = absurd (none (Accept cell word) h)
-told-accept config passes before (Finish acked) cell word h = absurd (none (Accept cell word) h)
-told-accept config passes before (Reading output code number) cell word h = absurd (none (Accept cell word) h)
+told-accept config passes before event cell word h = go (asked (now config passes before) event) h where
+  by_job : (job : host.Job) → Contains (accepts (order_of job)) (Accept cell word) → accepts (order_of job) ≡ Accept cell word ∷ []
+  by_job (host.Order c w) h = ap (λ (s : Step). s ∷ []) (single (Accept c w) (Accept cell word) h)
+  by_job job h = absurd (none (Accept cell word) h)
+
+  go : (o : Option host.Job) →
+      Contains (option_map_or (λ job. accepts (order_of job)) o (told_beside config passes before event)) (Accept cell word) →
+      option_map_or (λ job. accepts (order_of job)) o (told_beside config passes before event) ≡ Accept cell word ∷ []
+  go (Some job) h = by_job job h
+  go None h = told-nothing config passes before event cell word h
 
 -- what was accepted in steps that retell events was ordered among them
 later-ordered : (config : Config) (passes : ℕ) (event : Event) (events : List Event) (cell : Cell) (word : ℕ) → WasOrdered config passes events cell word → WasOrdered config passes (event ∷ events) cell word

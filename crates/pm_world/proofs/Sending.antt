@@ -1,6 +1,6 @@
 -- A world while the write of an order is being sent.
 use Rattle.std.proofs.Common.{◌≡◌, ℕ, ◌≤◌, Bool, true, false, not, cond, ◌||◌, eqb, Option, Some, None, option_map, refl, sym, ◌∙◌, ap, subst, ◌⊎◌, inl, inr, arith}
-use Rattle.std.specs.Prelude.{if◌then◌else◌, nat_le}
+use Rattle.std.specs.Prelude.{if◌then◌else◌}
 use Rattle.std.proofs.lemmas.Bool.{eq-eqb, cond-true}
 use Rattle.pm_table.specs.declared.cell.Cell.{Cell}
 use Rattle.pm_table.specs.declared.cell.Cell.TheVariants.{Out, Protect}
@@ -23,12 +23,12 @@ use Rattle.pm_world.specs.declared.event.Event.{Event}
 use Rattle.pm_world.specs.declared.event.Event.TheVariants.{Deliver}
 use Rattle.pm_world.specs.declared.event.Arrival.{Arrival}
 use Rattle.pm_world.specs.declared.event.Arrival.TheVariants.{Whole, Cut, Bytes}
-use Rattle.pm_world.specs.declared.stop.Cause.TheVariants.{Full, WrongKind, NotBetrayed}
+use Rattle.pm_world.specs.declared.stop.Cause.TheVariants.{WrongKind, NotBetrayed}
 use Rattle.pm_world.specs.Honest.{is_whole}
 use Rattle.pm_world.specs.Legal.{frame_of, heard_bytes, heard_ending, is_legal_hearing}
-use Rattle.pm_world.specs.State.{State, delivered, next, device_after, host_after, event_cause, event_limit, cause_of, delivery_cause, rule, hearing, IsTaken}
+use Rattle.pm_world.specs.State.{State, delivered, next, device_after, host_after, event_cause, delivery_cause, rule, hearing}
 use Rattle.pm_world.proofs.Deliveries.{WriteLaws, CanTake, whole-write, legal-write}
-use Rattle.pm_world.proofs.Lives.{or-none, rule-none}
+use Rattle.pm_world.proofs.Causes.{or-none, rule-none, not-false}
 
 -- a cell that was written has the new word, and every other cell its old one
 pub record MapLaws : Type 0 where
@@ -77,20 +77,12 @@ read-fits fits setup (Out output register) there = fits setup _ (reads_output ou
 read-fits fits setup Protect there = fits setup _ reads_protect
 
 -- one delivery
-pub taken-free : (s : State) (event : Event) → IsTaken s event → event_cause s event ≡ None
-unfolding cause_of
-taken-free s event taken = (or-none (rule (nat_le event_limit s.taken) Full) (event_cause s event) taken.free).1
-
-not-not : (b : Bool) → not b ≡ false → b ≡ true
-not-not true h = refl
-not-not false h = cc
-
 delivery-legal : (s : State) (arrival : Arrival) (message : Message) → sending_in s.host ≡ Some message → event_cause s (Deliver arrival) ≡ None →
     is_legal_hearing (frame_of s.host.setup.addr message) (heard_bytes (frame_of s.host.setup.addr message) arrival) (heard_ending message arrival) ≡ true
 delivery-legal s arrival message sending free =
     let none : delivery_cause s arrival (Some message) ≡ None = ap (delivery_cause s arrival) (sym sending) ∙ free in
     let legal = is_legal_hearing (frame_of s.host.setup.addr message) (heard_bytes (frame_of s.host.setup.addr message) arrival) (heard_ending message arrival) in
-    not-not legal (rule-none (not legal) NotBetrayed (or-none (rule (is_read_message message) WrongKind) (rule (not legal) NotBetrayed) none).1)
+    not-false legal (rule-none (not legal) NotBetrayed (or-none (rule (is_read_message message) WrongKind) (rule (not legal) NotBetrayed) none).1)
 
 pub told-nothing : (s : State) (arrival : Arrival) (sending : Option Message) → (delivered s arrival sending).told ≡ None
 told-nothing s arrival None = refl

@@ -26,18 +26,19 @@ use Rattle.pm_host.specs.Answers.{good_payload, good_word, good_mode, good_coeff
 use Rattle.pm_table.specs.Coefficients.{coefficients_of}
 use Rattle.pm_host.specs.Messages.{mode_read, coefficients_read}
 use Rattle.pm_host.specs.Sound.{IsStage, IsSound as IsSoundHost}
-use Rattle.pm_host.specs.Summary.{Summary, Turn, next as host_next, begins, finished, answered, read_back, checked, learned, mode_taken, mode_answered, coefficients_answered, another, ends, goes_on, writes, idle, marked, no_formats, stage_message}
+use Rattle.pm_host.specs.Summary.{Summary, Turn, next as host_next, begins, finished, answered, read_back, checked, learned, mode_taken, mode_answered, coefficients_answered, another, ends, goes_on, writes, idle, marked, no_formats, sending_in, stage_message}
 use Rattle.pm_host.specs.Marks.{Good}
 use Rattle.pm_host.specs.Transcript as host
 use Rattle.pm_world.specs.declared.event.Event.{Event}
-use Rattle.pm_world.specs.declared.event.Event.TheVariants.{Order, OrderMicro, Check, Learn, Clear, Deliver, Finish, Exchange, RestartDevice, RestartHost, Reading}
+use Rattle.pm_world.specs.declared.event.Event.TheVariants.{Deliver, Finish, Exchange, RestartHost}
 use Rattle.pm_world.specs.declared.event.Arrival.{Arrival}
 use Rattle.pm_world.specs.declared.event.Back.{Back}
 use Rattle.pm_world.specs.Honest.{IsSpelled}
 use Rattle.pm_world.specs.Legal.{frame_of, heard_bytes, heard_ending, answer_in, back_bytes}
-use Rattle.pm_world.specs.State.{State, micro_job, exchanged, host_after, next, event_cause, exchange_cause, answer_to}
+use Rattle.pm_world.specs.State.{State, asked, share_beside, exchanged, host_after, next, event_cause, exchange_cause, answer_to}
 use Rattle.pm_world.proofs.Learned.{DamageLaws, ToldTrue, AsksSo, Agree, IsTrueHost, from_some, good-faultless, legal-good, exchange-legal, mode-true, coefficients-true}
-use Rattle.pm_world.proofs.Sending.{next-deliver-host}
+use Rattle.pm_world.proofs.Causes.{asked-next, beside-next}
+use Rattle.pm_world.proofs.Sending.{told-nothing}
 
 -- one more format
 agree-set : (config : Config) (formats : List (Option Shape)) (output : ℕ) (shape : Shape) → Agree config formats → output < length formats → shape ≡ shape_for config output → Agree config (set formats output (Some shape))
@@ -207,17 +208,26 @@ exchange-true laws s arrival back (Some stage) stands is e free =
     (answered-true s.device.config (idle s.host) (Some stage) bytes stands.sound stands.host.formats is.formats asks inside
     (subst (λ a. ToldTrue s.device.config a (Some stage) bytes) (sym stands.addr) told))
 
--- one event
-pub next-true : DamageLaws → (s : State) (event : Event) → Stands s → IsTrueHost s.device.config s.host → event_cause s event ≡ None → IsTrueHost s.device.config (next s event).host
-unfolding next host_next
-next-true laws s (Order cell word) stands is free = begins-true s.device.config s.host (host.Order cell word) is.formats
-next-true laws s (OrderMicro cell x) stands is free = begins-true s.device.config s.host (micro_job s.host cell x) is.formats
-next-true laws s (Check cell) stands is free = begins-true s.device.config s.host (host.Check cell) is.formats
-next-true laws s (Learn output) stands is free = begins-true s.device.config s.host (host.Learn output) is.formats
-next-true laws s (Clear output) stands is free = begins-true s.device.config s.host (host.Clear output) is.formats
-next-true laws s (Deliver arrival) stands is free = subst (IsTrueHost s.device.config) (sym (next-deliver-host s arrival)) is
-next-true laws s (Finish acked) stands is free = finished-true s.device.config (idle s.host) s.host.stage acked is.formats is.asks
-next-true laws s (Exchange arrival back) stands is free = exchange-true laws s arrival back s.host.stage stands is refl free
-next-true laws s RestartDevice stands is free = is
-next-true laws s RestartHost stands is free = record { formats = agree-none s.device.config; asks = tt }
-next-true laws s (Reading output code word) stands is free = is
+-- one event: a job that it asks for is accepted, or it asks for none
+begun-true : (s : State) (event : Event) (job : host.Job) → IsTrueHost s.device.config s.host → asked s event ≡ Some job →
+    IsTrueHost s.device.config (next s event).host
+unfolding host_next
+begun-true s event job is e =
+    subst (λ (t : State). IsTrueHost s.device.config t.host) (sym (asked-next s event job e)) (begins-true s.device.config s.host job is.formats)
+
+beside-true : DamageLaws → (s : State) (event : Event) → Stands s → IsTrueHost s.device.config s.host → event_cause s event ≡ None →
+    IsTrueHost s.device.config (host_after s.host (share_beside s event).told)
+unfolding host_next
+beside-true laws s (Deliver arrival) stands is free =
+    subst (λ told. IsTrueHost s.device.config (host_after s.host told)) (sym (told-nothing s arrival (sending_in s.host))) is
+beside-true laws s (Finish acked) stands is free = finished-true s.device.config (idle s.host) s.host.stage acked is.formats is.asks
+beside-true laws s (Exchange arrival back) stands is free = exchange-true laws s arrival back s.host.stage stands is refl free
+beside-true laws s RestartHost stands is free = record { formats = agree-none s.device.config; asks = tt }
+beside-true laws s _ stands is free = is
+
+pub next-true : DamageLaws → (s : State) (event : Event) → Stands s → IsTrueHost s.device.config s.host → event_cause s event ≡ None →
+    IsTrueHost s.device.config (next s event).host
+next-true laws s event stands is free = go (asked s event) refl where
+  go : (o : Option host.Job) → asked s event ≡ o → IsTrueHost s.device.config (next s event).host
+  go None e = subst (λ (t : State). IsTrueHost s.device.config t.host) (sym (beside-next s event e)) (beside-true laws s event stands is free)
+  go (Some job) e = begun-true s event job is e

@@ -50,7 +50,8 @@ use Rattle.pm_world.specs.Setup.{setup_of}
 use Rattle.pm_world.specs.State.{State, share_of, exchanged, next, device_after, host_after, end_after, end_by}
 use Rattle.pm_world.proofs.Deliveries.{WriteLaws}
 use Rattle.pm_world.proofs.ReadBack.{ReadLaws, read-word}
-use Rattle.pm_world.proofs.Sending.{Fixed, MapLaws, Sends, deliver-sends, eight, read-fits, taken-free, told-nothing, write-fits}
+use Rattle.pm_world.proofs.Causes.{taken-free}
+use Rattle.pm_world.proofs.Sending.{Fixed, MapLaws, Sends, deliver-sends, eight, read-fits, told-nothing, write-fits}
 
 -- the read that ends an order
 turn-done : (h : Summary) (cell : Cell) (word : ℕ) (bytes : List ℕ) → h.stage ≡ Some (Reads cell word 0) → good_word h.setup.addr cell bytes ≡ Some word →

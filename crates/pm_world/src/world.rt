@@ -18,15 +18,15 @@ ghost use Rattle.pm_model.specs.Settings.{word_at};
 ghost use Rattle.pm_device.specs.Held.{value_for};
 ghost use Rattle.pm_world.specs.Retelling.{IsOrderRun, IsOwnWord, CommandsOwn};
 
-use crate::confirmed::confirmed_settings_are_held;
 use crate::event::{Arrival, Back, Event};
-use crate::honest::{frames_are_few, honest_orders_go_through, learned_formats_are_true, spell};
-use crate::laws::lives_are_followed;
+use crate::laws::{
+    confirmed_settings_are_held, frames_are_few, honest_orders_go_through,
+    learned_formats_are_true, lives_are_followed, lives_are_orders, spell,
+};
 use crate::legal::{
     answer_in, back_bytes, heard_bytes, heard_ending, is_heard_whole, is_legal_hearing,
     is_legal_return, needed_bytes,
 };
-use crate::orders::lives_are_orders;
 use crate::stop::{Cause, SetupFault, Stop};
 use pm_device::{Config, Converter, Ending};
 use pm_host::{Host, JobEnd, Step, Told, transcripts_are_followed};
@@ -91,26 +91,26 @@ impl World {
         })
     }
 
-    /// A new world, and then one event after another up to the first that isn't taken. `Err` is why
-    /// no world is made.
+    /// Makes a new world, and lets the events happen one after another, up to the first that isn't taken.
+    /// It gives the world after them, and where it stopped and why, or `None` where every event was
+    /// taken. `Err` is why no world is made.
     ///
-    /// Whatever was lost, cut, damaged, repeated or falsely acknowledged, and whichever end started
-    /// again: the converter's words are those of a run of the order machine that retells the taken
-    /// events (`orders`). In it exactly the orders are accepted, each in its place and with its word,
-    /// and an order takes only at a delivery between its acceptance and the end of its job. So each
-    /// cell that is there has its start word, or the word of an order that was taken for that very
-    /// cell (`own`); and what [`Converter::commanded`] answers of an output is the value of a word of
-    /// its own, or where that is above the value of its own VOUT_MAX, the latter (`commanded`). A word
-    /// that the host calls confirmed is the one that the converter holds, unless the converter
-    /// restarted since the host read the cell (`confirmed`).
+    /// The *taken events* are those before the stop, or all where there is none. Whatever was lost, cut,
+    /// damaged, repeated or falsely acknowledged, and whichever end started again:
     ///
-    /// What the clauses call the taken events are the first ones of the list, as many as the stop
-    /// says, or all of them; newest first, as lives are. The world is what its definition says of
-    /// them (`now`), each was taken (`all`), and the run stops exactly at the first event that has a
-    /// cause, with that cause (`stop`). No job sends more than twice as many frames as it has passes
-    /// (`few`), and an undisturbed order that WRITE_PROTECT allows ends done, confirmed and held
-    /// (`through`). A format that the host learned is the converter's (`formats`), and an order in
-    /// microvolts is that of the nearest word in it (`nearest`).
+    /// - `orders`: the converter's words are those of a run of the order machine that retells the taken
+    ///   events. In it exactly the orders are accepted, each in its place and with its word, and an order
+    ///   takes only at a delivery between its acceptance and the end of its job.
+    /// - `own`: each cell has its start word, or the word of an order for that very cell.
+    /// - `commanded`: each output commands the value of one of its own words, cut to its own VOUT_MAX.
+    /// - `confirmed`: a word that the host calls confirmed is the one that the converter holds, unless
+    ///   the converter restarted since the host read the cell.
+    /// - `few`: no job sends more than twice as many frames as it has passes.
+    /// - `through`: an undisturbed order that WRITE_PROTECT allows ends done, confirmed and held.
+    /// - `formats`, `nearest`: a format that the host learned is the converter's, and an order in
+    ///   microvolts is that of the nearest word in it.
+    /// - `now`, `all`, `stop`: the world is what its definition says of the taken events, each of them was
+    ///   taken, and the first other one has a cause, which is the stop's.
     pub fn run(c: Config, passes: u8, events: &[Event]) -> Result<(World, Option<Stop>), SetupFault>
         ensures fault { result_err result ≡ setup_fault c passes }
         ensures now { IfOk result (λ run.
@@ -135,17 +135,28 @@ impl World {
         ensures confirmed { IfOk result (λ run.
             ConfirmedIsHeld c passes (taken_events events.now run.1) run.0) }
     {
+        // These calls hand their laws to the prover, and do nothing else.
         lives_are_orders();
-        lives_are_followed();
         frames_are_few();
         honest_orders_go_through();
         learned_formats_are_true();
         confirmed_settings_are_held();
         spell(c);
-        let mut world = match World::new(c, passes) {
-            Ok(world) => world,
-            Err(fault) => return Err(fault),
-        };
+        World::lived(c, passes, events)
+    }
+
+    // A new world, and its life up to the first event that isn't taken.
+    fn lived(c: Config, passes: u8, events: &[Event]) -> Result<(World, Option<Stop>), SetupFault>
+        ensures fault { result_err result ≡ setup_fault c passes }
+        ensures sound { OnOk result (IsSound c × IsSetup (setup_of c passes)) }
+        ensures now { IfOk result (λ run.
+            run.0 ≡ now c passes (taken_events events.now run.1)) }
+        ensures all { IfOk result (λ run. AreTaken c passes (taken_events events.now run.1)) }
+        ensures stop { IfOk result (λ run. StopsAt c passes events.now run.1) }
+    {
+        // Hands its law to the prover.
+        lives_are_followed();
+        let mut world = World::new(c, passes)?;
         let stop = world.run_up(events);
         Ok((world, stop))
     }
@@ -234,70 +245,50 @@ impl World {
     fn order(&mut self, cell: Cell, word: u16) -> Result<(), Cause>
         ensures { Acts self.old (event.Order cell word) result self.new }
     {
-        transcripts_are_followed();
-        match self.host.order(cell, word) {
-            Ok(()) => {
-                self.end = None;
-                Ok(())
-            }
-            Err(fault) => Err(Cause::Host(fault)),
-        }
+        transcripts_are_followed(); // hands the prover that the host's setup stays
+        self.host.order(cell, word)?;
+        self.end = None;
+        Ok(())
     }
 
     // The host is asked to write a voltage, in microvolts.
     fn order_micro(&mut self, cell: Cell, microvolts: i64) -> Result<(), Cause>
         ensures { Acts self.old (event.OrderMicro cell microvolts) result self.new }
     {
-        transcripts_are_followed();
-        match self.host.order_micro(cell, microvolts) {
-            Ok(()) => {
-                self.end = None;
-                Ok(())
-            }
-            Err(fault) => Err(Cause::Host(fault)),
-        }
+        transcripts_are_followed(); // hands the prover that the host's setup stays
+        self.host.order_micro(cell, microvolts)?;
+        self.end = None;
+        Ok(())
     }
 
     // The host is asked to read a cell.
     fn check(&mut self, cell: Cell) -> Result<(), Cause>
         ensures { Acts self.old (event.Check cell) result self.new }
     {
-        transcripts_are_followed();
-        match self.host.check(cell) {
-            Ok(()) => {
-                self.end = None;
-                Ok(())
-            }
-            Err(fault) => Err(Cause::Host(fault)),
-        }
+        transcripts_are_followed(); // hands the prover that the host's setup stays
+        self.host.check(cell)?;
+        self.end = None;
+        Ok(())
     }
 
     // The host is asked to read a format.
     fn learn(&mut self, output: u8) -> Result<(), Cause>
         ensures { Acts self.old (event.Learn output) result self.new }
     {
-        transcripts_are_followed();
-        match self.host.learn(output) {
-            Ok(()) => {
-                self.end = None;
-                Ok(())
-            }
-            Err(fault) => Err(Cause::Host(fault)),
-        }
+        transcripts_are_followed(); // hands the prover that the host's setup stays
+        self.host.learn(output)?;
+        self.end = None;
+        Ok(())
     }
 
     // The host is asked to clear latched status.
     fn clear(&mut self, output: u8) -> Result<(), Cause>
         ensures { Acts self.old (event.Clear output) result self.new }
     {
-        transcripts_are_followed();
-        match self.host.clear(output) {
-            Ok(()) => {
-                self.end = None;
-                Ok(())
-            }
-            Err(fault) => Err(Cause::Host(fault)),
-        }
+        transcripts_are_followed(); // hands the prover that the host's setup stays
+        self.host.clear(output)?;
+        self.end = None;
+        Ok(())
     }
 
     // The converter hears the write that is being sent.
