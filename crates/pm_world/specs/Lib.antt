@@ -5,6 +5,7 @@ pub mod Legal
 pub mod Life
 pub mod Retelling
 pub mod Confirmed
+pub mod Possible
 pub mod Honest
 pub mod Damage
 pub mod Laws
