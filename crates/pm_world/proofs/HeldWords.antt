@@ -68,22 +68,22 @@ pub record ConfirmedLaws : Type 0 where
       AreTold (setup_of config passes) (life config passes events).entries
 
 -- the order that is open: its word is possible, and no word of its cell is confirmed
-record IsPending (setup : host.Setup) (entries : List host.Entry) (order : PendingOrder) : Type 0 where
-  there : IsCell 8 order.cell
-  unknown : standing_of (marks setup entries) order.cell ≡ Unknown
-  possible : is_possible order.word (possible_of (marks setup entries) order.cell) ≡ true
+pub record IsPending (setup : host.Setup) (entries : List host.Entry) (order : PendingOrder) : Type 0 where
+  pub there : IsCell 8 order.cell
+  pub unknown : standing_of (marks setup entries) order.cell ≡ Unknown
+  pub possible : is_possible order.word (possible_of (marks setup entries) order.cell) ≡ true
 
 -- what is known of a world and of what its host was told
-record Knows (s : State) (setup : host.Setup) (entries : List host.Entry) : Type 0 where
-  addr : s.host.setup.addr ≡ s.device.config.addr
-  address : setup.addr ≡ s.device.config.addr
+pub record Knows (s : State) (setup : host.Setup) (entries : List host.Entry) : Type 0 where
+  pub addr : s.host.setup.addr ≡ s.device.config.addr
+  pub address : setup.addr ≡ s.device.config.addr
   -- the cell that the open job reads is there, and its read is being sent
-  asks : (read : Cell) → read_by (host.open_job setup entries) (host.told_since entries) ≡ Some read →
+  pub asks : (read : Cell) → read_by (host.open_job setup entries) (host.told_since entries) ≡ Some read →
       (sending_in s.host ≡ Some (cell_read read)) × IsCell s.device.config.count read
-  accepted : (cell : Cell) → IsCell s.device.config.count cell → cell_accepts cell (word_at s.device.words cell) ≡ true
-  fits : (message : Message) → sending_in s.host ≡ Some message → fits_layout message ≡ true
-  pending : (order : PendingOrder) → stage_order s.host.stage ≡ Some order → IsPending setup entries order
-  are : AreWords s.device.words
+  pub accepted : (cell : Cell) → IsCell s.device.config.count cell → cell_accepts cell (word_at s.device.words cell) ≡ true
+  pub fits : (message : Message) → sending_in s.host ≡ Some message → fits_layout message ≡ true
+  pub pending : (order : PendingOrder) → stage_order s.host.stage ≡ Some order → IsPending setup entries order
+  pub are : AreWords s.device.words
 
 -- a good answer that is legal has the cell's word
 good-read : DamageLaws → (s : State) (arrival : Arrival) (back : Back) (read : Cell) (word : ℕ) → s.host.setup.addr ≡ s.device.config.addr →
@@ -98,7 +98,7 @@ good-read laws s arrival back read word addr there accepted fits free good =
     (sym (read-word laws.read s.device read there accepted fits) ∙ (ap (good_word s.device.config.addr read) (sym same) ∙ good))
 
 -- what comes back is true of the cell that is read
-reads-true : DamageLaws → (s : State) (setup : host.Setup) (entries : List host.Entry) (arrival : Arrival) (back : Back) (message : Message) → Knows s setup entries →
+pub reads-true : DamageLaws → (s : State) (setup : host.Setup) (entries : List host.Entry) (arrival : Arrival) (back : Back) (message : Message) → Knows s setup entries →
     sending_in s.host ≡ Some message → exchange_cause s arrival back (Some message) ≡ None →
     ReadsTrue setup entries (back_bytes (answer_to s.device s.host.setup.addr message arrival) back) s.device.words
 reads-true laws s setup entries arrival back message knows sending free = λ read word asked good.
@@ -224,7 +224,7 @@ stage-ordering s stage order is e = by_stage stage is e where
   by_stage (Some (Reads cell word pass)) is e = by_order cell word pass is e
   by_stage stage is e = absurd (none-some order e)
 
-knows : ConfirmedLaws → (config : Config) (passes : ℕ) (events : List Event) → IsSound config → IsSetup (setup_of config passes) → AreTaken config passes events →
+pub knows : ConfirmedLaws → (config : Config) (passes : ℕ) (events : List Event) → IsSound config → IsSetup (setup_of config passes) → AreTaken config passes events →
     Knows (now config passes events) (setup_of config passes) (life config passes events).entries
 unfolding now state_of host_now device_now stage_of
 knows laws config passes events sound made taken =
@@ -251,7 +251,7 @@ knows laws config passes events sound made taken =
     }
 
 -- the life after one more event
-entries-more : (config : Config) (passes : ℕ) (before : List Event) (event : Event) →
+pub entries-more : (config : Config) (passes : ℕ) (before : List Event) (event : Event) →
     (life config passes (event ∷ before)).entries ≡ option_to_list (share_of (now config passes before) event).told ++ (life config passes before).entries
 unfolding life now
 entries-more config passes before event = refl
@@ -266,7 +266,7 @@ nothing-known : (config : Config) (passes : ℕ) (cell : Cell) (restarted : Bool
 unfolding life possible_of
 nothing-known config passes cell restarted words = record { held = λ word confirmed fresh. cc; among = λ fresh. refl }
 
-life-known : ConfirmedLaws → (config : Config) (passes : ℕ) (events : List Event) (cell : Cell) → IsSound config → IsSetup (setup_of config passes) → AreTaken config passes events → IsCell config.count cell →
+pub life-known : ConfirmedLaws → (config : Config) (passes : ℕ) (events : List Event) (cell : Cell) → IsSound config → IsSetup (setup_of config passes) → AreTaken config passes events → IsCell config.count cell →
     IsKnown (marks (setup_of config passes) (life config passes events).entries) cell (restarted_since config passes cell events) (now config passes events).device.words
 life-known laws config passes [] cell sound made taken there = nothing-known config passes cell _ _
 life-known laws config passes (event ∷ before) cell sound made taken there =

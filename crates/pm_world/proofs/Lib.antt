@@ -16,6 +16,7 @@ mod OwnWords
 mod ReadBack
 mod Retellings
 mod Runs
+mod Seen
 mod Sending
 mod Standings
 mod TakenWhole

@@ -47,7 +47,7 @@ protect-allowed : (word : ℕ) → is_protection word ≡ true → is_allowed wo
 unfolding line_of
 protect-allowed word h = four (eqb word 0x00) (eqb word 0x20) (eqb word 0x40) (eqb word 0x80) h
 
-same_cell-itself : (cell : Cell) → same_cell cell cell ≡ true
+pub same_cell-itself : (cell : Cell) → same_cell cell cell ≡ true
 same_cell-itself (Out output register) = rw (eq-eqb output output refl, eq-eqb (register_number register) (register_number register) refl) refl
 same_cell-itself Protect = refl
 

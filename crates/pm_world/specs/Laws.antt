@@ -27,6 +27,7 @@ use Rattle.pm_world.specs.Damage.{AreOthers, IsBetrayedDamage}
 use Rattle.pm_world.specs.Honest.{AreFewFrames, FormatsAgree, IsSpelled, MicrosAreNearest, OrdersGoThrough, honest, sent_by}
 use Rattle.pm_world.specs.Legal.{answer_in, frame_of, is_legal_hearing, is_legal_return}
 use Rattle.pm_world.specs.Life.{AreTaken, AreTakenFrom, after_all, life, now}
+use Rattle.pm_world.specs.Possible.{PossibleIsHeld, SeenIsTrue}
 use Rattle.pm_world.specs.Retelling.{CommandsOwn, IsOrderRun, IsOwnWord}
 use Rattle.pm_world.specs.Setup.{setup_of, start}
 use Rattle.pm_world.specs.State.{IsTaken, answer_to, event_limit, next}
@@ -96,6 +97,16 @@ abbrev pub ConfirmedSettingsAreHeld : Type 0
 ConfirmedSettingsAreHeld = (config : Config) (passes : ℕ) (events : List Event) →
     IsSound config → IsSetup (setup_of config passes) → AreTaken config passes events →
     ConfirmedIsHeld config passes events (now config passes events)
+
+-- Where the host lists the words that are possible for a cell, the converter's is among them, unless that
+-- restarted since the host's last good answer for the cell. A restart that the host saw happened.
+pub record PossibleWordsAreHeld : Type 0 where
+  pub held : (config : Config) (passes : ℕ) (events : List Event) →
+      IsSound config → IsSetup (setup_of config passes) → AreTaken config passes events →
+      PossibleIsHeld config passes events (now config passes events)
+  pub seen : (config : Config) (passes : ℕ) (events : List Event) →
+      IsSound config → IsSetup (setup_of config passes) → AreTaken config passes events →
+      SeenIsTrue config passes events (now config passes events)
 
 -- Damage that the packet error code betrays is legal: of a write, of an answer, and of a request whose answer
 -- comes back whole.

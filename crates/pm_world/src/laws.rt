@@ -7,6 +7,7 @@ mod formats;
 mod honest;
 mod lives;
 mod orders;
+mod possible;
 
 pub use confirmed::confirmed_settings_are_held;
 pub use damage::{betrayed_damage_is_legal, betrayed_damage_is_taken};
@@ -15,3 +16,4 @@ pub(crate) use formats::spell;
 pub use honest::{frames_are_few, honest_orders_go_through};
 pub use lives::lives_are_followed;
 pub use orders::lives_are_orders;
+pub use possible::possible_words_are_held;

@@ -3,7 +3,8 @@ ghost use Rattle.std.specs.Result.{result_err};
 ghost use Rattle.pm_device.specs.Start.{IsSound};
 ghost use Rattle.pm_host.specs.Refusals.{IsSetup, may_come};
 ghost use Rattle.pm_world.specs.Confirmed.{ConfirmedIsHeld};
-ghost use Rattle.pm_world.specs.Honest.{AreFewFrames, FormatsAgree, MicrosAreNearest, OrdersGoThrough};
+ghost use Rattle.pm_world.specs.Honest.{AreFewFrames, FormatsAgree, IsSpelled, MicrosAreNearest, OrdersGoThrough};
+ghost use Rattle.pm_world.specs.Possible.{PossibleIsHeld, SeenIsTrue};
 ghost use Rattle.pm_world.specs.Setup.{setup_of, start, setup_fault};
 ghost use Rattle.pm_world.specs.Life.{now, taken_events, after_all, AreTaken, AreTakenFrom, StopsAt, StopsFrom};
 ghost use Rattle.pm_world.specs.State.{Steps, Acts, shared, tells, hears};
@@ -21,7 +22,7 @@ ghost use Rattle.pm_world.specs.Retelling.{IsOrderRun, IsOwnWord, CommandsOwn};
 use crate::event::{Arrival, Back, Event};
 use crate::laws::{
     confirmed_settings_are_held, frames_are_few, honest_orders_go_through,
-    learned_formats_are_true, lives_are_followed, lives_are_orders, spell,
+    learned_formats_are_true, lives_are_followed, lives_are_orders, possible_words_are_held, spell,
 };
 use crate::legal::{
     answer_in, back_bytes, heard_bytes, heard_ending, is_heard_whole, is_legal_hearing,
@@ -67,13 +68,14 @@ impl Model for World {
 
 impl World {
     /// A world whose two ends start: a converter of this configuration, and a host for its address
-    /// and its outputs with so many passes. The converter's fault comes before the host's.
+    /// and its outputs, with this number of passes. The converter's fault comes before the host's.
     #[tactic(auto, unfolding(crate::specs::Setup::start, crate::specs::Setup::setup_fault))]
     pub fn new(c: Config, passes: u8) -> Result<World, SetupFault>
         ensures made { IfOk result (λ world. world ≡ start c passes) }
-        ensures sound { OnOk result (IsSound c × IsSetup (setup_of c passes)) }
+        ensures sound { OnOk result (IsSound c × IsSetup (setup_of c passes) × IsSpelled c) }
         ensures fault { result_err result ≡ setup_fault c passes }
     {
+        spell(c); // hands the prover that the configuration's numbers are those of bytes
         let device = match Converter::new(c) {
             Ok(device) => device,
             Err(fault) => return Err(SetupFault::Device(fault)),
@@ -105,12 +107,18 @@ impl World {
     /// - `commanded`: each output commands the value of one of its own words, cut to its own VOUT_MAX.
     /// - `confirmed`: a word that the host calls confirmed is the one that the converter holds, unless
     ///   the converter restarted since the host read the cell.
+    /// - `possible`: where the host lists the words that are possible for a cell, the converter's is among
+    ///   them, unless the converter restarted since the host's last good answer for the cell.
+    /// - `seen`: a good answer that the host didn't think possible comes only where the converter
+    ///   restarted since the one before it for the same cell. So where the host saw a restart, there
+    ///   was one since the host started.
     /// - `few`: no job sends more than twice as many frames as it has passes.
     /// - `through`: an undisturbed order that WRITE_PROTECT allows ends done, confirmed and held.
     /// - `formats`, `nearest`: a format that the host learned is the converter's, and an order in
     ///   microvolts is that of the nearest word in it.
     /// - `now`, `all`, `stop`: the world is what its definition says of the taken events, each of them was
     ///   taken, and the first other one has a cause, which is the stop's.
+    /// - `sound`: what the laws ask, by which all this is had of further calls of [`World::step`] too.
     pub fn run(c: Config, passes: u8, events: &[Event]) -> Result<(World, Option<Stop>), SetupFault>
         ensures fault { result_err result ≡ setup_fault c passes }
         ensures now { IfOk result (λ run.
@@ -134,6 +142,11 @@ impl World {
             MicrosAreNearest c passes (taken_events events.now run.1)) }
         ensures confirmed { IfOk result (λ run.
             ConfirmedIsHeld c passes (taken_events events.now run.1) run.0) }
+        ensures possible { IfOk result (λ run.
+            PossibleIsHeld c passes (taken_events events.now run.1) run.0) }
+        ensures seen { IfOk result (λ run.
+            SeenIsTrue c passes (taken_events events.now run.1) run.0) }
+        ensures sound { OnOk result (IsSound c × IsSetup (setup_of c passes) × IsSpelled c) }
     {
         // These calls hand their laws to the prover, and do nothing else.
         lives_are_orders();
@@ -141,14 +154,14 @@ impl World {
         honest_orders_go_through();
         learned_formats_are_true();
         confirmed_settings_are_held();
-        spell(c);
+        possible_words_are_held();
         World::lived(c, passes, events)
     }
 
     // A new world, and its life up to the first event that isn't taken.
     fn lived(c: Config, passes: u8, events: &[Event]) -> Result<(World, Option<Stop>), SetupFault>
         ensures fault { result_err result ≡ setup_fault c passes }
-        ensures sound { OnOk result (IsSound c × IsSetup (setup_of c passes)) }
+        ensures sound { OnOk result (IsSound c × IsSetup (setup_of c passes) × IsSpelled c) }
         ensures now { IfOk result (λ run.
             run.0 ≡ now c passes (taken_events events.now run.1)) }
         ensures all { IfOk result (λ run. AreTaken c passes (taken_events events.now run.1)) }
@@ -162,14 +175,16 @@ impl World {
     }
 
     /// Lets an event happen. `Err` is the first cause against it, in the order of [`Cause`]; then
-    /// nothing has changed.
+    /// nothing has changed (`taken`). The host stays that of the same outputs (`kept`).
     #[tactic(auto, unfolding(crate::specs::State::cause_of, crate::specs::State::next))]
     pub fn step(&mut self, e: &Event) -> Result<(), Cause>
-        ensures { Steps self.old e.now result self.new }
+        ensures taken { Steps self.old e.now result self.new }
+        ensures kept { self.new.host.setup ≡ self.old.host.setup }
     {
         if self.taken >= EVENT_LIMIT {
             return Err(Cause::Full);
         }
+        transcripts_are_followed(); // hands the prover that the host's setup stays
         self.act(e)?;
         self.taken += 1;
         Ok(())
