@@ -3,6 +3,7 @@ use Rattle.std.proofs.Common.{◌≡◌, ℕ, suc, ◌+◌, ◌-◌, ◌*◌, �
 use Rattle.std.proofs.lemmas.Bool.{eq-eqb, ne_eqb, and_from, eqb-true}
 use Rattle.std.proofs.lemmas.List.{take-append-le, take_all}
 use Rattle.std.specs.Prelude.{slice_range}
+use Rattle.pm_table.specs.Codes as command
 use Rattle.pm_table.specs.Commands.{payload_length}
 use Rattle.pm_frame.specs.declared.message.Message.TheVariants.{PagePlusWrite, ReadCommand, ReadCoefficients}
 use Rattle.pm_frame.specs.declared.message.Payload.{Payload}
@@ -55,7 +56,7 @@ fits-plain code (Byte byte) plain h = and_from _ _ plain (eq-eqb _ _ h)
 fits-plain code (Word word) plain h = and_from _ _ plain (eq-eqb _ _ h)
 
 -- the message that a plain write's bytes are
-pub message_in-plain : (first code : ℕ) (payload : List ℕ) (last : ℕ) → eqb code 0x05 ≡ false → eqb code 0x06 ≡ false → eqb code 0x30 ≡ false → message_in (first ∷ code ∷ (payload ++ last ∷ [])) ≡ plain_write code (payload_in payload)
+pub message_in-plain : (first code : ℕ) (payload : List ℕ) (last : ℕ) → eqb code command.page_plus_write ≡ false → eqb code command.page_plus_read ≡ false → eqb code command.coefficients ≡ false → message_in (first ∷ code ∷ (payload ++ last ∷ [])) ≡ plain_write code (payload_in payload)
 unfolding message_in
 message_in-plain first code payload last not_05 not_06 not_30 =
     let many : eqb (length (first ∷ code ∷ (payload ++ last ∷ []))) 2 ≡ false = eqb-below 2 _ (omega (arith, length-append payload (last ∷ []))) in
@@ -64,10 +65,10 @@ message_in-plain first code payload last not_05 not_06 not_30 =
     rw (not_05, not_06, not_30, many) (ap (λ bytes. plain_write code (payload_in bytes)) between)
 
 -- the message that the bytes of a PAGE_PLUS_WRITE are
-pub message_in-carried : (first count page code : ℕ) (payload : List ℕ) (last : ℕ) → message_in (first ∷ 0x05 ∷ count ∷ page ∷ code ∷ (payload ++ last ∷ [])) ≡ PagePlusWrite page code (payload_in payload)
+pub message_in-carried : (first count page code : ℕ) (payload : List ℕ) (last : ℕ) → message_in (first ∷ command.page_plus_write ∷ count ∷ page ∷ code ∷ (payload ++ last ∷ [])) ≡ PagePlusWrite page code (payload_in payload)
 unfolding message_in
 message_in-carried first count page code payload last =
-    let between : slice_range (first ∷ 0x05 ∷ count ∷ page ∷ code ∷ (payload ++ last ∷ [])) 5 (length (first ∷ 0x05 ∷ count ∷ page ∷ code ∷ (payload ++ last ∷ [])) - 1) ≡ payload =
+    let between : slice_range (first ∷ command.page_plus_write ∷ count ∷ page ∷ code ∷ (payload ++ last ∷ [])) 5 (length (first ∷ command.page_plus_write ∷ count ∷ page ∷ code ∷ (payload ++ last ∷ [])) - 1) ≡ payload =
     take-front payload last _ (omega (arith, length-append payload (last ∷ []))) in
     ap (λ bytes. PagePlusWrite page code (payload_in bytes)) between
 
@@ -91,28 +92,28 @@ message_payload-plain_write code (Byte byte) = refl
 message_payload-plain_write code (Word word) = refl
 
 -- the code of a packet that isn't PAGE_PLUS
-pub message_code-other : (bytes : List ℕ) → (get_or bytes 1 0 ≡ 0x05 → ⊥) → (get_or bytes 1 0 ≡ 0x06 → ⊥) → message_code (message_in bytes) ≡ get_or bytes 1 0
+pub message_code-other : (bytes : List ℕ) → (get_or bytes 1 0 ≡ command.page_plus_write → ⊥) → (get_or bytes 1 0 ≡ command.page_plus_read → ⊥) → message_code (message_in bytes) ≡ get_or bytes 1 0
 unfolding message_in
 message_code-other bytes h k =
     let not_05 = ne_eqb _ _ h in
     let not_06 = ne_eqb _ _ k in
-    rw (not_05, not_06) (go (eqb (get_or bytes 1 0) 0x30) refl (eqb (length bytes) 2))
+    rw (not_05, not_06) (go (eqb (get_or bytes 1 0) command.coefficients) refl (eqb (length bytes) 2))
   where
-    go : (coefficients : Bool) → eqb (get_or bytes 1 0) 0x30 ≡ coefficients → (two : Bool)
+    go : (coefficients : Bool) → eqb (get_or bytes 1 0) command.coefficients ≡ coefficients → (two : Bool)
         → message_code (cond coefficients (ReadCoefficients (get_or bytes 3 0) (get_or bytes 4 0)) (cond two (ReadCommand (get_or bytes 1 0)) (plain_write (get_or bytes 1 0) (payload_in (slice_range bytes 2 (length bytes - 1)))))) ≡ get_or bytes 1 0
     go true is two = sym (eqb-true _ _ is)
     go false is true = refl
     go false is false = message_code-plain _ (payload_in (slice_range bytes 2 (length bytes - 1)))
 
 -- the payload of a PAGE_PLUS_WRITE
-pub message_payload-carried : (bytes : List ℕ) → get_or bytes 1 0 ≡ 0x05 → length bytes ≤ 8 → get_or bytes 5 0 < 256 → message_payload (message_in bytes) ≡ slice_range bytes 5 (length bytes - 1)
+pub message_payload-carried : (bytes : List ℕ) → get_or bytes 1 0 ≡ command.page_plus_write → length bytes ≤ 8 → get_or bytes 5 0 < 256 → message_payload (message_in bytes) ≡ slice_range bytes 5 (length bytes - 1)
 unfolding message_in
 message_payload-carried bytes is short low =
     let is_05 = eq-eqb _ _ is in
     rw is_05 (bytes-payload_in (slice_range bytes 5 (length bytes - 1)) (short_part bytes 5 (omega arith)) (low_part bytes 5 low))
 
 -- the payload of a plain write
-pub message_payload-plain : (bytes : List ℕ) → (get_or bytes 1 0 ≡ 0x05 → ⊥) → (get_or bytes 1 0 ≡ 0x06 → ⊥) → (get_or bytes 1 0 ≡ 0x30 → ⊥) → (length bytes ≡ 2 → ⊥) → length bytes ≤ 5 → get_or bytes 2 0 < 256 → message_payload (message_in bytes) ≡ slice_range bytes 2 (length bytes - 1)
+pub message_payload-plain : (bytes : List ℕ) → (get_or bytes 1 0 ≡ command.page_plus_write → ⊥) → (get_or bytes 1 0 ≡ command.page_plus_read → ⊥) → (get_or bytes 1 0 ≡ command.coefficients → ⊥) → (length bytes ≡ 2 → ⊥) → length bytes ≤ 5 → get_or bytes 2 0 < 256 → message_payload (message_in bytes) ≡ slice_range bytes 2 (length bytes - 1)
 unfolding message_in
 message_payload-plain bytes h k l m short low =
     let not_05 = ne_eqb _ _ h in

@@ -3,10 +3,13 @@ use Rattle.std.proofs.Common.{◌≡◌, ℕ, ◌-◌, ◌<◌, ◌≤◌, Bool,
 use Rattle.std.proofs.lemmas.Bool.{eq-eqb, ne_eqb, eqb-true, not-false, or_parts, or_from, not_from_true, le-ltb, ltb-false}
 use Rattle.std.proofs.lemmas.List.{take-append-le, get_or-append_right, take_all}
 use Rattle.std.specs.Option.{option_or}
+use Rattle.pm_frame.specs.declared.row.Direction.{Direction}
 use Rattle.pm_frame.specs.declared.fault.FrameFault.{FrameFault}
-use Rattle.pm_frame.specs.declared.fault.FrameFault.TheVariants.{NotOurs, Short, Long, WrongPec}
-use Rattle.pm_frame.specs.Fault.{rule, address_fault, opening_fault, length_fault, pec_fault}
+use Rattle.pm_frame.specs.declared.fault.FrameFault.TheVariants.{NotOurs, Short, Long, WrongPec, UnknownCode, WrongDirection, Nested}
+use Rattle.pm_frame.specs.Fault.{rule, address_fault, opening_fault, length_fault, pec_fault, codes_of, carried_fault, plain_fault}
+use Rattle.pm_frame.specs.Layout.{is_carried}
 use Rattle.pm_frame.specs.Pec.{pec_of}
+use Rattle.pm_frame.proofs.Codes.{codes_of-is_known}
 
 pub or_none : {X : Type 0} (a b : Option X) → option_or a b ≡ None → (a ≡ None) × (b ≡ None)
 or_none None b h = (refl, h)
@@ -84,3 +87,29 @@ pec_fault-none before front = pec_fault-last before front _ ∙ none_rule _ (Wro
 pub pec_fault-found : (before front : List ℕ) (last : ℕ) → pec_fault before (front ++ last ∷ []) ≡ None → last ≡ pec_of (before ++ front)
 pec_fault-found before front last h =
     eqb-true _ _ (not-false _ (rule_none _ (WrongPec (length front)) (sym (pec_fault-last before front last) ∙ h)))
+
+-- a plain code has no fault exactly where it goes this way
+pub plain_fault-none : (direction : Direction) (code : ℕ) → codes_of direction code ≡ true → plain_fault direction code ≡ None
+unfolding plain_fault
+plain_fault-none direction code h =
+    none_or _ _ (none_rule _ (UnknownCode 1) (not_from_true _ (codes_of-is_known direction code h)))
+    (none_or _ _ (none_rule _ (WrongDirection 1) (not_from_true _ h)) refl)
+
+pub plain_fault-found : (direction : Direction) (code : ℕ) → plain_fault direction code ≡ None → codes_of direction code ≡ true
+unfolding plain_fault
+plain_fault-found direction code h = not-false _ (rule_none _ (WrongDirection 1) (or_none _ _ (or_none _ _ h).1).0)
+
+-- a carried code has no fault exactly where PAGE_PLUS carries it and it goes this way
+pub carried_fault-none : (direction : Direction) (code : ℕ) → is_carried code ≡ true → codes_of direction code ≡ true → carried_fault direction code ≡ None
+unfolding carried_fault
+carried_fault-none direction code carried h =
+    none_or _ _ (none_rule _ (Nested 4) (not_from_true _ carried))
+    (none_or _ _ (none_rule _ (UnknownCode 4) (not_from_true _ (codes_of-is_known direction code h)))
+    (none_or _ _ (none_rule _ (WrongDirection 4) (not_from_true _ h)) refl))
+
+pub carried_fault-found : (direction : Direction) (code : ℕ) → carried_fault direction code ≡ None → (is_carried code ≡ true) × (codes_of direction code ≡ true)
+unfolding carried_fault
+carried_fault-found direction code h =
+    let nested = or_none _ _ h in
+    let unknown = or_none _ _ nested.1 in
+    (not-false _ (rule_none _ (Nested 4) nested.0), not-false _ (rule_none _ (WrongDirection 4) (or_none _ _ unknown.1).0))

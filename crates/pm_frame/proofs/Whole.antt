@@ -1,13 +1,14 @@
 -- A faultless packet of the host has as many bytes as a view of it needs.
 use Rattle.std.proofs.Common.{◌≡◌, ℕ, ◌≤◌, true, false, List, [], ◌∷◌, ◌++◌, length, length-append, refl, sym, arith, subst}
 use Rattle.std.proofs.lemmas.Bool.{eqb-false, and_parts, or_parts, not-true, false≢true}
+use Rattle.pm_table.specs.Codes as command
 use Rattle.pm_frame.specs.declared.message.Message.{Message}
 use Rattle.pm_frame.specs.declared.message.Message.TheVariants.{SendByte, WriteByte, WriteWord, PagePlusWrite, ReadCommand, PagePlusRead, ReadCoefficients}
 use Rattle.pm_frame.specs.declared.message.Payload.{Payload}
 use Rattle.pm_frame.specs.declared.message.Payload.TheVariants.{Empty, Byte, Word}
 use Rattle.pm_frame.specs.Layout.{AreBytes, IsWrite, IsRequest, payload_bytes, with_pec, sent, write_address, is_plain_write, fits_layout, is_read_message}
 use Rattle.pm_frame.specs.View.{IsWhole}
-use Rattle.pm_frame.proofs.Codes.{written-is_not_06, written-is_not_30, read-is_not_05}
+use Rattle.pm_frame.proofs.Codes.{written-is_no_page_plus_read, written-is_no_coefficients, read-is_no_page_plus_write}
 
 payload_bytes-short : (payload : Payload) → length (payload_bytes payload) ≤ 2
 payload_bytes-short Empty = omega arith
@@ -23,12 +24,12 @@ plain-whole first code payload last short plain are_bytes =
       two = omega arith;
       carries = λ e. absurd (eqb-false _ _ (not-true _ parts.1) e);
       carries_word = λ e. absurd (eqb-false _ _ (not-true _ parts.1) e);
-      reads_page = λ e. absurd (eqb-false _ _ (written-is_not_06 code parts.0) e);
-      reads_coefficients = λ e. absurd (eqb-false _ _ (written-is_not_30 code parts.0) e);
+      reads_page = λ e. absurd (eqb-false _ _ (written-is_no_page_plus_read code parts.0) e);
+      reads_coefficients = λ e. absurd (eqb-false _ _ (written-is_no_coefficients code parts.0) e);
       plain = λ e. omega arith;
     }
 
-carried-whole : (first count page code : ℕ) (payload : List ℕ) (last : ℕ) → length payload ≤ 2 → AreBytes (first ∷ 0x05 ∷ count ∷ page ∷ code ∷ (payload ++ last ∷ [])) → IsWhole (first ∷ 0x05 ∷ count ∷ page ∷ code ∷ (payload ++ last ∷ []))
+carried-whole : (first count page code : ℕ) (payload : List ℕ) (last : ℕ) → length payload ≤ 2 → AreBytes (first ∷ command.page_plus_write ∷ count ∷ page ∷ code ∷ (payload ++ last ∷ [])) → IsWhole (first ∷ command.page_plus_write ∷ count ∷ page ∷ code ∷ (payload ++ last ∷ []))
 carried-whole first count page code payload last short are_bytes =
     let more = length-append payload (last ∷ []) in
     record {
@@ -65,7 +66,7 @@ request-whole addr message bytes h are_bytes = subst IsWhole (sym h.spelled) (go
       record {
         are_bytes = are_bytes;
         two = omega arith;
-        carries = λ e. absurd (eqb-false _ _ (read-is_not_05 code parts.0) e);
+        carries = λ e. absurd (eqb-false _ _ (read-is_no_page_plus_write code parts.0) e);
         carries_word = λ e. omega arith;
         reads_page = λ e. absurd (eqb-false _ _ others.0 e);
         reads_coefficients = λ e. absurd (eqb-false _ _ others.1 e);

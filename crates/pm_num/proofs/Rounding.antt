@@ -5,7 +5,7 @@ use Rattle.std.proofs.lemmas.Int.{ints, by_lt_z, to_z-of_z}
 use mir.Syntax.{w128}
 use mir.Val.{SFits, to_z, of_z}
 use Rattle.pm_num.specs.Steps.{IsFloor, IsRounded}
-use Rattle.pm_num.specs.Laws.Integers.{lt-times}
+use Rattle.pm_num.specs.Lemmas.Integers.{lt-times}
 
 -- The quotient whose remainder is not negative is the floor, for a positive divisor.
 pub floor-int_div_euclid : (a d : ℤ) → pos 0 <ℤ d → IsFloor a d (int_div_euclid a d)
@@ -18,14 +18,17 @@ floor-int_div_euclid (negsuc a) (pos d) h =
     record { reached = omega (arith, ints); next_above = omega (arith, ints) }
 
 -- No whole multiple of the divisor is nearer than the rounded one,
-pub nearest_from_rounded : (a q : ℤ) (d : ℕ) → IsRounded a (pos d) q → (j : ℤ) → unsigned_abs (a -ℤ q *ℤ pos d) ≤ unsigned_abs (a -ℤ j *ℤ pos d)
+pub nearest_from_rounded : (a q : ℤ) (d : ℕ) → IsRounded a (pos d) q → (j : ℤ)
+    → unsigned_abs (a -ℤ q *ℤ pos d) ≤ unsigned_abs (a -ℤ j *ℤ pos d)
 nearest_from_rounded a q d h j =
     by_lt_z j q
     (λ less. let k = lt-times j q d less in omega (arith, ints))
-    (λ at_most. by_lt_z q j (λ less. let k = lt-times q j d less in omega (arith, ints)) (λ p. let same : q ≡ j = omega (arith, ints) in let e = ap (λ (z : ℤ). unsigned_abs (a -ℤ z *ℤ pos d)) same in omega arith))
+    (λ at_most. by_lt_z q j (λ less. let k = lt-times q j d less in omega (arith, ints))
+        (λ p. let same : q ≡ j = omega (arith, ints) in let e = ap (λ (z : ℤ). unsigned_abs (a -ℤ z *ℤ pos d)) same in omega arith))
 
 -- and none that is as near is lower.
-pub lower_from_rounded : (a q : ℤ) (d : ℕ) → IsRounded a (pos d) q → (j : ℤ) → unsigned_abs (a -ℤ j *ℤ pos d) ≤ unsigned_abs (a -ℤ q *ℤ pos d) → q ≤ℤ j
+pub lower_from_rounded : (a q : ℤ) (d : ℕ) → IsRounded a (pos d) q → (j : ℤ)
+    → unsigned_abs (a -ℤ j *ℤ pos d) ≤ unsigned_abs (a -ℤ q *ℤ pos d) → q ≤ℤ j
 lower_from_rounded a q d h j near =
     by_lt_z j q (λ less. let k = lt-times j q d less in absurd (omega (arith, ints))) (λ p. p)
 
@@ -56,7 +59,8 @@ greatest_from_floor a q k b e r d h is_b is_e is_r le =
     by_lt_z q k (λ less. let i = lt-times q k d less in absurd (omega (arith, ints))) (λ p. omega (arith, ints))
 
 -- What the code passed and returned, at the numbers that are meant.
-pub same_product : (a b p q r : ℤ) → SFits w128 p → SFits w128 q → r ≡ to_z w128 (of_z w128 p) *ℤ to_z w128 (of_z w128 q) → p ≡ a → q ≡ b → r ≡ a *ℤ b
+pub same_product : (a b p q r : ℤ) → SFits w128 p → SFits w128 q → r ≡ to_z w128 (of_z w128 p) *ℤ to_z w128 (of_z w128 q) → p ≡ a → q ≡ b
+    → r ≡ a *ℤ b
 same_product a b p q r fits_p fits_q e is_p is_q = let f = simp to_z-of_z at e in cc
 
 pub rounded_at : (a d q b e r : ℤ) → IsRounded b e q → b ≡ a → e ≡ d → r ≡ q → IsRounded a d r

@@ -1,5 +1,6 @@
 -- DIRECT's words on their grid.
-use Rattle.std.proofs.Common.{◌≡◌, ℕ, ◌+◌, ◌*◌, ◌^◌, ◌<◌, ◌≤◌, suc, ℤ, pos, negsuc, neg_ℤ, ◌-ℤ◌, ◌*ℤ◌, ◌≤ℤ◌, unsigned_abs, ap, ◌∙◌, subst, arith}
+use Rattle.std.proofs.Common.{◌≡◌, ℕ, ◌+◌, ◌*◌, ◌^◌, ◌<◌, ◌≤◌, suc, ℤ, pos, negsuc, neg_ℤ, ◌-ℤ◌, ◌*ℤ◌, ◌≤ℤ◌, unsigned_abs, ap, ◌∙◌, subst}
+use Rattle.std.proofs.Common.{arith}
 use Rattle.std.proofs.lemmas.Int.{ints}
 use Rattle.std.proofs.Math.Nat.{pow-le-pow_right}
 use borrow.Author.Differences.{product_is}
@@ -33,11 +34,13 @@ direct-at_place m b r w =
     let g : sign m *ℤ (y -ℤ c) ≡ (sign m *ℤ signed 16 w) *ℤ pos (lower 10 r) -ℤ sign m *ℤ c = omega (arith, ints) in
     ap (λ (z : ℤ). let v : Ratio = record { num = z; den = unsigned_abs m * upper 10 r } in v) g
 
-from_least : (m b r : ℤ) (x : Ratio) (q : ℤ) → IsPlace (direct_spacing m b r) x q → (w : ℕ) → AtMost (direct_value m b r w) x → (sign m *ℤ signed 16 w) ≤ℤ q
+from_least : (m b r : ℤ) (x : Ratio) (q : ℤ) → IsPlace (direct_spacing m b r) x q → (w : ℕ) → AtMost (direct_value m b r w) x
+    → (sign m *ℤ signed 16 w) ≤ℤ q
 from_least m b r x q h w le =
     h.above (sign m *ℤ signed 16 w) (subst (λ (v : Ratio). AtMost v x) (direct-at_place m b r w) le)
 
-to_greatest : (m b r : ℤ) (x : Ratio) (q : ℤ) → IsPlace (direct_spacing m b r) x q → (w : ℕ) → AtMost x (direct_value m b r w) → q ≤ℤ (sign m *ℤ signed 16 w)
+to_greatest : (m b r : ℤ) (x : Ratio) (q : ℤ) → IsPlace (direct_spacing m b r) x q → (w : ℕ) → AtMost x (direct_value m b r w)
+    → q ≤ℤ (sign m *ℤ signed 16 w)
 to_greatest m b r x q h w le =
     h.below (sign m *ℤ signed 16 w) (subst (λ (v : Ratio). AtMost x v) (direct-at_place m b r w) le)
 
@@ -47,7 +50,8 @@ pub record FitsWord (m q : ℤ) : Type 0 where
   pub above : neg_ℤ (pos 32768) ≤ℤ (sign m *ℤ q)
   pub below : (sign m *ℤ q) ≤ℤ pos 32767
 
-direct-fits : (m b r : ℤ) (x : Ratio) (q : ℤ) → IsPlace (direct_spacing m b r) x q → IsBetween (direct_value m b r (direct_least m)) (direct_value m b r (direct_greatest m)) x → FitsWord m q
+direct-fits : (m b r : ℤ) (x : Ratio) (q : ℤ) → IsPlace (direct_spacing m b r) x q
+    → IsBetween (direct_value m b r (direct_least m)) (direct_value m b r (direct_greatest m)) x → FitsWord m q
 direct-fits (pos n) b r x q h between =
     let l = from_least (pos n) b r x q h 0x8000 between.from_least in
     let g = to_greatest (pos n) b r x q h 0x7FFF between.to_greatest in
@@ -58,7 +62,8 @@ direct-fits (negsuc n) b r x q h between =
     record { size = omega (arith, ints); above = omega (arith, ints); below = omega (arith, ints) }
 
 -- The same at the range l to g and the grid s that the code passed.
-pub found_fits : (m b r : ℤ) (x : Ratio) (q : ℤ) (l g : Ratio) (s : Spacing) → l ≡ direct_value m b r (direct_least m) → g ≡ direct_value m b r (direct_greatest m) → IsBetween l g x → s ≡ direct_spacing m b r → IsPlace s x q → FitsWord m q
+pub found_fits : (m b r : ℤ) (x : Ratio) (q : ℤ) (l g : Ratio) (s : Spacing) → l ≡ direct_value m b r (direct_least m)
+    → g ≡ direct_value m b r (direct_greatest m) → IsBetween l g x → s ≡ direct_spacing m b r → IsPlace s x q → FitsWord m q
 found_fits m b r x q l g s e f between is h =
     direct-fits m b r x q (subst (λ (t : Spacing). IsPlace t x q) is h) (between_along l _ g _ x e f between)
 
@@ -70,10 +75,12 @@ sign_back : (m y q : ℤ) → y ≡ sign m *ℤ q → q ≡ sign m *ℤ y
 sign_back (pos n) y q e = omega (arith, ints)
 sign_back (negsuc n) y q e = omega (arith, ints)
 
-pub direct-nearest : (m b r : ℤ) (x : Ratio) (q : ℤ) (w : ℕ) (s : Spacing) → 0 < unsigned_abs m * upper 10 r → s ≡ direct_spacing m b r → IsPlace s x q → w < 2 ^ 16 → signed 16 w ≡ sign m *ℤ q → IsNearest (direct_value m b r) one_rank x w
+pub direct-nearest : (m b r : ℤ) (x : Ratio) (q : ℤ) (w : ℕ) (s : Spacing) → 0 < unsigned_abs m * upper 10 r → s ≡ direct_spacing m b r
+    → IsPlace s x q → w < 2 ^ 16 → signed 16 w ≡ sign m *ℤ q → IsNearest (direct_value m b r) one_rank x w
 direct-nearest m b r x q w s den is_s place word is =
     let h = subst (λ (t : Spacing). IsPlace t x q) is_s place in
-    nearest_word (direct_value m b r) (λ u. sign m *ℤ signed 16 u) (direct_spacing m b r) x w q (λ u _. direct-at_place m b r u) den word (sign_back m (signed 16 w) q is) h.nearest h.lowest
+    nearest_word (direct_value m b r) (λ u. sign m *ℤ signed 16 u) (direct_spacing m b r) x w q (λ u _. direct-at_place m b r u) den word
+        (sign_back m (signed 16 w) q is) h.nearest h.lowest
 
 -- The two parts of a numerator are not both large.
 pub parts_small : (r : ℤ) → IsDecimal r → 2 ^ 15 * lower 10 r + 2 ^ 15 * upper 10 r ≤ 2 ^ 55

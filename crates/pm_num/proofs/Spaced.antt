@@ -4,8 +4,8 @@ use Rattle.std.proofs.lemmas.Int.{ints}
 use Rattle.pm_num.specs.Ratio.{Ratio, AtMost, IsBetween}
 use Rattle.pm_num.specs.Nearest.{Near, IsNearest, one_rank}
 use Rattle.pm_num.specs.Steps.{IsRounded, Spacing, at_place}
-use Rattle.pm_num.specs.Laws.Integers.{sub-times, times-times, le-times}
-use Rattle.pm_num.specs.Laws.Over.{Over, apart, near_over, near_over_back}
+use Rattle.pm_num.specs.Lemmas.Integers.{sub-times, times-times, le-times}
+use Rattle.pm_num.specs.Lemmas.Over.{Over, apart, near_over, near_over_back}
 use Rattle.pm_num.proofs.Rounding.{nearest_from_rounded, lower_from_rounded, above_from_rounded, below_from_rounded}
 
 -- The numerator of the number at k, over the grid's denominator.
@@ -25,29 +25,36 @@ distance g x k =
     let f = times-times k g.step x.den in
     omega (arith, ints)
 
-apart-at_place : (g : Spacing) (x : Ratio) (k : ℤ) → apart g.den x (place_num g k) ≡ unsigned_abs (moved_num g x -ℤ k *ℤ pos (g.step * x.den))
+apart-at_place : (g : Spacing) (x : Ratio) (k : ℤ)
+    → apart g.den x (place_num g k) ≡ unsigned_abs (moved_num g x -ℤ k *ℤ pos (g.step * x.den))
 apart-at_place g x k = ap unsigned_abs (distance g x k)
 
-pub nearest_on_grid : (g : Spacing) (x : Ratio) (q : ℤ) → 0 < g.den → IsRounded (moved_num g x) (pos (g.step * x.den)) q → (j : ℤ) → Near x (at_place g q) (at_place g j)
+pub nearest_on_grid : (g : Spacing) (x : Ratio) (q : ℤ) → 0 < g.den → IsRounded (moved_num g x) (pos (g.step * x.den)) q → (j : ℤ)
+    → Near x (at_place g q) (at_place g j)
 nearest_on_grid g x q h r j =
     let e = apart-at_place g x q in
     let f = apart-at_place g x j in
     let n = nearest_from_rounded (moved_num g x) q (g.step * x.den) r j in
-    near_over x (at_place g q) (at_place g j) g.den (place_num g q) (place_num g j) (Over-at_place g q h) (Over-at_place g j h) (omega arith)
+    near_over x (at_place g q) (at_place g j) g.den (place_num g q) (place_num g j) (Over-at_place g q h) (Over-at_place g j h)
+        (omega arith)
 
-pub lowest_on_grid : (g : Spacing) (x : Ratio) (q : ℤ) → 0 < g.den → IsRounded (moved_num g x) (pos (g.step * x.den)) q → (j : ℤ) → Near x (at_place g j) (at_place g q) → q ≤ℤ j
+pub lowest_on_grid : (g : Spacing) (x : Ratio) (q : ℤ) → 0 < g.den → IsRounded (moved_num g x) (pos (g.step * x.den)) q → (j : ℤ)
+    → Near x (at_place g j) (at_place g q) → q ≤ℤ j
 lowest_on_grid g x q h r j near =
     let e = apart-at_place g x q in
     let f = apart-at_place g x j in
-    let n = near_over_back x (at_place g j) (at_place g q) g.den (place_num g j) (place_num g q) (Over-at_place g j h) (Over-at_place g q h) near in
+    let n = near_over_back x (at_place g j) (at_place g q) g.den (place_num g j) (place_num g q) (Over-at_place g j h) (Over-at_place g q h)
+        near in
     lower_from_rounded (moved_num g x) q (g.step * x.den) r j (omega arith)
 
-pub above_on_grid : (g : Spacing) (x : Ratio) (q : ℤ) → 0 < g.step * x.den → IsRounded (moved_num g x) (pos (g.step * x.den)) q → (j : ℤ) → AtMost (at_place g j) x → j ≤ℤ q
+pub above_on_grid : (g : Spacing) (x : Ratio) (q : ℤ) → 0 < g.step * x.den → IsRounded (moved_num g x) (pos (g.step * x.den)) q → (j : ℤ)
+    → AtMost (at_place g j) x → j ≤ℤ q
 above_on_grid g x q h r j le =
     let e = distance g x j in
     above_from_rounded (moved_num g x) q (g.step * x.den) h r j (omega (arith, ints))
 
-pub below_on_grid : (g : Spacing) (x : Ratio) (q : ℤ) → 0 < g.step * x.den → IsRounded (moved_num g x) (pos (g.step * x.den)) q → (j : ℤ) → AtMost x (at_place g j) → q ≤ℤ j
+pub below_on_grid : (g : Spacing) (x : Ratio) (q : ℤ) → 0 < g.step * x.den → IsRounded (moved_num g x) (pos (g.step * x.den)) q → (j : ℤ)
+    → AtMost x (at_place g j) → q ≤ℤ j
 below_on_grid g x q h r j le =
     let e = distance g x j in
     below_from_rounded (moved_num g x) q (g.step * x.den) h r j (omega (arith, ints))

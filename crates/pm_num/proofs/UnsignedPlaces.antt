@@ -5,7 +5,7 @@ use Rattle.pm_num.specs.Ratio.{Ratio, AtMost, IsBetween}
 use Rattle.pm_num.specs.Value.{upper, lower, ulinear16_value}
 use Rattle.pm_num.specs.Nearest.{IsNearest, one_rank}
 use Rattle.pm_num.specs.Steps.{Spacing, IsPlace, at_place}
-use Rattle.pm_num.specs.Laws.Unsigned.{lower-positive}
+use Rattle.pm_num.specs.Lemmas.Unsigned.{lower-positive}
 use Rattle.pm_num.proofs.Spaced.{nearest_word}
 
 abbrev pub unsigned_spacing : ℤ → Spacing
@@ -16,14 +16,18 @@ ulinear16-at_place n w =
     let e : pos w *ℤ pos (upper 2 n) ≡ pos w *ℤ pos (upper 2 n) -ℤ pos 0 = omega (arith, ints) in
     ap (λ (z : ℤ). let r : Ratio = record { num = z; den = lower 2 n } in r) e
 
-pub ulinear16-above : (n : ℤ) (x : Ratio) (q : ℤ) → IsPlace (unsigned_spacing n) x q → IsBetween (ulinear16_value n 0) (ulinear16_value n 65535) x → pos 0 ≤ℤ q
+pub ulinear16-above : (n : ℤ) (x : Ratio) (q : ℤ) → IsPlace (unsigned_spacing n) x q
+    → IsBetween (ulinear16_value n 0) (ulinear16_value n 65535) x → pos 0 ≤ℤ q
 ulinear16-above n x q h between =
     h.above (pos 0) (subst (λ (v : Ratio). AtMost v x) (ulinear16-at_place n 0) between.from_least)
 
-pub ulinear16-below : (n : ℤ) (x : Ratio) (q : ℤ) → IsPlace (unsigned_spacing n) x q → IsBetween (ulinear16_value n 0) (ulinear16_value n 65535) x → q ≤ℤ pos 65535
+pub ulinear16-below : (n : ℤ) (x : Ratio) (q : ℤ) → IsPlace (unsigned_spacing n) x q
+    → IsBetween (ulinear16_value n 0) (ulinear16_value n 65535) x → q ≤ℤ pos 65535
 ulinear16-below n x q h between =
     h.below (pos 65535) (subst (λ (v : Ratio). AtMost x v) (ulinear16-at_place n 65535) between.to_greatest)
 
-pub ulinear16-nearest : (n : ℤ) (x : Ratio) (q : ℤ) (w : ℕ) → IsPlace (unsigned_spacing n) x q → w < 2 ^ 16 → q ≡ pos w → IsNearest (ulinear16_value n) one_rank x w
+pub ulinear16-nearest : (n : ℤ) (x : Ratio) (q : ℤ) (w : ℕ) → IsPlace (unsigned_spacing n) x q → w < 2 ^ 16 → q ≡ pos w
+    → IsNearest (ulinear16_value n) one_rank x w
 ulinear16-nearest n x q w h word is =
-    nearest_word (ulinear16_value n) pos (unsigned_spacing n) x w q (λ u _. ulinear16-at_place n u) (lower-positive n) word is h.nearest h.lowest
+    nearest_word (ulinear16_value n) pos (unsigned_spacing n) x w q (λ u _. ulinear16-at_place n u) (lower-positive n) word is h.nearest
+        h.lowest

@@ -7,7 +7,9 @@ use Rattle.pm_num.proofs.Rounding.{rounded_at}
 use Rattle.pm_num.proofs.Spaced.{moved_num, nearest_on_grid, lowest_on_grid, above_on_grid, below_on_grid}
 use Rattle.pm_num.proofs.grid.Grid.nearest.Goals as goal
 
-place : (c : goal.After-rounded) → IsRounded (moved_num c.args.self.now c.args.x.now) (pos (c.args.self.now.step * c.args.x.now.den)) (to_z w128 (of_z w128 c.rounded.result))
+place : (c : goal.After-rounded)
+    → IsRounded (moved_num c.args.self.now c.args.x.now) (pos (c.args.self.now.step * c.args.x.now.den))
+    (to_z w128 (of_z w128 c.rounded.result))
 place c =
     let g = c.args.self.now in
     let x = c.args.x.now in
