@@ -5,7 +5,7 @@ use Rattle.pm_frame.specs.declared.message.Message.{Message}
 use Rattle.pm_model.specs.Settings.{Words}
 use Rattle.pm_model.specs.Commanded.{is_cut}
 use Rattle.pm_device.specs.declared.config.Config.{Config}
-use Rattle.pm_device.specs.declared.heard.DeviceFault.{DeviceFault}
+use Rattle.pm_device.specs.declared.fault.DeviceFault.{DeviceFault}
 use Rattle.pm_device.specs.declared.heard.Ending.{Ending}
 use Rattle.pm_device.specs.declared.heard.Heard.{Heard}
 use Rattle.pm_device.specs.declared.heard.Heard.TheVariants.{Silent, Taken, Refused}
@@ -15,10 +15,10 @@ use Rattle.pm_device.specs.Held.{Held, CmlFaults, value_for}
 use Rattle.pm_device.specs.Verdict.{verdict_of}
 use Rattle.pm_device.specs.Effect.{Event, Hearing, Outcome}
 use Rattle.pm_device.specs.Effect as effect
-use Rattle.pm_device.specs.Status.{CmlBit, Command, Data, Pec, Other, fault_bit, cml_at, with_bit, act_clears_cml, is_over, marked, status_vout, kept, vout_in, cml_in}
+use Rattle.pm_device.specs.Status.{CmlBit, Command, Data, Pec, Other, fault_bit, cml_at, with_bit, act_clears_cml, is_output_cut, marked, status_vout, kept, vout_in, cml_in}
 use Rattle.pm_device.specs.Reply.{reply_to, reply_of}
 use Rattle.pm_device.specs.History.{faults_by, after, next, now}
-use Rattle.pm_device.proofs.OverLemmas.{over_at-each_output}
+use Rattle.pm_device.proofs.CutLemmas.{cut_at-each_output}
 use Rattle.pm_device.proofs.Follow.{vout-shows}
 
 -- a refusal sets the bit of its kind
@@ -92,7 +92,7 @@ next-taken held bytes ending bit e h = after-taken held (verdict_of held.config 
 -- the status registers look back
 pub vout-looked_up : (config : Config) (past : List Event) (output : ℕ) → output < 8 → status_vout (now config past) output ≡ marked 0x08 (vout_in config past output)
 unfolding now
-vout-looked_up config past output there = ap (λ b. marked 0x08 b) (over_at-each_output (vout_in config past) output there)
+vout-looked_up config past output there = ap (λ b. marked 0x08 b) (cut_at-each_output (vout_in config past) output there)
 
 pub cml-looked_up : (config : Config) (past : List Event) (bit : CmlBit) → cml_at (now config past).faults bit ≡ cml_in config past bit
 unfolding now
@@ -102,12 +102,12 @@ cml-looked_up config past Pec = refl
 cml-looked_up config past Other = refl
 
 -- what is above VOUT_MAX now shows
-over-now : (config : Config) (words : Words) (output : ℕ) → output < config.count → is_cut (value_for config output) words output ≡ true → is_over config words output ≡ true
-unfolding is_over
-over-now config words output there cut = ap (λ b. b && is_cut (value_for config output) words output) (lt-ltb output config.count there) ∙ cut
+cut-now : (config : Config) (words : Words) (output : ℕ) → output < config.count → is_cut (value_for config output) words output ≡ true → is_output_cut config words output ≡ true
+unfolding is_output_cut
+cut-now config words output there cut = ap (λ b. b && is_cut (value_for config output) words output) (lt-ltb output config.count there) ∙ cut
 
 pub now-shows : (config : Config) (past : List Event) (output : ℕ) → config.count ≤ 8 → output < config.count → is_cut (value_for config output) (now config past).words output ≡ true → status_vout (now config past) output ≡ 0x08
 unfolding now
 now-shows config past output few there cut =
-    ap (λ b. marked 0x08 b) (over_at-each_output (vout_in config past) output (omega (arith, few, there))
-    ∙ vout-shows config past output (over-now config (kept config past).words output there cut))
+    ap (λ b. marked 0x08 b) (cut_at-each_output (vout_in config past) output (omega (arith, few, there))
+    ∙ vout-shows config past output (cut-now config (kept config past).words output there cut))

@@ -9,18 +9,18 @@ use Rattle.std.specs.Result.{result_err, result_ok}
 use Rattle.pm_num.specs.AnyFormat.{Shape, InLinear11}
 use Rattle.pm_num.specs.declared.fault.NumFault.{NumFault}
 use Rattle.pm_table.specs.Address.{IsAddress}
-use Rattle.pm_table.specs.Cell.{is_operation, register_accepts, cell_accepts}
+use Rattle.pm_table.specs.Cell.{is_operation, register_accepts, register_number, cell_accepts, IsCell}
 use Rattle.pm_table.specs.Format.{shape_in}
 use Rattle.pm_table.specs.VoutMode.{mode_of}
 use Rattle.pm_table.specs.declared.cell.Reg.{Reg}
-use Rattle.pm_table.specs.declared.cell.Reg.TheVariants.{Operation, VoutCommand, VoutMax, MarginHigh, MarginLow}
+use Rattle.pm_table.specs.declared.cell.Reg.TheVariants.{Operation}
 use Rattle.pm_table.specs.declared.cell.Cell.{Cell}
 use Rattle.pm_table.specs.declared.cell.Cell.TheVariants.{Out, Protect}
 use Rattle.pm_table.specs.declared.coefficients.Coefficients.{Coefficients}
 use Rattle.pm_table.specs.declared.fault.TableFault.{TableFault}
 use Rattle.pm_table.specs.declared.vout_mode.VoutMode.{VoutMode}
 use Rattle.pm_table.specs.declared.vout_mode.VoutMode.TheVariants.{Linear, Direct}
-use Rattle.pm_model.specs.Settings.{Words, IsCell, word_at, words_of, register_number}
+use Rattle.pm_model.specs.Settings.{Words, word_at, words_of}
 use Rattle.pm_device.specs.declared.config.Config.{Config}
 use Rattle.pm_device.specs.declared.config.OutputStart.{OutputStart}
 use Rattle.pm_device.specs.declared.config.ConfigFault.{ConfigFault}
@@ -29,23 +29,21 @@ use Rattle.pm_device.specs.Held.{mode_for, shape_made, shape_for}
 use Rattle.pm_device.specs.Start.{register_start, start_row, start_word, start_words, no_start, outputs, is_direct, has_direct, bad_register, bad_registers, bad_start, bad_mode, bad_coefficients, config_fault, IsSound}
 
 -- a register's start word stands at its place in the row
-row-at : (start : OutputStart) (register : Reg) → get_or (start_row start) (register_number register) 0 ≡ register_start register start
+row-at : (start : OutputStart) (register : Reg) →
+    get_or (start_row start) (register_number register) 0 ≡ register_start register start
 row-at start Operation = refl
-row-at start VoutCommand = refl
-row-at start VoutMax = refl
-row-at start MarginHigh = refl
-row-at start MarginLow = refl
+row-at start _ = refl
 
--- and so it does where there is no start
-word-of_start : (starts : List OutputStart) (output : ℕ) (register : Reg) → get_or (map (register_start register) starts) output 0 ≡ register_start register (get_or starts output no_start)
+-- a start word of an output, also where there is no start
+word-of_start : (starts : List OutputStart) (output : ℕ) (register : Reg) →
+    get_or (map (register_start register) starts) output 0 ≡ register_start register (get_or starts output no_start)
 word-of_start starts output Operation = get_or-map (register_start Operation) starts output no_start
-word-of_start starts output VoutCommand = get_or-map (register_start VoutCommand) starts output no_start
-word-of_start starts output VoutMax = get_or-map (register_start VoutMax) starts output no_start
-word-of_start starts output MarginHigh = get_or-map (register_start MarginHigh) starts output no_start
-word-of_start starts output MarginLow = get_or-map (register_start MarginLow) starts output no_start
+word-of_start starts output register = get_or-map (register_start register) starts output no_start
 
--- a word of the rows is the cell's start word
-pub row-start : (config : Config) (row : List ℕ) (output : ℕ) (register : Reg) → row ≡ start_row (get_or config.starts output no_start) → get_or row (register_number register) 0 ≡ start_word config (Out output register)
+-- so a word of the rows is the cell's start word
+pub row-start : (config : Config) (row : List ℕ) (output : ℕ) (register : Reg) →
+    row ≡ start_row (get_or config.starts output no_start) →
+    get_or row (register_number register) 0 ≡ start_word config (Out output register)
 row-start config row output register is =
     ap (λ r. get_or r (register_number register) 0) is
     ∙ (row-at (get_or config.starts output no_start) register ∙ sym (word-of_start config.starts output register))
@@ -80,24 +78,22 @@ unless-none true x e = refl
 unless-none false x e = cc
 
 -- an output without a bad register
-accepted-register : (output : ℕ) (start : OutputStart) (register : Reg) → bad_register output start ≡ None → register_accepts register (register_start register start) ≡ true
+accepted-register : (output : ℕ) (start : OutputStart) (register : Reg) → bad_register output start ≡ None →
+    register_accepts register (register_start register start) ≡ true
 accepted-register output start Operation e = go (is_operation start.operation) refl e where
-  go : (b : Bool) → is_operation start.operation ≡ b → option_map (λ (register : Reg). Out output register) (cond (not b) (Some Operation) None) ≡ None → is_operation start.operation ≡ true
+  go : (b : Bool) → is_operation start.operation ≡ b →
+      option_map (λ (register : Reg). Out output register) (cond (not b) (Some Operation) None) ≡ None →
+      is_operation start.operation ≡ true
   go true is none = is
   go false is none = cc
-accepted-register output start VoutCommand e = refl
-accepted-register output start VoutMax e = refl
-accepted-register output start MarginHigh e = refl
-accepted-register output start MarginLow e = refl
+accepted-register output start _ e = refl
 
--- no start at all is accepted
+-- what stands for an output that isn't there is accepted
 accepted-nothing : (register : Reg) → register_accepts register (register_start register no_start) ≡ true
 accepted-nothing Operation = refl
-accepted-nothing VoutCommand = refl
-accepted-nothing VoutMax = refl
-accepted-nothing MarginHigh = refl
-accepted-nothing MarginLow = refl
+accepted-nothing _ = refl
 
+-- each start word of outputs without a bad register is accepted
 accepted-registers : (from : ℕ) (starts : List OutputStart) (output : ℕ) (register : Reg) → bad_registers from starts ≡ None → register_accepts register (register_start register (get_or starts output no_start)) ≡ true
 accepted-registers from [] output register e = accepted-nothing register
 accepted-registers from (start ∷ starts) zero register e =

@@ -5,6 +5,7 @@ use Rattle.std.specs.Option.{option_map, option_map_or}
 use Rattle.pm_table.specs.declared.cell.Reg.{Reg}
 use Rattle.pm_table.specs.declared.cell.Cell.TheVariants.{Out, Protect}
 use Rattle.pm_table.specs.Cell.{cell_at, register_of}
+use Rattle.pm_table.specs.Codes as command
 use Rattle.pm_table.specs.Protection.{is_allowed}
 use Rattle.pm_frame.specs.declared.fault.FrameFault.{FrameFault}
 use Rattle.pm_frame.specs.declared.fault.FrameFault.TheVariants as frame
@@ -16,7 +17,7 @@ use Rattle.pm_model.specs.Settings.{Words, word_at}
 use Rattle.pm_device.specs.declared.act.Act.{Act}
 use Rattle.pm_device.specs.declared.act.Act.TheVariants.{Put, Select, ClearFaults, ClearVout, ClearCml}
 use Rattle.pm_device.specs.declared.config.Config.{Config}
-use Rattle.pm_device.specs.declared.heard.DeviceFault.TheVariants.{UnsupportedCode, UnsupportedData, BadPage, Protected}
+use Rattle.pm_device.specs.declared.fault.DeviceFault.TheVariants.{UnsupportedCode, UnsupportedData, BadPage, Protected}
 use Rattle.pm_device.specs.declared.heard.Ending.{Ending}
 use Rattle.pm_device.specs.declared.heard.Ending.TheVariants.{Stop, Restart}
 use Rattle.pm_device.specs.declared.verdict.Verdict.{Verdict}
@@ -124,7 +125,7 @@ some-act : (x y : Act) → Some x ≡ Some y → x ≡ y
 some-act x y h = cc
 
 pub acts-on : (code output word : ℕ) (act : Act) → act_in code output word ≡ Some act → ActsOn output act
-acts-on code output word act e = first (eqb code 0x00) (eqb code 0x03) (eqb code 0x7A) (eqb code 0x7E) e where
+acts-on code output word act e = first (eqb code command.page) (eqb code command.clear_faults) (eqb code command.status_vout) (eqb code command.status_cml) e where
   rest : Option Act
   rest = option_map (λ cell. Put cell word) (cell_at code output)
 
@@ -133,7 +134,7 @@ acts-on code output word act e = first (eqb code 0x00) (eqb code 0x03) (eqb code
   first false true c d h = subst (λ x. ActsOn output x) (some-act (ClearFaults output) act h) refl
   first false false true d h = subst (λ x. ActsOn output x) (some-act (ClearVout output word) act h) refl
   first false false false true h = subst (λ x. ActsOn output x) (some-act (ClearCml word) act h) tt
-  first false false false false h = acts-on_code code output word (eqb code 0x10) act h
+  first false false false false h = acts-on_code code output word (eqb code command.write_protect) act h
 
 -- a page that is named is there, or PAGE is
 pub output-there : (count page : ℕ) (message : Message) → names_no_output count message ≡ false → page < count → output_in page message < count

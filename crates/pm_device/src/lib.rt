@@ -13,19 +13,22 @@ mod act;
 mod cml_latches;
 mod config;
 mod converter;
+mod cut;
+mod fault;
 mod formats;
 mod heard;
 mod laws;
-mod over;
 mod readings;
-mod status;
+mod starts;
+mod status_bits;
 mod verdict;
 
 pub use config::{Config, ConfigFault, OutputStart};
 pub use converter::Converter;
-pub use heard::{DeviceFault, Ending, Heard};
+pub use fault::DeviceFault;
+pub use heard::{Ending, Heard};
 pub use laws::{
     pasts_are_followed, reads_are_answered, refusals_set_one_bit, words_have_an_origin,
     writes_reach_one_cell,
 };
-pub use status::{StatusByte, StatusCml, StatusVout, StatusWord};
+pub use status_bits::{StatusByte, StatusCml, StatusVout, StatusWord};

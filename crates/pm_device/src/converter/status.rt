@@ -2,7 +2,7 @@ ghost use Rattle.std.specs.Prelude.{◌≡◌, ◌<◌};
 ghost use Rattle.pm_device.specs.Status as spec;
 
 use crate::converter::Converter;
-use crate::status::{StatusByte, StatusVout, StatusWord};
+use crate::status_bits::{StatusByte, StatusVout, StatusWord};
 use bitflags::Flags;
 
 impl Converter {
@@ -42,8 +42,8 @@ impl Converter {
     // Whether bit 3 of an output's STATUS_VOUT is latched.
     fn is_latched(&self, output: u8) -> bool
         requires { output < self.now.config.count }
-        ensures { result ≡ spec.over_at self.now.over output }
+        ensures { result ≡ spec.cut_at self.now.cut output }
     {
-        self.over[usize::from(output)]
+        self.cut[usize::from(output)]
     }
 }

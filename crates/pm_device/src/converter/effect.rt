@@ -10,8 +10,8 @@ ghost use Rattle.pm_device.specs.History.{after, cleared, latched};
 use crate::act::Act;
 use crate::cml_latches::CmlLatches;
 use crate::converter::Converter;
-use crate::over::is_over;
-use crate::status::StatusVout;
+use crate::cut::is_output_cut;
+use crate::status_bits::StatusVout;
 use crate::verdict::Verdict;
 use bitflags::Flags;
 use pm_table::Cell;
@@ -69,12 +69,12 @@ impl Converter {
     fn latch(&mut self, output: u8)
         requires { output < self.old.config.count }
         ensures { self.new ≡ record self.old {
-          over = latched self.old.config self.old.words self.old.over output;
+          cut = latched self.old.config self.old.words self.old.cut output;
         } }
     {
         let place = usize::from(output);
-        if is_over(&self.config, &self.formats, &self.settings, place) {
-            self.over[place] = true;
+        if is_output_cut(&self.config, &self.formats, &self.settings, place) {
+            self.cut[place] = true;
         }
     }
 
@@ -82,10 +82,10 @@ impl Converter {
     fn unlatch(&mut self, output: u8)
         requires { output < self.old.config.count }
         ensures { self.new ≡ record self.old {
-          over = cleared self.old.config self.old.words self.old.over output;
+          cut = cleared self.old.config self.old.words self.old.cut output;
         } }
     {
         let place = usize::from(output);
-        self.over[place] = is_over(&self.config, &self.formats, &self.settings, place);
+        self.cut[place] = is_output_cut(&self.config, &self.formats, &self.settings, place);
     }
 }

@@ -227,28 +227,28 @@ impl Flags for StatusWord {
 impl StatusByte {
     /// What an output shows that is off, while a bit of STATUS_CML is set, and one of its
     /// STATUS_VOUT.
-    pub(crate) fn new(off: bool, cml: bool, over: bool) -> StatusByte
-        ensures { result.0 ≡ marked 0x40 off + marked 0x02 cml + marked 0x01 over }
+    pub(crate) fn new(off: bool, cml: bool, cut: bool) -> StatusByte
+        ensures { result.0 ≡ marked 0x40 off + marked 0x02 cml + marked 0x01 cut }
     {
         let mut status = StatusByte::empty();
         status.set(StatusByte::OFF, off);
         status.set(StatusByte::CML, cml);
-        status.set(StatusByte::NONE_OF_THE_ABOVE, over);
+        status.set(StatusByte::NONE_OF_THE_ABOVE, cut);
         status
     }
 }
 
 impl StatusWord {
     /// The same of STATUS_WORD.
-    pub(crate) fn new(off: bool, cml: bool, over: bool) -> StatusWord
-        ensures { result.0 ≡ marked 0x40 off + marked 0x02 cml + marked 0x01 over
-            + marked 0x8000 over + marked 0x0800 off }
+    pub(crate) fn new(off: bool, cml: bool, cut: bool) -> StatusWord
+        ensures { result.0 ≡ marked 0x40 off + marked 0x02 cml + marked 0x01 cut
+            + marked 0x8000 cut + marked 0x0800 off }
     {
         let mut status = StatusWord::empty();
         status.set(StatusWord::OFF, off);
         status.set(StatusWord::CML, cml);
-        status.set(StatusWord::NONE_OF_THE_ABOVE, over);
-        status.set(StatusWord::VOUT, over);
+        status.set(StatusWord::NONE_OF_THE_ABOVE, cut);
+        status.set(StatusWord::VOUT, cut);
         status.set(StatusWord::POWER_NOT_GOOD, off);
         status
     }
@@ -256,11 +256,11 @@ impl StatusWord {
 
 impl StatusVout {
     /// What an output shows whose selected value was above VOUT_MAX.
-    pub(crate) fn new(over: bool) -> StatusVout
-        ensures { result.0 ≡ marked 0x08 over }
+    pub(crate) fn new(cut: bool) -> StatusVout
+        ensures { result.0 ≡ marked 0x08 cut }
     {
         let mut status = StatusVout::empty();
-        status.set(StatusVout::MAX_WARNING, over);
+        status.set(StatusVout::MAX_WARNING, cut);
         status
     }
 }
