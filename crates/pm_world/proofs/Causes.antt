@@ -6,7 +6,7 @@ use Rattle.std.proofs.lemmas.Option.{same_Some}
 use Rattle.pm_table.specs.declared.cell.Cell.{Cell}
 use Rattle.pm_table.specs.Cell.{output_of}
 use Rattle.pm_host.specs.declared.fault.HostFault.{HostFault}
-use Rattle.pm_host.specs.Refusals.{order_fault, micro_fault, micro_word, voltage_fault, range_fault}
+use Rattle.pm_host.specs.Refusals.{job_fault, order_fault, micro_fault, micro_word, voltage_fault, range_fault}
 use Rattle.pm_host.specs.Summary.{Summary, format_at, next as host_next}
 use Rattle.pm_host.specs.Transcript as host
 use Rattle.pm_world.specs.declared.event.Event.{Event}
@@ -14,7 +14,7 @@ use Rattle.pm_world.specs.declared.event.Event.TheVariants.{OrderMicro, RestartD
 use Rattle.pm_world.specs.declared.stop.Cause.{Cause}
 use Rattle.pm_world.specs.declared.stop.Cause.TheVariants.{Full}
 use Rattle.pm_world.specs.Confirmed.{restarts_converter}
-use Rattle.pm_world.specs.State.{State, asked, share_of, share_beside, tells, shared, counted, next, rule, refused, job_fault, event_cause, cause_beside, cause_of, event_limit, IsTaken}
+use Rattle.pm_world.specs.State.{State, asked, share_of, share_beside, tells, shared, counted, next, rule, refused, event_cause, cause_beside, cause_of, event_limit, IsTaken}
 
 -- of two, none
 pub or-none : {A : Type 0} (a b : Option A) → option_or a b ≡ None → (a ≡ None) × (b ≡ None)

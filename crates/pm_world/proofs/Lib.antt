@@ -1,7 +1,6 @@
 mod Causes
 mod DamagedFrames
 mod DamagedRequests
-mod Deliveries
 mod Ends
 mod Exchanges
 mod Frames

@@ -17,6 +17,7 @@ use Rattle.pm_host.specs.Possible.{is_possible, possible_from, possible_of, word
 use Rattle.pm_host.specs.Refusals.{IsSetup}
 use Rattle.pm_host.specs.Summary.{sending_in, possible_at}
 use Rattle.pm_host.specs.Transcript as host
+use Rattle.pm_world.specs.Below.{Below}
 use Rattle.pm_world.specs.declared.event.Arrival.{Arrival}
 use Rattle.pm_world.specs.declared.event.Back.{Back}
 use Rattle.pm_world.specs.declared.event.Event.{Event}
@@ -26,11 +27,10 @@ use Rattle.pm_world.specs.Life.{life, now, state_of, AreTaken}
 use Rattle.pm_world.specs.Possible.{restarts_host, has_read, is_surprise_for, surprises, surprises_by, restarted_between, restarted_since_host, PossibleIsHeld, SeenIsTrue}
 use Rattle.pm_world.specs.Setup.{setup_of}
 use Rattle.pm_world.specs.State.{State, asked, share_of, share_beside, exchanged, tells, event_cause, exchange_cause}
-use Rattle.pm_world.proofs.Causes.{taken-free}
-use Rattle.pm_world.proofs.HeldWords.{ConfirmedLaws, Knows, knows, reads-true, entries-more, life-known}
+use Rattle.pm_world.proofs.HeldWords.{Knows, knows, reads-true, life-known}
+use Rattle.pm_world.proofs.Lives.{IsLived, earlier, newest, entries-more, lived-before, now-config}
 use Rattle.pm_world.proofs.Sending.{eight, same_cell-itself, told-nothing}
-use Rattle.pm_world.proofs.Standings.{ArePuts, no_put, one_put, are-puts, AreGoods, no_good, one_good, are-goods, ReadsTrue}
-use Rattle.pm_world.proofs.Undisturbed.{now-config, taken-before}
+use Rattle.pm_world.proofs.Standings.{ArePuts, no_put, one_put, are-puts, AreGoods, no_good, one_good, are-goods, ReadsTrue, same-cells}
 use Rattle.pm_device.specs.Start.{IsSound}
 
 -- of two, both; of two, neither; one of two
@@ -134,7 +134,7 @@ got_bytes (host.Got bytes) = bytes
 got_bytes _ = []
 
 -- what came back is true of the cell that is read, whichever event brought it
-got-true : ConfirmedLaws → (s : State) (setup : host.Setup) (entries : List host.Entry) (event : Event) (bytes : List ℕ) → Knows s setup entries →
+got-true : Below → (s : State) (setup : host.Setup) (entries : List host.Entry) (event : Event) (bytes : List ℕ) → Knows s setup entries →
     event_cause s event ≡ None → (share_of s event).told ≡ Some (host.Got bytes) → ReadsTrue setup entries bytes s.device.words
 got-true laws s setup entries event bytes knows free told = by_asked (asked s event) told where
   by_sending : (arrival : Arrival) (back : Back) (sending : Option Message) → sending_in s.host ≡ sending → exchange_cause s arrival back sending ≡ None →
@@ -143,7 +143,7 @@ got-true laws s setup entries event bytes knows free told = by_asked (asked s ev
   by_sending arrival back (Some message) e free told =
       let is = same_Some _ (host.Got bytes) told in
       subst (λ (entry : host.Entry). ReadsTrue setup entries (got_bytes entry) s.device.words) is
-      (reads-true laws.damage s setup entries arrival back message knows e free)
+      (reads-true laws s setup entries arrival back message knows e free)
 
   beside : (event : Event) → event_cause s event ≡ None → (share_beside s event).told ≡ Some (host.Got bytes) → ReadsTrue setup entries bytes s.device.words
   beside (Exchange arrival back) free told = by_sending arrival back (sending_in s.host) refl free told
@@ -164,7 +164,7 @@ not-true : (b : Bool) → not b ≡ true → b ≡ false
 not-true true h = cc
 not-true false h = refl
 
-one-surprise : ConfirmedLaws → (s : State) (setup : host.Setup) (entries : List host.Entry) (read : Cell) (word : ℕ) → Knows s setup entries →
+one-surprise : Below → (s : State) (setup : host.Setup) (entries : List host.Entry) (read : Cell) (word : ℕ) → Knows s setup entries →
     read_by (host.open_job setup entries) (host.told_since entries) ≡ Some read → word_at s.device.words read ≡ word →
     not (is_possible word (possible_of (marks setup entries) read)) ≡ true → Surprise s setup entries read
 one-surprise laws s setup entries read word knows asked is surprising = record {
@@ -172,7 +172,7 @@ one-surprise laws s setup entries read word knows asked is surprising = record {
   impossible = ap (λ w. is_possible w (possible_of (marks setup entries) read)) is ∙ not-true _ surprising;
 }
 
-goods-surprise : ConfirmedLaws → (s : State) (setup : host.Setup) (entries : List host.Entry) (bytes : List ℕ) (new : List Mark) → AreGoods setup entries bytes new →
+goods-surprise : Below → (s : State) (setup : host.Setup) (entries : List host.Entry) (bytes : List ℕ) (new : List Mark) → AreGoods setup entries bytes new →
     (cell : Cell) → Knows s setup entries → ReadsTrue setup entries bytes s.device.words →
     list_any (is_surprise_for cell (marks setup entries)) new ≡ true → Surprise s setup entries cell
 goods-surprise laws s setup entries bytes new no_good cell knows is h = absurd (false≢true h)
@@ -181,11 +181,11 @@ goods-surprise laws s setup entries bytes new (one_good read word asked good) ce
     elim one [
       | inl so ↦
           (let both = and-both (same_cell read cell) (not (is_possible word (possible_of (marks setup entries) read))) so in
-          subst (Surprise s setup entries) (laws.same read cell both.0) (one-surprise laws s setup entries read word knows asked (is read word asked good) both.1))
+          subst (Surprise s setup entries) (same-cells laws read cell both.0) (one-surprise laws s setup entries read word knows asked (is read word asked good) both.1))
       | inr bad ↦ absurd (false≢true bad)
     ]
 
-told-surprise : ConfirmedLaws → (s : State) (setup : host.Setup) (entries : List host.Entry) (event : Event) (cell : Cell) (told : Option host.Entry) → Knows s setup entries →
+told-surprise : Below → (s : State) (setup : host.Setup) (entries : List host.Entry) (event : Event) (cell : Cell) (told : Option host.Entry) → Knows s setup entries →
     event_cause s event ≡ None → (share_of s event).told ≡ told → surprises setup entries cell told ≡ true → Surprise s setup entries cell
 told-surprise laws s setup entries event cell (Some (host.Got bytes)) knows free told h =
     goods-surprise laws s setup entries bytes (goods setup entries bytes) (are-goods setup entries bytes) cell knows
@@ -194,32 +194,30 @@ told-surprise laws s setup entries event cell told knows free is h = absurd (fal
 
 -- a cell of the converter is one of its configuration
 count-is : (config : Config) (passes : ℕ) (events : List Event) (cell : Cell) → IsCell (now config passes events).device.config.count cell → IsCell config.count cell
-count-is config passes events cell there = subst (λ (k : Config). IsCell k.count cell) (sym (now-config config passes events)) there
+count-is config passes events cell there = subst (λ (k : Config). IsCell k.count cell) (now-config config passes events) there
 
 -- the converter restarted since the last good answer for its cell, which there was
-surprise-restarted : ConfirmedLaws → (config : Config) (passes : ℕ) (before : List Event) (cell : Cell) → IsSound config → IsSetup (setup_of config passes) →
-    AreTaken config passes before → Surprise (now config passes before) (setup_of config passes) (life config passes before).entries cell →
+surprise-restarted : Below → (config : Config) (passes : ℕ) (before : List Event) (cell : Cell) → IsLived config passes before → Surprise (now config passes before) (setup_of config passes) (life config passes before).entries cell →
     (has_read config passes cell before ≡ true) × (restarted_since config passes cell before ≡ true)
 unfolding now state_of
-surprise-restarted laws config passes before cell sound made taken surprise = (
+surprise-restarted laws config passes before cell lived surprise = (
   listed-read config passes cell before (λ any.
       let both : true ≡ false = sym (ap (is_possible (word_at words cell)) any) ∙ surprise.impossible in cc),
   elim (cases_Bool (restarted_since config passes cell before)) [
     | inl restarted ↦ restarted
-    | inr fresh ↦ (let both : true ≡ false = sym ((life-known laws config passes before cell sound made taken (count-is config passes before cell surprise.there)).among fresh) ∙ surprise.impossible in cc)
+    | inr fresh ↦ (let both : true ≡ false = sym ((life-known laws config passes before cell lived (count-is config passes before cell surprise.there)).among fresh) ∙ surprise.impossible in cc)
   ],
 )
   where
     words : Words
     words = (now config passes before).device.words
 
-event-surprise : ConfirmedLaws → (config : Config) (passes : ℕ) (before : List Event) (event : Event) (cell : Cell) → IsSound config → IsSetup (setup_of config passes) →
-    AreTaken config passes (event ∷ before) → surprises_by config passes cell before event ≡ true →
+event-surprise : Below → (config : Config) (passes : ℕ) (before : List Event) (event : Event) (cell : Cell) → IsLived config passes (event ∷ before) → surprises_by config passes cell before event ≡ true →
     (has_read config passes cell before ≡ true) × (restarted_since config passes cell before ≡ true)
-event-surprise laws config passes before event cell sound made taken h =
-    surprise-restarted laws config passes before cell sound made taken.1
+event-surprise laws config passes before event cell lived h =
+    surprise-restarted laws config passes before cell (earlier lived)
     (told-surprise laws (now config passes before) (setup_of config passes) (life config passes before).entries event cell _
-    (knows laws config passes before sound made taken.1) (taken-free (now config passes before) event taken.0) refl h)
+    (knows laws config passes before (earlier lived)) (newest lived) refl h)
 
 -- the restarts that the host saw: after a further entry one that it had seen before, or the entry surprises it
 record SurprisedBy (s : State) (setup : host.Setup) (entries : List host.Entry) (told : Option host.Entry) : Type 0 where
@@ -232,7 +230,7 @@ puts-seen : (new ms : List Mark) → ArePuts new → restart_seen_of (new ++ ms)
 puts-seen new ms no_put = refl
 puts-seen new ms (one_put c w) = refl
 
-goods-seen : ConfirmedLaws → (s : State) (setup : host.Setup) (entries : List host.Entry) (bytes : List ℕ) (new : List Mark) → AreGoods setup entries bytes new →
+goods-seen : Below → (s : State) (setup : host.Setup) (entries : List host.Entry) (bytes : List ℕ) (new : List Mark) → AreGoods setup entries bytes new →
     Knows s setup entries → restart_seen_of (new ++ marks setup entries) ≡ true →
     (restart_seen_of (marks setup entries) ≡ true)
     ⊎ ((cell : Cell) × IsCell s.device.config.count cell × (list_any (is_good_for cell) new ≡ true) × (list_any (is_surprise_for cell (marks setup entries)) new ≡ true))
@@ -248,7 +246,7 @@ goods-seen laws s setup entries bytes new (one_good read word asked good) knows 
       | inr older ↦ inl older
     ]
 
-told-seen : ConfirmedLaws → (s : State) (setup : host.Setup) (entries : List host.Entry) (told : Option host.Entry) → Knows s setup entries →
+told-seen : Below → (s : State) (setup : host.Setup) (entries : List host.Entry) (told : Option host.Entry) → Knows s setup entries →
     restart_seen_of (marks setup (option_to_list told ++ entries)) ≡ true →
     (restart_seen_of (marks setup entries) ≡ true) ⊎ SurprisedBy s setup entries told
 told-seen laws s setup entries None knows seen = inl seen
@@ -276,13 +274,13 @@ first-unseen : (config : Config) (passes : ℕ) → restart_seen_of (marks (setu
 unfolding life
 first-unseen config passes = refl
 
-life-seen : ConfirmedLaws → (config : Config) (passes : ℕ) (events : List Event) → IsSound config → IsSetup (setup_of config passes) → AreTaken config passes events →
+life-seen : Below → (config : Config) (passes : ℕ) (events : List Event) → IsLived config passes events →
     restart_seen_of (marks (setup_of config passes) (life config passes events).entries) ≡ true →
     (cell : Cell) × IsCell config.count cell × (restarted_between config passes cell events ≡ true)
-life-seen laws config passes [] sound made taken seen =
+life-seen laws config passes [] lived seen =
     absurd (true≢false (sym seen ∙ first-unseen config passes))
-life-seen laws config passes (event ∷ before) sound made taken seen =
-    go (restarts_host event) refl (life-seen laws config passes before sound made taken.1)
+life-seen laws config passes (event ∷ before) lived seen =
+    go (restarts_host event) refl (life-seen laws config passes before (earlier lived))
   where
     after : restart_seen_of (marks (setup_of config passes) (option_to_list (share_of (now config passes before) event).told ++ (life config passes before).entries)) ≡ true
     after = ap (λ es. restart_seen_of (marks (setup_of config passes) es)) (sym (entries-more config passes before event)) ∙ seen
@@ -299,7 +297,7 @@ life-seen laws config passes (event ∷ before) sound made taken seen =
     newest : restarts_host event ≡ false → SurprisedBy (now config passes before) (setup_of config passes) (life config passes before).entries (share_of (now config passes before) event).told →
         (cell : Cell) × IsCell config.count cell × (restarted_between config passes cell (event ∷ before) ≡ true)
     newest e by =
-        let since = event-surprise laws config passes before event by.cell sound made taken by.surprising in (
+        let since = event-surprise laws config passes before event by.cell lived by.surprising in (
           by.cell,
           count-is config passes before by.cell by.there,
           here by.cell e (rw (by.read, since.0, since.1) refl),
@@ -314,7 +312,7 @@ life-seen laws config passes (event ∷ before) sound made taken seen =
         (restart-told (now config passes before) event e)) ∙ after))
     go false e older =
         elim (told-seen laws (now config passes before) (setup_of config passes) (life config passes before).entries (share_of (now config passes before) event).told
-        (knows laws config passes before sound made taken.1) after) [
+        (knows laws config passes before (earlier lived)) after) [
           | inl seen ↦ (let o = older seen in (o.0, o.1, here o.0 e (or-last _ _ o.2)))
           | inr by ↦ newest e by
         ]
@@ -355,29 +353,29 @@ between-started config passes cell (event ∷ before) between =
     ]))
 
 -- both promises
-pub possible-held : ConfirmedLaws → (config : Config) (passes : ℕ) (events : List Event) → IsSound config → IsSetup (setup_of config passes) → AreTaken config passes events →
+pub possible-held : Below → (config : Config) (passes : ℕ) (events : List Event) → IsLived config passes events →
     PossibleIsHeld config passes events (now config passes events)
 unfolding now state_of
-possible-held laws config passes events sound made taken =
+possible-held laws config passes events lived =
     let possible = λ (cell : Cell) (there : IsCell config.count cell).
-    laws.possible (setup_of config passes) (life config passes events).entries cell (eight config.count cell sound.few there) in
+    laws.transcripts_are_followed.possible (setup_of config passes) (life config passes events).entries cell (eight config.count cell lived.sound.few there) in
     record {
       possible = possible;
       found = λ cell there listed. listed-read config passes cell events (λ any. listed (possible cell there ∙ any));
       held = λ cell there fresh.
           ap (is_possible (word_at (now config passes events).device.words cell)) (possible cell there)
-          ∙ (life-known laws config passes events cell sound made taken there).among fresh;
+          ∙ (life-known laws config passes events cell lived there).among fresh;
     }
 
-pub seen-true : ConfirmedLaws → (config : Config) (passes : ℕ) (events : List Event) → IsSound config → IsSetup (setup_of config passes) → AreTaken config passes events →
+pub seen-true : Below → (config : Config) (passes : ℕ) (events : List Event) → IsLived config passes events →
     SeenIsTrue config passes events (now config passes events)
 unfolding now state_of
-seen-true laws config passes events sound made taken =
-    let seen = laws.seen (setup_of config passes) (life config passes events).entries in
-    let between = λ (h : (now config passes events).host.known.seen ≡ true). life-seen laws config passes events sound made taken (sym seen ∙ h) in
+seen-true laws config passes events lived =
+    let seen = laws.transcripts_are_followed.seen (setup_of config passes) (life config passes events).entries in
+    let between = λ (h : (now config passes events).host.known.seen ≡ true). life-seen laws config passes events lived (sym seen ∙ h) in
     record {
       surprises = λ later before event cell is h.
-          event-surprise laws config passes before event cell sound made (taken-before config passes later (event ∷ before) (subst (AreTaken config passes) is taken)) h;
+          event-surprise laws config passes before event cell (lived-before config passes later (event ∷ before) (subst (IsLived config passes) is lived)) h;
       seen = seen;
       between = between;
       restarted = λ h. between-started config passes (between h).0 events (between h).2;

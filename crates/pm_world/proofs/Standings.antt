@@ -15,6 +15,7 @@ use Rattle.pm_host.specs.Marks.{Mark, Put, Good, Restart, put_by, read_by, puts,
 use Rattle.pm_host.specs.Possible.{is_listed, is_possible, once, possible_from, words_since, possible_of}
 use Rattle.pm_host.specs.Standing.{standing_of}
 use Rattle.pm_host.specs.Transcript.{Setup, Job, Order, Entry, Accepted, Got, Restarted, open_job, told_since, is_write_turn}
+use Rattle.pm_world.specs.Below.{Below}
 use Rattle.pm_world.specs.Confirmed.{is_good_for, reads}
 
 -- a word that the marks confirm is the cell's, where the converter didn't restart since
@@ -37,8 +38,8 @@ IsKnownAfter setup entries cell restarted told words =
     IsKnown (marks setup (option_to_list told ++ entries)) cell (cond (reads setup entries cell told) false restarted) words
 
 -- two cells that the test calls one are one
-abbrev pub SameCells : Type 0
-SameCells = (cell other : Cell) → same_cell cell other ≡ true → cell ≡ other
+pub same-cells : Below → (cell other : Cell) → same_cell cell other ≡ true → cell ≡ other
+same-cells laws cell other same = (laws.cells_are_told_apart cell other).0 same
 
 -- words other than x stay listed where x is left out
 is_listed-filter : (w x : ℕ) → (x ≡ w → ⊥) → (ys : List ℕ) → is_listed w (filter (λ y. not (eqb y x)) ys) ≡ is_listed w ys
@@ -165,16 +166,16 @@ good-possible ms read cell w x itself other = go (same_cell read cell) refl wher
   go true e = ap (λ b. b || false) (eq-eqb w x (sym (itself e)))
   go false e = by_surprise (is_possible w (possible_from (words_since ms read))) (other e)
 
-good-known : SameCells → (ms : List Mark) (read : Cell) (w : ℕ) (cell : Cell) (restarted : Bool) (words : Words) →
+good-known : Below → (ms : List Mark) (read : Cell) (w : ℕ) (cell : Cell) (restarted : Bool) (words : Words) →
     word_at words read ≡ w → IsKnown ms cell restarted words →
     IsKnown (Good read w ∷ ms) cell (cond (list_any (is_good_for cell) (Good read w ∷ [])) false restarted) words
-good-known same ms read w cell restarted words is known = record {
+good-known laws ms read w cell restarted words is known = record {
   held = by_cell (same_cell read cell) refl;
   among = λ fresh. good-possible ms read cell w (word_at words cell) its_word (λ e. known.among (not-read e fresh));
 }
   where
     its_word : same_cell read cell ≡ true → word_at words cell ≡ w
-    its_word e = ap (word_at words) (sym (same read cell e)) ∙ is
+    its_word e = ap (word_at words) (sym (same-cells laws read cell e)) ∙ is
 
     by_cell : (b : Bool) → same_cell read cell ≡ b → (word : ℕ) → cond b (Confirmed w) (standing_of ms cell) ≡ Confirmed word →
         cond (b || false) false restarted ≡ false → word_at words cell ≡ word
@@ -184,12 +185,12 @@ good-known same ms read w cell restarted words is known = record {
     not-read : same_cell read cell ≡ false → cond (same_cell read cell || false) false restarted ≡ false → restarted ≡ false
     not-read e fresh = sym (ap (λ b. cond (b || false) false restarted) e) ∙ fresh
 
-goods-known : SameCells → (setup : Setup) (before : List Entry) (bytes : List ℕ) (new ms : List Mark) → AreGoods setup before bytes new →
+goods-known : Below → (setup : Setup) (before : List Entry) (bytes : List ℕ) (new ms : List Mark) → AreGoods setup before bytes new →
     (cell : Cell) (restarted : Bool) (words : Words) → ReadsTrue setup before bytes words → IsKnown ms cell restarted words →
     IsKnown (new ++ ms) cell (cond (list_any (is_good_for cell) new) false restarted) words
-goods-known same setup before bytes new ms no_good cell restarted words is known = known
-goods-known same setup before bytes new ms (one_good read word asked good) cell restarted words is known =
-    good-known same ms read word cell restarted words (is read word asked good) known
+goods-known laws setup before bytes new ms no_good cell restarted words is known = known
+goods-known laws setup before bytes new ms (one_good read word asked good) cell restarted words is known =
+    good-known laws ms read word cell restarted words (is read word asked good) known
 
 -- one more entry
 pub accepted-known : (setup : Setup) (entries : List Entry) (cell : Cell) (restarted : Bool) (words : Words) (job : Job) →
@@ -197,11 +198,11 @@ pub accepted-known : (setup : Setup) (entries : List Entry) (cell : Cell) (resta
 accepted-known setup entries cell restarted words job known =
     puts-known (puts setup (Accepted job ∷ entries)) (marks setup entries) (are-puts setup (Accepted job ∷ entries)) cell restarted words known
 
-pub got-known : SameCells → (setup : Setup) (entries : List Entry) (cell : Cell) (restarted : Bool) (words : Words) (bytes : List ℕ) →
+pub got-known : Below → (setup : Setup) (entries : List Entry) (cell : Cell) (restarted : Bool) (words : Words) (bytes : List ℕ) →
     ReadsTrue setup entries bytes words → IsKnown (marks setup entries) cell restarted words → IsKnownAfter setup entries cell restarted (Some (Got bytes)) words
-got-known same setup entries cell restarted words bytes is known =
+got-known laws setup entries cell restarted words bytes is known =
     puts-known (puts setup (Got bytes ∷ entries)) (goods setup entries bytes ++ marks setup entries) (are-puts setup (Got bytes ∷ entries)) cell _ words
-    (goods-known same setup entries bytes (goods setup entries bytes) (marks setup entries) (are-goods setup entries bytes) cell restarted words is known)
+    (goods-known laws setup entries bytes (goods setup entries bytes) (marks setup entries) (are-goods setup entries bytes) cell restarted words is known)
 
 pub restarted-known : (setup : Setup) (entries : List Entry) (cell : Cell) (restarted : Bool) (words : Words) →
     IsKnownAfter setup entries cell restarted (Some Restarted) words

@@ -17,6 +17,7 @@ use Rattle.pm_device.specs.Start.{IsSound}
 use Rattle.pm_host.specs.Now.{AreTold}
 use Rattle.pm_host.specs.Refusals.{IsSetup}
 use Rattle.pm_host.specs.Summary.{sending_in}
+use Rattle.pm_host.specs.Transcript.{Order}
 use Rattle.pm_world.specs.declared.event.Arrival.{Arrival}
 use Rattle.pm_world.specs.declared.event.Arrival.TheVariants as arrival
 use Rattle.pm_world.specs.declared.event.Back.TheVariants as back
@@ -30,7 +31,7 @@ use Rattle.pm_world.specs.Life.{AreTaken, AreTakenFrom, after_all, life, now}
 use Rattle.pm_world.specs.Possible.{PossibleIsHeld, SeenIsTrue}
 use Rattle.pm_world.specs.Retelling.{CommandsOwn, IsOrderRun, IsOwnWord}
 use Rattle.pm_world.specs.Setup.{setup_of, start}
-use Rattle.pm_world.specs.State.{IsTaken, answer_to, event_limit, next}
+use Rattle.pm_world.specs.State.{IsTaken, answer_to, asked, event_limit, next}
 
 -- What a world holds after its life is what one event after another makes of its start: of no event, and of
 -- one more. What the host was told is a transcript that might come. Events that are taken one after another
@@ -73,12 +74,13 @@ FramesAreFew = (config : Config) (passes : ℕ) (events : List Event) →
 -- An undisturbed order goes through. Once its deliveries were taken, so are the end of its write and its
 -- read, where the world has room for two more events.
 pub record HonestOrdersGoThrough : Type 0 where
-  pub taken : (config : Config) (passes : ℕ) (before : List Event) (cell : Cell) (word : ℕ)
+  pub taken : (config : Config) (passes : ℕ) (before : List Event) (order : Event) (cell : Cell) (word : ℕ)
       (arrivals : List Arrival) (acked : Bool) →
       IsSound config → IsSetup (setup_of config passes) →
-      AreTaken config passes (sent_by cell word arrivals before) →
-      length (sent_by cell word arrivals before) + 2 ≤ event_limit →
-      AreTaken config passes (honest cell word arrivals acked before)
+      AreTaken config passes (sent_by order arrivals before) →
+      asked (now config passes before) order ≡ Some (Order cell word) →
+      length (sent_by order arrivals before) + 2 ≤ event_limit →
+      AreTaken config passes (honest order arrivals acked before)
   pub through : (config : Config) (passes : ℕ) (events : List Event) →
       IsSound config → IsSetup (setup_of config passes) → AreTaken config passes events →
       OrdersGoThrough config passes events

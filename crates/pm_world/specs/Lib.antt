@@ -10,3 +10,6 @@ pub mod Honest
 pub mod Damage
 pub mod Laws
 pub mod FaultWords
+
+-- How it is kept.
+pub mod Below

@@ -7,7 +7,7 @@ use Rattle.pm_table.specs.declared.cell.Cell.{Cell}
 use Rattle.pm_table.specs.declared.cell.Cell.TheVariants.{Out}
 use Rattle.pm_table.specs.declared.cell.Reg.TheVariants.{Operation, VoutMax}
 use Rattle.pm_model.specs.declared.pending_order.PendingOrder.{PendingOrder}
-use Rattle.pm_model.specs.Commanded.{selected_register, is_above}
+use Rattle.pm_model.specs.Commanded.{selected_register, limited}
 use Rattle.pm_model.specs.OrderMachine.{Step, Accept, Take, End, Back, IsRun, machine_of, ordered}
 use Rattle.pm_model.specs.Settings.{Settings, Words}
 use Rattle.pm_device.specs.declared.config.Config.{Config}
@@ -28,9 +28,7 @@ start_settings config = record { count = config.count; words = start_words confi
 -- the order that a job is
 abbrev pub order_of : host.Job → Option PendingOrder
 order_of (host.Order cell word) = Some (ordered cell word)
-order_of (host.Check cell) = None
-order_of (host.Learn output) = None
-order_of (host.Clear output) = None
+order_of _ = None
 
 -- the order that is open after some events
 unfoldable pub open_order : Config → ℕ → List Event → Option PendingOrder
@@ -95,7 +93,7 @@ IsOwnWord config passes events cell word =
     (word ≡ start_word config cell) ⊎ WasOrdered config passes events cell word
 
 -- an output commands a value of its own: that of the word which its own OPERATION selects among its
--- own registers, or where that is above the value of its own VOUT_MAX, the latter
+-- own registers, cut to that of its own VOUT_MAX
 pub record CommandsOwn (config : Config) (passes : ℕ) (events : List Event) (output : ℕ) (voltage : Ratio) : Type 0 where
   pub operation : ℕ
   pub selected : ℕ
@@ -105,5 +103,4 @@ pub record CommandsOwn (config : Config) (passes : ℕ) (events : List Event) (o
       IsOwnWord config passes events (Out output (selected_register operation)) selected
   pub own_most : IsOwnWord config passes events (Out output VoutMax) most
   pub cut : voltage
-      ≡ (if is_above (value_for config output selected) (value_for config output most)
-      then value_for config output most else value_for config output selected)
+      ≡ limited (value_for config output selected) (value_for config output most)

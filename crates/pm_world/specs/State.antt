@@ -9,12 +9,13 @@ use Rattle.pm_device.specs.Held.{Held}
 use Rattle.pm_device.specs.Effect as device
 use Rattle.pm_device.specs.History.{next as device_next}
 use Rattle.pm_device.specs.Reply.{reply_of}
+use Rattle.pm_host.specs.declared.command.Command.TheVariants.{ClearFaults}
 use Rattle.pm_host.specs.declared.fault.HostFault.{HostFault}
-use Rattle.pm_host.specs.declared.step.JobEnd.{JobEnd}
+use Rattle.pm_host.specs.declared.job_end.JobEnd.{JobEnd}
 use Rattle.pm_host.specs.declared.step.Step.{Step}
 use Rattle.pm_host.specs.declared.step.Step.TheVariants.{Next, Ended}
 use Rattle.pm_host.specs.Summary.{Summary, sending_in, next as host_next, step_of}
-use Rattle.pm_host.specs.Refusals.{order_fault, micro_fault, micro_word, cell_fault, output_fault}
+use Rattle.pm_host.specs.Refusals.{job_fault, micro_fault, micro_word}
 use Rattle.pm_host.specs.Transcript as host
 use Rattle.pm_world.specs.declared.event.Event.{Event}
 use Rattle.pm_world.specs.declared.event.Event.TheVariants.{Order, OrderMicro, Check, Learn, Clear, Deliver, Finish, Exchange, RestartDevice, RestartHost, Reading}
@@ -55,7 +56,7 @@ asked s (Order cell word) = Some (host.Order cell word)
 asked s (OrderMicro cell x) = option_map (λ word. host.Order cell word) (micro_word s.host cell x)
 asked s (Check cell) = Some (host.Check cell)
 asked s (Learn output) = Some (host.Learn output)
-asked s (Clear output) = Some (host.Clear output)
+asked s (Clear output) = Some (host.Send (ClearFaults output))
 asked s _ = None
 
 -- the converter hears a frame of a message as it arrives
@@ -169,13 +170,6 @@ exchange_cause s arrival back (Some message) =
     option_or (rule (not (is_read_message message)) WrongKind)
     (option_or (hearing_cause s.host.setup.addr message arrival)
     (return_cause s.device s.host.setup.addr message arrival back))
-
--- why the host refuses a job
-abbrev pub job_fault : Summary → host.Job → Option HostFault
-job_fault s (host.Order cell word) = order_fault s cell word
-job_fault s (host.Check cell) = cell_fault s cell
-job_fault s (host.Learn output) = output_fault s output
-job_fault s (host.Clear output) = output_fault s output
 
 -- why an event that asks for no job isn't taken
 abbrev pub cause_beside : State → Event → Option Cause

@@ -1,6 +1,7 @@
 //! The laws of a world over its whole life: each is the contract of a function that does nothing when it
-//! runs, and calls what its proof rests on. A list of events is newest first.
+//! runs, but calls the laws that its proof rests on. A list of events is newest first.
 
+mod below;
 mod confirmed;
 mod damage;
 mod formats;

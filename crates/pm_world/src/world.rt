@@ -17,6 +17,8 @@ ghost use Rattle.pm_table.specs.Cell.{IsCell};
 ghost use Rattle.pm_model.specs.Commanded.{commanded};
 ghost use Rattle.pm_model.specs.Settings.{word_at};
 ghost use Rattle.pm_device.specs.Held.{value_for};
+ghost use Rattle.pm_device.specs.History.{next as device_next};
+ghost use Rattle.pm_device.specs.Reply.{reply_of};
 ghost use Rattle.pm_world.specs.Retelling.{IsOrderRun, IsOwnWord, CommandsOwn};
 
 use crate::event::{Arrival, Back, Event};
@@ -26,11 +28,11 @@ use crate::laws::{
 };
 use crate::legal::{
     answer_in, back_bytes, heard_bytes, heard_ending, is_heard_whole, is_legal_hearing,
-    is_legal_return, needed_bytes,
+    is_legal_return,
 };
 use crate::stop::{Cause, SetupFault, Stop};
-use pm_device::{Config, Converter, Ending};
-use pm_host::{Host, JobEnd, Step, Told, transcripts_are_followed};
+use pm_device::{Config, Converter, Ending, Heard, refusals_set_one_bit};
+use pm_host::{Host, JobEnd, Step, Told, Turn, transcripts_are_followed};
 use pm_table::{Cell, Code};
 use std::marker::Model;
 
@@ -40,7 +42,6 @@ const EVENT_LIMIT: u64 = 1 << 48;
 /// One host and one converter, and what happens between them.
 #[derive(Drop)]
 pub struct World {
-    addr: u8,
     device: Converter,
     host: Host,
     end: Option<JobEnd>,
@@ -52,7 +53,6 @@ impl Model for World {
 
     ghost Value = { State };
 
-    ghost use Rattle.std.specs.Prelude.{◌≡◌};
     ghost use Rattle.pm_world.specs.Setup.{IsMatched};
 
     ghost view = { λ w. record {
@@ -62,8 +62,7 @@ impl Model for World {
       taken = w.taken;
     } };
 
-    ghost invariant = { λ w. (w.addr ≡ w.device.config.addr)
-        × IsMatched w.host.setup w.device.config w.taken };
+    ghost invariant = { λ w. IsMatched w.host.setup w.device.config w.taken };
 }
 
 impl World {
@@ -85,7 +84,6 @@ impl World {
             Err(fault) => return Err(SetupFault::Host(fault)),
         };
         Ok(World {
-            addr: c.addr,
             device,
             host,
             end: None,
@@ -260,7 +258,6 @@ impl World {
     fn order(&mut self, cell: Cell, word: u16) -> Result<(), Cause>
         ensures { Acts self.old (event.Order cell word) result self.new }
     {
-        transcripts_are_followed(); // hands the prover that the host's setup stays
         self.host.order(cell, word)?;
         self.end = None;
         Ok(())
@@ -270,7 +267,6 @@ impl World {
     fn order_micro(&mut self, cell: Cell, microvolts: i64) -> Result<(), Cause>
         ensures { Acts self.old (event.OrderMicro cell microvolts) result self.new }
     {
-        transcripts_are_followed(); // hands the prover that the host's setup stays
         self.host.order_micro(cell, microvolts)?;
         self.end = None;
         Ok(())
@@ -280,7 +276,6 @@ impl World {
     fn check(&mut self, cell: Cell) -> Result<(), Cause>
         ensures { Acts self.old (event.Check cell) result self.new }
     {
-        transcripts_are_followed(); // hands the prover that the host's setup stays
         self.host.check(cell)?;
         self.end = None;
         Ok(())
@@ -290,7 +285,6 @@ impl World {
     fn learn(&mut self, output: u8) -> Result<(), Cause>
         ensures { Acts self.old (event.Learn output) result self.new }
     {
-        transcripts_are_followed(); // hands the prover that the host's setup stays
         self.host.learn(output)?;
         self.end = None;
         Ok(())
@@ -300,7 +294,6 @@ impl World {
     fn clear(&mut self, output: u8) -> Result<(), Cause>
         ensures { Acts self.old (event.Clear output) result self.new }
     {
-        transcripts_are_followed(); // hands the prover that the host's setup stays
         self.host.clear(output)?;
         self.end = None;
         Ok(())
@@ -310,15 +303,14 @@ impl World {
     fn deliver(&mut self, arrival: &Arrival) -> Result<(), Cause>
         ensures { Acts self.old (event.Deliver arrival.now) result self.new }
     {
-        let Some(frame) = self.host.sending() else {
-            return Err(Cause::NothingSent);
+        let frame = match self.host.turn() {
+            Turn::Idle => return Err(Cause::NothingSent),
+            Turn::Request { .. } => return Err(Cause::WrongKind),
+            Turn::Write(frame) => frame.as_slice(),
         };
-        if self.host.sending_reads() {
-            return Err(Cause::WrongKind);
-        }
-        let bytes = heard_bytes(frame.as_slice(), arrival);
+        let bytes = heard_bytes(frame, arrival);
         let ending = heard_ending(Ending::Stop, arrival);
-        if !is_legal_hearing(frame.as_slice(), bytes, ending) {
+        if !is_legal_hearing(frame, bytes, ending) {
             return Err(Cause::NotBetrayed);
         }
         let _ = self.device.hear(bytes, ending);
@@ -329,11 +321,10 @@ impl World {
     fn finish(&mut self, acked: bool) -> Result<(), Cause>
         ensures { Acts self.old (event.Finish acked) result self.new }
     {
-        if self.host.sending().is_none() {
-            return Err(Cause::NothingSent);
-        }
-        if self.host.sending_reads() {
-            return Err(Cause::WrongKind);
+        match self.host.turn() {
+            Turn::Idle => return Err(Cause::NothingSent),
+            Turn::Request { .. } => return Err(Cause::WrongKind),
+            Turn::Write(_) => {}
         }
         self.tell(Told::Finished { acked });
         Ok(())
@@ -343,26 +334,24 @@ impl World {
     fn exchange(&mut self, arrival: &Arrival, back: &Back) -> Result<(), Cause>
         ensures { Acts self.old (event.Exchange arrival.now back.now) result self.new }
     {
-        let Some(frame) = self.host.sending() else {
-            return Err(Cause::NothingSent);
+        let (frame, needed) = match self.host.turn() {
+            Turn::Idle => return Err(Cause::NothingSent),
+            Turn::Write(_) => return Err(Cause::WrongKind),
+            Turn::Request { frame, bytes } => (frame.as_slice(), bytes),
         };
-        if !self.host.sending_reads() {
-            return Err(Cause::WrongKind);
-        }
-        let bytes = heard_bytes(frame.as_slice(), arrival);
+        let bytes = heard_bytes(frame, arrival);
         let ending = heard_ending(Ending::Restart, arrival);
-        if !is_legal_hearing(frame.as_slice(), bytes, ending) {
+        if !is_legal_hearing(frame, bytes, ending) {
             return Err(Cause::NotBetrayed);
         }
         let reply = self.device.reply(bytes, ending);
         let answer = answer_in(&reply);
         let came = back_bytes(answer, back);
-        let needed = needed_bytes(self.addr, frame.as_slice());
-        let whole = is_heard_whole(frame.as_slice(), bytes, ending);
-        if !is_legal_return(frame.as_slice(), needed, whole, answer, came) {
+        let whole = is_heard_whole(frame, bytes, ending);
+        if !is_legal_return(frame, needed, whole, answer, came) {
             return Err(Cause::NotBetrayed);
         }
-        let _ = self.device.hear(bytes, ending);
+        hear_replied(&mut self.device, &reply, bytes, ending);
         self.tell(Told::Got(came));
         Ok(())
     }
@@ -372,7 +361,6 @@ impl World {
         requires { may_come self.old.host (entry_told told) ≡ true }
         ensures { self.new ≡ shared self.old (tells (entry_told told.entry)) }
     {
-        transcripts_are_followed();
         let step = self.host.told(told);
         self.end = match step {
             Step::Next => None,
@@ -391,7 +379,6 @@ impl World {
     fn restart_host(&mut self)
         ensures { self.new ≡ shared self.old (tells told.Restarted) }
     {
-        transcripts_are_followed();
         self.host.restart();
         self.end = None;
     }
@@ -401,5 +388,20 @@ impl World {
         ensures { self.new ≡ shared self.old (hears (heard.Reading output code.0 word)) }
     {
         let _ = self.device.set_reading(output, code, word);
+    }
+}
+
+// The converter hears bytes that it would answer so. An answer or silence changes nothing.
+fn hear_replied(device: &mut Converter, reply: &Heard, bytes: &[u8], ending: Ending)
+    requires { reply.now ≡ reply_of device.old bytes.now ending }
+    ensures { device.new ≡ device_next device.old (heard.Hearing bytes.now ending) }
+{
+    // Hands the prover what silence and an answer leave.
+    refusals_set_one_bit();
+    match reply {
+        Heard::Answer(_) | Heard::Silent => {}
+        Heard::Taken | Heard::Refused(_) => {
+            let _ = device.hear(bytes, ending);
+        }
     }
 }

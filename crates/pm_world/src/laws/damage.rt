@@ -2,12 +2,7 @@
 
 ghost use Rattle.pm_world.specs.Laws.{BetrayedDamageIsLegal, BetrayedDamageIsTaken};
 
-use crate::laws::lives_are_followed;
-use pm_frame::{
-    answers_are_exact, betrayal_is_refused, bursts_are_betrayed, damage_is_betrayed,
-    requests_are_exact, writes_are_exact,
-};
-use pm_host::{frames_are_named, transcripts_are_followed};
+use crate::laws::below::lower_laws;
 
 /// Where other bytes come in place of a write's frame, and what changed lies within eight neighbouring
 /// bits, or is one, two or three bits of at most 15 bytes, or an odd number of bits, they are a legal
@@ -18,12 +13,7 @@ use pm_host::{frames_are_named, transcripts_are_followed};
 pub fn betrayed_damage_is_legal()
     ensures { BetrayedDamageIsLegal }
 {
-    writes_are_exact();
-    requests_are_exact();
-    answers_are_exact();
-    betrayal_is_refused();
-    damage_is_betrayed();
-    bursts_are_betrayed();
+    lower_laws();
 }
 
 /// So such damage stops no run: a world that isn't full takes the delivery of a write that is
@@ -32,8 +22,6 @@ pub fn betrayed_damage_is_legal()
 pub fn betrayed_damage_is_taken()
     ensures { BetrayedDamageIsTaken }
 {
-    lives_are_followed();
-    transcripts_are_followed();
-    frames_are_named();
+    lower_laws();
     betrayed_damage_is_legal();
 }

@@ -2,11 +2,8 @@ ghost use Rattle.std.specs.Prelude.{◌<◌, ◌^◌};
 ghost use Rattle.pm_world.specs.Honest.{IsSpelled};
 ghost use Rattle.pm_world.specs.Laws.{LearnedFormatsAreTrue};
 
-use crate::laws::lives_are_followed;
-use pm_device::{Config, pasts_are_followed, reads_are_answered, writes_reach_one_cell};
-use pm_frame::{answers_are_exact, betrayal_is_refused, damage_is_refused, writes_are_exact};
-use pm_host::{frames_are_named, transcripts_are_followed};
-use pm_model::settings_are_a_map;
+use crate::laws::below::lower_laws;
+use pm_device::Config;
 
 /// Where a host holds the format of an output's voltages, it is the converter's, and it holds what its
 /// last learn of that output found since its start (`agree`). An order in microvolts that is taken is
@@ -15,17 +12,7 @@ use pm_model::settings_are_a_map;
 pub fn learned_formats_are_true()
     ensures { LearnedFormatsAreTrue }
 {
-    lives_are_followed();
-    transcripts_are_followed();
-    frames_are_named();
-    pasts_are_followed();
-    writes_reach_one_cell();
-    reads_are_answered();
-    settings_are_a_map();
-    writes_are_exact();
-    damage_is_refused();
-    betrayal_is_refused();
-    answers_are_exact();
+    lower_laws();
 }
 
 /// The numbers of a configuration are those that its bytes spell.

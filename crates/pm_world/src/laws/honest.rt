@@ -2,19 +2,14 @@
 
 ghost use Rattle.pm_world.specs.Laws.{FramesAreFew, HonestOrdersGoThrough};
 
-use crate::laws::lives_are_followed;
-use pm_device::{pasts_are_followed, reads_are_answered, writes_reach_one_cell};
-use pm_frame::{answers_are_exact, betrayal_is_refused, damage_is_refused, writes_are_exact};
-use pm_host::{frames_are_named, jobs_are_bounded, transcripts_are_followed};
-use pm_model::settings_are_a_map;
+use crate::laws::below::lower_laws;
 
 /// After each of the events that were taken, the last job has sent at most twice as many frames as a
 /// job has passes.
 pub fn frames_are_few()
     ensures { FramesAreFew }
 {
-    lives_are_followed();
-    jobs_are_bounded();
+    lower_laws();
 }
 
 /// Among events that were taken, an order goes through where WRITE_PROTECT allows its code as it is
@@ -25,15 +20,5 @@ pub fn frames_are_few()
 pub fn honest_orders_go_through()
     ensures { HonestOrdersGoThrough }
 {
-    lives_are_followed();
-    transcripts_are_followed();
-    frames_are_named();
-    pasts_are_followed();
-    writes_reach_one_cell();
-    reads_are_answered();
-    settings_are_a_map();
-    writes_are_exact();
-    damage_is_refused();
-    betrayal_is_refused();
-    answers_are_exact();
+    lower_laws();
 }

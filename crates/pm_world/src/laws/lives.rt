@@ -1,7 +1,6 @@
 ghost use Rattle.pm_world.specs.Laws.{LivesAreFollowed};
 
-use pm_device::pasts_are_followed;
-use pm_host::transcripts_are_followed;
+use crate::laws::below::lower_laws;
 
 /// What a world holds after its life, which the definitions find in what its ends lived through, is
 /// what one event after another makes of its start: of no event (`none`), and of one more (`more`).
@@ -10,6 +9,5 @@ use pm_host::transcripts_are_followed;
 pub fn lives_are_followed()
     ensures { LivesAreFollowed }
 {
-    pasts_are_followed();
-    transcripts_are_followed();
+    lower_laws();
 }

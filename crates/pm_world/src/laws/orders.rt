@@ -1,10 +1,6 @@
 ghost use Rattle.pm_world.specs.Laws.{LivesAreOrders};
 
-use crate::laws::lives_are_followed;
-use pm_device::writes_reach_one_cell;
-use pm_frame::{betrayal_is_refused, damage_is_refused, requests_are_exact, writes_are_exact};
-use pm_host::{frames_are_named, transcripts_are_followed};
-use pm_model::{orders_stay_in_their_cells, settings_are_a_map};
+use crate::laws::below::lower_laws;
 
 /// However frames are delivered, lost, cut, damaged, repeated or falsely acknowledged, and whenever an
 /// end restarts: the converter's words are those of a run of the order machine that retells the events
@@ -14,14 +10,5 @@ use pm_model::{orders_stay_in_their_cells, settings_are_a_map};
 pub fn lives_are_orders()
     ensures { LivesAreOrders }
 {
-    lives_are_followed();
-    transcripts_are_followed();
-    frames_are_named();
-    writes_reach_one_cell();
-    writes_are_exact();
-    requests_are_exact();
-    damage_is_refused();
-    betrayal_is_refused();
-    settings_are_a_map();
-    orders_stay_in_their_cells();
+    lower_laws();
 }

@@ -1,25 +1,12 @@
-use Rattle.pm_world.proofs.DamagedFrames.{TakingLaws, delivered-taken, exchanged-taken, misheard-taken}
+use Rattle.pm_world.proofs.DamagedFrames.{delivered-taken, exchanged-taken, misheard-taken}
+use Rattle.pm_world.proofs.Lives.{lived-by}
 use Rattle.pm_world.proofs.laws.damage.betrayed_damage_is_taken.Goals as goal
 
 pub returns : goal.returns
 returns c = record {
-  delivered = λ config passes events message bytes ending sound made taken room sending writes damage.
-      delivered-taken laws config passes events message bytes ending sound made taken room sending writes damage;
-  exchanged = λ config passes events request payload bytes room sending is damage.
-      exchanged-taken laws config passes events request payload bytes room sending is damage;
-  misheard = λ config passes events request bytes room sending asks others within are.
-      misheard-taken laws config passes events request bytes room sending asks others within are;
+  delivered = λ config passes events message bytes ending sound made taken.
+      delivered-taken c.lower_laws.ensures c.betrayed_damage_is_legal.ensures config passes events message bytes ending
+      (lived-by config passes events sound made taken);
+  exchanged = exchanged-taken c.betrayed_damage_is_legal.ensures;
+  misheard = misheard-taken c.betrayed_damage_is_legal.ensures;
 }
-  where
-    laws : TakingLaws
-    laws = record {
-      legal = record {
-        heard = c.betrayed_damage_is_legal.ensures.heard;
-        came_back = c.betrayed_damage_is_legal.ensures.came_back;
-        answered = c.betrayed_damage_is_legal.ensures.answered;
-      };
-      told = c.lives_are_followed.ensures.told;
-      sending = c.transcripts_are_followed.ensures.sending;
-      named = c.frames_are_named.ensures.named;
-      fits = c.frames_are_named.ensures.fits;
-    }
