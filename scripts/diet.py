@@ -156,6 +156,8 @@ def diet(crate, jobs, apply):
         lines, verdict = copy.check("--fix-imports")
         if verdict != "logic=proved":
             sys.exit("not proved without uncited lemmas: " + why_not(lines))
+        count = sum(len(answers_of(read(os.path.join(home, name)))) for name in files_of(home))
+        print("%d answers, of which %d aren't needed; %d lemmas that nothing cites" % (count, sum(map(len, spare.values())), len(lemmas)))
         for name, names in sorted(spare.items()):
             print("%s %s: %s" % ("answers" if os.path.exists(os.path.join(copy.home, name)) else "file   ", name, ", ".join(names)))
         for name, lemma in lemmas:

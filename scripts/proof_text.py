@@ -9,12 +9,14 @@ OPEN, CLOSED = "({[⟨", ")}]⟩"
 
 
 def files_of(home):
-    """The files of a crate's proofs, by their names from its folder, those of modules' lists left out."""
+    """The files of a crate's proofs, by their names from its folder, those of modules' lists left out; and of its
+    definitions those that hold lemmas alone."""
     found = []
-    for top, _, names in os.walk(os.path.join(home, "proofs")):
-        for name in names:
-            if name.endswith(".antt") and not (name == "Lib.antt" and top.endswith("/proofs")):
-                found.append(os.path.relpath(os.path.join(top, name), home))
+    for folder in ("proofs", os.path.join("specs", "Lemmas")):
+        for top, _, names in os.walk(os.path.join(home, folder)):
+            for name in names:
+                if name.endswith(".antt") and not (name == "Lib.antt" and top.endswith("/proofs")):
+                    found.append(os.path.relpath(os.path.join(top, name), home))
     return sorted(found)
 
 
@@ -28,7 +30,7 @@ class Lemma:
 
     def is_goal(self):
         """An answer or an invariant, which a goal states."""
-        return " : goal." in self.head
+        return self.head.split(" : ", 1)[1].startswith("goal.")
 
     def arguments(self):
         """How many arguments it takes by position: those in parentheses, and the premises."""
@@ -163,13 +165,21 @@ def by_names(line):
 
 def place_to_break(line):
     """The space to break a line at: of those that leave a piece of some length, one at the least depth of brackets,
-    there before an arrow or an operator that joins, or behind a sign of equality, and of these the last."""
+    there where most is joined (see `joint`), and of these the last."""
     indent = len(line) - len(line.lstrip())
     depth, found = 0, []
     for at, c in enumerate(line[:MOST + 1]):
         depth += (c in OPEN) - (c in CLOSED)
         if c == " " and at > indent + 24 and line[:at].count('"') % 2 == 0:
-            after, before = line[at + 1:], line[indent:at]
-            joins = after.startswith(("→ ", "∙ ", "× ", "⊎ ")) or before.endswith((" =", " in", ";"))
-            found.append((depth, not joins, -at))
+            found.append((depth, joint(line[indent:at], line[at + 1:]), -at))
     return -min(found)[2] if found else None
+
+
+def joint(before, after):
+    """How little a space joins: least before an arrow and after a sign of equality, then at what joins proofs, then
+    before a relation or a sum, and most within a call."""
+    if after.startswith("→ ") or before.endswith(" ="):
+        return 0
+    if after.startswith(("∙ ", "× ", "⊎ ")) or before.endswith((" in", ";")):
+        return 1
+    return 2 if after.startswith(("≡ ", "≢ ", "≤ ", "< ", "++ ", "+ ", "∷ ", "|| ", "&& ")) else 3

@@ -1,31 +1,35 @@
 -- What the laws of this crate say, each by a name that a crate above takes it by. A past is a list
 -- of events, newest first.
-use Rattle.std.specs.Prelude.{◌≡◌, ◌≢◌, ◌⊎◌, ◌<◌, ◌≤◌, ℕ, List, [], ◌∷◌, not, ◌&&◌, true, nat_lt, if◌then◌else◌, Some, None}
+use Rattle.std.specs.Prelude.{◌≡◌, ◌≢◌, ◌⊎◌, ◌↔◌, ◌<◌, ◌≤◌, ℕ, Bool, false, List, [], ◌∷◌, not, ◌&&◌, ◌||◌, true, nat_lt, if◌then◌else◌, Some, None}
+use Rattle.std.specs.Option.{option_map_or}
 use Rattle.pm_table.specs.declared.cell.Cell.{Cell}
 use Rattle.pm_table.specs.declared.cell.Cell.TheVariants.{Protect}
 use Rattle.pm_table.specs.Cell.{cell_at, cell_accepts, cell_code, IsCell}
 use Rattle.pm_table.specs.Codes as command
+use Rattle.pm_table.specs.Commands.{line_of}
 use Rattle.pm_table.specs.Coefficients.{coefficient_bytes}
 use Rattle.pm_table.specs.Protection.{is_allowed}
+use Rattle.pm_frame.specs.declared.fault.FrameFault.TheVariants.{UnknownCode}
 use Rattle.pm_frame.specs.declared.message.Message.{Message}
 use Rattle.pm_frame.specs.declared.message.Message.TheVariants.{WriteByte, PagePlusWrite, ReadCommand, PagePlusRead, ReadCoefficients}
 use Rattle.pm_frame.specs.declared.message.Payload.{Payload}
-use Rattle.pm_frame.specs.Fault.{write_fault}
-use Rattle.pm_frame.specs.Layout.{IsWrite, IsRequest, IsAnswer}
+use Rattle.pm_frame.specs.Fault.{write_fault, request_fault}
+use Rattle.pm_frame.specs.Layout.{AreBytes, IsWrite, IsRequest, IsAnswer}
 use Rattle.pm_frame.specs.View.{payload_in, message_code}
-use Rattle.pm_model.specs.Settings.{AreWords, word_at, with_word}
+use Rattle.pm_model.specs.Settings.{Words, AreWords, word_at, with_word}
 use Rattle.pm_model.specs.Commanded.{is_cut}
 use Rattle.pm_device.specs.declared.config.Config.{Config}
 use Rattle.pm_device.specs.declared.fault.DeviceFault.{DeviceFault}
+use Rattle.pm_device.specs.declared.fault.DeviceFault.TheVariants.{UnsupportedCode}
 use Rattle.pm_device.specs.declared.heard.Ending.{Ending}
 use Rattle.pm_device.specs.declared.heard.Ending.TheVariants.{Stop, Restart}
 use Rattle.pm_device.specs.declared.heard.Heard.TheVariants.{Silent, Taken, Answer, Refused}
-use Rattle.pm_device.specs.Held.{Held, mode_for, value_for}
+use Rattle.pm_device.specs.Held.{Held, is_device_reading, is_output_reading, mode_for, reading_at, value_for}
 use Rattle.pm_device.specs.Start.{IsSound, has_direct, start_word}
 use Rattle.pm_device.specs.Verdict.{is_answered, names_no_output, output_in, payload_word, verdict_of, write_verdict, written_word}
 use Rattle.pm_device.specs.Effect.{Event, Hearing, words_after, page_after}
-use Rattle.pm_device.specs.Status.{CmlBit, fault_bit, with_bit, cml_at, cml_in, vout_in, marked, status_vout}
-use Rattle.pm_device.specs.Reply.{payload_for, register_bytes, reply_of}
+use Rattle.pm_device.specs.Status.{CmlBit, fault_bit, with_bit, cml_at, cml_in, vout_in, marked, status_byte, status_cml, status_vout, status_word}
+use Rattle.pm_device.specs.Reply.{payload_for, register_bytes, register_word, reply_of}
 use Rattle.pm_device.specs.History.{AreHeard, WasCarried, next, now, start_of}
 
 -- What a converter with 1 to 8 outputs holds after any past is what one event after another makes of
@@ -181,3 +185,50 @@ pub record ReadsAreAnswered : Type 0 where
       (coefficient_bytes held.config.coefficients) frame
   pub number : (cell : Cell) (word : ℕ) → cell_accepts cell word ≡ true →
       payload_word (payload_in (register_bytes (cell_code cell) word)) ≡ word
+
+-- A register that is read over the bus says what the call of its name answers. What a request is
+-- answered is made of this word (`ReadsAreAnswered.answered`).
+pub record RegistersSayWhatCallsSay : Type 0 where
+  pub page : (held : Held) (output : ℕ) → register_word held output command.page ≡ held.page
+  pub status_byte : (held : Held) (output : ℕ) →
+      register_word held output command.status_byte ≡ status_byte held output
+  pub status_word : (held : Held) (output : ℕ) →
+      register_word held output command.status_word ≡ status_word held output
+  pub status_vout : (held : Held) (output : ℕ) →
+      register_word held output command.status_vout ≡ status_vout held output
+  pub status_cml : (held : Held) (output : ℕ) →
+      register_word held output command.status_cml ≡ status_cml held
+  pub readings : (held : Held) (output code : ℕ) →
+      (is_device_reading code || is_output_reading code) ≡ true →
+      register_word held output code ≡ reading_at held.readings output code
+
+-- Nothing is answered after a stop, and nothing taken after a repeated start.
+pub record RepliesFollowEndings : Type 0 where
+  pub stop : (held : Held) (bytes items : List ℕ) →
+      reply_of held bytes Stop ≢ Answer (record { items = items })
+  pub restart : (held : Held) (bytes : List ℕ) → reply_of held bytes Restart ≢ Taken
+
+-- K2 comes exactly for a code that isn't in the command table.
+pub record UnknownCodesAreRefused : Type 0 where
+  pub write : (held : Held) (bytes : List ℕ) → AreBytes bytes →
+      (reply_of held bytes Stop ≡ Refused UnsupportedCode)
+      ↔ ((place : ℕ) × (write_fault held.config.addr bytes ≡ Some (UnknownCode place)))
+  pub read : (held : Held) (bytes : List ℕ) →
+      (reply_of held bytes Restart ≡ Refused UnsupportedCode)
+      ↔ ((place : ℕ) × (request_fault held.config.addr bytes ≡ Some (UnknownCode place)))
+
+-- the code stands in the command table, and acts on the device and not on one output
+abbrev pub is_device_code : ℕ → Bool
+is_device_code code = option_map_or (λ line. not line.paged) (line_of code) false
+
+-- A code of the device acts and answers alike on every page that is there, and whatever PAGE is.
+pub record DeviceCodesIgnorePages : Type 0 where
+  pub carried : (config : Config) (words : Words) (page output other code : ℕ) (payload : Payload) →
+      is_device_code code ≡ true → output < config.count → other < config.count →
+      write_verdict config words page (PagePlusWrite output code payload)
+      ≡ write_verdict config words page (PagePlusWrite other code payload)
+  pub plain : (config : Config) (words : Words) (page other : ℕ) (message : Message) →
+      is_device_code (message_code message) ≡ true →
+      write_verdict config words page message ≡ write_verdict config words other message
+  pub read : (held : Held) (output other code : ℕ) → is_device_code code ≡ true →
+      register_word held output code ≡ register_word held other code

@@ -1,7 +1,8 @@
-ghost use Rattle.std.specs.Prelude.{◌≡◌, ◌<◌, IfOk, OnOk};
+ghost use Rattle.std.specs.Prelude.{◌≡◌, ◌<◌, true, false, IfOk, OnOk};
 ghost use Rattle.std.specs.Result.{result_err};
-ghost use Rattle.pm_model.specs.Settings.{word_at, IsCell};
-ghost use Rattle.pm_model.specs.Commanded.{commanded};
+ghost use Rattle.pm_table.specs.Cell.{cell_accepts, IsCell};
+ghost use Rattle.pm_model.specs.Settings.{word_at};
+ghost use Rattle.pm_model.specs.Commanded.{commanded, greatest_value, is_above};
 ghost use Rattle.pm_device.specs.Held.{is_reading, value_for};
 ghost use Rattle.pm_device.specs.Start.{IsSound, config_fault as spec_config_fault};
 ghost use Rattle.pm_device.specs.Effect.{Hearing, Restarted, Reading};
@@ -70,6 +71,7 @@ impl Converter {
     #[tactic(auto, unfolding(crate::specs::History::start_of))]
     pub fn new(c: Config) -> Result<Converter, ConfigFault>
         ensures made { IfOk result (λ made. made ≡ start_of c) }
+        ensures config { IfOk result (λ made. made.config ≡ c) }
         ensures fault { result_err result ≡ spec_config_fault c }
         ensures sound { OnOk result (IsSound c) }
     {
@@ -94,7 +96,8 @@ impl Converter {
     /// bit whose cause holds. The readings stay.
     #[tactic(auto, unfolding(crate::specs::History::next, crate::specs::History::after))]
     pub fn restart(&mut self)
-        ensures { self.new ≡ next self.old Restarted }
+        ensures after { self.new ≡ next self.old Restarted }
+        ensures config { self.new.config ≡ self.old.config }
     {
         self.settings = start_settings(&self.config);
         self.page = 0;
@@ -109,6 +112,7 @@ impl Converter {
     pub fn set_reading(&mut self, output: u8, code: Code, word: u16) -> bool
         ensures answer { result ≡ is_reading self.old.config.count output code.0 }
         ensures after { self.new ≡ next self.old (Reading output code.0 word) }
+        ensures config { self.new.config ≡ self.old.config }
     {
         self.readings.set(self.config.count, output, code, word)
     }
@@ -117,10 +121,11 @@ impl Converter {
     /// for another device, [`Heard::Taken`] for a write, [`Heard::Answer`] for a read, otherwise
     /// [`Heard::Refused`] with the first of K1, K2, K6, K7, K4, K5 and K3 that applies. A refusal
     /// changes no setting and no PAGE, and sets one bit of STATUS_CML.
-    #[tactic(auto, unfolding(crate::specs::Reply::reply_of, crate::specs::History::next))]
+    #[tactic(auto, unfolding(crate::specs::Reply::reply_of, crate::specs::History::next, crate::specs::History::after))]
     pub fn hear(&mut self, bytes: &[u8], ending: Ending) -> Heard
         ensures reply { result ≡ reply_of self.old bytes.now ending }
         ensures after { self.new ≡ next self.old (Hearing bytes.now ending) }
+        ensures config { self.new.config ≡ self.old.config }
     {
         let verdict = self.verdict(bytes, ending);
         let heard = self.reply_to(verdict);
@@ -136,10 +141,11 @@ impl Converter {
         self.reply_to(self.verdict(bytes, ending))
     }
 
-    /// The word of a cell that there is.
+    /// The word of a cell that there is, one that the cell accepts.
     pub fn word(&self, cell: Cell) -> u16
         requires { IsCell self.now.config.count cell }
-        ensures { result ≡ word_at self.now.words cell }
+        ensures word { result ≡ word_at self.now.words cell }
+        ensures accepted { cell_accepts cell result ≡ true }
     {
         self.settings.get(cell)
     }
@@ -164,7 +170,9 @@ impl Converter {
     /// word that OPERATION selects, or that of VOUT_MAX where that is less.
     pub fn commanded(&self, output: u8) -> Frac
         requires { output < self.now.config.count }
-        ensures { result ≡ commanded (value_for self.now.config output) self.now.words output }
+        ensures value { result ≡ commanded (value_for self.now.config output) self.now.words output }
+        ensures limited { is_above result
+            (greatest_value (value_for self.now.config output) self.now.words output) ≡ false }
     {
         self.settings.commanded(&self.formats, output)
     }

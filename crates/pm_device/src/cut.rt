@@ -9,6 +9,7 @@ use crate::config::Config;
 use pm_model::{Formats, Plain};
 
 /// Whether the output is there, and its selected value is cut.
+#[tactic(auto, unfolding(crate::specs::Status::is_output_cut))]
 pub(crate) fn is_output_cut(
     config: &Config,
     formats: &Formats,

@@ -1,63 +1,85 @@
 //! The laws of the converter over its whole past and over one event, over the definitions alone:
 //! each is the contract of a function that does nothing, or calls laws of the crates below. A past
-//! is a list of events, newest first.
+//! is a list of events, newest first. What each says in full stands in `specs/Laws.antt`.
 
-ghost use Rattle.pm_device.specs.Laws.{PastsAreFollowed, ReadsAreAnswered, RefusalsSetOneBit, WordsHaveAnOrigin, WritesReachOneCell};
+ghost use Rattle.pm_device.specs.Laws.{DeviceCodesIgnorePages, PastsAreFollowed, ReadsAreAnswered, RefusalsSetOneBit, RegistersSayWhatCallsSay, RepliesFollowEndings, UnknownCodesAreRefused, WordsHaveAnOrigin, WritesReachOneCell};
 
 use pm_frame::{requests_are_exact, writes_are_exact};
 use pm_model::{outputs_stand_alone, settings_are_a_map};
 use pm_table::{cells_are_told_apart, payloads_are_short, registers_are_in_the_table};
 
 /// What a converter with 1 to 8 outputs holds after any list of hearings, restarts and readings is
-/// what one event after another makes of its start (`none`, `more`), so the status bits that are
-/// latched are those that are found by looking back (`vout`, `cml`). A cause that holds now shows at
-/// once, also just after CLEAR_FAULTS, a written bit or a restart (`shows`). PAGE always names an
-/// output that is there (`page`), and there is always a word for each cell (`words`).
+/// what one event after another makes of its start. So the status bits that are latched are those
+/// that are found by looking back, and PAGE always names an output that is there.
 pub fn pasts_are_followed()
     ensures { PastsAreFollowed }
 {
+    // A write reaches one cell, so at most one output's latch.
     settings_are_a_map();
     outputs_stand_alone();
 }
 
 /// Over any list of hearings, restarts and readings, each cell's word is its start word, or one that
-/// a frame which was taken since the last restart carried for that very cell (`origin`), and it is a
-/// word that the cell accepts (`accepted`).
+/// a frame which was taken since the last restart carried for that very cell, and it is a word that
+/// the cell accepts.
 pub fn words_have_an_origin()
     ensures { WordsHaveAnOrigin }
 {
+    // A write reaches one cell, and a frame without a fault is the write that it spells.
     settings_are_a_map();
     cells_are_told_apart();
     writes_are_exact();
 }
 
-/// A refusal sets the one bit of STATUS_CML of its kind, and changes nothing else (`refused`).
-/// Silence and a read that is answered change nothing (`silent`, `answered`). A write that is taken
-/// sets no bit of STATUS_CML (`taken`).
+/// A refusal sets the one bit of STATUS_CML of its kind, and changes nothing else. Silence and a
+/// read that is answered change nothing. A write that is taken sets no bit of STATUS_CML.
 pub fn refusals_set_one_bit()
     ensures { RefusalsSetOneBit }
 {}
 
-/// What the words of the cells and PAGE are after one frame. A request and a faulty write leave
-/// both (`request`, `faulty`); a write comes to what its message comes to (`write`). A
-/// PAGE_PLUS_WRITE of a cell's code gives that cell the word where the output is there,
-/// WRITE_PROTECT allows the code and the cell accepts the word, otherwise all stays (`carried`);
-/// likewise the plain write of WRITE_PROTECT (`plain`). CLEAR_FAULTS leaves both (`clears`).
+/// What the words of the cells and PAGE are after one frame: a write of a cell's code, plain or
+/// carried, reaches that cell where its page is there, WRITE_PROTECT allows the code and the cell
+/// accepts the word; a write of PAGE selects an output; everything else leaves both.
 pub fn writes_reach_one_cell()
     ensures { WritesReachOneCell }
 {
+    // A frame without a fault is the write that it spells.
     writes_are_exact();
 }
 
-/// What a whole request is answered: a PAGE_PLUS_READ of a cell's code at an output that is there
-/// with that cell's word (`cell`), a plain read of WRITE_PROTECT with its word (`protect`), VOUT_MODE
-/// with the output's byte (`mode`), and COEFFICIENTS of VOUT_COMMAND with the coefficients where
-/// some output is DIRECT (`coefficients`). A word that its cell accepts is the number of the bytes
-/// that answer it (`number`).
+/// What is answered is an answer to the request that was heard, and each whole request whose page is
+/// there, or whose coefficients are, is answered with what its code reads as.
 pub fn reads_are_answered()
     ensures { ReadsAreAnswered }
 {
+    // A frame without a fault is the request that it spells, and a word has the bytes of its code.
     requests_are_exact();
     payloads_are_short();
     registers_are_in_the_table();
 }
+
+/// A status register, PAGE or a reading that is read over the bus says what the call of its name
+/// answers.
+pub fn registers_say_what_calls_say()
+    ensures { RegistersSayWhatCallsSay }
+{}
+
+/// Nothing is answered after a stop, and nothing taken after a repeated start.
+pub fn replies_follow_endings()
+    ensures { RepliesFollowEndings }
+{}
+
+/// K2 comes exactly for a code that isn't in the command table.
+pub fn unknown_codes_are_refused()
+    ensures { UnknownCodesAreRefused }
+{
+    // A frame without a fault is what it spells, whose code is written or read.
+    writes_are_exact();
+    requests_are_exact();
+}
+
+/// A code of the device, as STATUS_CML, acts and answers alike on every page that is there, and
+/// whatever PAGE is.
+pub fn device_codes_ignore_pages()
+    ensures { DeviceCodesIgnorePages }
+{}

@@ -20,18 +20,22 @@ pub wrapper-is_written : is_written command.page_plus_write ≡ true
 unfolding line_of
 wrapper-is_written = refl
 
+-- PAGE_PLUS_READ is not written,
 pub written-is_no_page_plus_read : (code : ℕ) → is_written code ≡ true → eqb code command.page_plus_read ≡ false
 unfolding line_of
 written-is_no_page_plus_read code h = other_code is_written code command.page_plus_read refl h
 
+-- nor is COEFFICIENTS,
 pub written-is_no_coefficients : (code : ℕ) → is_written code ≡ true → eqb code command.coefficients ≡ false
 unfolding line_of
 written-is_no_coefficients code h = other_code is_written code command.coefficients refl h
 
+-- and PAGE_PLUS_WRITE, which is not read
 pub read-is_no_page_plus_write : (code : ℕ) → is_read code ≡ true → eqb code command.page_plus_write ≡ false
 unfolding line_of
 read-is_no_page_plus_write code h = other_code is_read code command.page_plus_write refl h
 
+-- a code of which the table says something stands in it
 known_if : (line : Option Line) (field : Line → Bool) → option_map_or field line false ≡ true → is_some line ≡ true
 known_if None field h = h
 known_if (Some l) field h = refl

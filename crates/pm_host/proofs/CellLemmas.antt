@@ -4,7 +4,6 @@ use Rattle.std.proofs.lemmas.List.{same_lists, length-set, get_or-set_same, get_
 use Rattle.std.proofs.lemmas.List.FromFn.{length-map-range_with_len, get_or-map-range_with_len}
 use Rattle.std.proofs.lemmas.Bool.{cases_eq, cases_Bool}
 use Rattle.pm_table.specs.declared.cell.Cell.{Cell}
-use Rattle.pm_table.specs.declared.cell.Cell.TheVariants.{Out, Protect}
 use Rattle.pm_table.specs.Cell.{IsCell, cell_in, place_of, places, same_cell}
 use Rattle.pm_table.specs.Laws.{CellsAreToldApart, CellsHavePlaces}
 use Rattle.pm_host.specs.Cells.{table}

@@ -164,10 +164,6 @@ IsJob-from s (Check c) h = IsCell-from s.setup.outputs c (there_part (is_busy s)
 IsJob-from s (Learn o) h = ltb-true o s.setup.outputs (there_part (is_busy s) (ltb o s.setup.outputs) h)
 IsJob-from s (Send sent) h = there_part (is_busy s) (is_command s.setup.outputs sent) h
 
-now-setup : (setup : Setup) (es : List Entry) → (now setup es).setup ≡ setup
-unfolding now
-now-setup setup es = refl
-
 pub IsJob-told : (setup : Setup) (es : List Entry) → AreTold setup es → IsJob setup (last_job es)
 unfolding now
 IsJob-told setup [] h = tt

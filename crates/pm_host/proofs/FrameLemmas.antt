@@ -8,13 +8,10 @@ use Rattle.pm_table.specs.Codes as command
 use Rattle.pm_table.specs.Commands.{line_of}
 use Rattle.pm_frame.specs.declared.message.Message.{Message}
 use Rattle.pm_frame.specs.declared.message.Message.TheVariants.{PagePlusWrite, PagePlusRead}
-use Rattle.pm_frame.specs.Layout.{answer_length, fits_layout, is_read_message}
+use Rattle.pm_frame.specs.Layout.{fits_layout, is_read_message}
 use Rattle.pm_frame.specs.View.{message_code}
 use Rattle.pm_host.specs.declared.command.Command.{Command}
-use Rattle.pm_host.specs.declared.stage.Stage.{Stage}
-use Rattle.pm_host.specs.declared.stage.Stage.TheVariants.{Writes, Reads, Checks, AsksMode, AsksCoefficients, Sends}
 use Rattle.pm_host.specs.Messages.{register_payload, cell_write, cell_read, mode_read, command_message}
-use Rattle.pm_host.specs.Summary.{stage_message}
 use Rattle.pm_host.specs.Frames.{CanSend, writes_output, writes_protect, reads_output, reads_protect, reads_mode, reads_coefficients, sends_command}
 use Rattle.pm_host.specs.Transcript.{Setup}
 
@@ -49,10 +46,6 @@ pub mode_read-fits : (output : ℕ) → fits_layout (mode_read output) ≡ true
 unfolding line_of
 mode_read-fits output = refl
 
-pub mode_read-one : (output : ℕ) → answer_length (mode_read output) ≡ 1
-unfolding line_of
-mode_read-one output = refl
-
 -- what a command sends is a write that fits
 pub command_message-fits : (command : Command) → fits_layout (command_message command) ≡ true
 unfolding line_of
@@ -60,14 +53,6 @@ command_message-fits = search rules
 
 pub command_message-writes : (command : Command) → is_read_message (command_message command) ≡ false
 command_message-writes = search rules
-
-pub stage_message-fits : (stage : Stage) → fits_layout (stage_message stage) ≡ true
-stage_message-fits (Writes c word pass) = cell_write-fits c word
-stage_message-fits (Reads c word pass) = cell_read-fits c
-stage_message-fits (Checks c tries) = cell_read-fits c
-stage_message-fits (AsksMode output tries) = mode_read-fits output
-stage_message-fits (AsksCoefficients output tries) = refl
-stage_message-fits (Sends command tries) = command_message-fits command
 
 pub CanSend-fits : (setup : Setup) (message : Message) → CanSend setup message → fits_layout message ≡ true
 unfolding line_of

@@ -1,5 +1,5 @@
 -- What a host shows of the frame that it sends.
-use Rattle.std.specs.Prelude.{◌≡◌, ◌≤◌, ℕ, true, IsSomeAnd, None}
+use Rattle.std.specs.Prelude.{◌≡◌, ◌≤◌, true, IsSomeAnd, None}
 use Rattle.pm_frame.specs.Fault.{whole_answer}
 use Rattle.pm_frame.specs.Layout.{IsWrite, IsRequest}
 use Rattle.pm_host.specs.declared.turn.Turn.{Turn}

@@ -12,6 +12,7 @@ use pm_frame::{Message, read_answer};
 use pm_table::Coefficients;
 
 /// The word of a good answer of one byte or two; `None` for every other answer.
+#[tactic(auto, unfolding(crate::specs::Answers::good_payload))]
 pub(crate) fn good_word(addr: u8, request: &Message, got: &[u8]) -> Option<u16>
     requires address { IsAddress addr }
     requires read { is_read_message request.now ≡ true }
@@ -25,6 +26,7 @@ pub(crate) fn good_word(addr: u8, request: &Message, got: &[u8]) -> Option<u16>
 }
 
 /// The byte of a good answer of one byte; `None` for every other answer.
+#[tactic(auto, unfolding(crate::specs::Answers::good_payload))]
 pub(crate) fn good_byte(addr: u8, request: &Message, got: &[u8]) -> Option<u8>
     requires address { IsAddress addr }
     requires read { is_read_message request.now ≡ true }
@@ -39,6 +41,7 @@ pub(crate) fn good_byte(addr: u8, request: &Message, got: &[u8]) -> Option<u8>
 }
 
 /// The coefficients of a good answer; `None` for every other answer.
+#[tactic(auto, unfolding(crate::specs::Answers::good_payload))]
 pub(crate) fn good_coefficients(addr: u8, got: &[u8]) -> Option<Coefficients>
     requires { IsAddress addr }
     ensures { result ≡ option_map coefficients_of (good_payload addr messages.coefficients_read got.now) }

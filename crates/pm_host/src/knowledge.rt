@@ -32,6 +32,7 @@ impl Model for Knowledge {
 
 impl Knowledge {
     /// Nothing.
+    #[tactic(auto, unfolding(crate::specs::Known::nothing_known, crate::specs::Known::all_unknown))]
     pub(crate) fn new() -> Knowledge
         ensures { result ≡ nothing_known }
     {

@@ -27,6 +27,7 @@ impl Model for Learned {
 
 impl Learned {
     /// None is known.
+    #[tactic(auto, unfolding(crate::specs::Summary::no_formats))]
     pub(crate) fn new() -> Learned
         ensures { result ≡ no_formats }
     {

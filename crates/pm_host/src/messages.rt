@@ -2,7 +2,7 @@
 
 ghost use Rattle.std.specs.Prelude.{◌≡◌, true};
 ghost use Rattle.pm_table.specs.Cell.{cell_accepts};
-ghost use Rattle.pm_frame.specs.Layout.{answer_length};
+ghost use Rattle.pm_frame.specs.Layout.{answer_length, fits_layout};
 ghost use Rattle.pm_host.specs.Messages as messages;
 
 use crate::command::Command;
@@ -13,9 +13,11 @@ use pm_table::{Cell, Code};
 const VALUES_WRITTEN: u8 = 0x00;
 
 /// The write of a word that the cell accepts.
+#[tactic(auto, unfolding(pm_table::specs::Commands::line_of))]
 pub(crate) fn cell_write(cell: Cell, word: u16) -> Message
     requires { cell_accepts cell word ≡ true }
-    ensures { result ≡ messages.cell_write cell word }
+    ensures message { result ≡ messages.cell_write cell word }
+    ensures fits { fits_layout result ≡ true }
 {
     let code = cell.code().0;
     let [low, _] = word.to_le_bytes();
@@ -34,8 +36,10 @@ pub(crate) fn cell_write(cell: Cell, word: u16) -> Message
 }
 
 /// The read of a cell.
+#[tactic(auto, unfolding(pm_table::specs::Commands::line_of))]
 pub(crate) fn cell_read(cell: Cell) -> Message
-    ensures { result ≡ messages.cell_read cell }
+    ensures message { result ≡ messages.cell_read cell }
+    ensures fits { fits_layout result ≡ true }
 {
     let code = cell.code().0;
     match cell {
@@ -48,6 +52,7 @@ pub(crate) fn cell_read(cell: Cell) -> Message
 #[tactic(auto, unfolding(pm_table::specs::Commands::line_of))]
 pub(crate) fn mode_read(page: u8) -> Message
     ensures message { result ≡ messages.mode_read page }
+    ensures fits { fits_layout result ≡ true }
     ensures single { answer_length result ≡ 1 }
 {
     Message::PagePlusRead {
@@ -57,8 +62,10 @@ pub(crate) fn mode_read(page: u8) -> Message
 }
 
 /// The read of the coefficients of VOUT_COMMAND, which all voltages share.
+#[tactic(auto, unfolding(pm_table::specs::Commands::line_of))]
 pub(crate) fn coefficients_read() -> Message
-    ensures { result ≡ messages.coefficients_read }
+    ensures message { result ≡ messages.coefficients_read }
+    ensures fits { fits_layout result ≡ true }
 {
     Message::ReadCoefficients {
         code: Code::VOUT_COMMAND.0,
@@ -67,8 +74,10 @@ pub(crate) fn coefficients_read() -> Message
 }
 
 /// What a command sends.
+#[tactic(auto, unfolding(pm_table::specs::Commands::line_of))]
 pub(crate) fn command_message(command: Command) -> Message
-    ensures { result ≡ messages.command_message command }
+    ensures message { result ≡ messages.command_message command }
+    ensures fits { fits_layout result ≡ true }
 {
     match command {
         Command::ClearFaults { output } => Message::PagePlusWrite {

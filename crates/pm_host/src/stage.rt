@@ -1,4 +1,5 @@
-ghost use Rattle.std.specs.Prelude.{◌≡◌};
+ghost use Rattle.std.specs.Prelude.{◌≡◌, true};
+ghost use Rattle.pm_frame.specs.Layout.{fits_layout};
 ghost use Rattle.pm_host.specs.Summary.{stage_message};
 
 use crate::command::Command;
@@ -36,7 +37,8 @@ impl Stage {
     /// The message whose frame is sent.
     pub(crate) fn message(&self) -> Message
         requires { HasWord self.now }
-        ensures { result ≡ stage_message self.now }
+        ensures message { result ≡ stage_message self.now }
+        ensures fits { fits_layout result ≡ true }
     {
         match *self {
             Stage::Writes { cell, word, .. } => cell_write(cell, word),

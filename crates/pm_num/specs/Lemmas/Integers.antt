@@ -11,24 +11,30 @@ pub back_from_size : {A : Type 0} (f : ℤ → A) (d : ℤ) → pos 1 ≤ℤ d �
 back_from_size f (pos n) h = refl
 back_from_size f (negsuc n) h = absurd (omega (arith, ints))
 
+-- a product goes through a sum,
 pub add-times : (a b : ℤ) (n : ℕ) → (a +ℤ b) *ℤ pos n ≡ a *ℤ pos n +ℤ b *ℤ pos n
 add-times a b n = let e = ap (λ (k : ℕ). k * n) (sum_is_lem a b) in omega (arith, ints)
 
+-- a difference, by the parts above and below 0 of its numbers
 difference_is : (a b : ℤ) → up (a -ℤ b) + down a + up b ≡ down (a -ℤ b) + up a + down b
 difference_is a b = omega (arith, ints)
 
+-- a product goes through a difference,
 pub sub-times : (a b : ℤ) (n : ℕ) → (a -ℤ b) *ℤ pos n ≡ a *ℤ pos n -ℤ b *ℤ pos n
 sub-times a b n = let e = ap (λ (k : ℕ). k * n) (difference_is a b) in omega (arith, ints)
 
+-- two products are one with the product,
 pub times-times : (a : ℤ) (m n : ℕ) → (a *ℤ pos m) *ℤ pos n ≡ a *ℤ pos (m * n)
 times-times a m n =
     let e = ap (λ (k : ℕ). k * n) (product_is a (pos m)).0 in
     let f = ap (λ (k : ℕ). k * n) (product_is a (pos m)).1 in
     omega (arith, ints)
 
+-- in either order
 pub times-swap : (a : ℤ) (m n : ℕ) → (a *ℤ pos m) *ℤ pos n ≡ (a *ℤ pos n) *ℤ pos m
 times-swap a m n = let e = times-times a m n in let f = times-times a n m in omega (arith, ints)
 
+-- a product keeps the order,
 pub le-times : (a b : ℤ) (n : ℕ) → a ≤ℤ b → (a *ℤ pos n) ≤ℤ (b *ℤ pos n)
 le-times a b n h =
     let k : (up a + down b) * n ≤ (up b + down a) * n = mul-le-mul_right n (le_out a b h) in
@@ -41,9 +47,11 @@ lt-times a b n h =
     let k : (up a + down b + 1) * n ≤ (up b + down a) * n = mul-le-mul_right n j in
     omega (arith, ints)
 
+-- and shows it,
 pub le_from_times : (a b : ℤ) (n : ℕ) → 0 < n → (a *ℤ pos n) ≤ℤ (b *ℤ pos n) → a ≤ℤ b
 le_from_times a b n h le = by_lt_z b a (λ less. let k = lt-times b a n less in absurd (omega (arith, ints))) (λ p. p)
 
+-- and so equality
 pub same_from_times : (a b : ℤ) (n : ℕ) → 0 < n → a *ℤ pos n ≡ b *ℤ pos n → a ≡ b
 same_from_times a b n h e =
     let p : a ≤ℤ b = le_from_times a b n h (omega (arith, ints)) in

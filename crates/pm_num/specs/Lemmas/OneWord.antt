@@ -7,6 +7,7 @@ use Rattle.pm_num.specs.Nearest.{gap, Near, IsNearest}
 
 -- What follows for every format from the definition of the nearest word.
 
+-- A number is not away from itself.
 gap-same : (v : Ratio) → gap v v ≡ 0
 gap-same v = omega (arith, ints)
 
@@ -19,18 +20,21 @@ same_from_near v u h near =
     omega (arith, ints)
 
 -- The word for a word's value has that value.
-pub same_from_nearest : (value : ℕ → Ratio) (rank : ℕ → ℕ) (u w : ℕ) → 0 < (value u).den → u < 2 ^ 16 → IsNearest value rank (value u) w → SameValue (value w) (value u)
+pub same_from_nearest : (value : ℕ → Ratio) (rank : ℕ → ℕ) (u w : ℕ) → 0 < (value u).den → u < 2 ^ 16 → IsNearest value rank (value u) w
+    → SameValue (value w) (value u)
 same_from_nearest value rank u w den h nearest = same_from_near (value u) (value w) den (nearest.nearest u h)
 
 -- A format in which no two words have one value and one rank.
 abbrev pub IsOneWord : (ℕ → Ratio) → (ℕ → ℕ) → Type 0
 IsOneWord value rank = (u w : ℕ) → u < 2 ^ 16 → w < 2 ^ 16 → SameValue (value u) (value w) → rank u ≡ rank w → u ≡ w
 
+-- Two numbers that are each at most the other are one value.
 at_most_both : (p q : Ratio) → AtMost p q → AtMost q p → SameValue p q
 at_most_both p q h k = omega (arith, ints)
 
 -- There is one word for x at most.
-pub one_from_nearest : (value : ℕ → Ratio) (rank : ℕ → ℕ) → IsOneWord value rank → (x : Ratio) (u w : ℕ) → IsNearest value rank x u → IsNearest value rank x w → u ≡ w
+pub one_from_nearest : (value : ℕ → Ratio) (rank : ℕ → ℕ) → IsOneWord value rank → (x : Ratio) (u w : ℕ) → IsNearest value rank x u
+    → IsNearest value rank x w → u ≡ w
 one_from_nearest value rank one x u w h k =
     let p = h.lowest w k.word (k.nearest u h.word) in
     let q = k.lowest u h.word (h.nearest w k.word) in

@@ -16,15 +16,18 @@ use Rattle.pm_num.specs.Lemmas.Unsigned.{lower-positive}
 
 -- LINEAR11.
 
+-- a word's exponent is one of five bits,
 pub IsExponent-exponent : (w : ℕ) → w < 2 ^ 16 → IsExponent (exponent w)
 IsExponent-exponent w h =
     let k : w / 2 ^ 11 < 32 = omega arith in
     record { above = grind (arith, ints, nat_tests); below = grind (arith, ints, nat_tests) }
 
+-- so its place is at most 31,
 place-below : (e : ℤ) → IsExponent e → place_of e ≤ 31
 place-below (pos n) h = omega (arith, ints, h.below)
 place-below (negsuc n) h = omega arith
 
+-- and a word is a mantissa at a place
 pub IsSpelling-word : (w : ℕ) → w < 2 ^ 16 → IsSpelling (mantissa w) (place_of (exponent w))
 IsSpelling-word w h =
     let k : w % 2 ^ 11 < 2048 = omega arith in
@@ -34,6 +37,7 @@ IsSpelling-word w h =
       place = place-below (exponent w) (IsExponent-exponent w h);
     }
 
+-- the power of two that an exponent stands for, over 2^16
 place_power : (e : ℤ) → IsExponent e → upper 2 e * 2 ^ 16 ≡ 2 ^ place_of e * lower 2 e
 place_power (pos n) h = omega (arith, pow-add 2 n 16)
 place_power (negsuc n) h =
@@ -52,6 +56,7 @@ Over-linear11 w h =
     let k = ap (λ (n : ℕ). mantissa w *ℤ pos n) (place_power e (IsExponent-exponent w h)) in
     record { common = omega arith; den = lower-positive e; is = f ∙ k ∙ sym g }
 
+-- the values lie between those of the least and of the greatest word
 pub linear11-within : (w : ℕ) → w < 2 ^ 16 → IsBetween (linear11_value linear11_least) (linear11_value linear11_greatest) (linear11_value w)
 linear11-within w h =
     let s = IsSpelling-word w h in
@@ -61,29 +66,33 @@ linear11-within w h =
     let l = le-times (negsuc 1023) y p s.above in
     let g = le-times y (pos 1023) p s.below in
     record {
-      from_least = at_most_over (linear11_value linear11_least) (linear11_value w) (2 ^ 16) _ (y *ℤ pos p) (Over-linear11 linear11_least (lit< tt)) (Over-linear11 w h) (omega (arith, ints));
-      to_greatest = at_most_over (linear11_value w) (linear11_value linear11_greatest) (2 ^ 16) (y *ℤ pos p) _ (Over-linear11 w h) (Over-linear11 linear11_greatest (lit< tt)) (omega (arith, ints));
+      from_least = at_most_over (Over-linear11 linear11_least (lit< tt)) (Over-linear11 w h) (omega (arith, ints));
+      to_greatest = at_most_over (Over-linear11 w h) (Over-linear11 linear11_greatest (lit< tt)) (omega (arith, ints));
     }
 
+-- no two exponents are preferred alike
 preference-one : (e f : ℤ) → preference e ≡ preference f → e ≡ f
 preference-one (pos m) (pos n) h = ap pos (omega arith)
 preference-one (pos m) (negsuc n) h = absurd (omega arith)
 preference-one (negsuc m) (pos n) h = absurd (omega arith)
 preference-one (negsuc m) (negsuc n) h = ap negsuc (omega arith)
 
+-- no two exponents' bits are one number,
 signed_five-one : (u w : ℕ) → u < 32 → w < 32 → signed 5 u ≡ signed 5 w → u ≡ w
 signed_five-one u w hu hw e = grind (arith, ints, nat_tests)
 
+-- and no two mantissas' bits
 signed_eleven-one : (u w : ℕ) → u < 2048 → w < 2048 → signed 11 u ≡ signed 11 w → u ≡ w
 signed_eleven-one u w hu hw e = grind (arith, ints, nat_tests)
 
+-- so no two words have one value and one rank
 pub linear11-one_word : IsOneWord linear11_value linear11_rank
 linear11-one_word u w hu hw same ranks =
     let e = preference-one (exponent u) (exponent w) ranks in
     let y = mantissa u in
     let z = mantissa w in
     let p = 2 ^ place_of (exponent u) in
-    let s = same_over_back (linear11_value u) (linear11_value w) (2 ^ 16) _ _ (Over-linear11 u hu) (Over-linear11 w hw) same in
+    let s = same_over_back (Over-linear11 u hu) (Over-linear11 w hw) same in
     let f = ap (λ (i : ℤ). z *ℤ pos (2 ^ place_of i)) (sym e) in
     let g : y ≡ z = same_from_times y z p (pow_pos (place_of (exponent u))) (s ∙ f) in
     let high = signed_five-one (u / 2 ^ 11) (w / 2 ^ 11) (omega arith) (omega arith) e in

@@ -11,5 +11,6 @@ returns c = record {
       c.damage_is_refused.ensures.write_betrayed addr at.last at.front at.wrong (ap (write_fault addr) (sym at.spelled) ∙ none);
   answer = λ addr request bytes h none.
       let at = is_betrayed-at (sent addr request) bytes h in
-      c.damage_is_refused.ensures.answer_betrayed addr at.last request at.front at.wrong (ap (answer_fault addr request) (sym at.spelled) ∙ none);
+      c.damage_is_refused.ensures.answer_betrayed addr at.last request at.front at.wrong
+      (ap (answer_fault addr request) (sym at.spelled) ∙ none);
 }
