@@ -102,8 +102,8 @@ delivered-taken laws legal config passes events message bytes ending lived room 
     let entries = (life config passes events).entries in
     let s = now config passes events in
     let fits = laws.frames_are_named.fits setup message
-        (laws.frames_are_named.named setup entries message lived.made (life-told config passes events lived.legal)
-        (sym (laws.transcripts_are_followed.sending setup entries) ∙ sending)) in
+    (laws.frames_are_named.named setup entries message lived.made (life-told config passes events lived.legal)
+    (sym (laws.transcripts_are_followed.sending setup entries) ∙ sending)) in
     let damaged_frame = subst (λ (u : Setup). IsBetrayedDamage (frame_of u.addr message) bytes) (sym (now-setup config passes events)) damage in
     record {
       free = free s (Deliver (arrival.Bytes (record { items = bytes }) ending)) room

@@ -108,7 +108,7 @@ returns-legal {s = s} {arrival = arrival} r =
     let sent = frame_of s.host.setup.addr a.message in
     let heard = a.heard_is ∙ ap (λ f. heard_bytes f arrival) a.frame_is in
     let whole : r.whole ≡ is_heard_whole sent (heard_bytes sent arrival) (heard_ending a.message arrival) =
-        r.whole_is ∙ (ap (λ f. is_heard_whole f r.heard r.ending) a.frame_is ∙ ap₂ (is_heard_whole sent) heard a.ending_is) in
+    r.whole_is ∙ (ap (λ f. is_heard_whole f r.heard r.ending) a.frame_is ∙ ap₂ (is_heard_whole sent) heard a.ending_is) in
     ap (λ f. is_legal_return f r.needed r.whole r.answer r.came) a.frame_is
     ∙ (ap₂ (λ n w. is_legal_return sent n w r.answer r.came) r.asks.needed_is whole
     ∙ ap₂ (is_legal_return sent (whole_answer a.message) (is_heard_whole sent (heard_bytes sent arrival) (heard_ending a.message arrival)))

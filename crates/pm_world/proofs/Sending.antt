@@ -5,7 +5,7 @@ use Rattle.std.proofs.lemmas.Bool.{and_parts, eq-eqb, cond-true}
 use Rattle.std.proofs.lemmas.Slice.Eq.{bytes_eq-Decides}
 use Rattle.pm_table.specs.declared.cell.Cell.{Cell}
 use Rattle.pm_table.specs.declared.cell.Cell.TheVariants.{Out, Protect}
-use Rattle.pm_table.specs.Cell.{cell_accepts, cell_code, is_protection, register_number, IsCell, same_cell}
+use Rattle.pm_table.specs.Cell.{cell_accepts, cell_code, is_protection, register_code, IsCell, same_cell}
 use Rattle.pm_table.specs.Codes as command
 use Rattle.pm_table.specs.Commands.{line_of}
 use Rattle.pm_table.specs.Protection.{is_allowed}
@@ -47,7 +47,7 @@ unfolding line_of
 protect-allowed word h = four (eqb word 0x00) (eqb word 0x20) (eqb word 0x40) (eqb word 0x80) h
 
 pub same_cell-itself : (cell : Cell) → same_cell cell cell ≡ true
-same_cell-itself (Out output register) = rw (eq-eqb output output refl, eq-eqb (register_number register) (register_number register) refl) refl
+same_cell-itself (Out output register) = rw (eq-eqb output output refl, eq-eqb (register_code register) (register_code register) refl) refl
 same_cell-itself Protect = refl
 
 -- after a write the cell has its word, and its code stays allowed

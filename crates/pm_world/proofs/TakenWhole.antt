@@ -98,8 +98,8 @@ taken-whole laws config passes before order cell word arrivals acked sound made 
     } in
     let t = now config passes (Finish acked ∷ events) in
     let next_stage : t.host.stage ≡ Some (Reads cell word 0) =
-        ap (λ (u : State). u.host.stage) (now-next laws config passes events (Finish acked) (lived-by config passes (Finish acked ∷ events) sound made (finish, taken)))
-        ∙ finish-stage s acked cell word stage in
+    ap (λ (u : State). u.host.stage) (now-next laws config passes events (Finish acked) (lived-by config passes (Finish acked ∷ events) sound made (finish, taken)))
+    ∙ finish-stage s acked cell word stage in
     let reading : sending_in t.host ≡ Some (cell_read cell) = ap (option_map stage_message) next_stage in
     let count = now-taken config passes (Finish acked ∷ events) in (
       record {

@@ -241,7 +241,7 @@ sent-so laws config passes before order cell word o allowed (arrival ∷ arrival
     let whole = list_any (is_whole (frame_of config.addr (cell_write cell word))) arrivals in
     let so_far = sent-so laws config passes before order cell word o allowed arrivals (earlier lived) in
     let after = deliver-sends laws (now config passes events) cell word whole arrival (fixed laws config passes before order cell word o events)
-        so_far.sends (newest lived) in
+    so_far.sends (newest lived) in
     record {
       sends = subst (λ (s : State). Sends s cell word (is_whole (frame_of config.addr (cell_write cell word)) arrival || whole))
           (sym (now-next laws config passes events (Deliver arrival) lived))
@@ -266,9 +266,9 @@ went-through laws config passes before order cell word arrivals acked lived asks
     let finish = now-next laws config passes events (Finish acked) (earlier lived) in
     let s = now config passes (Finish acked ∷ events) in
     let e = ended laws s cell word (fixed laws config passes before order cell word o (Finish acked ∷ events))
-        (ap (λ (t : State). t.host.stage) finish ∙ finish-stage (now config passes events) acked cell word so.sends.stage)
-        (ap (λ (h : Held). word_at h.words cell) (ap (λ (t : State). t.device) finish ∙ finish-device (now config passes events) acked) ∙ so.sends.held whole)
-        (now-standings config passes (Finish acked ∷ events)) in
+    (ap (λ (t : State). t.host.stage) finish ∙ finish-stage (now config passes events) acked cell word so.sends.stage)
+    (ap (λ (h : Held). word_at h.words cell) (ap (λ (t : State). t.device) finish ∙ finish-device (now config passes events) acked) ∙ so.sends.held whole)
+    (now-standings config passes (Finish acked ∷ events)) in
     let after = now-next laws config passes (Finish acked ∷ events) read lived in
     record {
       answer = e.answer;

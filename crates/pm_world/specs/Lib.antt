@@ -10,6 +10,5 @@ pub mod Honest
 pub mod Damage
 pub mod Laws
 pub mod FaultWords
-
 -- How it is kept.
 pub mod Below

@@ -394,7 +394,8 @@ impl World {
 // The converter hears bytes that it would answer so. An answer or silence changes nothing.
 fn hear_replied(device: &mut Converter, reply: &Heard, bytes: &[u8], ending: Ending)
     requires { reply.now ≡ reply_of device.old bytes.now ending }
-    ensures { device.new ≡ device_next device.old (heard.Hearing bytes.now ending) }
+    ensures after { device.new ≡ device_next device.old (heard.Hearing bytes.now ending) }
+    ensures kept { device.old.config ≡ device.new.config }
 {
     // Hands the prover what silence and an answer leave.
     refusals_set_one_bit();

@@ -1,3 +1,4 @@
+use Rattle.std.proofs.Common.{◌∷◌}
 use Rattle.pm_world.proofs.Lives.{from-start, life-told, lived-by, now-next, now-nil}
 use Rattle.pm_world.proofs.laws.lives.lives_are_followed.Goals as goal
 
