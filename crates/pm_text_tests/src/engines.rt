@@ -12,8 +12,8 @@ use std::test::Fail;
 const PIECES: [usize; 4] = [1, 7, 512, 4096];
 
 // How many of these bytes are line feeds.
-fn feeds_in<'a>(bytes: impl Iterator<Item = &'a u8>) -> usize {
-    bytes.filter(|byte| **byte == b'\n').count()
+fn feeds_in(bytes: &[u8]) -> usize {
+    bytes.iter().filter(|byte| **byte == b'\n').count()
 }
 
 // Whether these are so many whole lines, which a text begins with.
@@ -22,7 +22,7 @@ fn are_first_lines(written: &[u8], text: &str, count: usize) -> bool {
         Some(last) => *last == b'\n',
         None => true,
     };
-    is_whole && feeds_in(written.iter()) == count && text.as_bytes().starts_with(written)
+    is_whole && feeds_in(written) == count && text.as_bytes().starts_with(written)
 }
 
 // How many calls an engine makes of its reader and of its writer, with such pieces.
@@ -46,7 +46,7 @@ fn a_failed_read_ends_an_engine_at_once(rt: HostRuntime) {
         for piece in PIECES {
             let (calls, _) = calls_made(alloc, engine, input, piece);
             for fails_at in 1..=calls {
-                let read = (fails_at - 1).saturating_mul(piece);
+                let read = (fails_at - 1).saturating_mul(piece).min(input.len());
                 for kind in kinds {
                     let mut reader = Source::new(Pieces {
                         fails_at,
@@ -60,7 +60,7 @@ fn a_failed_read_ends_an_engine_at_once(rt: HostRuntime) {
                     assert_eq!(rt; reader.into_inner().calls, fails_at, "{engine:?} {piece}");
                     // A trace's lines are written as they end, and nothing else is.
                     let ended = match engine {
-                        Engine::Decode => feeds_in(input.as_bytes().iter().take(read)),
+                        Engine::Decode => feeds_in(&input.as_bytes()[..read]),
                         _ => 0,
                     };
                     let written = writer.into_inner();
@@ -143,7 +143,7 @@ fn a_text_without_an_end_is_refused(rt: HostRuntime) -> Result<(), Fail> {
             let written = writer.into_inner();
             let count = if engine == Engine::Decode { lines } else { 0 };
             assert!(rt; count > 0 || written.calls == 0, "{engine:?}");
-            assert_eq!(rt; feeds_in(written.taken.iter()), count, "{engine:?}");
+            assert_eq!(rt; feeds_in(written.taken.as_slice()), count, "{engine:?}");
             for (at, line) in written
                 .taken
                 .as_slice()

@@ -9,9 +9,13 @@ use pm_tool::NumberFault;
 use pm_world::SetupFault;
 use std::test::Fail;
 
+// No world is made, for this fault of the configuration.
+fn device(fault: ConfigFault) -> TextFault {
+    TextFault::Setup(SetupFault::Device(fault))
+}
+
 #[test]
 fn each_fault_of_a_text_has_its_words(rt: HostRuntime) -> Result<(), Fail> {
-    let device = |fault| TextFault::Setup(SetupFault::Device(fault));
     let start = ConfigFault::BadStart(Cell::Out(0, Reg::Operation));
     let rows = [
         (

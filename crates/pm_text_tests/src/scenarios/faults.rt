@@ -33,7 +33,11 @@ fn a_faulty_line_of_the_worked_scenario_is_told(rt: HostRuntime) -> Result<(), F
     for (number, line, fault) in rows {
         let mut text = String::new(rt.alloc());
         for (at, usual) in SCENARIO.split('\n').enumerate() {
-            text.push_str(if at == number - 1 { line } else { usual })?;
+            text.push_str(if at.saturating_add(1) == number {
+                line
+            } else {
+                usual
+            })?;
             text.push('\n')?;
         }
         assert_eq!(rt; fault_of(rt.alloc(), &text), Some(fault), "{line}");
