@@ -86,5 +86,8 @@ orders-nearest laws config passes before cell x lived spelled =
 
 pub micros-nearest : Below → (config : Config) (passes : ℕ) (events : List Event) → IsLived config passes events → IsSpelled config →
     MicrosAreNearest config passes events
-micros-nearest laws config passes events lived spelled = λ later before cell x is.
-    orders-nearest laws config passes before cell x (lived-before config passes later (OrderMicro cell x ∷ before) (subst (IsLived config passes) is lived)) spelled
+micros-nearest laws config passes events lived spelled = record {
+  nearest = λ later before cell x is.
+      orders-nearest laws config passes before cell x
+      (lived-before config passes later (OrderMicro cell x ∷ before) (subst (IsLived config passes) is lived)) spelled;
+}
