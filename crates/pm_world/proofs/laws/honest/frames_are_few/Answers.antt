@@ -7,7 +7,8 @@ use Rattle.pm_world.proofs.laws.honest.frames_are_few.Goals as goal
 pub returns : goal.returns
 returns c = λ config passes events sound made taken. record {
   few = λ later before is.
-      let lived = lived-before config passes later before (subst (IsLived config passes) is (lived-by config passes events sound made taken)) in
+      let lived = lived-before config passes later before
+      (subst (IsLived config passes) is (lived-by config passes events sound made taken)) in
       c.lower_laws.ensures.jobs_are_bounded (setup_of config passes) (life config passes before).entries made
       (life-told config passes before lived.legal);
 }
