@@ -42,36 +42,52 @@ is-false false h = refl
 is-false true h = absurd (h refl)
 
 -- what wasn't betrayed is, where it came so
-damaged : Below → (before bytes came : List ℕ) → is_betrayed before bytes ≡ false → IsBetrayedDamage bytes came → is_betrayed before came ≡ true
-damaged laws before bytes came good (burst others within) = laws.damage_is_betrayed.burst before bytes came others.were_bytes others.are_bytes good others.as_many others.other within
-damaged laws before bytes came good (few others short changed) = laws.damage_is_betrayed.few before bytes came others.were_bytes others.are_bytes good others.as_many others.other short changed
-damaged laws before bytes came good (odd others changed) = laws.damage_is_betrayed.odd before bytes came others.were_bytes others.are_bytes good others.as_many changed
+damaged : Below → (before bytes came : List ℕ) → is_betrayed before bytes ≡ false → IsBetrayedDamage bytes came →
+    is_betrayed before came ≡ true
+damaged laws before bytes came good (burst others within) =
+    laws.damage_is_betrayed.burst before bytes came others.were_bytes others.are_bytes good others.as_many others.other within
+damaged laws before bytes came good (few others short changed) =
+    laws.damage_is_betrayed.few before bytes came others.were_bytes others.are_bytes good others.as_many others.other short changed
+damaged laws before bytes came good (odd others changed) =
+    laws.damage_is_betrayed.odd before bytes came others.were_bytes others.are_bytes good others.as_many changed
 
-pub heard-legal : Below → (addr : ℕ) (message : Message) (frame bytes : List ℕ) (ending : Ending) → IsWrite addr message frame → IsBetrayedDamage frame bytes →
+pub heard-legal : Below → (addr : ℕ) (message : Message) (frame bytes : List ℕ) (ending : Ending) → IsWrite addr message frame →
+    IsBetrayedDamage frame bytes →
     is_legal_hearing frame bytes ending ≡ true
 unfolding is_legal_hearing
 heard-legal laws addr message frame bytes ending is damage =
-    let good = is-false (is_betrayed [] frame) (λ e. laws.betrayal_is_refused.write addr frame e (laws.writes_are_exact.spelled addr message frame is)) in
-    or_right (is_restart ending) _ (or_right (starts_with nat_eq frame bytes) (is_betrayed [] bytes) (damaged laws [] frame bytes good damage))
+    let good = is-false (is_betrayed [] frame)
+    (λ e. laws.betrayal_is_refused.write addr frame e (laws.writes_are_exact.spelled addr message frame is)) in
+    or_right (is_restart ending) _
+    (or_right (starts_with nat_eq frame bytes) (is_betrayed [] bytes) (damaged laws [] frame bytes good damage))
 
-pub return-legal : Below → (addr : ℕ) (request : Message) (frame payload answer bytes : List ℕ) (whole : Bool) → IsRequest addr request frame → IsAnswer addr request payload answer →
+pub return-legal : Below → (addr : ℕ) (request : Message) (frame payload answer bytes : List ℕ) (whole : Bool) →
+    IsRequest addr request frame → IsAnswer addr request payload answer →
     IsBetrayedDamage answer bytes → is_legal_return frame (whole_answer request) whole answer bytes ≡ true
 unfolding is_legal_return
 return-legal laws addr request frame payload answer bytes whole asked is damage =
-    let good = is-false (is_betrayed (sent addr request) answer) (λ e. laws.betrayal_is_refused.answer addr request answer e (laws.answers_are_exact.spelled addr request payload answer is)) in
-    let betrayed = subst (λ f. is_betrayed f bytes ≡ true) (sym asked.spelled) (damaged laws (sent addr request) answer bytes good damage) in
+    let good = is-false (is_betrayed (sent addr request) answer)
+    (λ e. laws.betrayal_is_refused.answer addr request answer e (laws.answers_are_exact.spelled addr request payload answer is)) in
+    let betrayed = subst (λ f. is_betrayed f bytes ≡ true) (sym asked.spelled) (damaged laws (sent addr request) answer bytes good damage)
+    in
     or_right (whole && bytes_eq bytes answer) _ (or_right (nat_lt (length bytes) (whole_answer request)) (is_betrayed frame bytes) betrayed)
 
 -- such damage is legal, so a delivery and an exchange have no cause against them
-delivery-free : BetrayedDamageIsLegal → (s : State) (message : Message) (bytes : List ℕ) (ending : Ending) → is_read_message message ≡ false → fits_layout message ≡ true →
-    IsBetrayedDamage (frame_of s.host.setup.addr message) bytes → delivery_cause s (arrival.Bytes (record { items = bytes }) ending) (Some message) ≡ None
+delivery-free : BetrayedDamageIsLegal → (s : State) (message : Message) (bytes : List ℕ) (ending : Ending) →
+    is_read_message message ≡ false → fits_layout message ≡ true →
+    IsBetrayedDamage (frame_of s.host.setup.addr message) bytes →
+    delivery_cause s (arrival.Bytes (record { items = bytes }) ending) (Some message) ≡ None
 delivery-free laws s message bytes ending writes fits damage =
     let addr = s.host.setup.addr in
-    let is : IsWrite addr message (frame_of addr message) = record { writes = writes; fits = fits; spelled = frame-write addr message writes } in
-    ap₂ (λ b c. option_or (rule b WrongKind) (rule (not c) NotBetrayed)) writes (laws.heard addr message (frame_of addr message) bytes ending is damage)
+    let is : IsWrite addr message (frame_of addr message) =
+    record { writes = writes; fits = fits; spelled = frame-write addr message writes } in
+    ap₂ (λ b c. option_or (rule b WrongKind) (rule (not c) NotBetrayed)) writes
+    (laws.heard addr message (frame_of addr message) bytes ending is damage)
 
-exchange-free : BetrayedDamageIsLegal → (s : State) (request : Message) (payload bytes : List ℕ) → IsAnswer s.host.setup.addr request payload (answer_to s.device s.host.setup.addr request arrival.Whole) →
-    IsBetrayedDamage (answer_to s.device s.host.setup.addr request arrival.Whole) bytes → exchange_cause s arrival.Whole (back.Bytes (record { items = bytes })) (Some request) ≡ None
+exchange-free : BetrayedDamageIsLegal → (s : State) (request : Message) (payload bytes : List ℕ) →
+    IsAnswer s.host.setup.addr request payload (answer_to s.device s.host.setup.addr request arrival.Whole) →
+    IsBetrayedDamage (answer_to s.device s.host.setup.addr request arrival.Whole) bytes →
+    exchange_cause s arrival.Whole (back.Bytes (record { items = bytes })) (Some request) ≡ None
 exchange-free laws s request payload bytes is damage =
     let addr = s.host.setup.addr in
     let frame = frame_of addr request in
@@ -79,14 +95,17 @@ exchange-free laws s request payload bytes is damage =
     let ends : heard_ending request arrival.Whole ≡ Restart = sym (heard_ending-request request arrival.Whole is.reads) in
     exchange_cause-by s arrival.Whole (back.Bytes (record { items = bytes })) request true true is.reads
     (ap (is_legal_hearing frame frame) ends ∙ whole-hearing frame)
-    (laws.came_back addr request frame payload answer bytes (is_heard_whole frame frame (heard_ending request arrival.Whole)) (is_request addr request is.reads is.fits) is damage)
+    (laws.came_back addr request frame payload answer bytes (is_heard_whole frame frame (heard_ending request arrival.Whole))
+    (is_request addr request is.reads is.fits) is damage)
 
 restart-legal : (frame bytes : List ℕ) → is_legal_hearing frame bytes Restart ≡ true
 unfolding is_legal_hearing
 restart-legal frame bytes = refl
 
-misheard-free : BetrayedDamageIsLegal → (s : State) (request : Message) (bytes : List ℕ) → is_read_message request ≡ true → AreOthers (frame_of s.host.setup.addr request) bytes →
-    DifferWithinEight (frame_of s.host.setup.addr request) bytes → AreBytes (answer_to s.device s.host.setup.addr request (arrival.Bytes (record { items = bytes }) Restart)) →
+misheard-free : BetrayedDamageIsLegal → (s : State) (request : Message) (bytes : List ℕ) → is_read_message request ≡ true →
+    AreOthers (frame_of s.host.setup.addr request) bytes →
+    DifferWithinEight (frame_of s.host.setup.addr request) bytes →
+    AreBytes (answer_to s.device s.host.setup.addr request (arrival.Bytes (record { items = bytes }) Restart)) →
     exchange_cause s (arrival.Bytes (record { items = bytes }) Restart) back.Whole (Some request) ≡ None
 misheard-free laws s request bytes asks others within are =
     let frame = frame_of s.host.setup.addr request in
@@ -94,8 +113,12 @@ misheard-free laws s request bytes asks others within are =
     (laws.answered s.device request frame bytes (is_heard_whole frame bytes Restart) others within are)
 
 -- such an event is taken
-pub delivered-taken : Below → BetrayedDamageIsLegal → (config : Config) (passes : ℕ) (events : List Event) (message : Message) (bytes : List ℕ) (ending : Ending) → IsLived config passes events → (now config passes events).taken < event_limit → sending_in (now config passes events).host ≡ Some message → is_read_message message ≡ false →
-    IsBetrayedDamage (frame_of config.addr message) bytes → IsTaken (now config passes events) (Deliver (arrival.Bytes (record { items = bytes }) ending))
+pub delivered-taken : Below → BetrayedDamageIsLegal →
+    (config : Config) (passes : ℕ) (events : List Event) (message : Message) (bytes : List ℕ) (ending : Ending) →
+    IsLived config passes events → (now config passes events).taken < event_limit →
+    sending_in (now config passes events).host ≡ Some message → is_read_message message ≡ false →
+    IsBetrayedDamage (frame_of config.addr message) bytes →
+    IsTaken (now config passes events) (Deliver (arrival.Bytes (record { items = bytes }) ending))
 unfolding now state_of
 delivered-taken laws legal config passes events message bytes ending lived room sending writes damage =
     let setup = setup_of config passes in
@@ -104,15 +127,20 @@ delivered-taken laws legal config passes events message bytes ending lived room 
     let fits = laws.frames_are_named.fits setup message
     (laws.frames_are_named.named setup entries message lived.made (life-told config passes events lived.legal)
     (sym (laws.transcripts_are_followed.sending setup entries) ∙ sending)) in
-    let damaged_frame = subst (λ (u : Setup). IsBetrayedDamage (frame_of u.addr message) bytes) (sym (now-setup config passes events)) damage in
+    let damaged_frame = subst (λ (u : Setup). IsBetrayedDamage (frame_of u.addr message) bytes) (sym (now-setup config passes events))
+    damage in
     record {
       free = free s (Deliver (arrival.Bytes (record { items = bytes }) ending)) room
-          (ap (delivery_cause s (arrival.Bytes (record { items = bytes }) ending)) sending ∙ delivery-free legal s message bytes ending writes fits damaged_frame);
+          (ap (delivery_cause s (arrival.Bytes (record { items = bytes }) ending)) sending
+          ∙ delivery-free legal s message bytes ending writes fits damaged_frame);
       word = tt;
     }
 
-pub exchanged-taken : BetrayedDamageIsLegal → (config : Config) (passes : ℕ) (events : List Event) (request : Message) (payload bytes : List ℕ) → (now config passes events).taken < event_limit →
-    sending_in (now config passes events).host ≡ Some request → IsAnswer config.addr request payload (answer_to (now config passes events).device config.addr request arrival.Whole) →
+pub exchanged-taken : BetrayedDamageIsLegal →
+    (config : Config) (passes : ℕ) (events : List Event) (request : Message) (payload bytes : List ℕ) →
+    (now config passes events).taken < event_limit →
+    sending_in (now config passes events).host ≡ Some request →
+    IsAnswer config.addr request payload (answer_to (now config passes events).device config.addr request arrival.Whole) →
     IsBetrayedDamage (answer_to (now config passes events).device config.addr request arrival.Whole) bytes →
     IsTaken (now config passes events) (Exchange arrival.Whole (back.Bytes (record { items = bytes })))
 exchanged-taken legal config passes events request payload bytes room sending is damage =
@@ -127,8 +155,10 @@ exchanged-taken legal config passes events request payload bytes room sending is
       word = tt;
     }
 
-pub misheard-taken : BetrayedDamageIsLegal → (config : Config) (passes : ℕ) (events : List Event) (request : Message) (bytes : List ℕ) → (now config passes events).taken < event_limit →
-    sending_in (now config passes events).host ≡ Some request → is_read_message request ≡ true → AreOthers (frame_of config.addr request) bytes → DifferWithinEight (frame_of config.addr request) bytes →
+pub misheard-taken : BetrayedDamageIsLegal → (config : Config) (passes : ℕ) (events : List Event) (request : Message) (bytes : List ℕ) →
+    (now config passes events).taken < event_limit →
+    sending_in (now config passes events).host ≡ Some request → is_read_message request ≡ true →
+    AreOthers (frame_of config.addr request) bytes → DifferWithinEight (frame_of config.addr request) bytes →
     AreBytes (answer_to (now config passes events).device config.addr request (arrival.Bytes (record { items = bytes }) Restart)) →
     IsTaken (now config passes events) (Exchange (arrival.Bytes (record { items = bytes }) Restart) back.Whole)
 misheard-taken legal config passes events request bytes room sending asks others within are =
@@ -141,6 +171,7 @@ misheard-taken legal config passes events request bytes room sending asks others
           ∙ misheard-free legal s request bytes asks
           (subst (λ (u : Setup). AreOthers (frame_of u.addr request) bytes) setup others)
           (subst (λ (u : Setup). DifferWithinEight (frame_of u.addr request) bytes) setup within)
-          (subst (λ (u : Setup). AreBytes (answer_to s.device u.addr request (arrival.Bytes (record { items = bytes }) Restart))) setup are));
+          (subst (λ (u : Setup). AreBytes (answer_to s.device u.addr request (arrival.Bytes (record { items = bytes }) Restart))) setup
+          are));
       word = tt;
     }

@@ -23,7 +23,8 @@ use Rattle.pm_world.specs.Damage.{AreOthers}
 use Rattle.pm_world.specs.Legal.{answer_in, is_legal_return}
 
 -- a byte of a list with others behind it
-behind : (bytes rest : List ℕ) (place : ℕ) → length bytes ≤ place → slice_index (bytes ++ rest) place ≡ slice_index rest (place - length bytes)
+behind : (bytes rest : List ℕ) (place : ℕ) → length bytes ≤ place →
+    slice_index (bytes ++ rest) place ≡ slice_index rest (place - length bytes)
 behind bytes rest place past = get_or-append_right bytes rest (length bytes) place 0 refl past
 
 -- bytes with bytes behind them, and bytes without the last of them
@@ -45,13 +46,15 @@ bit-behind : (bytes others rest : List ℕ) (place : ℕ) → length bytes ≡ l
 bit-behind bytes others rest place long same = elim (cases_lt (place / 8) (length bytes)) [
   | inl inside ↦
       ap (λ n. bit_at n (7 - place % 8)) (get_or_append_left bytes rest 0 (place / 8) inside)
-      ∙ (same ∙ sym (ap (λ n. bit_at n (7 - place % 8)) (get_or_append_left others rest 0 (place / 8) (subst (λ n. place / 8 < n) long inside))))
+      ∙ (same ∙ sym (ap (λ n. bit_at n (7 - place % 8))
+      (get_or_append_left others rest 0 (place / 8) (subst (λ n. place / 8 < n) long inside))))
   | inr past ↦
       ap (λ n. bit_at n (7 - place % 8)) (behind bytes rest (place / 8) past
       ∙ (ap (λ n. slice_index rest (place / 8 - n)) long ∙ sym (behind others rest (place / 8) (subst (λ n. n ≤ place / 8) long past))))
 ]
 
-burst-behind : (bytes others rest : List ℕ) → length bytes ≡ length others → DifferWithinEight bytes others → DifferWithinEight (bytes ++ rest) (others ++ rest)
+burst-behind : (bytes others rest : List ℕ) → length bytes ≡ length others → DifferWithinEight bytes others →
+    DifferWithinEight (bytes ++ rest) (others ++ rest)
 burst-behind bytes others rest long within = record {
   first = within.first;
   before = λ place below. bit-behind bytes others rest place long (within.before place below);
@@ -81,7 +84,8 @@ not-equal a b other = go (eqb a b) refl where
 
 -- a change within eight neighbouring bits changes the code
 abbrev pub Bursts : Type 0
-Bursts = (bytes others : List ℕ) → AreBytes bytes → AreBytes others → length bytes ≡ length others → bytes ≢ others → DifferWithinEight bytes others → pec_of bytes ≢ pec_of others
+Bursts = (bytes others : List ℕ) → AreBytes bytes → AreBytes others → length bytes ≡ length others → bytes ≢ others →
+    DifferWithinEight bytes others → pec_of bytes ≢ pec_of others
 
 -- an answer is none, or its PEC covers what was heard
 abbrev EndsBehind : List ℕ → List ℕ → Type 0
@@ -107,24 +111,32 @@ not-whole (PagePlusRead page code) = lt-ltb 0 (whole_answer (PagePlusRead page c
 not-whole (ReadCoefficients code side) = refl
 
 -- the answer to a request that eight neighbouring bits changed
-changed-betrayed : Bursts → (frame heard answer body : List ℕ) → answer ≡ body ++ pec_of (heard ++ body) ∷ [] → AreOthers frame heard → DifferWithinEight frame heard → AreBytes answer →
+changed-betrayed : Bursts → (frame heard answer body : List ℕ) → answer ≡ body ++ pec_of (heard ++ body) ∷ [] → AreOthers frame heard →
+    DifferWithinEight frame heard → AreBytes answer →
     is_betrayed frame answer ≡ true
 changed-betrayed bursts frame heard answer body spelled others within are =
     let body_bytes : AreBytes body = bytes-front body (pec_of (heard ++ body) ∷ []) (subst AreBytes spelled are) in
     let long : length (frame ++ body) ≡ length (heard ++ body) =
     length-append frame body ∙ (ap (λ n. n + length body) others.as_many ∙ sym (length-append heard body)) in
     let codes : pec_of (frame ++ body) ≢ pec_of (heard ++ body) =
-    bursts (frame ++ body) (heard ++ body) (bytes-append frame body others.were_bytes body_bytes) (bytes-append heard body others.are_bytes body_bytes) long
+    bursts (frame ++ body) (heard ++ body) (bytes-append frame body others.were_bytes body_bytes)
+    (bytes-append heard body others.are_bytes body_bytes) long
     (λ same. others.other (same-fronts frame heard body others.as_many same)) (burst-behind frame heard body others.as_many within) in
-    ap (is_betrayed frame) spelled ∙ (betrayed-last frame body (pec_of (heard ++ body)) ∙ not-equal (pec_of (heard ++ body)) (pec_of (frame ++ body)) (λ same. codes (sym same)))
+    ap (is_betrayed frame) spelled ∙
+    (betrayed-last frame body (pec_of (heard ++ body))
+    ∙ not-equal (pec_of (heard ++ body)) (pec_of (frame ++ body)) (λ same. codes (sym same)))
 
-pub answered-legal : Below → (held : Held) (request : Message) (frame heard : List ℕ) (whole : Bool) → AreOthers frame heard → DifferWithinEight frame heard →
+pub answered-legal : Below → (held : Held) (request : Message) (frame heard : List ℕ) (whole : Bool) → AreOthers frame heard →
+    DifferWithinEight frame heard →
     AreBytes (answer_in (reply_of held heard Restart)) →
-    is_legal_return frame (whole_answer request) whole (answer_in (reply_of held heard Restart)) (answer_in (reply_of held heard Restart)) ≡ true
+    is_legal_return frame (whole_answer request) whole (answer_in (reply_of held heard Restart))
+    (answer_in (reply_of held heard Restart)) ≡ true
 unfolding is_legal_return
 answered-legal laws held request frame heard whole others within are =
     let answer : List ℕ = answer_in (reply_of held heard Restart) in
     or_right (whole && bytes_eq answer answer) _ (elim (reply-ends laws held heard) [
-      | inl none ↦ or_left (nat_lt (length answer) (whole_answer request)) (is_betrayed frame answer) (ap (λ (bytes : List ℕ). nat_lt (length bytes) (whole_answer request)) none ∙ not-whole request)
-      | inr ends ↦ or_right (nat_lt (length answer) (whole_answer request)) (is_betrayed frame answer) (changed-betrayed laws.bursts_are_betrayed.code frame heard answer ends.0 ends.1 others within are)
+      | inl none ↦ or_left (nat_lt (length answer) (whole_answer request)) (is_betrayed frame answer)
+          (ap (λ (bytes : List ℕ). nat_lt (length bytes) (whole_answer request)) none ∙ not-whole request)
+      | inr ends ↦ or_right (nat_lt (length answer) (whole_answer request)) (is_betrayed frame answer)
+          (changed-betrayed laws.bursts_are_betrayed.code frame heard answer ends.0 ends.1 others within are)
     ])

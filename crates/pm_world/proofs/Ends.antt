@@ -56,7 +56,8 @@ begun s inside event job new view b =
     )
 
 -- no event changes what a host was made with
-pub event-kept : ((s : Summary) (entry : Entry) → (host_next s entry).setup ≡ s.setup) → (s : State) (share : Share) → (shared s share).host.setup ≡ s.host.setup
+pub event-kept : ((s : Summary) (entry : Entry) → (host_next s entry).setup ≡ s.setup) → (s : State) (share : Share) →
+    (shared s share).host.setup ≡ s.host.setup
 event-kept kept s share = go share.told where
   go : (told : Option Entry) → (host_after s.host told).setup ≡ s.host.setup
   go None = refl

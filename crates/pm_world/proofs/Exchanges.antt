@@ -34,7 +34,8 @@ pub arrives-request : (s : State) (arrival : Arrival) (frame heard : List ℕ) (
     (heard ≡ heard_bytes frame arrival) × (ending ≡ ending_of Restart arrival) → Asks s arrival frame heard ending needed
 arrives-request s arrival frame heard ending needed shown so = go (sending_in s.host) refl shown where
   go : (sending : Option Message) → sending_in s.host ≡ sending →
-      IsSomeAnd sending (λ message. IsRequest s.host.setup.addr message frame) × IsSomeAnd sending (λ message. needed ≡ whole_answer message) →
+      IsSomeAnd sending (λ message. IsRequest s.host.setup.addr message frame) × IsSomeAnd sending
+      (λ message. needed ≡ whole_answer message) →
       Asks s arrival frame heard ending needed
   go None e is = absurd is.0
   go (Some message) e (is, long) = record {
@@ -66,16 +67,22 @@ pub record Returns (s : State) (arrival : Arrival) (back : Back) : Type 0 where
 -- the cause against an exchange, by the two tests
 pub exchange_cause-by : (s : State) (arrival : Arrival) (back : Back) (message : Message) (legal returned : Bool) →
     is_read_message message ≡ true →
-    is_legal_hearing (frame_of s.host.setup.addr message) (heard_bytes (frame_of s.host.setup.addr message) arrival) (heard_ending message arrival) ≡ legal →
+    is_legal_hearing (frame_of s.host.setup.addr message) (heard_bytes (frame_of s.host.setup.addr message) arrival)
+    (heard_ending message arrival) ≡ legal →
     is_legal_return (frame_of s.host.setup.addr message) (whole_answer message)
-    (is_heard_whole (frame_of s.host.setup.addr message) (heard_bytes (frame_of s.host.setup.addr message) arrival) (heard_ending message arrival))
-    (answer_to s.device s.host.setup.addr message arrival) (back_bytes (answer_to s.device s.host.setup.addr message arrival) back) ≡ returned →
+    (is_heard_whole (frame_of s.host.setup.addr message) (heard_bytes (frame_of s.host.setup.addr message) arrival)
+    (heard_ending message arrival))
+    (answer_to s.device s.host.setup.addr message arrival)
+    (back_bytes (answer_to s.device s.host.setup.addr message arrival) back) ≡ returned →
     exchange_cause s arrival back (Some message) ≡ option_or (rule (not legal) NotBetrayed) (rule (not returned) NotBetrayed)
 exchange_cause-by s arrival back message legal returned reads hears returns =
-    ap₂ (λ x y. option_or (rule (not x) WrongKind) (option_or (rule (not y) NotBetrayed) (rule (not (is_legal_return (frame_of s.host.setup.addr message)
+    ap₂ (λ x y. option_or (rule (not x) WrongKind)
+    (option_or (rule (not y) NotBetrayed) (rule (not (is_legal_return (frame_of s.host.setup.addr message)
     (whole_answer message)
-    (is_heard_whole (frame_of s.host.setup.addr message) (heard_bytes (frame_of s.host.setup.addr message) arrival) (heard_ending message arrival))
-    (answer_to s.device s.host.setup.addr message arrival) (back_bytes (answer_to s.device s.host.setup.addr message arrival) back))) NotBetrayed))) reads hears
+    (is_heard_whole (frame_of s.host.setup.addr message) (heard_bytes (frame_of s.host.setup.addr message) arrival)
+    (heard_ending message arrival))
+    (answer_to s.device s.host.setup.addr message arrival) (back_bytes (answer_to s.device s.host.setup.addr message arrival) back)))
+    NotBetrayed))) reads hears
     ∙ ap (λ z. option_or (rule (not legal) NotBetrayed) (rule (not z) NotBetrayed)) returns
 
 -- a request whose hearing isn't legal

@@ -19,10 +19,12 @@ use Rattle.pm_world.proofs.Ends.{state}
 use Rattle.pm_world.proofs.Hearings.{frame-write, frame-request}
 
 -- how a write is heard that a stop ends, and a request that a repeated start ends
-pub heard_ending-write : (message : Message) (arrival : Arrival) → is_read_message message ≡ false → ending_of Stop arrival ≡ heard_ending message arrival
+pub heard_ending-write : (message : Message) (arrival : Arrival) → is_read_message message ≡ false →
+    ending_of Stop arrival ≡ heard_ending message arrival
 heard_ending-write message arrival writes = ap (λ b. ending_of (cond b Restart Stop) arrival) (sym writes)
 
-pub heard_ending-request : (message : Message) (arrival : Arrival) → is_read_message message ≡ true → ending_of Restart arrival ≡ heard_ending message arrival
+pub heard_ending-request : (message : Message) (arrival : Arrival) → is_read_message message ≡ true →
+    ending_of Restart arrival ≡ heard_ending message arrival
 heard_ending-request message arrival reads = ap (λ b. ending_of (cond b Restart Stop) arrival) (sym reads)
 
 -- what the code knows of a frame that is being sent, a request or a write, and of how it arrives
@@ -51,9 +53,11 @@ arrives-write s arrival frame heard ending shown heard_is ending_is = go (sendin
   }
 
 -- what a test of the code says of the message's frame
-pub legal-is : {s : State} {reads : Bool} {arrival : Arrival} {frame heard : List ℕ} {ending : Ending} → (a : Arrives s reads arrival frame heard ending) →
+pub legal-is : {s : State} {reads : Bool} {arrival : Arrival} {frame heard : List ℕ} {ending : Ending} →
+    (a : Arrives s reads arrival frame heard ending) →
     is_legal_hearing frame heard ending
-    ≡ is_legal_hearing (frame_of s.host.setup.addr a.message) (heard_bytes (frame_of s.host.setup.addr a.message) arrival) (heard_ending a.message arrival)
+    ≡ is_legal_hearing (frame_of s.host.setup.addr a.message) (heard_bytes (frame_of s.host.setup.addr a.message) arrival)
+    (heard_ending a.message arrival)
 legal-is {s = s} {arrival = arrival} {frame = frame} {ending = ending} a =
     let sent = frame_of s.host.setup.addr a.message in
     ap (λ bytes. is_legal_hearing frame bytes ending) (a.heard_is ∙ ap (λ f. heard_bytes f arrival) a.frame_is)
@@ -61,19 +65,22 @@ legal-is {s = s} {arrival = arrival} {frame = frame} {ending = ending} a =
     ∙ ap (is_legal_hearing sent (heard_bytes sent arrival)) a.ending_is)
 
 -- the converter hears what the message's hearing is
-pub hearing-is : {s : State} {reads : Bool} {arrival : Arrival} {frame heard : List ℕ} {ending : Ending} → (a : Arrives s reads arrival frame heard ending) →
+pub hearing-is : {s : State} {reads : Bool} {arrival : Arrival} {frame heard : List ℕ} {ending : Ending} →
+    (a : Arrives s reads arrival frame heard ending) →
     Hearing heard ending ≡ hearing s.host.setup.addr a.message arrival
 hearing-is {arrival = arrival} a = ap₂ (λ b e. Hearing b e) (a.heard_is ∙ ap (λ f. heard_bytes f arrival) a.frame_is) a.ending_is
 
 -- the cause against a delivery, by the test of what is heard
-pub deliver-cause : {s : State} {arrival : Arrival} {frame heard : List ℕ} {ending : Ending} (legal : Bool) → (a : Arrives s false arrival frame heard ending) →
+pub deliver-cause : {s : State} {arrival : Arrival} {frame heard : List ℕ} {ending : Ending} (legal : Bool) →
+    (a : Arrives s false arrival frame heard ending) →
     is_legal_hearing frame heard ending ≡ legal → event_cause s (Deliver arrival) ≡ rule (not legal) NotBetrayed
 deliver-cause {s = s} {arrival = arrival} legal a is =
     ap (delivery_cause s arrival) a.sending
     ∙ ap₂ (λ b c. option_or (rule b WrongKind) (rule (not c) NotBetrayed)) a.kind (sym (legal-is a) ∙ is)
 
 -- a delivery that is heard
-pub deliver-acts : {s : State} {arrival : Arrival} {frame heard : List ℕ} {ending : Ending} (new : Held) → (a : Arrives s false arrival frame heard ending) →
+pub deliver-acts : {s : State} {arrival : Arrival} {frame heard : List ℕ} {ending : Ending} (new : Held) →
+    (a : Arrives s false arrival frame heard ending) →
     is_legal_hearing frame heard ending ≡ true → new ≡ device_next s.device (Hearing heard ending) →
     Acts s (Deliver arrival) (Ok tt) (state new s.host s.end s.taken)
 deliver-acts {s = s} {arrival = arrival} new a legal is = (

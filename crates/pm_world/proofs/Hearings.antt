@@ -62,7 +62,8 @@ hears-write laws held message bytes Stop writes fits legal = go (or_cases (start
 
   go : (starts_with eqb (frame_of held.config.addr message) bytes ≡ true) ⊎ (is_betrayed [] bytes ≡ true) →
       (words_after held (Hearing bytes Stop) ≡ held.words) ⊎ ((Stop ≡ Stop) × IsWrite held.config.addr message bytes)
-  go (inl front) = by_rest (drop (length bytes) (frame_of held.config.addr message)) (front-is (frame_of held.config.addr message) bytes front)
+  go (inl front) = by_rest (drop (length bytes) (frame_of held.config.addr message))
+      (front-is (frame_of held.config.addr message) bytes front)
   go (inr wrong) =
       inl (laws.writes_reach_one_cell.faulty held bytes (laws.betrayal_is_refused.write held.config.addr bytes wrong)).0
 
@@ -78,7 +79,8 @@ hears-request laws held addr message bytes Stop reads fits legal =
     is_frame : IsRequest addr message (frame_of addr message)
     is_frame = record { reads = reads; fits = fits; spelled = frame-request addr message reads }
 
-    go : (starts_with eqb (frame_of addr message) bytes ≡ true) ⊎ (is_betrayed [] bytes ≡ true) → words_after held (Hearing bytes Stop) ≡ held.words
+    go : (starts_with eqb (frame_of addr message) bytes ≡ true) ⊎ (is_betrayed [] bytes ≡ true) →
+        words_after held (Hearing bytes Stop) ≡ held.words
     go (inl front) =
         let whole = laws.requests_are_exact.spelled addr message (frame_of addr message) is_frame in
         (laws.writes_reach_one_cell.faulty held bytes
@@ -100,9 +102,11 @@ pub cell-reached : Below → (held : Held) (cell : Cell) (word : ℕ) (bytes : L
     (words_after held (Hearing bytes Stop) ≡ held.words) ⊎ (words_after held (Hearing bytes Stop) ≡ with_word held.words cell word)
 cell-reached laws held (Out output register) word bytes is =
     let found = laws.registers_are_in_the_table.found register output in
-    subst (λ w. (words_after held (Hearing bytes Stop) ≡ held.words) ⊎ (words_after held (Hearing bytes Stop) ≡ with_word held.words (Out output register) w))
+    subst (λ w. (words_after held (Hearing bytes Stop) ≡ held.words) ⊎
+    (words_after held (Hearing bytes Stop) ≡ with_word held.words (Out output register) w))
     (payload-number (is_voltage register) word)
-    (either _ _ _ _ (laws.writes_reach_one_cell.carried held output (register_code register) (register_payload register word) (Out output register) bytes is found).0)
+    (either _ _ _ _ (laws.writes_reach_one_cell.carried held output (register_code register) (register_payload register word)
+    (Out output register) bytes is found).0)
 cell-reached laws held Protect word bytes is = either _ _ _ _ (laws.writes_reach_one_cell.plain held word bytes is).0
 
 -- a write that a converter takes: its cell is there and accepts the word, and WRITE_PROTECT allows its
@@ -125,8 +129,10 @@ pub whole-write : Below → (held : Held) (cell : Cell) (word : ℕ) (bytes : Li
 whole-write laws held (Out output register) word bytes can is =
     let same = payload-number (is_voltage register) word in
     let found = laws.registers_are_in_the_table.found register output in
-    (laws.writes_reach_one_cell.carried held output (register_code register) (register_payload register word) (Out output register) bytes is found).0
-    ∙ (all_three _ _ _ _ _ (lt-ltb output held.config.count can.there) can.allowed (ap (cell_accepts (Out output register)) same ∙ can.accepted)
+    (laws.writes_reach_one_cell.carried held output (register_code register) (register_payload register word) (Out output register) bytes
+    is found).0
+    ∙ (all_three _ _ _ _ _ (lt-ltb output held.config.count can.there) can.allowed
+    (ap (cell_accepts (Out output register)) same ∙ can.accepted)
     ∙ ap (with_word held.words (Out output register)) same)
 whole-write laws held Protect word bytes can is =
     (laws.writes_reach_one_cell.plain held word bytes is).0 ∙ both _ _ _ _ can.allowed can.accepted

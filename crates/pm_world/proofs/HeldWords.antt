@@ -67,7 +67,8 @@ pub record Knows (s : State) (setup : host.Setup) (entries : List host.Entry) : 
 good-read : Below → (s : State) (arrival : Arrival) (back : Back) (read : Cell) (word : ℕ) → s.host.setup.addr ≡ s.device.config.addr →
     IsCell s.device.config.count read → cell_accepts read (word_at s.device.words read) ≡ true → fits_layout (cell_read read) ≡ true →
     exchange_cause s arrival back (Some (cell_read read)) ≡ None →
-    good_word s.device.config.addr read (back_bytes (answer_to s.device s.host.setup.addr (cell_read read) arrival) back) ≡ Some word → word_at s.device.words read ≡ word
+    good_word s.device.config.addr read (back_bytes (answer_to s.device s.host.setup.addr (cell_read read) arrival) back) ≡ Some word →
+    word_at s.device.words read ≡ word
 good-read laws s arrival back read word addr there accepted fits free good =
     let bytes = back_bytes (answer_to s.device s.host.setup.addr (cell_read read) arrival) back in
     let payload = from_some word_in (good_payload s.device.config.addr (cell_read read) bytes) word good in
@@ -76,7 +77,8 @@ good-read laws s arrival back read word addr there accepted fits free good =
     (sym (read-word laws s.device read there accepted fits) ∙ (ap (good_word s.device.config.addr read) (sym same) ∙ good))
 
 -- what comes back is true of the cell that is read
-pub reads-true : Below → (s : State) (setup : host.Setup) (entries : List host.Entry) (arrival : Arrival) (back : Back) (message : Message) → Knows s setup entries →
+pub reads-true : Below → (s : State) (setup : host.Setup) (entries : List host.Entry) (arrival : Arrival) (back : Back)
+    (message : Message) → Knows s setup entries →
     sending_in s.host ≡ Some message → exchange_cause s arrival back (Some message) ≡ None →
     ReadsTrue setup entries (back_bytes (answer_to s.device s.host.setup.addr message arrival) back) s.device.words
 reads-true laws s setup entries arrival back message knows sending free = λ read word asked good.
@@ -88,9 +90,12 @@ reads-true laws s setup entries arrival back message knows sending free = λ rea
     (subst (λ a. good_word a read (back_bytes (answer_to s.device s.host.setup.addr message arrival) back) ≡ Some word) knows.address good))
 
 -- an exchange
-exchange-known : Below → (s : State) (setup : host.Setup) (entries : List host.Entry) (cell : Cell) (restarted : Bool) (arrival : Arrival) (back : Back) (sending : Option Message) →
-    Knows s setup entries → sending_in s.host ≡ sending → exchange_cause s arrival back sending ≡ None → IsKnown (marks setup entries) cell restarted s.device.words →
-    IsKnownAfter setup entries cell restarted (exchanged s arrival back sending).told (device_after s.device (exchanged s arrival back sending).heard).words
+exchange-known : Below → (s : State) (setup : host.Setup) (entries : List host.Entry) (cell : Cell) (restarted : Bool) (arrival : Arrival)
+    (back : Back) (sending : Option Message) →
+    Knows s setup entries → sending_in s.host ≡ sending → exchange_cause s arrival back sending ≡ None →
+    IsKnown (marks setup entries) cell restarted s.device.words →
+    IsKnownAfter setup entries cell restarted (exchanged s arrival back sending).told
+    (device_after s.device (exchanged s arrival back sending).heard).words
 exchange-known laws s setup entries cell restarted arrival back None knows e free so_far = cc
 exchange-known laws s setup entries cell restarted arrival back (Some message) knows e free so_far =
     subst (λ (w : Words). IsKnownAfter setup entries cell restarted (exchanged s arrival back (Some message)).told w)
@@ -99,7 +104,8 @@ exchange-known laws s setup entries cell restarted arrival back (Some message) k
     (reads-true laws s setup entries arrival back message knows e free) so_far)
 
 -- a delivery: the words stay, or the open order's cell gets its word, which is possible and not confirmed
-written-known : Below → (s : State) (setup : host.Setup) (entries : List host.Entry) (cell : Cell) (restarted : Bool) (order : PendingOrder) → Knows s setup entries → IsCell 8 cell →
+written-known : Below → (s : State) (setup : host.Setup) (entries : List host.Entry) (cell : Cell) (restarted : Bool)
+    (order : PendingOrder) → Knows s setup entries → IsCell 8 cell →
     stage_order s.host.stage ≡ Some order → IsKnown (marks setup entries) cell restarted s.device.words →
     IsKnown (marks setup entries) cell restarted (with_word s.device.words order.cell order.word)
 written-known laws s setup entries cell restarted order knows there pending so_far = by_cell (same_cell order.cell cell) refl where
@@ -114,7 +120,8 @@ written-known laws s setup entries cell restarted order knows there pending so_f
       IsKnown (marks setup entries) cell restarted (with_word s.device.words order.cell order.word)
   by_cell true e = record {
     held = λ word confirmed fresh.
-        let both : Unknown ≡ Confirmed word = sym is.unknown ∙ (ap (standing_of (marks setup entries)) (same-cells laws order.cell cell e) ∙ confirmed) in cc;
+        let both : Unknown ≡ Confirmed word = sym is.unknown
+        ∙ (ap (standing_of (marks setup entries)) (same-cells laws order.cell cell e) ∙ confirmed) in cc;
     among = λ fresh.
         ap (λ w. is_possible w (possible_of (marks setup entries) cell)) (has ∙ ap (λ b. cond b order.word (word_at s.device.words cell)) e)
         ∙ (ap (λ c. is_possible order.word (possible_of (marks setup entries) c)) (sym (same-cells laws order.cell cell e)) ∙ is.possible);
@@ -126,28 +133,35 @@ written-known laws s setup entries cell restarted order knows there pending so_f
         among = λ fresh. ap (λ w. is_possible w (possible_of (marks setup entries) cell)) left ∙ so_far.among fresh;
       }
 
-taken-known : Below → (s : State) (setup : host.Setup) (entries : List host.Entry) (cell : Cell) (restarted : Bool) (words : Words) (order : Option PendingOrder) → Knows s setup entries → IsCell 8 cell →
+taken-known : Below → (s : State) (setup : host.Setup) (entries : List host.Entry) (cell : Cell) (restarted : Bool) (words : Words)
+    (order : Option PendingOrder) → Knows s setup entries → IsCell 8 cell →
     stage_order s.host.stage ≡ order → (words ≡ s.device.words) ⊎ (IsSome order × (words ≡ with_order s.device.words order)) →
     IsKnown (marks setup entries) cell restarted s.device.words → IsKnown (marks setup entries) cell restarted words
 taken-known laws s setup entries cell restarted words order knows there pending (inl e) so_far =
     subst (IsKnown (marks setup entries) cell restarted) (sym e) so_far
 taken-known laws s setup entries cell restarted words None knows there pending (inr (some, e)) so_far = cc
 taken-known laws s setup entries cell restarted words (Some order) knows there pending (inr (some, e)) so_far =
-    subst (IsKnown (marks setup entries) cell restarted) (sym e) (written-known laws s setup entries cell restarted order knows there pending so_far)
+    subst (IsKnown (marks setup entries) cell restarted) (sym e)
+    (written-known laws s setup entries cell restarted order knows there pending so_far)
 
-deliver-known : Below → (s : State) (setup : host.Setup) (entries : List host.Entry) (cell : Cell) (restarted : Bool) (arrival : Arrival) → Knows s setup entries → IsCell 8 cell →
+deliver-known : Below → (s : State) (setup : host.Setup) (entries : List host.Entry) (cell : Cell) (restarted : Bool)
+    (arrival : Arrival) → Knows s setup entries → IsCell 8 cell →
     event_cause s (Deliver arrival) ≡ None → IsKnown (marks setup entries) cell restarted s.device.words →
-    IsKnownAfter setup entries cell restarted (delivered s arrival (sending_in s.host)).told (device_after s.device (delivered s arrival (sending_in s.host)).heard).words
+    IsKnownAfter setup entries cell restarted (delivered s arrival (sending_in s.host)).told
+    (device_after s.device (delivered s arrival (sending_in s.host)).heard).words
 deliver-known laws s setup entries cell restarted arrival knows there free so_far =
-    subst (λ told. IsKnownAfter setup entries cell restarted told (device_after s.device (delivered s arrival (sending_in s.host)).heard).words)
+    subst (λ told. IsKnownAfter setup entries cell restarted told
+    (device_after s.device (delivered s arrival (sending_in s.host)).heard).words)
     (sym (told-nothing s arrival (sending_in s.host)))
     (taken-known laws s setup entries cell restarted _ (stage_order s.host.stage) knows there refl
     (delivered-words laws s arrival (sending_in s.host) knows.addr refl knows.fits free) so_far)
 
 -- one event that asks for no job
-beside-known : Below → (s : State) (event : Event) (setup : host.Setup) (entries : List host.Entry) (cell : Cell) (restarted : Bool) → Knows s setup entries → IsCell 8 cell →
+beside-known : Below → (s : State) (event : Event) (setup : host.Setup) (entries : List host.Entry) (cell : Cell) (restarted : Bool) →
+    Knows s setup entries → IsCell 8 cell →
     event_cause s event ≡ None → IsKnown (marks setup entries) cell restarted s.device.words →
-    IsKnownAfter setup entries cell (restarts_converter event || restarted) (share_beside s event).told (device_after s.device (share_beside s event).heard).words
+    IsKnownAfter setup entries cell (restarts_converter event || restarted) (share_beside s event).told
+    (device_after s.device (share_beside s event).heard).words
 unfolding device_next device_by
 beside-known laws s (Deliver arrival) setup entries cell restarted knows there free so_far =
     deliver-known laws s setup entries cell restarted arrival knows there free so_far
@@ -155,11 +169,13 @@ beside-known laws s (Exchange arrival back) setup entries cell restarted knows t
     exchange-known laws s setup entries cell restarted arrival back (sending_in s.host) knows refl free so_far
 beside-known laws s RestartDevice setup entries cell restarted knows there free so_far =
     record { held = λ word confirmed fresh. cc; among = λ fresh. cc }
-beside-known laws s RestartHost setup entries cell restarted knows there free so_far = restarted-known setup entries cell restarted s.device.words
+beside-known laws s RestartHost setup entries cell restarted knows there free so_far =
+    restarted-known setup entries cell restarted s.device.words
 beside-known laws s _ setup entries cell restarted knows there free so_far = so_far
 
 -- one event
-event-known : Below → (s : State) (event : Event) (setup : host.Setup) (entries : List host.Entry) (cell : Cell) (restarted : Bool) → Knows s setup entries → IsCell 8 cell →
+event-known : Below → (s : State) (event : Event) (setup : host.Setup) (entries : List host.Entry) (cell : Cell) (restarted : Bool) →
+    Knows s setup entries → IsCell 8 cell →
     event_cause s event ≡ None → IsKnown (marks setup entries) cell restarted s.device.words →
     IsKnownAfter setup entries cell (restarts_converter event || restarted) (share_of s event).told (next s event).device.words
 unfolding next
@@ -173,15 +189,19 @@ event-known laws s event setup entries cell restarted knows there free so_far = 
       (sym (asked-restarts s event job is)) (accepted-known setup entries cell restarted s.device.words job so_far)
 
 -- the read that an open job sends
-read-sent : (setup : host.Setup) (s : Summary) (job : Option host.Job) (told : List host.Entry) (read : Cell) → read_by job told ≡ Some read →
+read-sent : (setup : host.Setup) (s : Summary) (job : Option host.Job) (told : List host.Entry) (read : Cell) →
+    read_by job told ≡ Some read →
     IsStage s (option_map (λ j. job_stage setup j told) job) →
     (option_map stage_message (option_map (λ j. job_stage setup j told) job) ≡ Some (cell_read read)) × IsCell s.setup.outputs read
 read-sent setup s (Some (host.Order cell word)) told read e is = by_turn (host.is_write_turn told) _ e is where
-  by_turn : (b : Bool) (pass : ℕ) → cond b None (Some cell) ≡ Some read → IsStage s (Some (cond b (Writes cell word pass) (Reads cell word pass))) →
-      (option_map stage_message (Some (cond b (Writes cell word pass) (Reads cell word pass))) ≡ Some (cell_read read)) × IsCell s.setup.outputs read
+  by_turn : (b : Bool) (pass : ℕ) → cond b None (Some cell) ≡ Some read →
+      IsStage s (Some (cond b (Writes cell word pass) (Reads cell word pass))) →
+      (option_map stage_message (Some (cond b (Writes cell word pass) (Reads cell word pass))) ≡ Some (cell_read read)) × IsCell
+      s.setup.outputs read
   by_turn true pass e is = absurd (none-some read e)
   by_turn false pass e is = (ap (option_map cell_read) e, subst (IsCell s.setup.outputs) (same_Some cell read e) is.there)
-read-sent setup s (Some (host.Check cell)) told read e is = (ap (option_map cell_read) e, subst (IsCell s.setup.outputs) (same_Some cell read e) is.there)
+read-sent setup s (Some (host.Check cell)) told read e is =
+    (ap (option_map cell_read) e, subst (IsCell s.setup.outputs) (same_Some cell read e) is.there)
 read-sent setup s job told read e is = absurd (none-some read e)
 
 -- the order of a stage
@@ -191,7 +211,8 @@ stage-ordering s stage order is e = by_stage stage is e where
   by_order : (cell : Cell) (word pass : ℕ) → IsOrdering s cell word pass → Some (ordered cell word) ≡ Some order →
       IsCell s.setup.outputs order.cell × (standing_at s order.cell ≡ Unknown) × (is_possible order.word (possible_at s order.cell) ≡ true)
   by_order cell word pass is e =
-      subst (λ (o : PendingOrder). IsCell s.setup.outputs o.cell × (standing_at s o.cell ≡ Unknown) × (is_possible o.word (possible_at s o.cell) ≡ true))
+      subst (λ (o : PendingOrder). IsCell s.setup.outputs o.cell × (standing_at s o.cell ≡ Unknown) ×
+      (is_possible o.word (possible_at s o.cell) ≡ true))
       (same_Some (ordered cell word) order e) (is.there, is.unknown, is.possible)
 
   by_stage : (stage : Option Stage) → IsStage s stage → stage_order stage ≡ Some order →
@@ -215,7 +236,8 @@ knows laws config passes events lived =
       asks = λ read e. read-sent setup (host_now setup entries) (host.open_job setup entries) (host.told_since entries) read e is.stage;
       accepted = λ cell there. laws.words_have_an_origin.accepted config past cell lived.sound there;
       fits = λ message e. laws.frames_are_named.fits setup message
-          (laws.frames_are_named.named setup entries message lived.made told (sym (laws.transcripts_are_followed.sending setup entries) ∙ e));
+          (laws.frames_are_named.named setup entries message lived.made told
+          (sym (laws.transcripts_are_followed.sending setup entries) ∙ e));
       pending = λ order e.
           let at = stage-ordering (host_now setup entries) (host_now setup entries).stage order is.stage e in
           let there = eight config.count order.cell lived.sound.few at.0 in
@@ -234,30 +256,39 @@ restarted-more : (config : Config) (passes : ℕ) (cell : Cell) (before : List E
 unfolding restarted_since
 restarted-more config passes cell before event = refl
 
-nothing-known : (config : Config) (passes : ℕ) (cell : Cell) (restarted : Bool) (words : Words) → IsKnown (marks (setup_of config passes) (life config passes []).entries) cell restarted words
+nothing-known : (config : Config) (passes : ℕ) (cell : Cell) (restarted : Bool) (words : Words) →
+    IsKnown (marks (setup_of config passes) (life config passes []).entries) cell restarted words
 unfolding life possible_of
 nothing-known config passes cell restarted words = record { held = λ word confirmed fresh. cc; among = λ fresh. refl }
 
-pub life-known : Below → (config : Config) (passes : ℕ) (events : List Event) (cell : Cell) → IsLived config passes events → IsCell config.count cell →
-    IsKnown (marks (setup_of config passes) (life config passes events).entries) cell (restarted_since config passes cell events) (now config passes events).device.words
+pub life-known : Below → (config : Config) (passes : ℕ) (events : List Event) (cell : Cell) → IsLived config passes events →
+    IsCell config.count cell →
+    IsKnown (marks (setup_of config passes) (life config passes events).entries) cell (restarted_since config passes cell events)
+    (now config passes events).device.words
 life-known laws config passes [] cell lived there = nothing-known config passes cell _ _
 life-known laws config passes (event ∷ before) cell lived there =
     let s = now config passes before in
     let setup = setup_of config passes in
     let entries = (life config passes before).entries in
-    let after = event-known laws s event setup entries cell (restarted_since config passes cell before) (knows laws config passes before (earlier lived))
+    let after = event-known laws s event setup entries cell (restarted_since config passes cell before)
+    (knows laws config passes before (earlier lived))
     (eight config.count cell lived.sound.few there) (newest lived) (life-known laws config passes before cell (earlier lived) there) in
-    subst (λ (t : State). IsKnown (marks setup (life config passes (event ∷ before)).entries) cell (restarted_since config passes cell (event ∷ before)) t.device.words)
+    subst (λ (t : State). IsKnown (marks setup (life config passes (event ∷ before)).entries) cell
+    (restarted_since config passes cell (event ∷ before)) t.device.words)
     (sym (now-next laws config passes before event lived))
-    (subst (λ es. IsKnown (marks setup es) cell (restarted_since config passes cell (event ∷ before)) (next s event).device.words) (sym (entries-more config passes before event))
-    (subst (λ b. IsKnown (marks setup (option_to_list (share_of s event).told ++ entries)) cell b (next s event).device.words) (sym (restarted-more config passes cell before event)) after))
+    (subst (λ es. IsKnown (marks setup es) cell (restarted_since config passes cell (event ∷ before)) (next s event).device.words)
+    (sym (entries-more config passes before event))
+    (subst (λ b. IsKnown (marks setup (option_to_list (share_of s event).told ++ entries)) cell b (next s event).device.words)
+    (sym (restarted-more config passes cell before event)) after))
 
 pub confirmed-held : Below → (config : Config) (passes : ℕ) (events : List Event) → IsLived config passes events →
     ConfirmedIsHeld config passes events (now config passes events)
 unfolding now state_of
 confirmed-held laws config passes events lived =
-    let standing = λ (cell : Cell) (there : IsCell config.count cell). laws.transcripts_are_followed.standing (setup_of config passes) (life config passes events).entries cell (eight config.count cell lived.sound.few there) in
+    let standing = λ (cell : Cell) (there : IsCell config.count cell). laws.transcripts_are_followed.standing (setup_of config passes)
+    (life config passes events).entries cell (eight config.count cell lived.sound.few there) in
     record {
       standing = standing;
-      held = λ cell word there confirmed fresh. (life-known laws config passes events cell lived there).held word (sym (standing cell there) ∙ confirmed) fresh;
+      held = λ cell word there confirmed fresh. (life-known laws config passes events cell lived there).held word
+          (sym (standing cell there) ∙ confirmed) fresh;
     }

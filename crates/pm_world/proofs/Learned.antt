@@ -49,7 +49,8 @@ good-free : (fault : Option FrameFault) (payload found : List ℕ) → cond (is_
 good-free None payload found h = refl
 good-free (Some fault) payload found h = cc
 
-pub good-faultless : (addr : ℕ) (request : Message) (bytes payload : List ℕ) → good_payload addr request bytes ≡ Some payload → answer_fault addr request bytes ≡ None
+pub good-faultless : (addr : ℕ) (request : Message) (bytes payload : List ℕ) → good_payload addr request bytes ≡ Some payload →
+    answer_fault addr request bytes ≡ None
 unfolding good_payload
 good-faultless addr request bytes payload h = good-free (answer_fault addr request bytes) payload (answer_payload request bytes) h
 
@@ -58,14 +59,17 @@ restart-is Stop h = cc
 restart-is Restart h = refl
 
 -- a good answer whose return is legal is the converter's to the whole request
-pub legal-good : Below → (held : Held) (addr : ℕ) (request : Message) (heard : List ℕ) (ending : Ending) (bytes : List ℕ) → is_read_message request ≡ true →
-    is_legal_return (frame_of addr request) (whole_answer request) (is_heard_whole (frame_of addr request) heard ending) (answer_in (reply_of held heard ending)) bytes ≡ true →
+pub legal-good : Below → (held : Held) (addr : ℕ) (request : Message) (heard : List ℕ) (ending : Ending) (bytes : List ℕ) →
+    is_read_message request ≡ true →
+    is_legal_return (frame_of addr request) (whole_answer request) (is_heard_whole (frame_of addr request) heard ending)
+    (answer_in (reply_of held heard ending)) bytes ≡ true →
     answer_fault addr request bytes ≡ None → bytes ≡ answer_in (reply_of held (frame_of addr request) Restart)
 unfolding is_legal_return
 legal-good laws held addr request heard ending bytes reads legal free =
     let frame = frame_of addr request in
     let answer = answer_in (reply_of held heard ending) in
-    elim (or_cases (is_heard_whole frame heard ending && bytes_eq bytes answer) (nat_lt (length bytes) (whole_answer request) || is_betrayed frame bytes) legal) [
+    elim (or_cases (is_heard_whole frame heard ending && bytes_eq bytes answer)
+    (nat_lt (length bytes) (whole_answer request) || is_betrayed frame bytes) legal) [
       | inl same ↦
           let parts = and_parts (is_heard_whole frame heard ending) (bytes_eq bytes answer) same in
           let whole = and_parts (is_restart ending) (bytes_eq heard frame) parts.0 in
@@ -74,44 +78,59 @@ legal-good laws held addr request heard ending bytes reads legal free =
           ∙ ap (λ b. answer_in (reply_of held b Restart)) ((bytes_eq-Decides heard frame).0 whole.1))
       | inr damaged ↦
           elim (or_cases (nat_lt (length bytes) (whole_answer request)) (is_betrayed frame bytes) damaged) [
-            | inl short ↦ absurd (laws.damage_is_refused.answer_short addr request bytes (ltb-true (length bytes) (whole_answer request) short) free)
-            | inr betrayed ↦ absurd (laws.betrayal_is_refused.answer addr request bytes (subst (λ f. is_betrayed f bytes ≡ true) (frame-request addr request reads) betrayed) free)
+            | inl short ↦ absurd (laws.damage_is_refused.answer_short addr request bytes
+                (ltb-true (length bytes) (whole_answer request) short) free)
+            | inr betrayed ↦ absurd
+                (laws.betrayal_is_refused.answer addr request bytes
+                (subst (λ f. is_betrayed f bytes ≡ true) (frame-request addr request reads) betrayed) free)
           ]
     ]
 
 -- the return of an exchange that is taken is legal
-pub exchange-legal : (s : State) (arrival : Arrival) (back : Back) (request : Message) → exchange_cause s arrival back (Some request) ≡ None →
+pub exchange-legal : (s : State) (arrival : Arrival) (back : Back) (request : Message) →
+    exchange_cause s arrival back (Some request) ≡ None →
     is_legal_return (frame_of s.host.setup.addr request) (whole_answer request)
-    (is_heard_whole (frame_of s.host.setup.addr request) (heard_bytes (frame_of s.host.setup.addr request) arrival) (heard_ending request arrival))
+    (is_heard_whole (frame_of s.host.setup.addr request) (heard_bytes (frame_of s.host.setup.addr request) arrival)
+    (heard_ending request arrival))
     (answer_to s.device s.host.setup.addr request arrival) (back_bytes (answer_to s.device s.host.setup.addr request arrival) back) ≡ true
 exchange-legal s arrival back request free =
     let addr = s.host.setup.addr in
     let answer = answer_to s.device addr request arrival in
-    let legal = is_legal_return (frame_of addr request) (whole_answer request) (is_heard_whole (frame_of addr request) (heard_bytes (frame_of addr request) arrival) (heard_ending request arrival)) answer (back_bytes answer back) in
-    let past_kind = (or-none (rule (not (is_read_message request)) WrongKind) (option_or (hearing_cause addr request arrival) (return_cause s.device addr request arrival back)) free).1 in
-    not-false legal (rule-none (not legal) NotBetrayed (or-none (hearing_cause addr request arrival) (rule (not legal) NotBetrayed) past_kind).1)
+    let legal = is_legal_return (frame_of addr request) (whole_answer request)
+    (is_heard_whole (frame_of addr request) (heard_bytes (frame_of addr request) arrival) (heard_ending request arrival)) answer
+    (back_bytes answer back) in
+    let past_kind = (or-none (rule (not (is_read_message request)) WrongKind)
+    (option_or (hearing_cause addr request arrival) (return_cause s.device addr request arrival back)) free).1 in
+    not-false legal (rule-none (not legal) NotBetrayed
+    (or-none (hearing_cause addr request arrival) (rule (not legal) NotBetrayed) past_kind).1)
 
 -- what the converter answers is its VOUT_MODE, and its coefficients
-is-answer : Below → (held : Held) (addr : ℕ) (request : Message) (payload frame bytes found : List ℕ) → bytes ≡ frame → IsAnswer addr request payload frame →
+is-answer : Below → (held : Held) (addr : ℕ) (request : Message) (payload frame bytes found : List ℕ) → bytes ≡ frame →
+    IsAnswer addr request payload frame →
     good_payload addr request bytes ≡ Some found → found ≡ payload
 is-answer laws held addr request payload frame bytes found same is good =
     same_Some found payload (sym good ∙ (ap (good_payload addr request) same ∙ good-answer laws addr request payload frame is))
 
-pub is_request : (addr : ℕ) (request : Message) → is_read_message request ≡ true → fits_layout request ≡ true → IsRequest addr request (frame_of addr request)
+pub is_request : (addr : ℕ) (request : Message) → is_read_message request ≡ true → fits_layout request ≡ true →
+    IsRequest addr request (frame_of addr request)
 is_request addr request reads fits = record { reads = reads; fits = fits; spelled = frame-request addr request reads }
 
 -- some output is DIRECT where this one is
-direct-found : (starts : List OutputStart) (count output : ℕ) → output < count → mode_of (get_or (map (λ s. s.mode) starts) output 0) ≡ Ok Direct →
+direct-found : (starts : List OutputStart) (count output : ℕ) → output < count →
+    mode_of (get_or (map (λ s. s.mode) starts) output 0) ≡ Ok Direct →
     list_any (λ s. is_direct (mode_of s.mode)) (take count starts) ≡ true
 direct-found [] count output below h = cc
 direct-found (s ∷ starts) zero output below h = absurd (omega arith)
 direct-found (s ∷ starts) (suc count) zero below h = or_left (is_direct (mode_of s.mode)) _ (ap is_direct h)
-direct-found (s ∷ starts) (suc count) (suc output) below h = or_right (is_direct (mode_of s.mode)) _ (direct-found starts count output (omega arith) h)
+direct-found (s ∷ starts) (suc count) (suc output) below h =
+    or_right (is_direct (mode_of s.mode)) _ (direct-found starts count output (omega arith) h)
 
 -- what a learn is told is true of the converter
 abbrev pub ToldTrue : Config → ℕ → Option Stage → List ℕ → Type 0
-ToldTrue config addr (Some (AsksMode output tries)) bytes = (byte : ℕ) → good_mode addr output bytes ≡ Some byte → byte ≡ mode_for config output
-ToldTrue config addr (Some (AsksCoefficients output tries)) bytes = (found : Coefficients) → good_coefficients addr bytes ≡ Some found → found ≡ config.coefficients
+ToldTrue config addr (Some (AsksMode output tries)) bytes = (byte : ℕ) → good_mode addr output bytes ≡ Some byte →
+    byte ≡ mode_for config output
+ToldTrue config addr (Some (AsksCoefficients output tries)) bytes = (found : Coefficients) → good_coefficients addr bytes ≡ Some found →
+    found ≡ config.coefficients
 ToldTrue config addr stage bytes = Unit {0}
 
 -- coefficients are asked for where VOUT_MODE is DIRECT
@@ -136,25 +155,32 @@ mode_word : (n : ℕ) → n < 2 ^ 8 → word_in (register_bytes command.vout_mod
 unfolding line_of
 mode_word n below = omega arith
 
-pub mode-true : Below → (held : Held) (setup : host.Setup) (output : ℕ) (bytes : List ℕ) (byte : ℕ) → IsSpelled held.config → output < 8 → output < held.config.count → output < setup.outputs →
-    (good_mode held.config.addr output bytes ≡ Some byte → bytes ≡ answer_in (reply_of held (frame_of held.config.addr (mode_read output)) Restart)) →
+pub mode-true : Below → (held : Held) (setup : host.Setup) (output : ℕ) (bytes : List ℕ) (byte : ℕ) → IsSpelled held.config → output < 8 →
+    output < held.config.count → output < setup.outputs →
+    (good_mode held.config.addr output bytes ≡ Some byte →
+    bytes ≡ answer_in (reply_of held (frame_of held.config.addr (mode_read output)) Restart)) →
     good_mode held.config.addr output bytes ≡ Some byte → byte ≡ mode_for held.config output
 mode-true laws held setup output bytes byte spelled eight below there same good =
     let addr = held.config.addr in
     let request = is_request addr (mode_read output) refl (laws.frames_are_named.fits setup (mode_read output) (reads_mode output there)) in
     let found = laws.reads_are_answered.mode held output (frame_of addr (mode_read output)) request below in
     let payload = from_some word_in (good_payload addr (mode_read output) bytes) byte good in
-    let is = is-answer laws held addr (mode_read output) (register_bytes command.vout_mode (mode_for held.config output)) found.0 bytes payload.0 (same good ∙ ap answer_in found.1) found.2 payload.1 in
+    let is = is-answer laws held addr (mode_read output) (register_bytes command.vout_mode (mode_for held.config output)) found.0 bytes
+    payload.0 (same good ∙ ap answer_in found.1) found.2 payload.1 in
     sym payload.2 ∙ (ap word_in is ∙ mode_word (mode_for held.config output) (spelled.modes output eight))
 
-pub coefficients-true : Below → (held : Held) (setup : host.Setup) (output : ℕ) (bytes : List ℕ) (k : Coefficients) → IsSpelled held.config → output < held.config.count →
+pub coefficients-true : Below → (held : Held) (setup : host.Setup) (output : ℕ) (bytes : List ℕ) (k : Coefficients) →
+    IsSpelled held.config → output < held.config.count →
     mode_of (mode_for held.config output) ≡ Ok Direct →
-    (good_coefficients held.config.addr bytes ≡ Some k → bytes ≡ answer_in (reply_of held (frame_of held.config.addr coefficients_read) Restart)) →
+    (good_coefficients held.config.addr bytes ≡ Some k →
+    bytes ≡ answer_in (reply_of held (frame_of held.config.addr coefficients_read) Restart)) →
     good_coefficients held.config.addr bytes ≡ Some k → k ≡ held.config.coefficients
 coefficients-true laws held setup output bytes k spelled below direct same good =
     let addr = held.config.addr in
     let request = is_request addr coefficients_read refl (laws.frames_are_named.fits setup coefficients_read reads_coefficients) in
-    let found = laws.reads_are_answered.coefficients held (frame_of addr coefficients_read) request (direct-found held.config.starts held.config.count output below direct) in
+    let found = laws.reads_are_answered.coefficients held (frame_of addr coefficients_read) request
+    (direct-found held.config.starts held.config.count output below direct) in
     let payload = from_some coefficients_of (good_payload addr coefficients_read bytes) k good in
-    let is = is-answer laws held addr coefficients_read (coefficient_bytes held.config.coefficients) found.0 bytes payload.0 (same good ∙ ap answer_in found.1) found.2 payload.1 in
+    let is = is-answer laws held addr coefficients_read (coefficient_bytes held.config.coefficients) found.0 bytes payload.0
+    (same good ∙ ap answer_in found.1) found.2 payload.1 in
     sym payload.2 ∙ (ap coefficients_of is ∙ spelled.coefficients)

@@ -24,7 +24,8 @@ use Rattle.pm_world.proofs.Lives.{IsLived, earlier, newest, lived-before, now-co
 use Rattle.pm_world.proofs.TrueHost.{Stands, agree-none, next-true}
 use Rattle.pm_world.proofs.Undisturbed.{now-sound, share-entries}
 
-stands : Below → (config : Config) (passes : ℕ) (events : List Event) → IsLived config passes events → IsSpelled config → Stands (now config passes events)
+stands : Below → (config : Config) (passes : ℕ) (events : List Event) → IsLived config passes events → IsSpelled config →
+    Stands (now config passes events)
 stands laws config passes events lived spelled =
     let same = sym (now-config config passes events) in
     let setup = now-setup config passes events in
@@ -42,21 +43,24 @@ true-start config passes = record { formats = agree-none config; asks = tt }
 
 pub true-host : Below → (config : Config) (passes : ℕ) (events : List Event) → IsLived config passes events → IsSpelled config →
     IsTrueHost config (now config passes events).host
-true-host laws config passes [] lived spelled = subst (λ (s : State). IsTrueHost config s.host) (sym (now-nil laws config passes lived.made)) (true-start config passes)
+true-host laws config passes [] lived spelled =
+    subst (λ (s : State). IsTrueHost config s.host) (sym (now-nil laws config passes lived.made)) (true-start config passes)
 true-host laws config passes (event ∷ before) lived spelled =
     let s = now config passes before in
     let same = sym (now-config config passes before) in
     let so_far = true-host laws config passes before (earlier lived) spelled in
     subst (λ (t : State). IsTrueHost config t.host) (sym (now-next laws config passes before event lived))
     (subst (λ (k : Config). IsTrueHost k (next s event).host) (sym same)
-    (next-true laws s event (stands laws config passes before (earlier lived) spelled) (subst (λ (k : Config). IsTrueHost k s.host) same so_far) (newest lived)))
+    (next-true laws s event (stands laws config passes before (earlier lived) spelled)
+    (subst (λ (k : Config). IsTrueHost k s.host) same so_far) (newest lived)))
 
 pub formats-agree : Below → (config : Config) (passes : ℕ) (events : List Event) → IsLived config passes events → IsSpelled config →
     FormatsAgree config passes events
 unfolding now state_of
 formats-agree laws config passes events lived spelled = record {
   held = (true-host laws config passes events lived spelled).formats;
-  learned = λ output shape there found. laws.transcripts_are_followed.format (setup_of config passes) (life config passes events).entries output (let few = lived.sound.few in omega arith) ∙ found;
+  learned = λ output shape there found. laws.transcripts_are_followed.format (setup_of config passes) (life config passes events).entries
+      output (let few = lived.sound.few in omega arith) ∙ found;
 }
 
 -- the word of an order in microvolts
@@ -64,27 +68,38 @@ some-of : (o : Option ℕ) → IsSome o → (word : ℕ) × (o ≡ Some word)
 some-of None h = cc
 some-of (Some word) h = (word, refl)
 
-nearest-found : (config : Config) (output : ℕ) (x : ℤ) (format : Option Shape) → ((shape : Shape) → format ≡ Some shape → shape ≡ shape_for config output) →
+nearest-found : (config : Config) (output : ℕ) (x : ℤ) (format : Option Shape) →
+    ((shape : Shape) → format ≡ Some shape → shape ≡ shape_for config output) →
     IsSome (option_and_then (λ shape. nearest_word (shape_value shape) (shape_rank shape) (micros x)) format) →
     (word : ℕ) × (option_and_then (λ shape. nearest_word (shape_value shape) (shape_rank shape) (micros x)) format ≡ Some word)
     × (nearest_word (value_for config output) (shape_rank (shape_for config output)) (micros x) ≡ Some word)
 nearest-found config output x None agree some = cc
 nearest-found config output x (Some shape) agree some =
-    let found = some-of (nearest_word (shape_value shape) (shape_rank shape) (micros x)) some in
-    (found.0, found.1, subst (λ (t : Shape). nearest_word (shape_value t) (shape_rank t) (micros x) ≡ Some found.0) (agree shape refl) found.1)
+    let found = some-of (nearest_word (shape_value shape) (shape_rank shape) (micros x)) some in (
+      found.0,
+      found.1,
+      subst (λ (t : Shape). nearest_word (shape_value t) (shape_rank t) (micros x) ≡ Some found.0) (agree shape refl)
+          found.1,
+    )
 
-orders-nearest : Below → (config : Config) (passes : ℕ) (before : List Event) (cell : Cell) (x : ℤ) → IsLived config passes (OrderMicro cell x ∷ before) → IsSpelled config → OrdersNearest config passes cell x before
+orders-nearest : Below → (config : Config) (passes : ℕ) (before : List Event) (cell : Cell) (x : ℤ) →
+    IsLived config passes (OrderMicro cell x ∷ before) → IsSpelled config → OrdersNearest config passes cell x before
 orders-nearest laws config passes before cell x lived spelled =
     let s = now config passes before in
-    let found = nearest-found config (output_of cell) x (format_at s.host (output_of cell)) (λ shape h. (true-host laws config passes before (earlier lived) spelled).formats (output_of cell) shape h) lived.legal.0.word in
+    let found = nearest-found config (output_of cell) x (format_at s.host (output_of cell))
+    (λ shape h. (true-host laws config passes before (earlier lived) spelled).formats (output_of cell) shape h) lived.legal.0.word in
     record {
       word = found.0;
       nearest = found.2;
       ordered = share-entries config passes before (OrderMicro cell x) (Some (host.Accepted (host.Order cell found.0)))
-          (ap (λ (w : Option ℕ). (option_map_or (λ j. tells (host.Accepted j)) (option_map (λ w. host.Order cell w) w) nothing).told) found.1);
+          (ap (λ (w : Option ℕ). (option_map_or (λ j. tells (host.Accepted j)) (option_map (λ w. host.Order cell w) w) nothing).told)
+          found.1);
     }
 
 pub micros-nearest : Below → (config : Config) (passes : ℕ) (events : List Event) → IsLived config passes events → IsSpelled config →
     MicrosAreNearest config passes events
-micros-nearest laws config passes events lived spelled = λ later before cell x is.
-    orders-nearest laws config passes before cell x (lived-before config passes later (OrderMicro cell x ∷ before) (subst (IsLived config passes) is lived)) spelled
+micros-nearest laws config passes events lived spelled = record {
+  nearest = λ later before cell x is.
+      orders-nearest laws config passes before cell x
+      (lived-before config passes later (OrderMicro cell x ∷ before) (subst (IsLived config passes) is lived)) spelled;
+}

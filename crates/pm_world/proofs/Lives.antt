@@ -51,7 +51,8 @@ pub lived-by : (config : Config) (passes : ℕ) (events : List Event) → IsSoun
 lived-by config passes events sound made taken = record { sound = sound; made = made; legal = are-legal config passes events taken }
 
 -- the events before the newest were lived through, and the newest has no cause
-pub earlier : {config : Config} {passes : ℕ} {before : List Event} {event : Event} → IsLived config passes (event ∷ before) → IsLived config passes before
+pub earlier : {config : Config} {passes : ℕ} {before : List Event} {event : Event} → IsLived config passes (event ∷ before) →
+    IsLived config passes before
 earlier lived = record { sound = lived.sound; made = lived.made; legal = lived.legal.1 }
 
 pub newest : {config : Config} {passes : ℕ} {before : List Event} {event : Event} → IsLived config passes (event ∷ before) →
@@ -68,12 +69,14 @@ finish-may s None e h = cc
 finish-may s (Some message) e h =
     ap (λ o. option_map_or (λ m. not (is_read_message m)) o false) e ∙ ap not (rule-none (is_read_message message) WrongKind h)
 
-exchange-may : (s : State) (arrival : Arrival) (back : Back) (sending : Option Message) → sending_in s.host ≡ sending → exchange_cause s arrival back sending ≡ None →
+exchange-may : (s : State) (arrival : Arrival) (back : Back) (sending : Option Message) → sending_in s.host ≡ sending →
+    exchange_cause s arrival back sending ≡ None →
     MayBeTold s.host (exchanged s arrival back sending).told
 exchange-may s arrival back None e h = tt
 exchange-may s arrival back (Some message) e h =
     ap (λ o. option_map_or is_read_message o false) e
-    ∙ not-false (is_read_message message) (rule-none (not (is_read_message message)) WrongKind (or-none (rule (not (is_read_message message)) WrongKind) _ h).0)
+    ∙ not-false (is_read_message message)
+    (rule-none (not (is_read_message message)) WrongKind (or-none (rule (not (is_read_message message)) WrongKind) _ h).0)
 
 deliver-may : (s : State) (arrival : Arrival) (sending : Option Message) → MayBeTold s.host (delivered s arrival sending).told
 deliver-may s arrival None = tt
@@ -100,15 +103,18 @@ may-be-told s event h = go (asked s event) refl where
   go (Some job) e = job-may s.host job (job-free s event job e h)
 
 -- a transcript with what the host was told
-told-more : (setup : host.Setup) (entries : List host.Entry) (told : Option host.Entry) → AreTold setup entries → MayBeTold (host_now setup entries) told → AreTold setup (option_to_list told ++ entries)
+told-more : (setup : host.Setup) (entries : List host.Entry) (told : Option host.Entry) → AreTold setup entries →
+    MayBeTold (host_now setup entries) told → AreTold setup (option_to_list told ++ entries)
 told-more setup entries None before may = before
 told-more setup entries (Some entry) before may = (may, before)
 
-device-part : Below → (config : Config) (past : List device.Event) (heard : Option device.Event) → IsSound config → device_now config (option_to_list heard ++ past) ≡ device_after (device_now config past) heard
+device-part : Below → (config : Config) (past : List device.Event) (heard : Option device.Event) → IsSound config →
+    device_now config (option_to_list heard ++ past) ≡ device_after (device_now config past) heard
 device-part laws config past None sound = refl
 device-part laws config past (Some event) sound = laws.pasts_are_followed.more config past event sound.some sound.few
 
-host-part : Below → (setup : host.Setup) (entries : List host.Entry) (told : Option host.Entry) → IsSetup setup → AreTold setup entries → MayBeTold (host_now setup entries) told →
+host-part : Below → (setup : host.Setup) (entries : List host.Entry) (told : Option host.Entry) → IsSetup setup → AreTold setup entries →
+    MayBeTold (host_now setup entries) told →
     host_now setup (option_to_list told ++ entries) ≡ host_after (host_now setup entries) told
 host-part laws setup entries None good before may = refl
 host-part laws setup entries (Some entry) good before may = laws.transcripts_are_followed.more setup entries entry good (may, before)
@@ -117,22 +123,29 @@ end_by-step : (end : Option JobEnd) → end_by (step_by end) ≡ end
 end_by-step None = refl
 end_by-step (Some end) = refl
 
-end-part : Below → (setup : host.Setup) (entries : List host.Entry) (told : Option host.Entry) → IsSetup setup → AreTold setup entries → MayBeTold (host_now setup entries) told →
+end-part : Below → (setup : host.Setup) (entries : List host.Entry) (told : Option host.Entry) → IsSetup setup → AreTold setup entries →
+    MayBeTold (host_now setup entries) told →
     host.end_of setup (option_to_list told ++ entries) ≡ end_after (host_now setup entries) (host.end_of setup entries) told
 end-part laws setup entries None good before may = refl
 end-part laws setup entries (Some entry) good before may =
-    sym (ap end_by (laws.transcripts_are_followed.step setup entries entry good (may, before)) ∙ end_by-step (host.end_of setup (entry ∷ entries)))
+    sym (ap end_by (laws.transcripts_are_followed.step setup entries entry good (may, before))
+    ∙ end_by-step (host.end_of setup (entry ∷ entries)))
 
 -- the world after one more share
-lived-state : Below → (config : Config) (passes n : ℕ) (l : Life) (share : Share) → IsSound config → IsSetup (setup_of config passes) → AreTold (setup_of config passes) l.entries →
+lived-state : Below → (config : Config) (passes n : ℕ) (l : Life) (share : Share) → IsSound config → IsSetup (setup_of config passes) →
+    AreTold (setup_of config passes) l.entries →
     MayBeTold (host_now (setup_of config passes) l.entries) share.told →
     state_of config passes (suc n) (lived l share) ≡ counted (shared (state_of config passes n l) share)
 unfolding state_of
 lived-state laws config passes n l share sound good before may =
-    ap (λ (d : Held). state d (host_now setup (option_to_list share.told ++ l.entries)) (host.end_of setup (option_to_list share.told ++ l.entries)) (suc n)) (device-part laws config l.past share.heard sound)
-    ∙ (ap (λ (h : Summary). state (device_after (device_now config l.past) share.heard) h (host.end_of setup (option_to_list share.told ++ l.entries)) (suc n)) (host-part laws setup l.entries share.told good before may)
-    ∙ (ap (λ (e : Option JobEnd). state (device_after (device_now config l.past) share.heard) (host_after (host_now setup l.entries) share.told) e (suc n)) (end-part laws setup l.entries share.told good before may)
-    ∙ ap (state (device_after (device_now config l.past) share.heard) (host_after (host_now setup l.entries) share.told) (end_after (host_now setup l.entries) (host.end_of setup l.entries) share.told)) (sym (add-one n))))
+    ap (λ (d : Held). state d (host_now setup (option_to_list share.told ++ l.entries))
+    (host.end_of setup (option_to_list share.told ++ l.entries)) (suc n)) (device-part laws config l.past share.heard sound)
+    ∙ (ap (λ (h : Summary). state (device_after (device_now config l.past) share.heard) h
+    (host.end_of setup (option_to_list share.told ++ l.entries)) (suc n)) (host-part laws setup l.entries share.told good before may)
+    ∙ (ap (λ (e : Option JobEnd). state (device_after (device_now config l.past) share.heard)
+    (host_after (host_now setup l.entries) share.told) e (suc n)) (end-part laws setup l.entries share.told good before may)
+    ∙ ap (state (device_after (device_now config l.past) share.heard) (host_after (host_now setup l.entries) share.told)
+    (end_after (host_now setup l.entries) (host.end_of setup l.entries) share.told)) (sym (add-one n))))
   where
     setup : host.Setup
     setup = setup_of config passes
@@ -159,7 +172,8 @@ now-next laws config passes events event lived =
 pub now-nil : Below → (config : Config) (passes : ℕ) → IsSetup (setup_of config passes) → now config passes [] ≡ start config passes
 unfolding life now start state_of host.end_of
 now-nil laws config passes good =
-    ap₂ (λ (d : Held) (h : Summary). state d h None 0) (laws.pasts_are_followed.none config) (laws.transcripts_are_followed.none (setup_of config passes) good)
+    ap₂ (λ (d : Held) (h : Summary). state d h None 0) (laws.pasts_are_followed.none config)
+    (laws.transcripts_are_followed.none (setup_of config passes) good)
 
 -- events that are taken from the start are those of a life
 pub from-start : Below → (config : Config) (passes : ℕ) (events : List Event) → IsSound config → IsSetup (setup_of config passes) →
@@ -169,11 +183,15 @@ from-start laws config passes [] sound good all = (tt, now-nil laws config passe
 from-start laws config passes (event ∷ before) sound good (taken, all) =
     let so_far = from-start laws config passes before sound good all in
     let same = so_far.1 in
-    let one : AreTaken config passes (event ∷ before) = (subst (λ (s : State). IsTaken s event) (sym same) taken, so_far.0) in
-    (one, now-next laws config passes before event (lived-by config passes (event ∷ before) sound good one) ∙ ap (λ (s : State). next s event) same)
+    let one : AreTaken config passes (event ∷ before) = (subst (λ (s : State). IsTaken s event) (sym same) taken, so_far.0) in (
+      one,
+      now-next laws config passes before event (lived-by config passes (event ∷ before) sound good one)
+          ∙ ap (λ (s : State). next s event) same,
+    )
 
 -- what came before events that were lived through was
-pub lived-before : (config : Config) (passes : ℕ) (later before : List Event) → IsLived config passes (later ++ before) → IsLived config passes before
+pub lived-before : (config : Config) (passes : ℕ) (later before : List Event) → IsLived config passes (later ++ before) →
+    IsLived config passes before
 lived-before config passes [] before lived = lived
 lived-before config passes (event ∷ later) before lived = lived-before config passes later before (earlier lived)
 
@@ -188,6 +206,7 @@ now-setup config passes events = refl
 
 -- the entries after one more event
 pub entries-more : (config : Config) (passes : ℕ) (before : List Event) (event : Event) →
-    (life config passes (event ∷ before)).entries ≡ option_to_list (share_of (now config passes before) event).told ++ (life config passes before).entries
+    (life config passes (event ∷ before)).entries ≡ option_to_list (share_of (now config passes before) event).told ++
+    (life config passes before).entries
 unfolding life now
 entries-more config passes before event = refl

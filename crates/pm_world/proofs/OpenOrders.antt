@@ -34,10 +34,12 @@ stage_order (Some (Writes cell word pass)) = Some (ordered cell word)
 stage_order (Some (Reads cell word pass)) = Some (ordered cell word)
 stage_order stage = None
 
-order-of_stage : (setup : host.Setup) (entries : List host.Entry) → stage_order (host_now setup entries).stage ≡ option_and_then order_of (host.open_job setup entries)
+order-of_stage : (setup : host.Setup) (entries : List host.Entry) →
+    stage_order (host_now setup entries).stage ≡ option_and_then order_of (host.open_job setup entries)
 unfolding host_now stage_of
 order-of_stage setup entries = go (host.open_job setup entries) where
-  by_turn : (b : Bool) (cell : Cell) (word n : ℕ) → stage_order (Some (cond b (Writes cell word n) (Reads cell word n))) ≡ Some (ordered cell word)
+  by_turn : (b : Bool) (cell : Cell) (word n : ℕ) →
+      stage_order (Some (cond b (Writes cell word n) (Reads cell word n))) ≡ Some (ordered cell word)
   by_turn true cell word n = refl
   by_turn false cell word n = refl
 
@@ -45,18 +47,21 @@ order-of_stage setup entries = go (host.open_job setup entries) where
   by_mode true output m n = refl
   by_mode false output m n = refl
 
-  go : (job : Option host.Job) → stage_order (option_map (λ j. job_stage setup j (host.told_since entries)) job) ≡ option_and_then order_of job
+  go : (job : Option host.Job) → stage_order (option_map (λ j. job_stage setup j (host.told_since entries)) job) ≡ option_and_then
+      order_of job
   go (Some (host.Order cell word)) = by_turn _ cell word _
   go (Some (host.Learn output)) = by_mode _ output _ _
   go (Some (host.Check cell)) = refl
   go job = refl
 
-pub open_order-is : (config : Config) (passes : ℕ) (events : List Event) → open_order config passes events ≡ stage_order (now config passes events).host.stage
+pub open_order-is : (config : Config) (passes : ℕ) (events : List Event) →
+    open_order config passes events ≡ stage_order (now config passes events).host.stage
 unfolding open_order now state_of
 open_order-is config passes events = sym (order-of_stage (setup_of config passes) (life config passes events).entries)
 
 -- the end of a write leaves the order
-pub finished-order : (s : Summary) (stage : Option Stage) (acked : Bool) → stage_order (finished s stage acked).after.stage ≡ stage_order stage
+pub finished-order : (s : Summary) (stage : Option Stage) (acked : Bool) →
+    stage_order (finished s stage acked).after.stage ≡ stage_order stage
 finished-order s (Some (Sends sent tries)) true = refl
 finished-order s (Some (Sends sent tries)) false = go (eqb (tries + 1) s.setup.passes) where
   go : (b : Bool) → stage_order (cond b (ends s Unknown) (goes_on s (Sends sent (tries + 1)))).after.stage ≡ None
@@ -68,20 +73,24 @@ finished-order s stage acked = refl
 abbrev pub Goes : Option PendingOrder → Option PendingOrder → Type 0
 Goes before after = (after ≡ before) ⊎ (after ≡ None)
 
-another-order : (s : Summary) (tries : ℕ) (stage : Stage) → stage_order (Some stage) ≡ None → stage_order (another s tries stage).after.stage ≡ None
+another-order : (s : Summary) (tries : ℕ) (stage : Stage) → stage_order (Some stage) ≡ None →
+    stage_order (another s tries stage).after.stage ≡ None
 another-order s tries stage none = go (eqb (tries + 1) s.setup.passes) where
   go : (b : Bool) → stage_order (cond b (ends s Unknown) (goes_on s stage)).after.stage ≡ None
   go true = refl
   go false = none
 
 -- what came back leaves an order open, or ends it
-pub answered-order : (s : Summary) (stage : Option Stage) (bytes : List ℕ) → Goes (stage_order stage) (stage_order (answered s stage bytes).after.stage)
+pub answered-order : (s : Summary) (stage : Option Stage) (bytes : List ℕ) →
+    Goes (stage_order stage) (stage_order (answered s stage bytes).after.stage)
 answered-order s (Some (Reads cell word pass)) bytes = go (good_word s.setup.addr cell bytes) where
-  last : (b : Bool) (t : Summary) (e : JobEnd) → Goes (Some (ordered cell word)) (stage_order (cond b (ends t e) (writes t cell word (pass + 1))).after.stage)
+  last : (b : Bool) (t : Summary) (e : JobEnd) →
+      Goes (Some (ordered cell word)) (stage_order (cond b (ends t e) (writes t cell word (pass + 1))).after.stage)
   last true t e = inr refl
   last false t e = inl refl
 
-  same : (b c : Bool) (t : Summary) (e : JobEnd) → Goes (Some (ordered cell word)) (stage_order (cond b (ends t Done) (cond c (ends t e) (writes t cell word (pass + 1)))).after.stage)
+  same : (b c : Bool) (t : Summary) (e : JobEnd) →
+      Goes (Some (ordered cell word)) (stage_order (cond b (ends t Done) (cond c (ends t e) (writes t cell word (pass + 1)))).after.stage)
   same true c t e = inr refl
   same false c t e = last c t e
 

@@ -51,17 +51,20 @@ reads-cell (Out output register) message e writes = reads (cell_read (Out output
 reads-cell Protect message e writes = reads (cell_read Protect) message refl e writes
 
 -- a whole write that is being sent leaves the words, or is the open order's
-written : Below → (held : Held) (stage : Option Stage) (message : Message) (bytes : List ℕ) → option_map stage_message stage ≡ Some message → is_read_message message ≡ false →
+written : Below → (held : Held) (stage : Option Stage) (message : Message) (bytes : List ℕ) →
+    option_map stage_message stage ≡ Some message → is_read_message message ≡ false →
     IsWrite held.config.addr message bytes →
     (words_after held (Hearing bytes Stop) ≡ held.words)
     ⊎ (IsSome (stage_order stage) × (words_after held (Hearing bytes Stop) ≡ with_order held.words (stage_order stage)))
 written laws held None message bytes e writes h = cc
 written laws held (Some (Writes cell word pass)) message bytes e writes h =
-    go (cell-reached laws held cell word bytes (subst (λ m. IsWrite held.config.addr m bytes) (sym (some-is (cell_write cell word) message e)) h))
+    go (cell-reached laws held cell word bytes
+    (subst (λ m. IsWrite held.config.addr m bytes) (sym (some-is (cell_write cell word) message e)) h))
   where
     go : (words_after held (Hearing bytes Stop) ≡ held.words) ⊎ (words_after held (Hearing bytes Stop) ≡ with_word held.words cell word) →
         (words_after held (Hearing bytes Stop) ≡ held.words)
-        ⊎ (IsSome (stage_order (Some (Writes cell word pass))) × (words_after held (Hearing bytes Stop) ≡ with_order held.words (stage_order (Some (Writes cell word pass)))))
+        ⊎ (IsSome (stage_order (Some (Writes cell word pass))) ×
+        (words_after held (Hearing bytes Stop) ≡ with_order held.words (stage_order (Some (Writes cell word pass)))))
     go (inl e) = inl e
     go (inr e) = inr (refl, e)
 written laws held (Some (Sends (ClearFaults output) tries)) message bytes e writes h =
@@ -73,49 +76,65 @@ written laws held (Some (AsksMode output tries)) message bytes e writes h = absu
 written laws held (Some (AsksCoefficients output tries)) message bytes e writes h = absurd (reads coefficients_read message refl e writes)
 
 -- what a hearing leaves is what the converter holds then
-heard-words : (held : Held) (bytes : List ℕ) (ending : Ending) → (device_next held (Hearing bytes ending)).words ≡ words_after held (Hearing bytes ending)
+heard-words : (held : Held) (bytes : List ℕ) (ending : Ending) →
+    (device_next held (Hearing bytes ending)).words ≡ words_after held (Hearing bytes ending)
 unfolding device_next device_by
 heard-words held bytes ending = refl
 
 -- a delivery leaves the words, or lets the open order take
 abbrev pub Takes : State → Words → Type 0
-Takes s words = (words ≡ s.device.words) ⊎ (IsSome (stage_order s.host.stage) × (words ≡ with_order s.device.words (stage_order s.host.stage)))
+Takes s words = (words ≡ s.device.words) ⊎
+    (IsSome (stage_order s.host.stage) × (words ≡ with_order s.device.words (stage_order s.host.stage)))
 
-pub delivered-words : Below → (s : State) (arrival : Arrival) (sending : Option Message) → s.host.setup.addr ≡ s.device.config.addr → sending_in s.host ≡ sending →
+pub delivered-words : Below → (s : State) (arrival : Arrival) (sending : Option Message) → s.host.setup.addr ≡ s.device.config.addr →
+    sending_in s.host ≡ sending →
     ((message : Message) → sending ≡ Some message → fits_layout message ≡ true) → delivery_cause s arrival sending ≡ None →
     Takes s (device_after s.device (delivered s arrival sending).heard).words
 delivered-words laws s arrival None same e fits h = cc
-delivered-words laws s arrival (Some message) same e fits h = go (hears-write laws s.device message bytes ending writes (fits message refl) legal) where
-  bytes : List ℕ
-  bytes = heard_bytes (frame_of s.host.setup.addr message) arrival
+delivered-words laws s arrival (Some message) same e fits h =
+    go (hears-write laws s.device message bytes ending writes (fits message refl) legal) where
+      bytes : List ℕ
+      bytes = heard_bytes (frame_of s.host.setup.addr message) arrival
 
-  ending : Ending
-  ending = heard_ending message arrival
+      ending : Ending
+      ending = heard_ending message arrival
 
-  parts : (rule (is_read_message message) WrongKind ≡ None) × (hearing_cause s.host.setup.addr message arrival ≡ None)
-  parts = or-none (rule (is_read_message message) WrongKind) (hearing_cause s.host.setup.addr message arrival) h
+      parts : (rule (is_read_message message) WrongKind ≡ None) × (hearing_cause s.host.setup.addr message arrival ≡ None)
+      parts = or-none (rule (is_read_message message) WrongKind) (hearing_cause s.host.setup.addr message arrival) h
 
-  writes : is_read_message message ≡ false
-  writes = rule-none (is_read_message message) WrongKind parts.0
+      writes : is_read_message message ≡ false
+      writes = rule-none (is_read_message message) WrongKind parts.0
 
-  legal : is_legal_hearing (frame_of s.device.config.addr message) (heard_bytes (frame_of s.host.setup.addr message) arrival) (heard_ending message arrival) ≡ true
-  legal = subst (λ a. is_legal_hearing (frame_of a message) (heard_bytes (frame_of s.host.setup.addr message) arrival) (heard_ending message arrival) ≡ true) same
-      (not-false _ (rule-none _ NotBetrayed parts.1))
+      legal : is_legal_hearing (frame_of s.device.config.addr message) (heard_bytes (frame_of s.host.setup.addr message) arrival)
+          (heard_ending message arrival) ≡ true
+      legal = subst (λ a. is_legal_hearing (frame_of a message) (heard_bytes (frame_of s.host.setup.addr message) arrival)
+          (heard_ending message arrival) ≡ true) same
+          (not-false _ (rule-none _ NotBetrayed parts.1))
 
-  go : (words_after s.device (Hearing (heard_bytes (frame_of s.host.setup.addr message) arrival) (heard_ending message arrival)) ≡ s.device.words)
-      ⊎ ((heard_ending message arrival ≡ Stop) × IsWrite s.device.config.addr message (heard_bytes (frame_of s.host.setup.addr message) arrival)) →
-      ((device_next s.device (Hearing (heard_bytes (frame_of s.host.setup.addr message) arrival) (heard_ending message arrival))).words ≡ s.device.words)
-      ⊎ (IsSome (stage_order s.host.stage) × ((device_next s.device (Hearing (heard_bytes (frame_of s.host.setup.addr message) arrival) (heard_ending message arrival))).words ≡ with_order s.device.words (stage_order s.host.stage)))
-  go (inl e) = inl (heard-words s.device _ _ ∙ e)
-  go (inr (stop, whole)) =
-      subst (λ x. ((device_next s.device (Hearing (heard_bytes (frame_of s.host.setup.addr message) arrival) x)).words ≡ s.device.words)
-      ⊎ (IsSome (stage_order s.host.stage) × ((device_next s.device (Hearing (heard_bytes (frame_of s.host.setup.addr message) arrival) x)).words ≡ with_order s.device.words (stage_order s.host.stage)))) (sym stop)
-      (subst (λ (w : Words). (w ≡ s.device.words) ⊎ (IsSome (stage_order s.host.stage) × (w ≡ with_order s.device.words (stage_order s.host.stage))))
-      (sym (heard-words s.device (heard_bytes (frame_of s.host.setup.addr message) arrival) Stop))
-      (written laws s.device s.host.stage message (heard_bytes (frame_of s.host.setup.addr message) arrival) e writes whole))
+      go : (words_after s.device
+          (Hearing (heard_bytes (frame_of s.host.setup.addr message) arrival) (heard_ending message arrival)) ≡ s.device.words)
+          ⊎ ((heard_ending message arrival ≡ Stop) × IsWrite s.device.config.addr message
+          (heard_bytes (frame_of s.host.setup.addr message) arrival)) →
+          ((device_next s.device
+          (Hearing (heard_bytes (frame_of s.host.setup.addr message) arrival) (heard_ending message arrival))).words ≡ s.device.words)
+          ⊎ (IsSome (stage_order s.host.stage) ×
+          ((device_next s.device
+          (Hearing (heard_bytes (frame_of s.host.setup.addr message) arrival) (heard_ending message arrival))).words ≡ with_order
+          s.device.words (stage_order s.host.stage)))
+      go (inl e) = inl (heard-words s.device _ _ ∙ e)
+      go (inr (stop, whole)) =
+          subst (λ x. ((device_next s.device (Hearing (heard_bytes (frame_of s.host.setup.addr message) arrival) x)).words ≡ s.device.words)
+          ⊎ (IsSome (stage_order s.host.stage) ×
+          ((device_next s.device (Hearing (heard_bytes (frame_of s.host.setup.addr message) arrival) x)).words ≡ with_order s.device.words
+          (stage_order s.host.stage)))) (sym stop)
+          (subst (λ (w : Words). (w ≡ s.device.words) ⊎
+          (IsSome (stage_order s.host.stage) × (w ≡ with_order s.device.words (stage_order s.host.stage))))
+          (sym (heard-words s.device (heard_bytes (frame_of s.host.setup.addr message) arrival) Stop))
+          (written laws s.device s.host.stage message (heard_bytes (frame_of s.host.setup.addr message) arrival) e writes whole))
 
 -- and leaves the host
-pub delivered-stage : (s : State) (arrival : Arrival) (sending : Option Message) → stage_order (host_after s.host (delivered s arrival sending).told).stage ≡ stage_order s.host.stage
+pub delivered-stage : (s : State) (arrival : Arrival) (sending : Option Message) →
+    stage_order (host_after s.host (delivered s arrival sending).told).stage ≡ stage_order s.host.stage
 delivered-stage s arrival None = refl
 delivered-stage s arrival (Some message) = refl
 
@@ -125,15 +144,19 @@ pub exchanged-words : Below → (s : State) (arrival : Arrival) (back : Return) 
     (device_after s.device (exchanged s arrival back sending).heard).words ≡ s.device.words
 exchanged-words laws s arrival back None fits h = cc
 exchanged-words laws s arrival back (Some message) fits h =
-    let kinds = or-none (rule (not (is_read_message message)) WrongKind) (option_or (hearing_cause s.host.setup.addr message arrival) (return_cause s.device s.host.setup.addr message arrival back)) h in
-    let hears = or-none (hearing_cause s.host.setup.addr message arrival) (return_cause s.device s.host.setup.addr message arrival back) kinds.1 in
+    let kinds = or-none (rule (not (is_read_message message)) WrongKind)
+    (option_or (hearing_cause s.host.setup.addr message arrival) (return_cause s.device s.host.setup.addr message arrival back)) h in
+    let hears = or-none (hearing_cause s.host.setup.addr message arrival) (return_cause s.device s.host.setup.addr message arrival back)
+    kinds.1 in
     heard-words s.device (heard_bytes (frame_of s.host.setup.addr message) arrival) (heard_ending message arrival)
-    ∙ hears-request laws s.device s.host.setup.addr message (heard_bytes (frame_of s.host.setup.addr message) arrival) (heard_ending message arrival)
+    ∙ hears-request laws s.device s.host.setup.addr message (heard_bytes (frame_of s.host.setup.addr message) arrival)
+    (heard_ending message arrival)
     (not-false (is_read_message message) (rule-none (not (is_read_message message)) WrongKind kinds.0)) (fits message refl)
     (not-false _ (rule-none _ NotBetrayed hears.0))
 
 -- and keeps an order open, or ends it
-pub exchanged-order : (s : State) (arrival : Arrival) (back : Return) (sending : Option Message) → Goes (stage_order s.host.stage) (stage_order (host_after s.host (exchanged s arrival back sending).told).stage)
+pub exchanged-order : (s : State) (arrival : Arrival) (back : Return) (sending : Option Message) →
+    Goes (stage_order s.host.stage) (stage_order (host_after s.host (exchanged s arrival back sending).told).stage)
 unfolding host_next
 exchanged-order s arrival back None = inl refl
 exchanged-order s arrival back (Some message) = answered-order (idle s.host) s.host.stage _
@@ -172,6 +195,8 @@ order-free s cell word h =
     let words = or-none (host_rule (not (cell_accepts cell word)) _) _ first.1 in
     record {
       free = asking-order s _ first.0;
-      there = cell-there s.setup.outputs cell (not-false _ (host_rule-none (not (is_cell s.setup.outputs cell)) _ (or-none (host_rule (not (is_cell s.setup.outputs cell)) _) _ cells.1).0));
+      there = cell-there s.setup.outputs cell
+          (not-false _ (host_rule-none (not (is_cell s.setup.outputs cell)) _
+          (or-none (host_rule (not (is_cell s.setup.outputs cell)) _) _ cells.1).0));
       fits = not-false _ (host_rule-none (not (cell_accepts cell word)) _ words.0);
     }

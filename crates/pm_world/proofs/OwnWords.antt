@@ -47,7 +47,8 @@ told-nothing config passes before RestartDevice cell word h = let bad : Back ≡
 told-nothing config passes before event cell word h = absurd (none (Accept cell word) h)
 
 -- only orders are told as accepted
-told-accept : (config : Config) (passes : ℕ) (before : List Event) (event : Event) (cell : Cell) (word : ℕ) → Contains (told config passes before event) (Accept cell word) → told config passes before event ≡ Accept cell word ∷ []
+told-accept : (config : Config) (passes : ℕ) (before : List Event) (event : Event) (cell : Cell) (word : ℕ) →
+    Contains (told config passes before event) (Accept cell word) → told config passes before event ≡ Accept cell word ∷ []
 unfolding told
 told-accept config passes before event cell word h = go (asked (now config passes before) event) h where
   by_job : (job : host.Job) → Contains (accepts (order_of job)) (Accept cell word) → accepts (order_of job) ≡ Accept cell word ∷ []
@@ -61,7 +62,8 @@ told-accept config passes before event cell word h = go (asked (now config passe
   go None h = told-nothing config passes before event cell word h
 
 -- what was accepted in steps that retell events was ordered among them
-later-ordered : (config : Config) (passes : ℕ) (event : Event) (events : List Event) (cell : Cell) (word : ℕ) → WasOrdered config passes events cell word → WasOrdered config passes (event ∷ events) cell word
+later-ordered : (config : Config) (passes : ℕ) (event : Event) (events : List Event) (cell : Cell) (word : ℕ) →
+    WasOrdered config passes events cell word → WasOrdered config passes (event ∷ events) cell word
 later-ordered config passes event events cell word h = record {
   later = event ∷ h.later;
   event = h.event;
@@ -70,11 +72,13 @@ later-ordered config passes event events cell word h = record {
   orders = h.orders;
 }
 
-retold : (config : Config) (passes : ℕ) (events : List Event) (steps : List Step) (cell : Cell) (word : ℕ) → Retells config passes events steps → Contains steps (Accept cell word) → WasOrdered config passes events cell word
+retold : (config : Config) (passes : ℕ) (events : List Event) (steps : List Step) (cell : Cell) (word : ℕ) →
+    Retells config passes events steps → Contains steps (Accept cell word) → WasOrdered config passes events cell word
 retold config passes events steps cell word nothing h = absurd (none (Accept cell word) h)
 retold config passes events steps cell word (tells event before rest r) h =
     elim (Contains-append_cases (told config passes before event) rest (Accept cell word) h) [
-      | inl now_told ↦ record { later = []; event = event; before = before; is = refl; orders = told-accept config passes before event cell word now_told }
+      | inl now_told ↦ record
+          { later = []; event = event; before = before; is = refl; orders = told-accept config passes before event cell word now_told }
       | inr earlier ↦ later-ordered config passes event before cell word (retold config passes before rest cell word r earlier)
     ]
 retold config passes events steps cell word (takes arrival before rest r) h =
@@ -91,7 +95,8 @@ start-at : Below → (config : Config) (cell : Cell) → IsCell 8 cell → word_
 unfolding start_words
 start-at laws config cell here = (laws.settings_are_a_map.made (start_word config)).1 cell here
 
-run-own : Below → (config : Config) (passes : ℕ) (events : List Event) (words : Words) (cell : Cell) → IsSound config → IsOrderRun config passes events words → IsCell config.count cell → IsOwnWord config passes events cell (word_at words cell)
+run-own : Below → (config : Config) (passes : ℕ) (events : List Event) (words : Words) (cell : Cell) → IsSound config →
+    IsOrderRun config passes events words → IsCell config.count cell → IsOwnWord config passes events cell (word_at words cell)
 run-own laws config passes events words cell sound r here =
     subst (λ (w : Words). IsOwnWord config passes events cell (word_at w cell)) r.words_are
     (elim (laws.orders_stay_in_their_cells.own (start_settings config) r.steps cell sound.few (full laws config) r.run here) [
@@ -99,14 +104,18 @@ run-own laws config passes events words cell sound r here =
       | inr h ↦ inr (retold config passes events r.steps cell (word_at (machine_of (start_settings config) r.steps).words cell) r.retells h)
     ])
 
-pub life-own : Below → (config : Config) (passes : ℕ) (events : List Event) (cell : Cell) → IsLived config passes events → IsCell config.count cell →
+pub life-own : Below → (config : Config) (passes : ℕ) (events : List Event) (cell : Cell) → IsLived config passes events →
+    IsCell config.count cell →
     IsOwnWord config passes events cell (word_at (now config passes events).device.words cell)
 life-own laws config passes events cell lived here =
-    run-own laws config passes events (now config passes events).device.words cell lived.sound (life-run laws config passes events lived) here
+    run-own laws config passes events (now config passes events).device.words cell lived.sound (life-run laws config passes events lived)
+    here
 
 -- so each output commands a value of its own
-pub life-commands : Below → (config : Config) (passes : ℕ) (events : List Event) (output : ℕ) → IsLived config passes events → output < config.count →
-    CommandsOwn config passes events output (commanded (value_for (now config passes events).device.config output) (now config passes events).device.words output)
+pub life-commands : Below → (config : Config) (passes : ℕ) (events : List Event) (output : ℕ) → IsLived config passes events →
+    output < config.count →
+    CommandsOwn config passes events output
+    (commanded (value_for (now config passes events).device.config output) (now config passes events).device.words output)
 unfolding commanded is_cut selected
 life-commands laws config passes events output lived here =
     let words = (now config passes events).device.words in

@@ -24,7 +24,8 @@ pub reads-cell : (cell : Cell) → is_read_message (cell_read cell) ≡ true
 reads-cell (Out output register) = refl
 reads-cell Protect = refl
 
-is_request : (addr : ℕ) (cell : Cell) → fits_layout (cell_read cell) ≡ true → IsRequest addr (cell_read cell) (frame_of addr (cell_read cell))
+is_request : (addr : ℕ) (cell : Cell) → fits_layout (cell_read cell) ≡ true →
+    IsRequest addr (cell_read cell) (frame_of addr (cell_read cell))
 is_request addr cell fits =
     record { reads = reads-cell cell; fits = fits; spelled = frame-request addr (cell_read cell) (reads-cell cell) }
 
@@ -35,7 +36,8 @@ number_in (byte ∷ []) = refl
 number_in (low ∷ high ∷ rest) = refl
 
 -- a whole answer is good, and has its payload
-pub good-answer : Below → (addr : ℕ) (request : Message) (payload bytes : List ℕ) → IsAnswer addr request payload bytes → good_payload addr request bytes ≡ Some payload
+pub good-answer : Below → (addr : ℕ) (request : Message) (payload bytes : List ℕ) → IsAnswer addr request payload bytes →
+    good_payload addr request bytes ≡ Some payload
 unfolding good_payload
 good-answer laws addr request payload bytes is =
     ap (λ f. cond (is_none f) (Some (answer_payload request bytes)) None) (laws.answers_are_exact.spelled addr request payload bytes is)
@@ -49,10 +51,13 @@ answer-word laws addr cell word bytes accepted is =
     ∙ ap (λ n. Some n) (number_in (register_bytes (cell_code cell) word) ∙ laws.reads_are_answered.number cell word accepted)
 
 -- an undisturbed read gives the cell's word
-pub read-word : Below → (held : Held) (cell : Cell) → IsCell held.config.count cell → cell_accepts cell (word_at held.words cell) ≡ true → fits_layout (cell_read cell) ≡ true →
-    good_word held.config.addr cell (answer_in (reply_of held (frame_of held.config.addr (cell_read cell)) Restart)) ≡ Some (word_at held.words cell)
+pub read-word : Below → (held : Held) (cell : Cell) → IsCell held.config.count cell → cell_accepts cell (word_at held.words cell) ≡ true →
+    fits_layout (cell_read cell) ≡ true →
+    good_word held.config.addr cell (answer_in (reply_of held (frame_of held.config.addr (cell_read cell)) Restart)) ≡ Some
+    (word_at held.words cell)
 read-word laws held (Out output register) there accepted fits =
-    let found = laws.reads_are_answered.cell held output (register_code register) (Out output register) _ (is_request held.config.addr (Out output register) fits) there (laws.registers_are_in_the_table.found register output) in
+    let found = laws.reads_are_answered.cell held output (register_code register) (Out output register) _
+    (is_request held.config.addr (Out output register) fits) there (laws.registers_are_in_the_table.found register output) in
     ap (λ h. good_word held.config.addr (Out output register) (answer_in h)) found.1
     ∙ answer-word laws held.config.addr (Out output register) (word_at held.words (Out output register)) found.0 accepted found.2
 read-word laws held Protect there accepted fits =

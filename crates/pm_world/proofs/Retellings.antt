@@ -41,7 +41,8 @@ sent-fits laws config passes events lived message e =
     (sym (laws.transcripts_are_followed.sending setup entries) ∙ e))
 
 -- what no event changes
-same-addr : (config : Config) (passes : ℕ) (events : List Event) → (now config passes events).host.setup.addr ≡ (now config passes events).device.config.addr
+same-addr : (config : Config) (passes : ℕ) (events : List Event) →
+    (now config passes events).host.setup.addr ≡ (now config passes events).device.config.addr
 unfolding now state_of host_now device_now
 same-addr config passes events = refl
 
@@ -70,16 +71,20 @@ record Follows (config : Config) (passes : ℕ) (before : List Event) (event : E
   run : IsOrderRun config passes before (now config passes before).device.words
 
 -- the run goes on by the steps that the event is told as
-told-on : (config : Config) (passes : ℕ) (before : List Event) (event : Event) (words : Words) (new : List Step) → (r : IsOrderRun config passes before words) → told config passes before event ≡ new →
+told-on : (config : Config) (passes : ℕ) (before : List Event) (event : Event) (words : Words) (new : List Step) →
+    (r : IsOrderRun config passes before words) → told config passes before event ≡ new →
     Retells config passes (event ∷ before) (new ++ r.steps)
-told-on config passes before event words new r e = subst (λ (x : List Step). Retells config passes (event ∷ before) (x ++ r.steps)) e (tells event before r.steps r.retells)
+told-on config passes before event words new r e =
+    subst (λ (x : List Step). Retells config passes (event ∷ before) (x ++ r.steps)) e (tells event before r.steps r.retells)
 
 -- the order that is open after the event
-open-after : (config : Config) (passes : ℕ) (before : List Event) (event : Event) → (f : Follows config passes before event) → open_order config passes (event ∷ before) ≡ stage_order (next (now config passes before) event).host.stage
+open-after : (config : Config) (passes : ℕ) (before : List Event) (event : Event) → (f : Follows config passes before event) →
+    open_order config passes (event ∷ before) ≡ stage_order (next (now config passes before) event).host.stage
 open-after config passes before event f = open_order-is config passes (event ∷ before) ∙ ap (λ (s : State). stage_order s.host.stage) f.same
 
 -- nothing is told: words and order stay
-stays : (config : Config) (passes : ℕ) (before : List Event) (event : Event) → (f : Follows config passes before event) → told config passes before event ≡ [] →
+stays : (config : Config) (passes : ℕ) (before : List Event) (event : Event) → (f : Follows config passes before event) →
+    told config passes before event ≡ [] →
     (next (now config passes before) event).device.words ≡ (now config passes before).device.words →
     stage_order (next (now config passes before) event).host.stage ≡ stage_order (now config passes before).host.stage →
     IsOrderRun config passes (event ∷ before) (now config passes (event ∷ before)).device.words
@@ -92,7 +97,8 @@ stays config passes before event f none words order = record {
 }
 
 -- an order is accepted
-accepted : Below → (config : Config) (passes : ℕ) (before : List Event) (event : Event) (cell : Cell) (word : ℕ) → (f : Follows config passes before event) → told config passes before event ≡ Accept cell word ∷ [] →
+accepted : Below → (config : Config) (passes : ℕ) (before : List Event) (event : Event) (cell : Cell) (word : ℕ) →
+    (f : Follows config passes before event) → told config passes before event ≡ Accept cell word ∷ [] →
     (next (now config passes before) event).device.words ≡ (now config passes before).device.words →
     stage_order (next (now config passes before) event).host.stage ≡ Some (ordered cell word) →
     IsFree (now config passes before).host cell word →
@@ -102,7 +108,8 @@ accepted laws config passes before event cell word f is words order may =
     let at_start = laws.orders_stay_in_their_cells.start (start_settings config) f.run.steps in
     let can : CanAccept (machine_of (start_settings config) f.run.steps) cell word = record {
       free = f.run.order_is ∙ (open_order-is config passes before ∙ may.free);
-      there = subst (λ (s : Settings). IsCell s.count cell) (sym at_start) (subst (λ n. IsCell n cell) (same-outputs config passes before) may.there);
+      there = subst (λ (s : Settings). IsCell s.count cell) (sym at_start)
+          (subst (λ n. IsCell n cell) (same-outputs config passes before) may.there);
       fits = may.fits;
     } in
     record {
@@ -114,7 +121,8 @@ accepted laws config passes before event cell word f is words order may =
     }
 
 -- an order ends
-ended : (config : Config) (passes : ℕ) (before : List Event) (event : Event) → (f : Follows config passes before event) → told config passes before event ≡ End ∷ [] →
+ended : (config : Config) (passes : ℕ) (before : List Event) (event : Event) → (f : Follows config passes before event) →
+    told config passes before event ≡ End ∷ [] →
     (next (now config passes before) event).device.words ≡ (now config passes before).device.words →
     stage_order (next (now config passes before) event).host.stage ≡ None →
     IsOrderRun config passes (event ∷ before) (now config passes (event ∷ before)).device.words
@@ -143,7 +151,8 @@ came-back laws config passes before f = record {
 -- the pending order takes
 took : (config : Config) (passes : ℕ) (before : List Event) (arrival : Arrival) → (f : Follows config passes before (Deliver arrival)) →
     IsSome (stage_order (now config passes before).host.stage) →
-    (next (now config passes before) (Deliver arrival)).device.words ≡ with_order (now config passes before).device.words (stage_order (now config passes before).host.stage) →
+    (next (now config passes before) (Deliver arrival)).device.words ≡ with_order (now config passes before).device.words
+    (stage_order (now config passes before).host.stage) →
     stage_order (next (now config passes before) (Deliver arrival)).host.stage ≡ stage_order (now config passes before).host.stage →
     IsOrderRun config passes (Deliver arrival ∷ before) (now config passes (Deliver arrival ∷ before)).device.words
 unfolding machine_of
@@ -166,9 +175,11 @@ ends-none : (p q : Option PendingOrder) → q ≡ None → IsSome p → ends_bet
 ends-none None q e some = cc
 ends-none (Some order) q e some = ap (λ o. ends_between (Some order) o) e
 
-exchanged-on : (config : Config) (passes : ℕ) (before : List Event) (arrival : Arrival) (back : Return) → (f : Follows config passes before (Exchange arrival back)) →
+exchanged-on : (config : Config) (passes : ℕ) (before : List Event) (arrival : Arrival) (back : Return) →
+    (f : Follows config passes before (Exchange arrival back)) →
     (next (now config passes before) (Exchange arrival back)).device.words ≡ (now config passes before).device.words →
-    Goes (stage_order (now config passes before).host.stage) (stage_order (next (now config passes before) (Exchange arrival back)).host.stage) →
+    Goes (stage_order (now config passes before).host.stage)
+    (stage_order (next (now config passes before) (Exchange arrival back)).host.stage) →
     IsOrderRun config passes (Exchange arrival back ∷ before) (now config passes (Exchange arrival back ∷ before)).device.words
 unfolding told_beside
 exchanged-on config passes before arrival back f words (inl same) =
@@ -184,15 +195,18 @@ exchanged-on config passes before arrival back f words (inr over) = go (open_ord
   is_told : told config passes before (Exchange arrival back) ≡ told_beside config passes before (Exchange arrival back)
   is_told = beside-told config passes before (Exchange arrival back) refl
 
-  go : (p : Option PendingOrder) → open_order config passes before ≡ p → IsOrderRun config passes (Exchange arrival back ∷ before) (now config passes (Exchange arrival back ∷ before)).device.words
+  go : (p : Option PendingOrder) → open_order config passes before ≡ p →
+      IsOrderRun config passes (Exchange arrival back ∷ before) (now config passes (Exchange arrival back ∷ before)).device.words
   go None e = stays config passes before (Exchange arrival back) f
       (is_told ∙ ends-same (open_order config passes before) (open_order config passes (Exchange arrival back ∷ before)) (after ∙ sym e))
       words (over ∙ (sym e ∙ open_order-is config passes before))
   go (Some order) e = ended config passes before (Exchange arrival back) f
-      (is_told ∙ ends-none (open_order config passes before) (open_order config passes (Exchange arrival back ∷ before)) after (ap is_some e))
+      (is_told ∙ ends-none (open_order config passes before) (open_order config passes (Exchange arrival back ∷ before)) after
+      (ap is_some e))
       words over
 
-delivered-on : (config : Config) (passes : ℕ) (before : List Event) (arrival : Arrival) → (f : Follows config passes before (Deliver arrival)) →
+delivered-on : (config : Config) (passes : ℕ) (before : List Event) (arrival : Arrival) →
+    (f : Follows config passes before (Deliver arrival)) →
     Takes (now config passes before) (next (now config passes before) (Deliver arrival)).device.words →
     stage_order (next (now config passes before) (Deliver arrival)).host.stage ≡ stage_order (now config passes before).host.stage →
     IsOrderRun config passes (Deliver arrival ∷ before) (now config passes (Deliver arrival ∷ before)).device.words
@@ -227,7 +241,8 @@ one-beside : Below → (config : Config) (passes : ℕ) (before : List Event) (e
 unfolding told_beside next host_next device_next device_by
 one-beside laws config passes before (Deliver arrival) lived f is =
     delivered-on config passes before arrival f
-    (delivered-words laws (now config passes before) arrival (sending_in (now config passes before).host) (same-addr config passes before) refl
+    (delivered-words laws (now config passes before) arrival (sending_in (now config passes before).host) (same-addr config passes before)
+    refl
     (sent-fits laws config passes before lived) f.free)
     (delivered-stage (now config passes before) arrival (sending_in (now config passes before).host))
 one-beside laws config passes before (Finish acked) lived f is =
@@ -257,7 +272,8 @@ one laws config passes before event lived f = go (asked (now config passes befor
   go (Some job) is = one-asked laws config passes before event job f is
 
 -- nothing has happened
-first-run : Below → (config : Config) (passes : ℕ) → IsSetup (setup_of config passes) → IsOrderRun config passes [] (now config passes []).device.words
+first-run : Below → (config : Config) (passes : ℕ) → IsSetup (setup_of config passes) →
+    IsOrderRun config passes [] (now config passes []).device.words
 unfolding machine_of open_order life host.open_job host.end_of start start_of
 first-run laws config passes made = record {
   steps = [];

@@ -12,7 +12,8 @@ use Rattle.pm_world.specs.Life.{after_all, AreTakenFrom}
 abbrev pub past : ℕ → List Event → List Event
 past n events = reverse (take n events)
 
-pub past-more : (n : ℕ) (events : List Event) (event : Event) → n < length events → event ≡ get_or events n event → past (n + 1) events ≡ event ∷ past n events
+pub past-more : (n : ℕ) (events : List Event) (event : Event) → n < length events → event ≡ get_or events n event →
+    past (n + 1) events ≡ event ∷ past n events
 past-more n events event inside is =
     ap reverse (take_more events n event inside)
     ∙ (reverse-append (take n events) (get_or events n event ∷ [])
@@ -31,9 +32,11 @@ taken-more s before new n events event inside is now all taken after = (
     more = past-more n events event inside is
 
 -- the event that isn't taken has its cause there
-pub stops-at : (s before : State) (n : ℕ) (events : List Event) (event : Event) (cause : Cause) → n < length events → event ≡ get_or events n event →
+pub stops-at : (s before : State) (n : ℕ) (events : List Event) (event : Event) (cause : Cause) → n < length events →
+    event ≡ get_or events n event →
     before ≡ after_all s (past n events) → cause_of before event ≡ Some cause →
     IsSomeAnd (slice_get events n) (λ e. cause_of (after_all s (past n events)) e ≡ Some cause)
 stops-at s before n events event cause inside is now stops =
-    subst (λ found. IsSomeAnd found (λ e. cause_of (after_all s (past n events)) e ≡ Some cause)) (sym (slice_get-get_or events n event inside))
+    subst (λ found. IsSomeAnd found (λ e. cause_of (after_all s (past n events)) e ≡ Some cause))
+    (sym (slice_get-get_or events n event inside))
     (subst (λ e. cause_of (after_all s (past n events)) e ≡ Some cause) is (subst (λ t. cause_of t event ≡ Some cause) now stops))

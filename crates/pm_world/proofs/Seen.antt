@@ -70,7 +70,8 @@ puts-none new ms (one_put c w) cell none = go (same_cell c cell) where
   go true = ap (option_map (λ ws. w ∷ ws)) none
   go false = none
 
-goods-none : (setup : host.Setup) (before : List host.Entry) (bytes : List ℕ) (new ms : List Mark) → AreGoods setup before bytes new → (cell : Cell) →
+goods-none : (setup : host.Setup) (before : List host.Entry) (bytes : List ℕ) (new ms : List Mark) → AreGoods setup before bytes new →
+    (cell : Cell) →
     list_any (is_good_for cell) new ≡ false → NoWords ms cell → NoWords (new ++ ms) cell
 goods-none setup before bytes new ms no_good cell unread none = none
 goods-none setup before bytes new ms (one_good read w asked good) cell unread none = go (same_cell read cell) unread where
@@ -83,14 +84,16 @@ goods-none setup before bytes new ms (one_good read w asked good) cell unread no
   go true h = cc
   go false h = by_surprise (is_possible w (possible_from (words_since ms read)))
 
-told-none : (setup : host.Setup) (entries : List host.Entry) (cell : Cell) (told : Option host.Entry) → reads setup entries cell told ≡ false →
+told-none : (setup : host.Setup) (entries : List host.Entry) (cell : Cell) (told : Option host.Entry) →
+    reads setup entries cell told ≡ false →
     NoWords (marks setup entries) cell → NoWords (marks setup (option_to_list told ++ entries)) cell
 told-none setup entries cell None unread none = none
 told-none setup entries cell (Some (host.Accepted job)) unread none =
     puts-none (puts setup (host.Accepted job ∷ entries)) (marks setup entries) (are-puts setup (host.Accepted job ∷ entries)) cell none
 told-none setup entries cell (Some (host.Finished acked)) unread none = none
 told-none setup entries cell (Some (host.Got bytes)) unread none =
-    puts-none (puts setup (host.Got bytes ∷ entries)) (goods setup entries bytes ++ marks setup entries) (are-puts setup (host.Got bytes ∷ entries)) cell
+    puts-none (puts setup (host.Got bytes ∷ entries)) (goods setup entries bytes ++ marks setup entries)
+    (are-puts setup (host.Got bytes ∷ entries)) cell
     (goods-none setup entries bytes (goods setup entries bytes) (marks setup entries) (are-goods setup entries bytes) cell unread none)
 told-none setup entries cell (Some host.Restarted) unread none = refl
 
@@ -110,13 +113,15 @@ unread-none config passes cell (event ∷ before) unread =
     go : (b : Bool) → restarts_host event ≡ b →
         cond b false (reads_cell config passes cell before event || has_read config passes cell before) ≡ false →
         (has_read config passes cell before ≡ false → NoWords (marks (setup_of config passes) (life config passes before).entries) cell) →
-        NoWords (marks (setup_of config passes) (option_to_list (share_of (now config passes before) event).told ++ (life config passes before).entries)) cell
+        NoWords (marks (setup_of config passes)
+        (option_to_list (share_of (now config passes before) event).told ++ (life config passes before).entries)) cell
     go true e h older =
         subst (λ o. NoWords (marks (setup_of config passes) (option_to_list o ++ (life config passes before).entries)) cell)
         (sym (restart-told (now config passes before) event e)) refl
     go false e h older =
         let both = or-neither (reads_cell config passes cell before event) (has_read config passes cell before) h in
-        told-none (setup_of config passes) (life config passes before).entries cell (share_of (now config passes before) event).told both.0 (older both.1)
+        told-none (setup_of config passes) (life config passes before).entries cell (share_of (now config passes before) event).told
+        both.0 (older both.1)
 
 -- so where words are listed, the cell was read
 listed-read : (config : Config) (passes : ℕ) (cell : Cell) (events : List Event) →
@@ -137,7 +142,8 @@ got_bytes _ = []
 got-true : Below → (s : State) (setup : host.Setup) (entries : List host.Entry) (event : Event) (bytes : List ℕ) → Knows s setup entries →
     event_cause s event ≡ None → (share_of s event).told ≡ Some (host.Got bytes) → ReadsTrue setup entries bytes s.device.words
 got-true laws s setup entries event bytes knows free told = by_asked (asked s event) told where
-  by_sending : (arrival : Arrival) (back : Back) (sending : Option Message) → sending_in s.host ≡ sending → exchange_cause s arrival back sending ≡ None →
+  by_sending : (arrival : Arrival) (back : Back) (sending : Option Message) → sending_in s.host ≡ sending →
+      exchange_cause s arrival back sending ≡ None →
       (exchanged s arrival back sending).told ≡ Some (host.Got bytes) → ReadsTrue setup entries bytes s.device.words
   by_sending arrival back None e free told = λ read word asked good. cc
   by_sending arrival back (Some message) e free told =
@@ -145,7 +151,8 @@ got-true laws s setup entries event bytes knows free told = by_asked (asked s ev
       subst (λ (entry : host.Entry). ReadsTrue setup entries (got_bytes entry) s.device.words) is
       (reads-true laws s setup entries arrival back message knows e free)
 
-  beside : (event : Event) → event_cause s event ≡ None → (share_beside s event).told ≡ Some (host.Got bytes) → ReadsTrue setup entries bytes s.device.words
+  beside : (event : Event) → event_cause s event ≡ None → (share_beside s event).told ≡ Some (host.Got bytes) →
+      ReadsTrue setup entries bytes s.device.words
   beside (Exchange arrival back) free told = by_sending arrival back (sending_in s.host) refl free told
   beside (Deliver arrival) free told = absurd (none-some _ (sym (told-nothing s arrival (sending_in s.host)) ∙ told))
   beside event free told = λ read word asked good. cc
@@ -172,7 +179,8 @@ one-surprise laws s setup entries read word knows asked is surprising = record {
   impossible = ap (λ w. is_possible w (possible_of (marks setup entries) read)) is ∙ not-true _ surprising;
 }
 
-goods-surprise : Below → (s : State) (setup : host.Setup) (entries : List host.Entry) (bytes : List ℕ) (new : List Mark) → AreGoods setup entries bytes new →
+goods-surprise : Below → (s : State) (setup : host.Setup) (entries : List host.Entry) (bytes : List ℕ) (new : List Mark) →
+    AreGoods setup entries bytes new →
     (cell : Cell) → Knows s setup entries → ReadsTrue setup entries bytes s.device.words →
     list_any (is_surprise_for cell (marks setup entries)) new ≡ true → Surprise s setup entries cell
 goods-surprise laws s setup entries bytes new no_good cell knows is h = absurd (false≢true h)
@@ -181,11 +189,13 @@ goods-surprise laws s setup entries bytes new (one_good read word asked good) ce
     elim one [
       | inl so ↦
           (let both = and-both (same_cell read cell) (not (is_possible word (possible_of (marks setup entries) read))) so in
-          subst (Surprise s setup entries) (same-cells laws read cell both.0) (one-surprise laws s setup entries read word knows asked (is read word asked good) both.1))
+          subst (Surprise s setup entries) (same-cells laws read cell both.0)
+          (one-surprise laws s setup entries read word knows asked (is read word asked good) both.1))
       | inr bad ↦ absurd (false≢true bad)
     ]
 
-told-surprise : Below → (s : State) (setup : host.Setup) (entries : List host.Entry) (event : Event) (cell : Cell) (told : Option host.Entry) → Knows s setup entries →
+told-surprise : Below → (s : State) (setup : host.Setup) (entries : List host.Entry) (event : Event) (cell : Cell)
+    (told : Option host.Entry) → Knows s setup entries →
     event_cause s event ≡ None → (share_of s event).told ≡ told → surprises setup entries cell told ≡ true → Surprise s setup entries cell
 told-surprise laws s setup entries event cell (Some (host.Got bytes)) knows free told h =
     goods-surprise laws s setup entries bytes (goods setup entries bytes) (are-goods setup entries bytes) cell knows
@@ -193,11 +203,13 @@ told-surprise laws s setup entries event cell (Some (host.Got bytes)) knows free
 told-surprise laws s setup entries event cell told knows free is h = absurd (false≢true h)
 
 -- a cell of the converter is one of its configuration
-count-is : (config : Config) (passes : ℕ) (events : List Event) (cell : Cell) → IsCell (now config passes events).device.config.count cell → IsCell config.count cell
+count-is : (config : Config) (passes : ℕ) (events : List Event) (cell : Cell) →
+    IsCell (now config passes events).device.config.count cell → IsCell config.count cell
 count-is config passes events cell there = subst (λ (k : Config). IsCell k.count cell) (now-config config passes events) there
 
 -- the converter restarted since the last good answer for its cell, which there was
-surprise-restarted : Below → (config : Config) (passes : ℕ) (before : List Event) (cell : Cell) → IsLived config passes before → Surprise (now config passes before) (setup_of config passes) (life config passes before).entries cell →
+surprise-restarted : Below → (config : Config) (passes : ℕ) (before : List Event) (cell : Cell) → IsLived config passes before →
+    Surprise (now config passes before) (setup_of config passes) (life config passes before).entries cell →
     (has_read config passes cell before ≡ true) × (restarted_since config passes cell before ≡ true)
 unfolding now state_of
 surprise-restarted laws config passes before cell lived surprise = (
@@ -205,14 +217,17 @@ surprise-restarted laws config passes before cell lived surprise = (
       let both : true ≡ false = sym (ap (is_possible (word_at words cell)) any) ∙ surprise.impossible in cc),
   elim (cases_Bool (restarted_since config passes cell before)) [
     | inl restarted ↦ restarted
-    | inr fresh ↦ (let both : true ≡ false = sym ((life-known laws config passes before cell lived (count-is config passes before cell surprise.there)).among fresh) ∙ surprise.impossible in cc)
+    | inr fresh ↦ (let both : true ≡ false = sym
+        ((life-known laws config passes before cell lived (count-is config passes before cell surprise.there)).among fresh)
+        ∙ surprise.impossible in cc)
   ],
 )
   where
     words : Words
     words = (now config passes before).device.words
 
-event-surprise : Below → (config : Config) (passes : ℕ) (before : List Event) (event : Event) (cell : Cell) → IsLived config passes (event ∷ before) → surprises_by config passes cell before event ≡ true →
+event-surprise : Below → (config : Config) (passes : ℕ) (before : List Event) (event : Event) (cell : Cell) →
+    IsLived config passes (event ∷ before) → surprises_by config passes cell before event ≡ true →
     (has_read config passes cell before ≡ true) × (restarted_since config passes cell before ≡ true)
 event-surprise laws config passes before event cell lived h =
     surprise-restarted laws config passes before cell (earlier lived)
@@ -230,10 +245,12 @@ puts-seen : (new ms : List Mark) → ArePuts new → restart_seen_of (new ++ ms)
 puts-seen new ms no_put = refl
 puts-seen new ms (one_put c w) = refl
 
-goods-seen : Below → (s : State) (setup : host.Setup) (entries : List host.Entry) (bytes : List ℕ) (new : List Mark) → AreGoods setup entries bytes new →
+goods-seen : Below → (s : State) (setup : host.Setup) (entries : List host.Entry) (bytes : List ℕ) (new : List Mark) →
+    AreGoods setup entries bytes new →
     Knows s setup entries → restart_seen_of (new ++ marks setup entries) ≡ true →
     (restart_seen_of (marks setup entries) ≡ true)
-    ⊎ ((cell : Cell) × IsCell s.device.config.count cell × (list_any (is_good_for cell) new ≡ true) × (list_any (is_surprise_for cell (marks setup entries)) new ≡ true))
+    ⊎ ((cell : Cell) × IsCell s.device.config.count cell × (list_any (is_good_for cell) new ≡ true) ×
+    (list_any (is_surprise_for cell (marks setup entries)) new ≡ true))
 goods-seen laws s setup entries bytes new no_good knows seen = inl seen
 goods-seen laws s setup entries bytes new (one_good read word asked good) knows seen =
     elim (or-one (not (is_possible word (possible_of (marks setup entries) read))) (restart_seen_of (marks setup entries)) seen) [
@@ -241,7 +258,8 @@ goods-seen laws s setup entries bytes new (one_good read word asked good) knows 
         read,
         (knows.asks read asked).1,
         ap (λ b. b || false) (same_cell-itself read),
-        ap (λ b. (b && not (is_possible word (possible_of (marks setup entries) read))) || false) (same_cell-itself read) ∙ ap (λ b. b || false) surprising,
+        ap (λ b. (b && not (is_possible word (possible_of (marks setup entries) read))) || false) (same_cell-itself read)
+            ∙ ap (λ b. b || false) surprising,
       )
       | inr older ↦ inl older
     ]
@@ -251,11 +269,13 @@ told-seen : Below → (s : State) (setup : host.Setup) (entries : List host.Entr
     (restart_seen_of (marks setup entries) ≡ true) ⊎ SurprisedBy s setup entries told
 told-seen laws s setup entries None knows seen = inl seen
 told-seen laws s setup entries (Some (host.Accepted job)) knows seen =
-    inl (sym (puts-seen (puts setup (host.Accepted job ∷ entries)) (marks setup entries) (are-puts setup (host.Accepted job ∷ entries))) ∙ seen)
+    inl (sym (puts-seen (puts setup (host.Accepted job ∷ entries)) (marks setup entries) (are-puts setup (host.Accepted job ∷ entries)))
+    ∙ seen)
 told-seen laws s setup entries (Some (host.Finished acked)) knows seen = inl seen
 told-seen laws s setup entries (Some (host.Got bytes)) knows seen =
     elim (goods-seen laws s setup entries bytes (goods setup entries bytes) (are-goods setup entries bytes) knows
-    (sym (puts-seen (puts setup (host.Got bytes ∷ entries)) (goods setup entries bytes ++ marks setup entries) (are-puts setup (host.Got bytes ∷ entries))) ∙ seen)) [
+    (sym (puts-seen (puts setup (host.Got bytes ∷ entries)) (goods setup entries bytes ++ marks setup entries)
+    (are-puts setup (host.Got bytes ∷ entries))) ∙ seen)) [
       | inl older ↦ inl older
       | inr (cell, there, read, surprising) ↦ inr (record { cell = cell; there = there; read = read; surprising = surprising })
     ]
@@ -282,7 +302,9 @@ life-seen laws config passes [] lived seen =
 life-seen laws config passes (event ∷ before) lived seen =
     go (restarts_host event) refl (life-seen laws config passes before (earlier lived))
   where
-    after : restart_seen_of (marks (setup_of config passes) (option_to_list (share_of (now config passes before) event).told ++ (life config passes before).entries)) ≡ true
+    after : restart_seen_of
+        (marks (setup_of config passes)
+        (option_to_list (share_of (now config passes before) event).told ++ (life config passes before).entries)) ≡ true
     after = ap (λ es. restart_seen_of (marks (setup_of config passes) es)) (sym (entries-more config passes before event)) ∙ seen
 
     here : (cell : Cell) → restarts_host event ≡ false →
@@ -291,10 +313,13 @@ life-seen laws config passes (event ∷ before) lived seen =
         restarted_between config passes cell (event ∷ before) ≡ true
     here cell e h =
         between-more config passes cell before event
-        ∙ (ap (λ b. cond b false ((reads_cell config passes cell before event && (has_read config passes cell before && restarted_since config passes cell before))
+        ∙ (ap (λ b. cond b false
+        ((reads_cell config passes cell before event &&
+        (has_read config passes cell before && restarted_since config passes cell before))
         || restarted_between config passes cell before)) e ∙ h)
 
-    newest : restarts_host event ≡ false → SurprisedBy (now config passes before) (setup_of config passes) (life config passes before).entries (share_of (now config passes before) event).told →
+    newest : restarts_host event ≡ false → SurprisedBy (now config passes before) (setup_of config passes)
+        (life config passes before).entries (share_of (now config passes before) event).told →
         (cell : Cell) × IsCell config.count cell × (restarted_between config passes cell (event ∷ before) ≡ true)
     newest e by =
         let since = event-surprise laws config passes before event by.cell lived by.surprising in (
@@ -308,10 +333,12 @@ life-seen laws config passes (event ∷ before) lived seen =
         (cell : Cell) × IsCell config.count cell × (restarted_between config passes cell before ≡ true)) →
         (cell : Cell) × IsCell config.count cell × (restarted_between config passes cell (event ∷ before) ≡ true)
     go true e older =
-        absurd (false≢true (sym (ap (λ o. restart_seen_of (marks (setup_of config passes) (option_to_list o ++ (life config passes before).entries)))
+        absurd (false≢true (sym
+        (ap (λ o. restart_seen_of (marks (setup_of config passes) (option_to_list o ++ (life config passes before).entries)))
         (restart-told (now config passes before) event e)) ∙ after))
     go false e older =
-        elim (told-seen laws (now config passes before) (setup_of config passes) (life config passes before).entries (share_of (now config passes before) event).told
+        elim (told-seen laws (now config passes before) (setup_of config passes) (life config passes before).entries
+        (share_of (now config passes before) event).told
         (knows laws config passes before (earlier lived)) after) [
           | inl seen ↦ (let o = older seen in (o.0, o.1, here o.0 e (or-last _ _ o.2)))
           | inr by ↦ newest e by
@@ -326,7 +353,8 @@ since-started config passes cell (event ∷ before) read since =
     let running = cond-off (restarts_host event) _ read in
     let unread = cond-off (reads_cell config passes cell before event) _ since in
     rw running.0 (go (restarts_converter event) unread.1
-    (since-started config passes cell before (or-unread (reads_cell config passes cell before event) (has_read config passes cell before) unread.0 running.1)))
+    (since-started config passes cell before
+    (or-unread (reads_cell config passes cell before event) (has_read config passes cell before) unread.0 running.1)))
   where
     or-unread : (a b : Bool) → a ≡ false → (a || b) ≡ true → b ≡ true
     or-unread true b e h = cc
@@ -344,7 +372,9 @@ between-started config passes cell [] between = cc
 between-started config passes cell (event ∷ before) between =
     let running = cond-off (restarts_host event) _ between in
     rw running.0 (or-last (restarts_converter event) (restarted_since_host before)
-    (elim (or-one (reads_cell config passes cell before event && (has_read config passes cell before && restarted_since config passes cell before)) (restarted_between config passes cell before) running.1) [
+    (elim (or-one (reads_cell config passes cell before event &&
+    (has_read config passes cell before && restarted_since config passes cell before)) (restarted_between config passes cell before)
+    running.1) [
       | inl newest ↦
           (let parts = and-both (has_read config passes cell before) (restarted_since config passes cell before)
           (and-both (reads_cell config passes cell before event) _ newest).1 in
@@ -358,7 +388,8 @@ pub possible-held : Below → (config : Config) (passes : ℕ) (events : List Ev
 unfolding now state_of
 possible-held laws config passes events lived =
     let possible = λ (cell : Cell) (there : IsCell config.count cell).
-    laws.transcripts_are_followed.possible (setup_of config passes) (life config passes events).entries cell (eight config.count cell lived.sound.few there) in
+    laws.transcripts_are_followed.possible (setup_of config passes) (life config passes events).entries cell
+    (eight config.count cell lived.sound.few there) in
     record {
       possible = possible;
       found = λ cell there listed. listed-read config passes cell events (λ any. listed (possible cell there ∙ any));
@@ -375,7 +406,8 @@ seen-true laws config passes events lived =
     let between = λ (h : (now config passes events).host.known.seen ≡ true). life-seen laws config passes events lived (sym seen ∙ h) in
     record {
       surprises = λ later before event cell is h.
-          event-surprise laws config passes before event cell (lived-before config passes later (event ∷ before) (subst (IsLived config passes) is lived)) h;
+          event-surprise laws config passes before event cell
+          (lived-before config passes later (event ∷ before) (subst (IsLived config passes) is lived)) h;
       seen = seen;
       between = between;
       restarted = λ h. between-started config passes (between h).0 events (between h).2;

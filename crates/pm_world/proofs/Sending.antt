@@ -51,15 +51,20 @@ same_cell-itself (Out output register) = rw (eq-eqb output output refl, eq-eqb (
 same_cell-itself Protect = refl
 
 -- after a write the cell has its word, and its code stays allowed
-wrote-held : Below → (words : Words) (cell : Cell) (word : ℕ) → AreWords words → IsCell 8 cell → word_at (with_word words cell word) cell ≡ word
-wrote-held laws words cell word are there = laws.settings_are_a_map.read words cell cell word are there there ∙ cond-true (same_cell cell cell) word (word_at words cell) (same_cell-itself cell)
+wrote-held : Below → (words : Words) (cell : Cell) (word : ℕ) → AreWords words → IsCell 8 cell →
+    word_at (with_word words cell word) cell ≡ word
+wrote-held laws words cell word are there = laws.settings_are_a_map.read words cell cell word are there there
+    ∙ cond-true (same_cell cell cell) word (word_at words cell) (same_cell-itself cell)
 
 wrote-allowed : Below → (words : Words) (cell : Cell) (word : ℕ) → AreWords words → IsCell 8 cell → cell_accepts cell word ≡ true →
-    is_allowed (word_at words Protect) (cell_code cell) ≡ true → is_allowed (word_at (with_word words cell word) Protect) (cell_code cell) ≡ true
+    is_allowed (word_at words Protect) (cell_code cell) ≡ true →
+    is_allowed (word_at (with_word words cell word) Protect) (cell_code cell) ≡ true
 wrote-allowed laws words (Out output register) word are there accepted allowed =
-    ap (λ p. is_allowed p (cell_code (Out output register))) (laws.settings_are_a_map.read words (Out output register) Protect word are there tt) ∙ allowed
+    ap (λ p. is_allowed p (cell_code (Out output register)))
+    (laws.settings_are_a_map.read words (Out output register) Protect word are there tt) ∙ allowed
 wrote-allowed laws words Protect word are there accepted allowed =
-    ap (λ p. is_allowed p (cell_code Protect)) (laws.settings_are_a_map.read words Protect Protect word are tt tt) ∙ protect-allowed word accepted
+    ap (λ p. is_allowed p (cell_code Protect)) (laws.settings_are_a_map.read words Protect Protect word are tt tt)
+    ∙ protect-allowed word accepted
 
 pub eight : (count : ℕ) (cell : Cell) → count ≤ 8 → IsCell count cell → IsCell 8 cell
 eight count (Out output register) few there = omega (arith, few, there)
@@ -76,12 +81,16 @@ read-fits laws setup (Out output register) there = laws.frames_are_named.fits se
 read-fits laws setup Protect there = laws.frames_are_named.fits setup _ reads_protect
 
 -- one delivery
-delivery-legal : (s : State) (arrival : Arrival) (message : Message) → sending_in s.host ≡ Some message → event_cause s (Deliver arrival) ≡ None →
-    is_legal_hearing (frame_of s.host.setup.addr message) (heard_bytes (frame_of s.host.setup.addr message) arrival) (heard_ending message arrival) ≡ true
+delivery-legal : (s : State) (arrival : Arrival) (message : Message) → sending_in s.host ≡ Some message →
+    event_cause s (Deliver arrival) ≡ None →
+    is_legal_hearing (frame_of s.host.setup.addr message) (heard_bytes (frame_of s.host.setup.addr message) arrival)
+    (heard_ending message arrival) ≡ true
 delivery-legal s arrival message sending free =
     let none : delivery_cause s arrival (Some message) ≡ None = ap (delivery_cause s arrival) (sym sending) ∙ free in
-    let legal = is_legal_hearing (frame_of s.host.setup.addr message) (heard_bytes (frame_of s.host.setup.addr message) arrival) (heard_ending message arrival) in
-    not-false legal (rule-none (not legal) NotBetrayed (or-none (rule (is_read_message message) WrongKind) (rule (not legal) NotBetrayed) none).1)
+    let legal = is_legal_hearing (frame_of s.host.setup.addr message) (heard_bytes (frame_of s.host.setup.addr message) arrival)
+    (heard_ending message arrival) in
+    not-false legal (rule-none (not legal) NotBetrayed
+    (or-none (rule (is_read_message message) WrongKind) (rule (not legal) NotBetrayed) none).1)
 
 pub told-nothing : (s : State) (arrival : Arrival) (sending : Option Message) → (delivered s arrival sending).told ≡ None
 told-nothing s arrival None = refl
@@ -121,9 +130,11 @@ pub record Fixed (s : State) (cell : Cell) (word : ℕ) : Type 0 where
   pub are : AreWords s.device.words
 
 can-take : (s : State) (cell : Cell) (word : ℕ) (whole : Bool) → Fixed s cell word → Sends s cell word whole → CanTake s.device cell word
-can-take s cell word whole fixed sends = record { there = fixed.there; accepted = fixed.accepted; allowed = sends.allowed; fits = fixed.write_fits }
+can-take s cell word whole fixed sends = record
+    { there = fixed.there; accepted = fixed.accepted; allowed = sends.allowed; fits = fixed.write_fits }
 
-sends-words : Below → (s t : State) (cell : Cell) (word : ℕ) (whole : Bool) → Fixed s cell word → Sends s cell word whole → t.host ≡ s.host →
+sends-words : Below → (s t : State) (cell : Cell) (word : ℕ) (whole : Bool) → Fixed s cell word → Sends s cell word whole →
+    t.host ≡ s.host →
     (t.device.words ≡ s.device.words) ⊎ (t.device.words ≡ with_word s.device.words cell word) → Sends t cell word whole
 sends-words laws s t cell word whole fixed sends host (inl same) = record {
   stage = ap (λ (h : Summary). h.stage) host ∙ sends.stage;
@@ -133,38 +144,49 @@ sends-words laws s t cell word whole fixed sends host (inl same) = record {
 sends-words laws s t cell word whole fixed sends host (inr wrote) = record {
   stage = ap (λ (h : Summary). h.stage) host ∙ sends.stage;
   allowed = ap (λ w. is_allowed (word_at w Protect) (cell_code cell)) wrote
-      ∙ wrote-allowed laws s.device.words cell word fixed.are (eight s.device.config.count cell fixed.few fixed.there) fixed.accepted sends.allowed;
-  held = λ h. ap (λ w. word_at w cell) wrote ∙ wrote-held laws s.device.words cell word fixed.are (eight s.device.config.count cell fixed.few fixed.there);
+      ∙ wrote-allowed laws s.device.words cell word fixed.are (eight s.device.config.count cell fixed.few fixed.there) fixed.accepted
+      sends.allowed;
+  held = λ h. ap (λ w. word_at w cell) wrote
+      ∙ wrote-held laws s.device.words cell word fixed.are (eight s.device.config.count cell fixed.few fixed.there);
 }
 
-sends-whole : Below → (s t : State) (cell : Cell) (word : ℕ) (whole : Bool) → Fixed s cell word → Sends s cell word whole → t.host ≡ s.host →
+sends-whole : Below → (s t : State) (cell : Cell) (word : ℕ) (whole : Bool) → Fixed s cell word → Sends s cell word whole →
+    t.host ≡ s.host →
     t.device.words ≡ with_word s.device.words cell word → Sends t cell word true
 sends-whole laws s t cell word whole fixed sends host wrote = record {
   stage = ap (λ (h : Summary). h.stage) host ∙ sends.stage;
   allowed = ap (λ w. is_allowed (word_at w Protect) (cell_code cell)) wrote
-      ∙ wrote-allowed laws s.device.words cell word fixed.are (eight s.device.config.count cell fixed.few fixed.there) fixed.accepted sends.allowed;
-  held = λ h. ap (λ w. word_at w cell) wrote ∙ wrote-held laws s.device.words cell word fixed.are (eight s.device.config.count cell fixed.few fixed.there);
+      ∙ wrote-allowed laws s.device.words cell word fixed.are (eight s.device.config.count cell fixed.few fixed.there) fixed.accepted
+      sends.allowed;
+  held = λ h. ap (λ w. word_at w cell) wrote
+      ∙ wrote-held laws s.device.words cell word fixed.are (eight s.device.config.count cell fixed.few fixed.there);
 }
 
-sending-write : (s : State) (cell : Cell) (word : ℕ) → s.host.stage ≡ Some (Writes cell word 0) → sending_in s.host ≡ Some (cell_write cell word)
+sending-write : (s : State) (cell : Cell) (word : ℕ) → s.host.stage ≡ Some (Writes cell word 0) →
+    sending_in s.host ≡ Some (cell_write cell word)
 sending-write s cell word stage = ap (option_map stage_message) stage
 
 -- a delivery leaves the words or sets that one
-delivered-words : Below → (s : State) (cell : Cell) (word : ℕ) (whole : Bool) (arrival : Arrival) → Fixed s cell word → Sends s cell word whole → event_cause s (Deliver arrival) ≡ None →
-    ((next s (Deliver arrival)).device.words ≡ s.device.words) ⊎ ((next s (Deliver arrival)).device.words ≡ with_word s.device.words cell word)
+delivered-words : Below → (s : State) (cell : Cell) (word : ℕ) (whole : Bool) (arrival : Arrival) → Fixed s cell word →
+    Sends s cell word whole → event_cause s (Deliver arrival) ≡ None →
+    ((next s (Deliver arrival)).device.words ≡ s.device.words) ⊎
+    ((next s (Deliver arrival)).device.words ≡ with_word s.device.words cell word)
 delivered-words laws s cell word whole arrival fixed sends free =
     let message = cell_write cell word in
     let sending = sending-write s cell word sends.stage in
-    let legal = subst (λ a. is_legal_hearing (frame_of a message) (heard_bytes (frame_of a message) arrival) (heard_ending message arrival) ≡ true) fixed.addr (delivery-legal s arrival message sending free) in
+    let legal = subst (λ a. is_legal_hearing (frame_of a message) (heard_bytes (frame_of a message) arrival)
+    (heard_ending message arrival) ≡ true) fixed.addr (delivery-legal s arrival message sending free) in
     let after : (next s (Deliver arrival)).device.words ≡ words_after s.device (hearing s.device.config.addr message arrival) =
     next-deliver-words s arrival message sending ∙ ap (λ a. words_after s.device (hearing a message arrival)) fixed.addr in
-    elim (legal-write laws s.device cell word (heard_bytes (frame_of s.device.config.addr message) arrival) (heard_ending message arrival) (can-take s cell word whole fixed sends) legal) [
+    elim (legal-write laws s.device cell word (heard_bytes (frame_of s.device.config.addr message) arrival) (heard_ending message arrival)
+    (can-take s cell word whole fixed sends) legal) [
       | inl same ↦ inl (after ∙ same)
       | inr wrote ↦ inr (after ∙ wrote)
     ]
 
 -- a delivery of the write, heard whole or not
-whole-words : Below → (s : State) (cell : Cell) (word : ℕ) (whole : Bool) (arrival : Arrival) → Fixed s cell word → Sends s cell word whole →
+whole-words : Below → (s : State) (cell : Cell) (word : ℕ) (whole : Bool) (arrival : Arrival) → Fixed s cell word →
+    Sends s cell word whole →
     is_whole (frame_of s.device.config.addr (cell_write cell word)) arrival ≡ true →
     (next s (Deliver arrival)).device.words ≡ with_word s.device.words cell word
 whole-words laws s cell word whole arrival fixed sends is =
@@ -175,15 +197,18 @@ whole-words laws s cell word whole arrival fixed sends is =
     next-deliver-words s arrival message (sending-write s cell word sends.stage)
     ∙ (ap (λ a. words_after s.device (hearing a message arrival)) fixed.addr
     ∙ (ap₂ (λ b e. words_after s.device (device.Hearing b e)) ((bytes_eq-Decides (heard_bytes frame arrival) frame).0 parts.0) ending
-    ∙ whole-write laws s.device cell word frame (can-take s cell word whole fixed sends) (is_write s.device.config.addr cell word fixed.write_fits)))
+    ∙ whole-write laws s.device cell word frame (can-take s cell word whole fixed sends)
+    (is_write s.device.config.addr cell word fixed.write_fits)))
 
-pub deliver-sends : Below → (s : State) (cell : Cell) (word : ℕ) (whole : Bool) (arrival : Arrival) → Fixed s cell word → Sends s cell word whole →
+pub deliver-sends : Below → (s : State) (cell : Cell) (word : ℕ) (whole : Bool) (arrival : Arrival) → Fixed s cell word →
+    Sends s cell word whole →
     event_cause s (Deliver arrival) ≡ None →
     Sends (next s (Deliver arrival)) cell word (is_whole (frame_of s.device.config.addr (cell_write cell word)) arrival || whole)
 deliver-sends laws s cell word whole arrival fixed sends free =
     go (is_whole (frame_of s.device.config.addr (cell_write cell word)) arrival) refl
   where
-    go : (b : Bool) → is_whole (frame_of s.device.config.addr (cell_write cell word)) arrival ≡ b → Sends (next s (Deliver arrival)) cell word (b || whole)
+    go : (b : Bool) → is_whole (frame_of s.device.config.addr (cell_write cell word)) arrival ≡ b →
+        Sends (next s (Deliver arrival)) cell word (b || whole)
     go true e = sends-whole laws s (next s (Deliver arrival)) cell word whole fixed sends (next-deliver-host s arrival)
         (whole-words laws s cell word whole arrival fixed sends e)
     go false e = sends-words laws s (next s (Deliver arrival)) cell word whole fixed sends (next-deliver-host s arrival)

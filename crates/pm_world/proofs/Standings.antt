@@ -162,7 +162,8 @@ good-possible ms read cell w x itself other = go (same_cell read cell) refl wher
   by_surprise false h = refl
 
   go : (b : Bool) → same_cell read cell ≡ b →
-      is_possible x (possible_from (cond b (Some (w ∷ [])) (cond (is_possible w (possible_from (words_since ms read))) (words_since ms cell) None))) ≡ true
+      is_possible x (possible_from
+      (cond b (Some (w ∷ [])) (cond (is_possible w (possible_from (words_since ms read))) (words_since ms cell) None))) ≡ true
   go true e = ap (λ b. b || false) (eq-eqb w x (sym (itself e)))
   go false e = by_surprise (is_possible w (possible_from (words_since ms read))) (other e)
 
@@ -196,13 +197,17 @@ goods-known laws setup before bytes new ms (one_good read word asked good) cell 
 pub accepted-known : (setup : Setup) (entries : List Entry) (cell : Cell) (restarted : Bool) (words : Words) (job : Job) →
     IsKnown (marks setup entries) cell restarted words → IsKnownAfter setup entries cell restarted (Some (Accepted job)) words
 accepted-known setup entries cell restarted words job known =
-    puts-known (puts setup (Accepted job ∷ entries)) (marks setup entries) (are-puts setup (Accepted job ∷ entries)) cell restarted words known
+    puts-known (puts setup (Accepted job ∷ entries)) (marks setup entries) (are-puts setup (Accepted job ∷ entries)) cell restarted words
+    known
 
 pub got-known : Below → (setup : Setup) (entries : List Entry) (cell : Cell) (restarted : Bool) (words : Words) (bytes : List ℕ) →
-    ReadsTrue setup entries bytes words → IsKnown (marks setup entries) cell restarted words → IsKnownAfter setup entries cell restarted (Some (Got bytes)) words
+    ReadsTrue setup entries bytes words → IsKnown (marks setup entries) cell restarted words →
+    IsKnownAfter setup entries cell restarted (Some (Got bytes)) words
 got-known laws setup entries cell restarted words bytes is known =
-    puts-known (puts setup (Got bytes ∷ entries)) (goods setup entries bytes ++ marks setup entries) (are-puts setup (Got bytes ∷ entries)) cell _ words
-    (goods-known laws setup entries bytes (goods setup entries bytes) (marks setup entries) (are-goods setup entries bytes) cell restarted words is known)
+    puts-known (puts setup (Got bytes ∷ entries)) (goods setup entries bytes ++ marks setup entries)
+    (are-puts setup (Got bytes ∷ entries)) cell _ words
+    (goods-known laws setup entries bytes (goods setup entries bytes) (marks setup entries) (are-goods setup entries bytes) cell restarted
+    words is known)
 
 pub restarted-known : (setup : Setup) (entries : List Entry) (cell : Cell) (restarted : Bool) (words : Words) →
     IsKnownAfter setup entries cell restarted (Some Restarted) words

@@ -50,17 +50,24 @@ whole-hearing frame = refl
 
 whole-return : (frame answer : List ℕ) (needed : ℕ) → is_legal_return frame needed (is_heard_whole frame frame Restart) answer answer ≡ true
 unfolding is_legal_return
-whole-return frame answer needed = ap₂ (λ b c. (true && b) && c || (nat_lt (length answer) needed || is_betrayed frame answer)) (same_bytes frame) (same_bytes answer)
+whole-return frame answer needed = ap₂ (λ b c. (true && b) && c || (nat_lt (length answer) needed || is_betrayed frame answer))
+    (same_bytes frame) (same_bytes answer)
 
-exchange-free : (s : State) (message : Message) → is_read_message message ≡ true → heard_ending message Whole ≡ Restart → exchange_cause s Whole back.Whole (Some message) ≡ None
+exchange-free : (s : State) (message : Message) → is_read_message message ≡ true → heard_ending message Whole ≡ Restart →
+    exchange_cause s Whole back.Whole (Some message) ≡ None
 exchange-free s message reads ending =
     let frame = frame_of s.host.setup.addr message in
     let answer = answer_to s.device s.host.setup.addr message Whole in
-    let heard : is_legal_hearing frame frame (heard_ending message Whole) ≡ true = ap (is_legal_hearing frame frame) ending ∙ whole-hearing frame in
-    let returned : is_legal_return frame (whole_answer message) (is_heard_whole frame frame (heard_ending message Whole)) answer answer ≡ true =
-    ap (λ e. is_legal_return frame (whole_answer message) (is_heard_whole frame frame e) answer answer) ending ∙ whole-return frame answer (whole_answer message) in
-    ap (λ b. option_or (rule (not b) WrongKind) (option_or (rule (not (is_legal_hearing frame frame (heard_ending message Whole))) NotBetrayed)
-    (rule (not (is_legal_return frame (whole_answer message) (is_heard_whole frame frame (heard_ending message Whole)) answer answer)) NotBetrayed))) reads
+    let heard : is_legal_hearing frame frame (heard_ending message Whole) ≡ true = ap (is_legal_hearing frame frame) ending
+    ∙ whole-hearing frame in
+    let returned : is_legal_return frame (whole_answer message) (is_heard_whole frame frame (heard_ending message Whole)) answer
+    answer ≡ true =
+    ap (λ e. is_legal_return frame (whole_answer message) (is_heard_whole frame frame e) answer answer) ending
+    ∙ whole-return frame answer (whole_answer message) in
+    ap (λ b. option_or (rule (not b) WrongKind)
+    (option_or (rule (not (is_legal_hearing frame frame (heard_ending message Whole))) NotBetrayed)
+    (rule (not (is_legal_return frame (whole_answer message) (is_heard_whole frame frame (heard_ending message Whole)) answer answer))
+    NotBetrayed))) reads
     ∙ ap₂ (λ h r. option_or (rule (not h) NotBetrayed) (rule (not r) NotBetrayed)) heard returned
 
 pub free : (s : State) (event : Event) → s.taken < event_limit → event_cause s event ≡ None → cause_of s event ≡ None
@@ -72,18 +79,21 @@ unfolding now state_of
 now-taken config passes events = refl
 
 -- after its deliveries the write is still being sent
-sent-stage : Below → (config : Config) (passes : ℕ) (before : List Event) (order : Event) (cell : Cell) (word : ℕ) (arrivals : List Arrival) →
+sent-stage : Below → (config : Config) (passes : ℕ) (before : List Event) (order : Event) (cell : Cell) (word : ℕ)
+    (arrivals : List Arrival) →
     IsLived config passes (sent_by order arrivals before) → asked (now config passes before) order ≡ Some (host.Order cell word) →
     (now config passes (sent_by order arrivals before)).host.stage ≡ Some (Writes cell word 0)
 sent-stage laws config passes before order cell word [] lived asks =
-    ap (λ (s : State). s.host.stage) (now-next laws config passes before order lived) ∙ order-stage (now config passes before) order cell word asks
+    ap (λ (s : State). s.host.stage) (now-next laws config passes before order lived)
+    ∙ order-stage (now config passes before) order cell word asks
 sent-stage laws config passes before order cell word (arrival ∷ arrivals) lived asks =
     let events = sent_by order arrivals before in
     ap (λ (s : State). s.host.stage) (now-next laws config passes events (Deliver arrival) lived)
     ∙ (ap (λ (h : Summary). h.stage) (next-deliver-host (now config passes events) arrival)
     ∙ sent-stage laws config passes before order cell word arrivals (earlier lived) asks)
 
-pub taken-whole : Below → (config : Config) (passes : ℕ) (before : List Event) (order : Event) (cell : Cell) (word : ℕ) (arrivals : List Arrival) (acked : Bool) →
+pub taken-whole : Below → (config : Config) (passes : ℕ) (before : List Event) (order : Event) (cell : Cell) (word : ℕ)
+    (arrivals : List Arrival) (acked : Bool) →
     IsSound config → IsSetup (setup_of config passes) → AreTaken config passes (sent_by order arrivals before) →
     asked (now config passes before) order ≡ Some (host.Order cell word) → length (sent_by order arrivals before) + 2 ≤ event_limit →
     AreTaken config passes (honest order arrivals acked before)
@@ -93,12 +103,14 @@ taken-whole laws config passes before order cell word arrivals acked sound made 
     let stage = sent-stage laws config passes before order cell word arrivals (lived-by config passes events sound made taken) asks in
     let sending : sending_in s.host ≡ Some (cell_write cell word) = ap (option_map stage_message) stage in
     let finish : IsTaken s (Finish acked) = record {
-      free = free s (Finish acked) (let count = now-taken config passes events in omega arith) (ap finish_cause sending ∙ off _ WrongKind (write-kind cell word));
+      free = free s (Finish acked) (let count = now-taken config passes events in omega arith)
+          (ap finish_cause sending ∙ off _ WrongKind (write-kind cell word));
       word = tt;
     } in
     let t = now config passes (Finish acked ∷ events) in
     let next_stage : t.host.stage ≡ Some (Reads cell word 0) =
-    ap (λ (u : State). u.host.stage) (now-next laws config passes events (Finish acked) (lived-by config passes (Finish acked ∷ events) sound made (finish, taken)))
+    ap (λ (u : State). u.host.stage)
+    (now-next laws config passes events (Finish acked) (lived-by config passes (Finish acked ∷ events) sound made (finish, taken)))
     ∙ finish-stage s acked cell word stage in
     let reading : sending_in t.host ≡ Some (cell_read cell) = ap (option_map stage_message) next_stage in
     let count = now-taken config passes (Finish acked ∷ events) in (

@@ -42,11 +42,13 @@ use Rattle.pm_world.proofs.Causes.{asked-next, beside-next}
 use Rattle.pm_world.proofs.Sending.{told-nothing}
 
 -- one more format
-agree-set : (config : Config) (formats : List (Option Shape)) (output : ℕ) (shape : Shape) → Agree config formats → output < length formats → shape ≡ shape_for config output → Agree config (set formats output (Some shape))
+agree-set : (config : Config) (formats : List (Option Shape)) (output : ℕ) (shape : Shape) → Agree config formats →
+    output < length formats → shape ≡ shape_for config output → Agree config (set formats output (Some shape))
 agree-set config formats output shape agree inside is other found h =
     elim (cases_eq other output) [
       | inl e ↦
-          let at : get_or (set formats output (Some shape)) other None ≡ Some shape = ap (λ k. get_or (set formats output (Some shape)) k None) e ∙ get_or-set_same formats output (Some shape) None inside in
+          let at : get_or (set formats output (Some shape)) other None ≡ Some shape =
+          ap (λ k. get_or (set formats output (Some shape)) k None) e ∙ get_or-set_same formats output (Some shape) None inside in
           same_Some found shape (sym h ∙ at) ∙ (is ∙ ap (shape_for config) (sym e))
       | inr apart ↦ agree other found (sym (get_or-set_other formats output other (Some shape) None apart) ∙ h)
     ]
@@ -59,58 +61,79 @@ agree-none config other found h =
       | inr past ↦ absurd (none-some found (sym (get_or_past {X = Option Shape} (replicate 8 None) other None past) ∙ h))
     ]
 
-either : (config : Config) (b : Bool) (t u : Change) → IsTrueHost config t.after → IsTrueHost config u.after → IsTrueHost config (cond b t u).after
+either : (config : Config) (b : Bool) (t u : Change) → IsTrueHost config t.after → IsTrueHost config u.after →
+    IsTrueHost config (cond b t u).after
 either config true t u p q = p
 either config false t u p q = q
 
-another-true : (config : Config) (s : Summary) (tries : ℕ) (stage : Stage) → Agree config s.formats → AsksSo config (Some stage) → IsTrueHost config (another s tries stage).after
+another-true : (config : Config) (s : Summary) (tries : ℕ) (stage : Stage) → Agree config s.formats → AsksSo config (Some stage) →
+    IsTrueHost config (another s tries stage).after
 another-true config s tries stage agree asks =
-    either config (eqb (tries + 1) s.setup.passes) (ends s job_end.Unknown) (goes_on s stage) (record { formats = agree; asks = tt }) (record { formats = agree; asks = asks })
+    either config (eqb (tries + 1) s.setup.passes) (ends s job_end.Unknown) (goes_on s stage) (record { formats = agree; asks = tt })
+    (record { formats = agree; asks = asks })
 
-read_back-true : (config : Config) (s : Summary) (cell : Cell) (word pass : ℕ) (read : Option ℕ) → Agree config s.formats → IsTrueHost config (read_back s cell word pass read).after
+read_back-true : (config : Config) (s : Summary) (cell : Cell) (word pass : ℕ) (read : Option ℕ) → Agree config s.formats →
+    IsTrueHost config (read_back s cell word pass read).after
 read_back-true config s cell word pass None agree =
-    either config (eqb (pass + 1) s.setup.passes) (ends s job_end.Unknown) (writes s cell word (pass + 1)) (record { formats = agree; asks = tt }) (record { formats = agree; asks = tt })
+    either config (eqb (pass + 1) s.setup.passes) (ends s job_end.Unknown) (writes s cell word (pass + 1))
+    (record { formats = agree; asks = tt }) (record { formats = agree; asks = tt })
 read_back-true config s cell word pass (Some read) agree =
     let after = marked s (Good cell read) in
-    either config (eqb read word) (ends after job_end.Done) (cond (eqb (pass + 1) s.setup.passes) (ends after (job_end.Differs read)) (writes after cell word (pass + 1)))
+    either config (eqb read word) (ends after job_end.Done)
+    (cond (eqb (pass + 1) s.setup.passes) (ends after (job_end.Differs read)) (writes after cell word (pass + 1)))
     (record { formats = agree; asks = tt })
-    (either config (eqb (pass + 1) s.setup.passes) (ends after (job_end.Differs read)) (writes after cell word (pass + 1)) (record { formats = agree; asks = tt }) (record { formats = agree; asks = tt }))
+    (either config (eqb (pass + 1) s.setup.passes) (ends after (job_end.Differs read)) (writes after cell word (pass + 1))
+    (record { formats = agree; asks = tt }) (record { formats = agree; asks = tt }))
 
-checked-true : (config : Config) (s : Summary) (cell : Cell) (tries : ℕ) (read : Option ℕ) → Agree config s.formats → IsTrueHost config (checked s cell tries read).after
+checked-true : (config : Config) (s : Summary) (cell : Cell) (tries : ℕ) (read : Option ℕ) → Agree config s.formats →
+    IsTrueHost config (checked s cell tries read).after
 checked-true config s cell tries None agree = another-true config s tries (Checks cell (tries + 1)) agree tt
 checked-true config s cell tries (Some read) agree = record { formats = agree; asks = tt }
 
 learned-true : (config : Config) (s : Summary) (output : ℕ) (shape : Option Shape) → Agree config s.formats → output < length s.formats →
     ((found : Shape) → shape ≡ Some found → found ≡ shape_for config output) → IsTrueHost config (learned s output shape).after
 learned-true config s output None agree inside is = record { formats = agree; asks = tt }
-learned-true config s output (Some shape) agree inside is = record { formats = agree-set config s.formats output shape agree inside (is shape refl); asks = tt }
+learned-true config s output (Some shape) agree inside is =
+    record { formats = agree-set config s.formats output shape agree inside (is shape refl); asks = tt }
 
 -- the format that a mode and the coefficients make
-mode-shape : (config : Config) (output : ℕ) (mode : VoutMode) (shape : Shape) → shape_made config output ≡ Some (shape_for config output) → mode_of (mode_for config output) ≡ Ok mode →
+mode-shape : (config : Config) (output : ℕ) (mode : VoutMode) (shape : Shape) →
+    shape_made config output ≡ Some (shape_for config output) → mode_of (mode_for config output) ≡ Ok mode →
     result_ok (shape_in mode config.coefficients) ≡ Some shape → shape ≡ shape_for config output
 mode-shape config output mode shape made is found =
     same_Some shape (shape_for config output)
     (sym found ∙ (ap (λ m. option_and_then (λ (v : VoutMode). result_ok (shape_in v config.coefficients)) (result_ok m)) (sym is) ∙ made))
 
-mode_taken-true : (config : Config) (s : Summary) (output : ℕ) (mode : Result VoutMode TableFault) → Agree config s.formats → output < length s.formats →
-    shape_made config output ≡ Some (shape_for config output) → mode_of (mode_for config output) ≡ mode → IsTrueHost config (mode_taken s output mode).after
-mode_taken-true config s output (Err fault) agree inside made is = learned-true config s output None agree inside (λ found h. absurd (none-some found h))
+mode_taken-true : (config : Config) (s : Summary) (output : ℕ) (mode : Result VoutMode TableFault) → Agree config s.formats →
+    output < length s.formats →
+    shape_made config output ≡ Some (shape_for config output) → mode_of (mode_for config output) ≡ mode →
+    IsTrueHost config (mode_taken s output mode).after
+mode_taken-true config s output (Err fault) agree inside made is =
+    learned-true config s output None agree inside (λ found h. absurd (none-some found h))
 mode_taken-true config s output (Ok (Linear exponent)) agree inside made is =
-    learned-true config s output (Some (InUlinear16 exponent)) agree inside (λ found h. mode-shape config output (Linear exponent) found made is h)
+    learned-true config s output (Some (InUlinear16 exponent)) agree inside
+    (λ found h. mode-shape config output (Linear exponent) found made is h)
 mode_taken-true config s output (Ok Direct) agree inside made is = record { formats = agree; asks = is }
 
-mode_answered-true : (config : Config) (s : Summary) (output tries : ℕ) (byte : Option ℕ) → Agree config s.formats → output < length s.formats →
-    shape_made config output ≡ Some (shape_for config output) → ((b : ℕ) → byte ≡ Some b → b ≡ mode_for config output) → IsTrueHost config (mode_answered s output tries byte).after
+mode_answered-true : (config : Config) (s : Summary) (output tries : ℕ) (byte : Option ℕ) → Agree config s.formats →
+    output < length s.formats →
+    shape_made config output ≡ Some (shape_for config output) → ((b : ℕ) → byte ≡ Some b → b ≡ mode_for config output) →
+    IsTrueHost config (mode_answered s output tries byte).after
 mode_answered-true config s output tries None agree inside made is = another-true config s tries (AsksMode output (tries + 1)) agree tt
-mode_answered-true config s output tries (Some byte) agree inside made is = mode_taken-true config s output (mode_of byte) agree inside made (ap mode_of (sym (is byte refl)))
+mode_answered-true config s output tries (Some byte) agree inside made is =
+    mode_taken-true config s output (mode_of byte) agree inside made (ap mode_of (sym (is byte refl)))
 
-coefficients_answered-true : (config : Config) (s : Summary) (output tries : ℕ) (k : Option Coefficients) → Agree config s.formats → output < length s.formats →
-    shape_made config output ≡ Some (shape_for config output) → mode_of (mode_for config output) ≡ Ok Direct → ((c : Coefficients) → k ≡ Some c → c ≡ config.coefficients) →
+coefficients_answered-true : (config : Config) (s : Summary) (output tries : ℕ) (k : Option Coefficients) → Agree config s.formats →
+    output < length s.formats →
+    shape_made config output ≡ Some (shape_for config output) → mode_of (mode_for config output) ≡ Ok Direct →
+    ((c : Coefficients) → k ≡ Some c → c ≡ config.coefficients) →
     IsTrueHost config (coefficients_answered s output tries k).after
-coefficients_answered-true config s output tries None agree inside made direct is = another-true config s tries (AsksCoefficients output (tries + 1)) agree direct
+coefficients_answered-true config s output tries None agree inside made direct is =
+    another-true config s tries (AsksCoefficients output (tries + 1)) agree direct
 coefficients_answered-true config s output tries (Some k) agree inside made direct is =
     learned-true config s output (result_ok (shape_in Direct k)) agree inside
-    (λ found h. mode-shape config output Direct found made direct (ap (λ (c : Coefficients). result_ok (shape_in Direct c)) (sym (is k refl)) ∙ h))
+    (λ found h. mode-shape config output Direct found made direct
+    (ap (λ (c : Coefficients). result_ok (shape_in Direct c)) (sym (is k refl)) ∙ h))
 
 -- a learn asks for an output that is there
 abbrev Inside : ℕ → Option Stage → Type 0
@@ -124,17 +147,23 @@ stage-inside s (Some (AsksCoefficients output tries)) is = is.there
 stage-inside s stage is = tt
 
 -- an entry
-answered-true : (config : Config) (s : Summary) (stage : Option Stage) (bytes : List ℕ) → IsSound config → length s.formats ≡ 8 → Agree config s.formats → AsksSo config stage → Inside config.count stage →
+answered-true : (config : Config) (s : Summary) (stage : Option Stage) (bytes : List ℕ) → IsSound config → length s.formats ≡ 8 →
+    Agree config s.formats → AsksSo config stage → Inside config.count stage →
     ToldTrue config s.setup.addr stage bytes → IsTrueHost config (answered s stage bytes).after
-answered-true config s (Some (Reads cell word pass)) bytes sound long agree asks inside told = read_back-true config s cell word pass (good_word s.setup.addr cell bytes) agree
-answered-true config s (Some (Checks cell tries)) bytes sound long agree asks inside told = checked-true config s cell tries (good_word s.setup.addr cell bytes) agree
+answered-true config s (Some (Reads cell word pass)) bytes sound long agree asks inside told =
+    read_back-true config s cell word pass (good_word s.setup.addr cell bytes) agree
+answered-true config s (Some (Checks cell tries)) bytes sound long agree asks inside told =
+    checked-true config s cell tries (good_word s.setup.addr cell bytes) agree
 answered-true config s (Some (AsksMode output tries)) bytes sound long agree asks inside told =
-    mode_answered-true config s output tries (good_mode s.setup.addr output bytes) agree (let few = sound.few in omega arith) (sound.formats output inside) told
+    mode_answered-true config s output tries (good_mode s.setup.addr output bytes) agree (let few = sound.few in omega arith)
+    (sound.formats output inside) told
 answered-true config s (Some (AsksCoefficients output tries)) bytes sound long agree asks inside told =
-    coefficients_answered-true config s output tries (good_coefficients s.setup.addr bytes) agree (let few = sound.few in omega arith) (sound.formats output inside) asks told
+    coefficients_answered-true config s output tries (good_coefficients s.setup.addr bytes) agree (let few = sound.few in omega arith)
+    (sound.formats output inside) asks told
 answered-true config s stage bytes sound long agree asks inside told = record { formats = agree; asks = tt }
 
-finished-true : (config : Config) (s : Summary) (stage : Option Stage) (acked : Bool) → Agree config s.formats → AsksSo config stage → IsTrueHost config (finished s stage acked).after
+finished-true : (config : Config) (s : Summary) (stage : Option Stage) (acked : Bool) → Agree config s.formats → AsksSo config stage →
+    IsTrueHost config (finished s stage acked).after
 finished-true config s (Some (AsksCoefficients output tries)) acked agree asks = record { formats = agree; asks = asks }
 finished-true config s (Some (Sends sent tries)) acked agree asks =
     either config acked (ends s job_end.Done) (another s tries (Sends sent (tries + 1))) (record { formats = agree; asks = tt })
@@ -153,37 +182,49 @@ pub record Stands (s : State) : Type 0 where
   pub host : IsSoundHost s.host
   pub spelled : IsSpelled s.device.config
 
-pub good-same : Below → (s : State) (arrival : Arrival) (back : Back) (request : Message) (bytes payload : List ℕ) → s.host.setup.addr ≡ s.device.config.addr → is_read_message request ≡ true →
-    exchange_cause s arrival back (Some request) ≡ None → bytes ≡ back_bytes (answer_to s.device s.host.setup.addr request arrival) back → good_payload s.device.config.addr request bytes ≡ Some payload →
+pub good-same : Below → (s : State) (arrival : Arrival) (back : Back) (request : Message) (bytes payload : List ℕ) →
+    s.host.setup.addr ≡ s.device.config.addr → is_read_message request ≡ true →
+    exchange_cause s arrival back (Some request) ≡ None → bytes ≡ back_bytes (answer_to s.device s.host.setup.addr request arrival) back →
+    good_payload s.device.config.addr request bytes ≡ Some payload →
     bytes ≡ answer_in (reply_of s.device (frame_of s.device.config.addr request) Restart)
 good-same laws s arrival back request bytes payload addr reads free is good =
     let a = s.host.setup.addr in
     is
-    ∙ (legal-good laws s.device a request (heard_bytes (frame_of a request) arrival) (heard_ending request arrival) (back_bytes (answer_to s.device a request arrival) back) reads
+    ∙ (legal-good laws s.device a request (heard_bytes (frame_of a request) arrival) (heard_ending request arrival)
+    (back_bytes (answer_to s.device a request arrival) back) reads
     (exchange-legal s arrival back request free)
-    (good-faultless a request _ payload (subst (λ b. good_payload a request b ≡ Some payload) is (ap (λ x. good_payload x request bytes) addr ∙ good)))
+    (good-faultless a request _ payload
+    (subst (λ b. good_payload a request b ≡ Some payload) is (ap (λ x. good_payload x request bytes) addr ∙ good)))
     ∙ ap (λ x. answer_in (reply_of s.device (frame_of x request) Restart)) addr)
 
-told-true : Below → (s : State) (arrival : Arrival) (back : Back) (stage : Stage) → Stands s → AsksSo s.device.config (Some stage) → Inside s.device.config.count (Some stage) →
+told-true : Below → (s : State) (arrival : Arrival) (back : Back) (stage : Stage) → Stands s → AsksSo s.device.config (Some stage) →
+    Inside s.device.config.count (Some stage) →
     exchange_cause s arrival back (Some (stage_message stage)) ≡ None →
-    ToldTrue s.device.config s.device.config.addr (Some stage) (back_bytes (answer_to s.device s.host.setup.addr (stage_message stage) arrival) back)
+    ToldTrue s.device.config s.device.config.addr (Some stage)
+    (back_bytes (answer_to s.device s.host.setup.addr (stage_message stage) arrival) back)
 told-true laws s arrival back (AsksMode output tries) stands asks inside free = λ byte good.
-    mode-true laws s.device s.host.setup output _ byte stands.spelled (let few = stands.sound.few in omega arith) inside (subst (λ n. output < n) (sym stands.outputs) inside)
-    (λ g. good-same laws s arrival back (mode_read output) _ (from_some word_in (good_payload s.device.config.addr (mode_read output) _) byte g).0 stands.addr refl free refl
+    mode-true laws s.device s.host.setup output _ byte stands.spelled (let few = stands.sound.few in omega arith) inside
+    (subst (λ n. output < n) (sym stands.outputs) inside)
+    (λ g. good-same laws s arrival back (mode_read output) _
+    (from_some word_in (good_payload s.device.config.addr (mode_read output) _) byte g).0 stands.addr refl free refl
     (from_some word_in (good_payload s.device.config.addr (mode_read output) _) byte g).1) good
 told-true laws s arrival back (AsksCoefficients output tries) stands asks inside free = λ k good.
     coefficients-true laws s.device s.host.setup output _ k stands.spelled inside asks
-    (λ g. good-same laws s arrival back coefficients_read _ (from_some coefficients_of (good_payload s.device.config.addr coefficients_read _) k g).0 stands.addr refl free refl
+    (λ g. good-same laws s arrival back coefficients_read _
+    (from_some coefficients_of (good_payload s.device.config.addr coefficients_read _) k g).0 stands.addr refl free refl
     (from_some coefficients_of (good_payload s.device.config.addr coefficients_read _) k g).1) good
 told-true laws s arrival back stage stands asks inside free = tt
 
-exchange-true : Below → (s : State) (arrival : Arrival) (back : Back) (stage : Option Stage) → Stands s → IsTrueHost s.device.config s.host → s.host.stage ≡ stage →
+exchange-true : Below → (s : State) (arrival : Arrival) (back : Back) (stage : Option Stage) → Stands s →
+    IsTrueHost s.device.config s.host → s.host.stage ≡ stage →
     exchange_cause s arrival back (option_map stage_message stage) ≡ None →
     IsTrueHost s.device.config (host_after s.host (exchanged s arrival back (option_map stage_message stage)).told)
 unfolding host_next
 exchange-true laws s arrival back None stands is e free = cc
 exchange-true laws s arrival back (Some stage) stands is e free =
-    let inside : Inside s.device.config.count (Some stage) = subst (λ (o : Option Stage). Inside s.device.config.count o) e (subst (λ n. Inside n s.host.stage) stands.outputs (stage-inside s.host s.host.stage stands.host.stage)) in
+    let inside : Inside s.device.config.count (Some stage) =
+    subst (λ (o : Option Stage). Inside s.device.config.count o) e
+    (subst (λ n. Inside n s.host.stage) stands.outputs (stage-inside s.host s.host.stage stands.host.stage)) in
     let asks : AsksSo s.device.config (Some stage) = subst (AsksSo s.device.config) e is.asks in
     let bytes = back_bytes (answer_to s.device s.host.setup.addr (stage_message stage) arrival) back in
     let told = told-true laws s arrival back stage stands asks inside free in
@@ -196,7 +237,8 @@ begun-true : (s : State) (event : Event) (job : host.Job) → IsTrueHost s.devic
     IsTrueHost s.device.config (next s event).host
 unfolding host_next
 begun-true s event job is e =
-    subst (λ (t : State). IsTrueHost s.device.config t.host) (sym (asked-next s event job e)) (begins-true s.device.config s.host job is.formats)
+    subst (λ (t : State). IsTrueHost s.device.config t.host) (sym (asked-next s event job e))
+    (begins-true s.device.config s.host job is.formats)
 
 beside-true : Below → (s : State) (event : Event) → Stands s → IsTrueHost s.device.config s.host → event_cause s event ≡ None →
     IsTrueHost s.device.config (host_after s.host (share_beside s event).told)
@@ -212,5 +254,6 @@ pub next-true : Below → (s : State) (event : Event) → Stands s → IsTrueHos
     IsTrueHost s.device.config (next s event).host
 next-true laws s event stands is free = go (asked s event) refl where
   go : (o : Option host.Job) → asked s event ≡ o → IsTrueHost s.device.config (next s event).host
-  go None e = subst (λ (t : State). IsTrueHost s.device.config t.host) (sym (beside-next s event e)) (beside-true laws s event stands is free)
+  go None e = subst (λ (t : State). IsTrueHost s.device.config t.host) (sym (beside-next s event e))
+      (beside-true laws s event stands is free)
   go (Some job) e = begun-true s event job is e

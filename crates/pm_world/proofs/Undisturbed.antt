@@ -53,7 +53,8 @@ use Rattle.pm_world.proofs.ReadBack.{read-word}
 use Rattle.pm_world.proofs.Sending.{Fixed, Sends, deliver-sends, eight, read-fits, told-nothing, write-fits}
 
 -- the read that ends an order
-turn-done : (h : Summary) (cell : Cell) (word : ℕ) (bytes : List ℕ) → h.stage ≡ Some (Reads cell word 0) → good_word h.setup.addr cell bytes ≡ Some word →
+turn-done : (h : Summary) (cell : Cell) (word : ℕ) (bytes : List ℕ) → h.stage ≡ Some (Reads cell word 0) →
+    good_word h.setup.addr cell bytes ≡ Some word →
     change h (host.Got bytes) ≡ ends (marked (idle h) (Good cell word)) Done
 turn-done h cell word bytes stage good =
     ap (λ o. answered (idle h) o bytes) stage
@@ -63,7 +64,8 @@ turn-done h cell word bytes stage good =
 -- the host holds a standing for each place
 now-standings : (config : Config) (passes : ℕ) (events : List Event) → length (now config passes events).host.known.standing ≡ places
 unfolding now state_of host_now known_now table
-now-standings config passes events = length-map-range_with_len {X = Standing} (λ place. standing_of (marks (setup_of config passes) (life config passes events).entries) (cell_in place)) 0 places
+now-standings config passes events = length-map-range_with_len {X = Standing}
+    (λ place. standing_of (marks (setup_of config passes) (life config passes events).entries) (cell_in place)) 0 places
 
 -- what an undisturbed read of an order comes to
 pub record Ended (s : State) (cell : Cell) (word : ℕ) (event : Event) : Type 0 where
@@ -79,7 +81,8 @@ read-restart (Out output register) = refl
 read-restart Protect = refl
 
 exchange-told : (s : State) (message : Message) → sending_in s.host ≡ Some message → heard_ending message Whole ≡ Restart →
-    (share_of s (Exchange Whole back.Whole)).told ≡ Some (host.Got (answer_in (reply_of s.device (frame_of s.host.setup.addr message) Restart)))
+    (share_of s (Exchange Whole back.Whole)).told ≡ Some
+    (host.Got (answer_in (reply_of s.device (frame_of s.host.setup.addr message) Restart)))
 exchange-told s message sending ending =
     ap (λ o. (exchanged s Whole back.Whole o).told) sending
     ∙ ap (λ e. Some (host.Got (answer_in (reply_of s.device (frame_of s.host.setup.addr message) e)))) ending
@@ -90,25 +93,31 @@ exchange-heard s message sending ending =
     ap (λ o. (exchanged s Whole back.Whole o).heard) sending
     ∙ ap (λ e. Some (device.Hearing (frame_of s.host.setup.addr message) e)) ending
 
-next-heard : Below → (s : State) (event : Event) (bytes : List ℕ) → (share_of s event).heard ≡ Some (device.Hearing bytes Restart) → (next s event).device.words ≡ s.device.words
+next-heard : Below → (s : State) (event : Event) (bytes : List ℕ) → (share_of s event).heard ≡ Some (device.Hearing bytes Restart) →
+    (next s event).device.words ≡ s.device.words
 unfolding next device_next device_outcome
-next-heard laws s event bytes heard = ap (λ o. (device_after s.device o).words) heard ∙ (laws.writes_reach_one_cell.request s.device bytes).0
+next-heard laws s event bytes heard = ap (λ o. (device_after s.device o).words) heard
+    ∙ (laws.writes_reach_one_cell.request s.device bytes).0
 
 next-done : (s : State) (event : Event) (cell : Cell) (word : ℕ) (bytes : List ℕ) → (share_of s event).told ≡ Some (host.Got bytes) →
     change s.host (host.Got bytes) ≡ ends (marked (idle s.host) (Good cell word)) Done → (next s event).end ≡ Some Done
 unfolding next step_of
 next-done s event cell word bytes told done = ap (end_after s.host s.end) told ∙ ap (λ (t : Change). end_by t.step) done
 
-next-confirmed : Below → (s : State) (event : Event) (cell : Cell) (word : ℕ) (bytes : List ℕ) → (share_of s event).told ≡ Some (host.Got bytes) →
-    change s.host (host.Got bytes) ≡ ends (marked (idle s.host) (Good cell word)) Done → length s.host.known.standing ≡ places → IsCell 8 cell →
+next-confirmed : Below → (s : State) (event : Event) (cell : Cell) (word : ℕ) (bytes : List ℕ) →
+    (share_of s event).told ≡ Some (host.Got bytes) →
+    change s.host (host.Got bytes) ≡ ends (marked (idle s.host) (Good cell word)) Done → length s.host.known.standing ≡ places →
+    IsCell 8 cell →
     standing_at (next s event).host cell ≡ Confirmed word
 unfolding next host_next
 next-confirmed laws s event cell word bytes told done long there =
     ap (λ o. standing_at (host_after s.host o) cell) told
     ∙ (ap (λ (t : Change). standing_at t.after cell) done
-    ∙ get_or-set_same s.host.known.standing (place_of cell) (Confirmed word) Unknown (let below = laws.cells_have_places.below cell there in omega arith))
+    ∙ get_or-set_same s.host.known.standing (place_of cell) (Confirmed word) Unknown
+    (let below = laws.cells_have_places.below cell there in omega arith))
 
-ended : Below → (s : State) (cell : Cell) (word : ℕ) → Fixed s cell word → s.host.stage ≡ Some (Reads cell word 0) → word_at s.device.words cell ≡ word →
+ended : Below → (s : State) (cell : Cell) (word : ℕ) → Fixed s cell word → s.host.stage ≡ Some (Reads cell word 0) →
+    word_at s.device.words cell ≡ word →
     length s.host.known.standing ≡ places → Ended s cell word (Exchange Whole back.Whole)
 ended laws s cell word fixed stage held long =
     let sending : sending_in s.host ≡ Some (cell_read cell) = ap (option_map stage_message) stage in
@@ -124,8 +133,10 @@ ended laws s cell word fixed stage held long =
       good = good;
       told = told;
       done = next-done s (Exchange Whole back.Whole) cell word answer told done;
-      confirmed = next-confirmed laws s (Exchange Whole back.Whole) cell word answer told done long (eight s.device.config.count cell fixed.few fixed.there);
-      held = ap (λ w. word_at w cell) (next-heard laws s (Exchange Whole back.Whole) _ (exchange-heard s (cell_read cell) sending (read-restart cell))) ∙ held;
+      confirmed = next-confirmed laws s (Exchange Whole back.Whole) cell word answer told done long
+          (eight s.device.config.count cell fixed.few fixed.there);
+      held = ap (λ w. word_at w cell)
+          (next-heard laws s (Exchange Whole back.Whole) _ (exchange-heard s (cell_read cell) sending (read-restart cell))) ∙ held;
     }
 
 -- what holds of the ends after a life
@@ -133,10 +144,12 @@ now-are : Below → (config : Config) (passes : ℕ) (events : List Event) → A
 unfolding now state_of
 now-are laws config passes events = laws.pasts_are_followed.words config (life config passes events).past
 
-pub now-sound : Below → (config : Config) (passes : ℕ) (events : List Event) → IsLived config passes events → IsSoundHost (now config passes events).host
+pub now-sound : Below → (config : Config) (passes : ℕ) (events : List Event) → IsLived config passes events →
+    IsSoundHost (now config passes events).host
 unfolding now state_of
 now-sound laws config passes events lived =
-    laws.transcripts_are_followed.sound (setup_of config passes) (life config passes events).entries lived.made (life-told config passes events lived.legal)
+    laws.transcripts_are_followed.sound (setup_of config passes) (life config passes events).entries lived.made
+    (life-told config passes events lived.legal)
 
 -- an event that asks for an order begins its write, and leaves the converter
 pub order-stage : (s : State) (order : Event) (cell : Cell) (word : ℕ) → asked s order ≡ Some (host.Order cell word) →
@@ -144,7 +157,8 @@ pub order-stage : (s : State) (order : Event) (cell : Cell) (word : ℕ) → ask
 unfolding host_next
 order-stage s order cell word asks = ap (λ (t : State). t.host.stage) (asked-next s order (host.Order cell word) asks)
 
-order-device : (s : State) (order : Event) (cell : Cell) (word : ℕ) → asked s order ≡ Some (host.Order cell word) → (next s order).device ≡ s.device
+order-device : (s : State) (order : Event) (cell : Cell) (word : ℕ) → asked s order ≡ Some (host.Order cell word) →
+    (next s order).device ≡ s.device
 order-device s order cell word asks = ap (λ (t : State). t.device) (asked-next s order (host.Order cell word) asks)
 
 -- the end of the write begins its read
@@ -187,7 +201,8 @@ ordering : Below → (config : Config) (passes : ℕ) (before : List Event) (ord
     Ordered config passes before order cell word → IsOrdering (now config passes (order ∷ before)).host cell word 0
 ordering laws config passes before order cell word o =
     subst (IsStage (now config passes (order ∷ before)).host)
-    (ap (λ (s : State). s.host.stage) (now-next laws config passes before order o.lived) ∙ order-stage (now config passes before) order cell word o.asks)
+    (ap (λ (s : State). s.host.stage) (now-next laws config passes before order o.lived)
+    ∙ order-stage (now config passes before) order cell word o.asks)
     (now-sound laws config passes (order ∷ before) o.lived).stage
 
 -- what holds of a world while it is open
@@ -197,7 +212,8 @@ fixed laws config passes before order cell word o events =
     let setup = setup_of config passes in
     let same = sym (now-config config passes events) in
     let is = ordering laws config passes before order cell word o in
-    let there : IsCell config.count cell = subst (λ (u : host.Setup). IsCell u.outputs cell) (now-setup config passes (order ∷ before)) is.there in
+    let there : IsCell config.count cell = subst (λ (u : host.Setup). IsCell u.outputs cell) (now-setup config passes (order ∷ before))
+    is.there in
     record {
       addr = ap (λ (u : host.Setup). u.addr) (now-setup config passes events) ∙ ap (λ (k : Config). k.addr) same;
       there = subst (λ (k : Config). IsCell k.count cell) same there;
@@ -223,7 +239,8 @@ sent-so : Below → (config : Config) (passes : ℕ) (before : List Event) (orde
     Ordered config passes before order cell word →
     is_allowed (word_at (now config passes before).device.words Protect) (cell_code cell) ≡ true → (arrivals : List Arrival) →
     IsLived config passes (sent_by order arrivals before) →
-    Sent config passes cell word before (sent_by order arrivals before) (list_any (is_whole (frame_of config.addr (cell_write cell word))) arrivals)
+    Sent config passes cell word before (sent_by order arrivals before)
+    (list_any (is_whole (frame_of config.addr (cell_write cell word))) arrivals)
 sent-so laws config passes before order cell word o allowed [] lived =
     let s = now config passes before in
     let after = now-next laws config passes before order o.lived in
@@ -240,17 +257,20 @@ sent-so laws config passes before order cell word o allowed (arrival ∷ arrival
     let events = sent_by order arrivals before in
     let whole = list_any (is_whole (frame_of config.addr (cell_write cell word))) arrivals in
     let so_far = sent-so laws config passes before order cell word o allowed arrivals (earlier lived) in
-    let after = deliver-sends laws (now config passes events) cell word whole arrival (fixed laws config passes before order cell word o events)
+    let after = deliver-sends laws (now config passes events) cell word whole arrival
+    (fixed laws config passes before order cell word o events)
     so_far.sends (newest lived) in
     record {
       sends = subst (λ (s : State). Sends s cell word (is_whole (frame_of config.addr (cell_write cell word)) arrival || whole))
           (sym (now-next laws config passes events (Deliver arrival) lived))
-          (subst (λ (k : Config). Sends (next (now config passes events) (Deliver arrival)) cell word (is_whole (frame_of k.addr (cell_write cell word)) arrival || whole))
+          (subst (λ (k : Config). Sends (next (now config passes events) (Deliver arrival)) cell word
+          (is_whole (frame_of k.addr (cell_write cell word)) arrival || whole))
           (now-config config passes events) after);
       entries = deliver-entries config passes events arrival ∙ so_far.entries;
     }
 
-pub went-through : Below → (config : Config) (passes : ℕ) (before : List Event) (order : Event) (cell : Cell) (word : ℕ) (arrivals : List Arrival) (acked : Bool) →
+pub went-through : Below → (config : Config) (passes : ℕ) (before : List Event) (order : Event) (cell : Cell) (word : ℕ)
+    (arrivals : List Arrival) (acked : Bool) →
     IsLived config passes (honest order arrivals acked before) → asked (now config passes before) order ≡ Some (host.Order cell word) →
     is_allowed (word_at (now config passes before).device.words Protect) (cell_code cell) ≡ true →
     list_any (is_whole (frame_of config.addr (cell_write cell word))) arrivals ≡ true →
@@ -267,7 +287,8 @@ went-through laws config passes before order cell word arrivals acked lived asks
     let s = now config passes (Finish acked ∷ events) in
     let e = ended laws s cell word (fixed laws config passes before order cell word o (Finish acked ∷ events))
     (ap (λ (t : State). t.host.stage) finish ∙ finish-stage (now config passes events) acked cell word so.sends.stage)
-    (ap (λ (h : Held). word_at h.words cell) (ap (λ (t : State). t.device) finish ∙ finish-device (now config passes events) acked) ∙ so.sends.held whole)
+    (ap (λ (h : Held). word_at h.words cell) (ap (λ (t : State). t.device) finish ∙ finish-device (now config passes events) acked)
+    ∙ so.sends.held whole)
     (now-standings config passes (Finish acked ∷ events)) in
     let after = now-next laws config passes (Finish acked ∷ events) read lived in
     record {
@@ -275,7 +296,8 @@ went-through laws config passes before order cell word arrivals acked lived asks
       good = ap (λ (k : Config). good_word k.addr cell e.answer) (sym (now-config config passes (Finish acked ∷ events))) ∙ e.good;
       two_frames = share-entries config passes (Finish acked ∷ events) read (Some (host.Got e.answer)) e.told
           ∙ ap (λ xs. host.Got e.answer ∷ xs)
-          (share-entries config passes events (Finish acked) (Some (host.Finished acked)) refl ∙ ap (λ xs. host.Finished acked ∷ xs) so.entries);
+          (share-entries config passes events (Finish acked) (Some (host.Finished acked)) refl
+          ∙ ap (λ xs. host.Finished acked ∷ xs) so.entries);
       done = ap (λ (t : State). t.end) after ∙ e.done;
       confirmed = ap (λ (t : State). standing_at t.host cell) after ∙ e.confirmed;
       held = ap (λ (t : State). word_at t.device.words cell) after ∙ e.held;

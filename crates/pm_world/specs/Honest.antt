@@ -34,11 +34,9 @@ use Rattle.pm_world.specs.State.{asked}
 
 -- after each of the events, the last job has sent at most twice as many frames as a job has passes,
 -- with the one that is being sent
-abbrev pub AreFewFrames : Config → ℕ → List Event → Type 0
-AreFewFrames config passes [] = Unit {0}
-AreFewFrames config passes (event ∷ before) =
-    (frames_of (setup_of config passes) (life config passes (event ∷ before)).entries ≤ 2 * passes)
-    × AreFewFrames config passes before
+pub record AreFewFrames (config : Config) (passes : ℕ) (events : List Event) : Type 0 where
+  pub few : (later before : List Event) → events ≡ later ++ before →
+      frames_of (setup_of config passes) (life config passes before).entries ≤ 2 * passes
 
 -- a delivery by which the write of this frame is heard whole: its bytes, ended by a stop
 abbrev pub is_whole : List ℕ → Arrival → Bool
@@ -67,14 +65,14 @@ pub record WentThrough (config : Config) (passes : ℕ) (cell : Cell) (word : �
 
 -- Each order among the events went through, of a word or in microvolts, where WRITE_PROTECT allowed its
 -- code as it was accepted, its write was heard whole at least once, and nothing disturbed its read.
-abbrev pub OrdersGoThrough : Config → ℕ → List Event → Type 0
-OrdersGoThrough config passes events =
-    (later before : List Event) (order : Event) (cell : Cell) (word : ℕ) (arrivals : List Arrival) (acked : Bool) →
-    events ≡ later ++ honest order arrivals acked before →
-    asked (now config passes before) order ≡ Some (host.Order cell word) →
-    is_allowed (word_at (now config passes before).device.words Protect) (cell_code cell) ≡ true →
-    list_any (is_whole (frame_of config.addr (cell_write cell word))) arrivals ≡ true →
-    WentThrough config passes cell word acked before (honest order arrivals acked before)
+pub record OrdersGoThrough (config : Config) (passes : ℕ) (events : List Event) : Type 0 where
+  pub through : (later before : List Event) (order : Event) (cell : Cell) (word : ℕ)
+      (arrivals : List Arrival) (acked : Bool) →
+      events ≡ later ++ honest order arrivals acked before →
+      asked (now config passes before) order ≡ Some (host.Order cell word) →
+      is_allowed (word_at (now config passes before).device.words Protect) (cell_code cell) ≡ true →
+      list_any (is_whole (frame_of config.addr (cell_write cell word))) arrivals ≡ true →
+      WentThrough config passes cell word acked before (honest order arrivals acked before)
 
 -- the numbers of a configuration are those that its bytes on the bus spell
 pub record IsSpelled (config : Config) : Type 0 where
@@ -99,6 +97,6 @@ pub record OrdersNearest (config : Config) (passes : ℕ) (cell : Cell) (microvo
       ≡ Accepted (host.Order cell word) ∷ (life config passes before).entries
 
 -- each order in microvolts among the events did
-abbrev pub MicrosAreNearest : Config → ℕ → List Event → Type 0
-MicrosAreNearest config passes events = (later before : List Event) (cell : Cell) (microvolts : ℤ) →
-    events ≡ later ++ OrderMicro cell microvolts ∷ before → OrdersNearest config passes cell microvolts before
+pub record MicrosAreNearest (config : Config) (passes : ℕ) (events : List Event) : Type 0 where
+  pub nearest : (later before : List Event) (cell : Cell) (microvolts : ℤ) →
+      events ≡ later ++ OrderMicro cell microvolts ∷ before → OrdersNearest config passes cell microvolts before

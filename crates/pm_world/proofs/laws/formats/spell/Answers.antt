@@ -11,7 +11,8 @@ loop-start-init c = λ k below. absurd (omega arith)
 pub loop-start-preserved : goal.loop-start-preserved
 loop-start-preserved c =
     below_more _ _ c.loop-start.invariant
-    (subst (λ n. n < 2 ^ 8) (sym (get_or-map (λ (start : OutputStart). start.mode) c.args.c.starts c.loop-start.start-index no_start)) c.spell_byte.ensures)
+    (subst (λ n. n < 2 ^ 8) (sym (get_or-map (λ (start : OutputStart). start.mode) c.args.c.starts c.loop-start.start-index no_start))
+    c.spell_byte.ensures)
 
 pub returns : goal.returns
 returns c = record {

@@ -34,5 +34,6 @@ returns c =
     (sym c.as_slice-frame.ensures.value) c.in-Write.ensures.1 in
     let arrives : Arrives inside false c.args.arrival.now frame heard ending =
     arrives-write inside c.args.arrival.now frame heard ending shown c.heard_bytes-bytes.ensures c.heard_ending-ending.ensures in
-    subst (λ (s : State). Acts s (Deliver c.args.arrival.now) (Ok tt) (state c.hear.new.self inside.host inside.end inside.taken)) c.self.view_is
+    subst (λ (s : State). Acts s (Deliver c.args.arrival.now) (Ok tt) (state c.hear.new.self inside.host inside.end inside.taken))
+    c.self.view_is
     (deliver-acts c.hear.new.self arrives (sym c.is_legal_hearing.ensures ∙ c.if-not-is_legal_hearing.false) c.hear.ensures.after)

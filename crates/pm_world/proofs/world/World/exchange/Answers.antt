@@ -21,7 +21,8 @@ returns-then-not-is_legal_hearing c =
     let shown = subst (λ bytes. IsSomeAnd (sending_in inside.host) (λ message. IsRequest inside.host.setup.addr message bytes))
     (sym c.as_slice.ensures.value) c.in-Request.ensures.1 in
     let asks : Asks inside arrival frame heard ending needed =
-    arrives-request inside arrival frame heard ending needed (shown, c.in-Request.ensures.2) (c.heard_bytes-bytes.ensures, c.heard_ending-ending.ensures) in (
+    arrives-request inside arrival frame heard ending needed (shown, c.in-Request.ensures.2)
+    (c.heard_bytes-bytes.ensures, c.heard_ending-ending.ensures) in (
       subst (λ (s : State). event_cause s (Exchange arrival c.args.back.now) ≡ Some NotBetrayed) c.self.view_is
           (exchange-betrayed c.args.back.now asks (sym c.is_legal_hearing.ensures ∙ c.if-not-is_legal_hearing.true)),
       refl,
@@ -38,7 +39,8 @@ returns-then-not-is_legal_return c =
     let shown = subst (λ bytes. IsSomeAnd (sending_in inside.host) (λ message. IsRequest inside.host.setup.addr message bytes))
     (sym c.as_slice.ensures.value) c.in-Request.ensures.1 in
     let asks : Asks inside arrival frame heard ending needed =
-    arrives-request inside arrival frame heard ending needed (shown, c.in-Request.ensures.2) (c.heard_bytes-bytes.ensures, c.heard_ending-ending.ensures) in
+    arrives-request inside arrival frame heard ending needed (shown, c.in-Request.ensures.2)
+    (c.heard_bytes-bytes.ensures, c.heard_ending-ending.ensures) in
     let returns_so : Returns inside arrival c.args.back.now = record {
       frame = frame;
       heard = heard;
@@ -69,7 +71,8 @@ returns c =
     let shown = subst (λ bytes. IsSomeAnd (sending_in inside.host) (λ message. IsRequest inside.host.setup.addr message bytes))
     (sym c.as_slice.ensures.value) c.in-Request.ensures.1 in
     let asks : Asks inside arrival frame heard ending needed =
-    arrives-request inside arrival frame heard ending needed (shown, c.in-Request.ensures.2) (c.heard_bytes-bytes.ensures, c.heard_ending-ending.ensures) in
+    arrives-request inside arrival frame heard ending needed (shown, c.in-Request.ensures.2)
+    (c.heard_bytes-bytes.ensures, c.heard_ending-ending.ensures) in
     let returns_so : Returns inside arrival c.args.back.now = record {
       frame = frame;
       heard = heard;

@@ -7,4 +7,5 @@ use Rattle.pm_world.proofs.world.World.restart_host.Goals as goal
 pub returns : goal.returns
 unfolding step_of
 returns c =
-    host-told c.args.self.now c.self.inside.device c.self.inside.host c.restart.new.self c.self.inside.end None c.self.inside.taken Restarted c.self.view_is c.restart.ensures.after refl
+    host-told c.args.self.now c.self.inside.device c.self.inside.host c.restart.new.self c.self.inside.end None c.self.inside.taken
+    Restarted c.self.view_is c.restart.ensures.after refl
