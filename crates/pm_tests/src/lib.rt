@@ -1,5 +1,5 @@
 //! Tests over the public calls of the converter, the host and the world, a module for each thing that
-//! is tested. There is nothing here to use.
+//! is tested, and in `further` what is proved of a world that goes on after a run.
 #![tactic(auto)]
 
 #[cfg(test)]
@@ -16,6 +16,7 @@ mod driver;
 mod faults;
 #[cfg(test)]
 mod fixtures;
+pub mod further;
 #[cfg(test)]
 mod host;
 #[cfg(test)]
