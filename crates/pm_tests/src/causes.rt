@@ -253,9 +253,13 @@ fn a_world_has_the_converters_fault_before_the_hosts(rt: HostRuntime) {
                 None if is_bad => Some(SetupFault::Host(HostFault::Passes)),
                 None => None,
             };
-            assert_eq!(rt; World::new(config, passes).err(), wanted, "{config:?}");
+            assert_eq!(rt;
+                World::new(config, passes).err(),
+                wanted,
+                "{count} {addr:02X} {passes}"
+            );
             let ran = World::run(config, passes, &[CHECK, CHECK]).err();
-            assert_eq!(rt; ran, wanted, "{config:?}");
+            assert_eq!(rt; ran, wanted, "{count} {addr:02X} {passes}");
         }
     }
 }

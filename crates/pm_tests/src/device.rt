@@ -4,6 +4,7 @@ ghost use Rattle.std.specs.Prelude.{◌≡◌, ◌<◌};
 
 mod bursts;
 mod configurations;
+mod example;
 mod operation;
 mod refusals;
 mod registers;

@@ -191,6 +191,10 @@ fn a_configuration_has_the_first_fault_that_applies(rt: HostRuntime) {
             protect,
             coefficients: Coefficients { m, b: 0, r },
         };
-        assert_eq!(rt; Converter::new(config).err(), wanted, "{config:?}");
+        assert_eq!(rt;
+            Converter::new(config).err(),
+            wanted,
+            "{count} {protect:02X} {addr:02X} {m} {r}"
+        );
     }
 }
