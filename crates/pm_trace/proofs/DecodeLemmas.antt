@@ -7,7 +7,7 @@ use Rattle.std.proofs.lemmas.List.Sums.{fold-append}
 use Rattle.pm_trace.specs.declared.decode_end.DecodeEnd.{DecodeEnd}
 use Rattle.pm_trace.specs.declared.fed.Fed.{Fed}
 use Rattle.pm_lines.specs.declared.fault.TextFault.TheVariants.{TooLong}
-use Rattle.pm_trace.specs.declared.standing.Standing.TheVariants.{Open}
+use Rattle.pm_trace.specs.declared.decoder.standing.Standing.TheVariants.{Open}
 use Rattle.pm_lines.specs.declared.text.TheConstants.{MAX_TEXT}
 use Rattle.pm_lines.specs.Lines.{is_line_feed, has_bytes}
 use Rattle.pm_trace.specs.Trace.{trace_of}
@@ -89,15 +89,14 @@ pushes_none text old open' room = record {
 -- a call more
 pub pushes_more : (text mid_text new_text : List ℕ) (old mid new : Holding) (front rest : List ℕ) (fed : Fed)
     → Pushes text mid_text old mid front → Feeds mid rest fed new → new.kept.taken ≤ MAX_TEXT
-    → new_text ≡ mid_text ++ told_lines (some_told new.shown) → Pushes text new_text old new (front ++ taken_of mid rest)
+    → new_text ≡ mid_text ++ told_lines (told mid.kept (taken_of mid rest)) → Pushes text new_text old new (front ++ taken_of mid rest)
 pushes_more text mid_text new_text old mid new front rest fed before feeds room more =
     let bytes = taken_of mid rest in
-    let shown : some_told new.shown ≡ told (next old.kept front) bytes = feeds.shown ∙ ap (λ k. told k bytes) before.kept in
     record {
       text_is =
-          more ∙ ap (λ t. t ++ told_lines (some_told new.shown)) before.text_is
-          ∙ append_assoc text (told_lines (told old.kept front)) (told_lines (some_told new.shown))
-          ∙ ap (λ l. text ++ (told_lines (told old.kept front) ++ told_lines l)) shown
+          more ∙ ap (λ t. t ++ told_lines (told mid.kept bytes)) before.text_is
+          ∙ append_assoc text (told_lines (told old.kept front)) (told_lines (told mid.kept bytes))
+          ∙ ap (λ k. text ++ (told_lines (told old.kept front) ++ told_lines (told k bytes))) before.kept
           ∙ ap (λ l. text ++ l) (sym (flat_map-append told_line (told old.kept front) (told (next old.kept front) bytes)))
           ∙ ap (λ l. text ++ told_lines l) (sym (told-append old.kept front bytes));
       kept = feeds.kept ∙ ap (λ k. next k bytes) before.kept ∙ sym (fold-append kept_takes old.kept front bytes);
@@ -127,16 +126,17 @@ pushed_whole text new_text old new piece front rest split none pushes = record {
 }
 
 -- a piece with a byte too many
-pub pushed_front : (text new_text : List ℕ) (old mid new : Holding) (piece front rest : List ℕ) → piece ≡ front ++ rest → 0 < length rest
-    → Pushes text new_text old mid front → refusal_of mid rest ≡ Some TooLong → PushesFront text new_text old new piece false
-pushed_front text new_text old mid new piece front rest split some pushes refused =
+pub pushed_front : (text mid_text new_text : List ℕ) (old mid new : Holding) (piece front rest : List ℕ) → piece ≡ front ++ rest
+    → 0 < length rest → Pushes text mid_text old mid front → refusal_of mid rest ≡ Some TooLong → new_text ≡ mid_text
+    → PushesFront text new_text old new piece false
+pushed_front text mid_text new_text old mid new piece front rest split some pushes refused same =
     let full = room_none mid rest pushes.standing refused in
     let many : mid.kept.taken ≡ old.kept.taken + length front = ap (λ k. k.taken) pushes.kept ∙ next-taken old.kept front in
     record {
       front = front;
       rest = rest;
       split = split;
-      text_is = pushes.text_is;
+      text_is = same ∙ pushes.text_is;
       whole = λ is. absurd (cc);
       too_many = λ _. (some, omega (arith, full, many, pushes.room));
     }

@@ -5,7 +5,7 @@ use Rattle.std.specs.List.{concat, count_by}
 use Rattle.std.proofs.lemmas.List.Sums.{sum_by-cons}
 use Rattle.std.proofs.Math.Seq.{take-append_seam}
 use Rattle.pm_lines.specs.declared.text.TheConstants.{MAX_TEXT}
-use Rattle.pm_trace.specs.declared.standing.Standing.TheVariants.{Open}
+use Rattle.pm_trace.specs.declared.decoder.standing.Standing.TheVariants.{Open}
 use Rattle.pm_lines.specs.Lines.{is_line_feed}
 use Rattle.pm_trace.specs.Counts.{counts_of, counts_with, lines_in, is_accepted, is_faulty, is_bad}
 use Rattle.pm_trace.specs.Trace.{Told, Accepted, Faulty, BadSyntax, BadHex, trace_of}

@@ -6,15 +6,15 @@ use Rattle.std.specs.List.{list_any, fold, enumerate_from}
 use Rattle.pm_lines.specs.declared.fault.TextFault.{TextFault}
 use Rattle.pm_lines.specs.declared.fault.TextFault.TheVariants.{TooLong}
 use Rattle.pm_lines.specs.declared.text.TheConstants.{MAX_TEXT}
-use Rattle.pm_trace.specs.declared.standing.Standing.{Standing}
-use Rattle.pm_trace.specs.declared.standing.Standing.TheVariants.{Open, Finished, Failed}
+use Rattle.pm_trace.specs.declared.decoder.standing.Standing.{Standing}
+use Rattle.pm_trace.specs.declared.decoder.standing.Standing.TheVariants.{Open, Finished, Failed}
 use Rattle.pm_trace.specs.declared.fed.Fed.{Fed}
-use Rattle.pm_trace.specs.declared.open_line.OpenLine.{OpenLine}
+use Rattle.pm_trace.specs.declared.decoder.open_line.OpenLine.{OpenLine}
 use Rattle.pm_lines.specs.Lines.{has_bytes, is_line_feed, is_unskipped, without_return}
 use Rattle.pm_trace.specs.Marks.{ended, since}
 use Rattle.pm_trace.specs.Trace.{Told, told_of}
 use Rattle.pm_trace.specs.Counts.{Counts, counts_of, counts_with, IsNewCode}
-use Rattle.pm_trace.specs.OpenLines.{line_of, line_takes, is_begun, is_skipped_kind, body_judged}
+use Rattle.pm_trace.specs.OpenLines.{line_of, line_takes, is_begun, is_skipped_kind, open_judged}
 
 -- ---- the bytes taken
 
@@ -44,8 +44,8 @@ now bytes = record {
 
 -- what the line says that ends here, where it isn't skipped
 abbrev pub line_told : Kept → Option Told
-line_told kept = if is_skipped_kind kept.line.body.kind then None
-    else Some (kept.ended + 1, body_judged kept.line.body)
+line_told kept = if is_skipped_kind kept.line.kind then None
+    else Some (kept.ended + 1, open_judged kept.line)
 
 -- what is kept where a line ends here
 abbrev pub line_ended : Kept → Kept

@@ -22,3 +22,10 @@ behind_pairs [] = []
 behind_pairs (x ∷ []) = if is_space x then [] else x ∷ []
 behind_pairs (x ∷ y ∷ rest) = if is_space x then behind_pairs (y ∷ rest)
     else (if is_hex_digit x && is_hex_digit y then behind_pairs rest else x ∷ y ∷ rest)
+
+-- the bytes before that
+abbrev pub pairs_front : List ℕ → List ℕ
+pairs_front [] = []
+pairs_front (x ∷ []) = if is_space x then x ∷ [] else []
+pairs_front (x ∷ y ∷ rest) = if is_space x then x ∷ pairs_front (y ∷ rest)
+    else (if is_hex_digit x && is_hex_digit y then x ∷ y ∷ pairs_front rest else [])

@@ -1,7 +1,7 @@
 -- What is kept of a part of a trace line: its first bytes, as many as one may have, and whether it
 -- had more. This project's own choice.
 use Rattle.std.specs.Prelude.{ℕ, Bool, true, nat_lt, if◌then◌else◌, List, [], ◌∷◌, ◌++◌, length, take}
-use Rattle.pm_trace.specs.declared.part.TheConstants.{PART_BYTES}
+use Rattle.pm_trace.specs.declared.decoder.part.TheConstants.{PART_BYTES}
 
 pub record Collected : Type 0 where
   pub bytes : List ℕ

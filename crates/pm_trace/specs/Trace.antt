@@ -14,7 +14,7 @@ use Rattle.pm_trace.specs.Marks.{before, after}
 use Rattle.pm_trace.specs.declared.line_fault.LineFault.{LineFault}
 use Rattle.pm_trace.specs.declared.line_fault.LineFault.TheVariants as fault
 use Rattle.pm_trace.specs.declared.trace_line.TraceLine.{TraceLine}
-use Rattle.pm_trace.specs.declared.part.TheConstants.{PART_BYTES}
+use Rattle.pm_trace.specs.declared.decoder.part.TheConstants.{PART_BYTES}
 
 -- ---- the words of a line
 

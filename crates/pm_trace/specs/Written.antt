@@ -1,7 +1,7 @@
 -- What a decoder took of a reader, and what was written of it.
 use Rattle.std.specs.Prelude.{◌≡◌, ℕ, ◌+◌, ◌<◌, ◌≤◌, Bool, true, false, List, [], ◌++◌, length, Option}
 use Rattle.std.specs.Io.KnownBytes.{Appends, Consumes}
-use Rattle.pm_trace.specs.declared.standing.Standing.TheVariants.{Open}
+use Rattle.pm_trace.specs.declared.decoder.standing.Standing.TheVariants.{Open}
 use Rattle.pm_lines.specs.declared.text.TheConstants.{MAX_TEXT}
 use Rattle.pm_trace.specs.Decoding.{Holding, now, next, said, told}
 use Rattle.pm_trace.specs.TraceText.{told_lines}

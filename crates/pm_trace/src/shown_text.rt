@@ -2,55 +2,57 @@
 ghost use Rattle.std.specs.Prelude.{◌≡◌, ◌++◌, [], OnOk, string_bytes, option_map, unwrap_or, decimal, codes};
 ghost use Rattle.std.specs.Fmt.{signed_decimal};
 ghost use Rattle.pm_frame.specs.Layout.{payload_bytes};
-ghost use Rattle.pm_trace.specs.ShownLines.{verdict_in};
-ghost use Rattle.pm_trace.specs.TraceText.{told_text, judged_text, address_text, fault_text, message_text};
+ghost use Rattle.pm_trace.specs.ShownLines.{judged_in};
+ghost use Rattle.pm_trace.specs.TraceText.{told_line, told_text, judged_text, address_text, fault_text, message_text};
 ghost use Rattle.pm_trace.specs.TraceText.{plain_text, page_text, payload_text, written_text, asked_text, numbers_text, code_name};
 ghost use Rattle.pm_table.specs.Coefficients.{coefficients_of};
 
-use crate::verdict::Verdict;
+use crate::shown::Shown;
 use pm_frame::{FrameFault, Message, Payload};
 use pm_lines::{push_decimal, push_hex, push_hex_number, push_signed};
 use pm_table::{Code, Coefficients, known};
 use std::alloc::AllocError;
 
-/// Puts the text of a line behind a text, with the line's number and without a line feed.
-#[tactic(auto, using(crate::proofs::Joins::joins), unfolding(crate::specs::TraceText::told_text))]
-pub(crate) fn push_line(text: &mut String, number: u64, verdict: &Verdict) -> Result<(), AllocError>
+/// Appends the text of a line to a text, with the line's number, and a line feed.
+#[tactic(auto, using(crate::proofs::Joins::joins))]
+pub(crate) fn push_told(text: &mut String, number: u64, shown: &Shown<'_>) -> Result<(), AllocError>
     ensures { OnOk result (string_bytes text.new
-        ≡ string_bytes text.old ++ told_text (number, verdict_in verdict.now)) }
+        ≡ string_bytes text.old ++ told_line (number, judged_in shown.now)) }
+{
+    push_line(text, number, shown)?;
+    text.push_str("\n")
+}
+
+/// Appends the text of a line to a text, with the line's number and without a line feed.
+#[tactic(auto, using(crate::proofs::Joins::joins), unfolding(crate::specs::TraceText::told_text))]
+pub(crate) fn push_line(text: &mut String, number: u64, shown: &Shown<'_>) -> Result<(), AllocError>
+    ensures { OnOk result (string_bytes text.new
+        ≡ string_bytes text.old ++ told_text (number, judged_in shown.now)) }
 {
     push_decimal(text, number)?;
     text.push_str(" ")?;
-    push_verdict(text, verdict)
+    push_shown(text, shown)
 }
 
 // What the line says.
 #[tactic(auto, using(crate::proofs::Joins::joins))]
-fn push_verdict(text: &mut String, verdict: &Verdict) -> Result<(), AllocError>
+fn push_shown(text: &mut String, shown: &Shown<'_>) -> Result<(), AllocError>
     ensures { OnOk result (string_bytes text.new
-        ≡ string_bytes text.old ++ judged_text (verdict_in verdict.now)) }
+        ≡ string_bytes text.old ++ judged_text (judged_in shown.now)) }
 {
-    match verdict {
-        Verdict::Accepted {
-            addr,
-            message,
-            answer,
-        } => {
-            let answer = match answer {
-                Some(answer) => Some(answer.as_slice()),
-                None => None,
-            };
+    match shown {
+        Shown::Accepted { addr, view, answer } => {
             push_hex(text, *addr)?;
             text.push_str(" ")?;
-            push_message(text, *message, answer)
+            push_message(text, view.message(), *answer)
         }
-        Verdict::Faulty { addr, read, fault } => {
+        Shown::Faulty { addr, read, fault } => {
             push_address(text, *addr)?;
             text.push_str(if *read { " read " } else { " write " })?;
             push_fault(text, *fault)
         }
-        Verdict::BadSyntax => text.push_str("X1 Syntax"),
-        Verdict::BadHex => text.push_str("X2 BadHex"),
+        Shown::BadSyntax => text.push_str("X1 Syntax"),
+        Shown::BadHex => text.push_str("X2 BadHex"),
     }
 }
 

@@ -2,7 +2,7 @@
 ghost use Rattle.std.specs.Prelude.{◌≡◌, ◌⊎◌, ◌+◌, ◌<◌, ◌≤◌, ◌↔◌, ℕ, List, ◌++◌, length, drop};
 ghost use Rattle.std.specs.Prelude.{IfSome, IfOk, IfErr, OnOk, IsErrOf, IsTrue, IsFalse, string_bytes};
 ghost use Rattle.std.specs.Io.KnownBytes.{Appends, Consumes, IsAtEnd};
-ghost use Rattle.pm_trace.specs.declared.standing.Standing.{Standing};
+ghost use Rattle.pm_trace.specs.declared.decoder.standing.Standing.{Standing};
 ghost use Rattle.pm_lines.specs.declared.text.TheConstants.{MAX_TEXT};
 ghost use Rattle.pm_trace.specs.Counts.{counts_of};
 ghost use Rattle.pm_trace.specs.Decoding.{said, told, some_told, told_at_end, kept_at_end, IsFresh};
@@ -15,7 +15,7 @@ ghost use Rattle.pm_trace.specs.TraceText.{trace_text, told_lines, counts_text, 
 use crate::counts_text::push_counts;
 use crate::decode_end::DecodeEnd;
 use crate::decoder::Decoder;
-use crate::shown_text::push_line;
+use crate::shown_text::push_told;
 use pm_lines::{Sink, Source, TextFault};
 use std::alloc::{AllocError, Global};
 use std::io::{Read, Write};
@@ -133,9 +133,8 @@ fn decode_pieces<R: Read, W: Write>(
     }
 }
 
-// Feeds a piece on until it is taken whole, and puts what the lines say behind the text that end.
-// False where the piece has a byte more than a text may have: then what ended before it stands in
-// the text.
+// Feeds the decoder until the piece is used up, and appends the text of each line that ends. False
+// where the trace grows past its limit; the lines that ended before that are in the text.
 fn push_lines(text: &mut String, decoder: &mut Decoder, piece: &[u8]) -> Result<bool, TextFault>
     requires open { decoder.old.standing ≡ Standing.Open }
     requires room { decoder.old.kept.taken ≤ MAX_TEXT }
@@ -145,17 +144,16 @@ fn push_lines(text: &mut String, decoder: &mut Decoder, piece: &[u8]) -> Result<
 {
     let mut rest = piece;
     'pieces: while !rest.is_empty() {
-        match decoder.feed(rest) {
+        match decoder.tell(rest, text) {
             Ok(fed) => rest = past(rest, fed.taken),
             Err(TextFault::TooLong) => return Ok(false),
             Err(fault) => return Err(fault),
         }
-        push_shown(text, decoder)?;
     }
     Ok(true)
 }
 
-// What follows so many bytes.
+// What follows this many bytes.
 fn past(bytes: &[u8], count: usize) -> &[u8]
     requires { count ≤ length bytes.now }
     ensures { result.now ≡ drop count bytes.now }
@@ -163,20 +161,18 @@ fn past(bytes: &[u8], count: usize) -> &[u8]
     &bytes[count..]
 }
 
-// Puts the line that is shown behind a text, with a line feed.
-#[tactic(auto, using(crate::proofs::Joins::joins))]
-fn push_shown(text: &mut String, decoder: &Decoder) -> Result<(), AllocError>
+// Appends the line that is shown to a text, with a line feed.
+fn push_shown_line(text: &mut String, decoder: &Decoder) -> Result<(), AllocError>
     ensures { OnOk result (string_bytes text.new
         ≡ string_bytes text.old ++ told_lines (some_told decoder.now.shown)) }
 {
-    let Some((number, verdict)) = decoder.verdict() else {
-        return Ok(());
-    };
-    push_line(text, number, verdict)?;
-    text.push_str("\n")
+    match decoder.line() {
+        Some((number, shown)) => push_told(text, number, &shown),
+        None => Ok(()),
+    }
 }
 
-// Ends the bytes, and gives what is written then: a last line, and the counts.
+// Ends the trace, and returns the rest of the output: an unfinished last line, and the counts.
 #[tactic(auto, using(crate::proofs::Joins::joins))]
 fn text_at_end(alloc: Global, decoder: &mut Decoder) -> Result<String, TextFault>
     requires { decoder.old.standing ≡ Standing.Open }
@@ -188,7 +184,7 @@ fn text_at_end(alloc: Global, decoder: &mut Decoder) -> Result<String, TextFault
 {
     let mut text = String::new(alloc);
     decoder.finish()?;
-    push_shown(&mut text, decoder)?;
+    push_shown_line(&mut text, decoder)?;
     push_counts(&mut text, decoder.tally())?;
     Ok(text)
 }

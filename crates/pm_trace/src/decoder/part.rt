@@ -1,6 +1,6 @@
 ghost use Rattle.std.specs.Prelude.{◌≡◌};
 
-use crate::hex_digit::pair_of;
+use crate::decoder::hex_digit::pair_of;
 use arrayvec::ArrayVec;
 use std::marker::Model;
 

@@ -4,8 +4,8 @@ use Rattle.std.specs.Prelude.{unwrap_or}
 use Rattle.std.specs.List.{range_with_len}
 use Rattle.std.proofs.lemmas.List.FromFn.{get_or-map-range_with_len}
 use Rattle.hex.specs.Hex.{hex_digit_value}
-use Rattle.pm_trace.specs.declared.hex_digit.TheConstants.{DIGIT_VALUES}
-use Rattle.pm_trace.proofs.hex_digit.value_or_none.Goals as goal
+use Rattle.pm_trace.specs.declared.decoder.hex_digit.TheConstants.{DIGIT_VALUES}
+use Rattle.pm_trace.proofs.decoder.hex_digit.value_or_none.Goals as goal
 
 abbrev value_of : ℕ → ℕ
 value_of byte = unwrap_or (hex_digit_value byte) 255

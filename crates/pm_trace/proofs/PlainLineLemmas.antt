@@ -1,4 +1,4 @@
--- What is kept of a line with one byte more at its end.
+-- What is kept of a line, each byte of which counts, with one byte more at its end.
 use Rattle.std.proofs.Common.{◌≡◌, ℕ, eqb, ltb, Bool, true, false, cond, not, ◌||◌, ◌&&◌, List, [], ◌∷◌, ◌++◌, length, take, Option, Some, None, refl, sym, ap, ◌∙◌, arith, append_assoc, append-nil, length-append, inl, inr}
 use Rattle.std.specs.Prelude.{flat_map, is_some}
 use Rattle.std.specs.List.{list_any, list_all}
@@ -13,9 +13,11 @@ use Rattle.pm_lines.specs.Lines.{is_space}
 use Rattle.pm_trace.specs.Marks.{ended, since, before, after}
 use Rattle.pm_trace.specs.Trace.{is_slash, is_separator, byte_of, unpaired, word_bytes, is_bad_word, part_bytes}
 use Rattle.pm_trace.specs.Parts.{Collected, part_of, part_takes}
-use Rattle.pm_trace.specs.OpenLines.{kind_of, kind_takes, body_of, body_takes, body_parts, body_goes_on}
-use Rattle.pm_trace.specs.declared.line_kind.LineKind.TheVariants.{Blank, Comment, Packet}
-use Rattle.pm_trace.specs.declared.part.TheConstants.{PART_BYTES}
+use Rattle.pm_trace.specs.OpenLines.{kind_of, kind_takes, slashes_of, one_slash_more, has_slash, has_more_slashes, plain_line, plain_takes, word_ends, word_goes_on}
+use Rattle.pm_trace.specs.declared.decoder.slashes.Slashes.{Slashes}
+use Rattle.pm_trace.specs.declared.decoder.slashes.Slashes.TheVariants as slash
+use Rattle.pm_trace.specs.declared.decoder.line_kind.LineKind.TheVariants.{Blank, Comment, Packet}
+use Rattle.pm_trace.specs.declared.decoder.part.TheConstants.{PART_BYTES}
 use Rattle.pm_trace.proofs.MarkLemmas.{before_none, after_none, ended-mark, ended-other, since-mark, since-other, split-ended, before-marked, before-unmarked, after-marked, after-unmarked}
 
 -- ---- pairs of digits
@@ -215,6 +217,43 @@ more-snoc line b = by (list_any is_slash line) refl
     by true some = ap (list_any is_slash) (after-marked is_slash line (b ∷ []) some) ∙ slash-snoc (after is_slash line) b
     by false none = ap (list_any is_slash) (after-unmarked is_slash line b none) ∙ rw (after_none is_slash line none) refl
 
+-- a line without a slash has none after it either
+no_more : (line : List ℕ) → list_any is_slash line ≡ false → list_any is_slash (after is_slash line) ≡ false
+no_more line none = ap (list_any is_slash) (after_none is_slash line none)
+
+pub has_slash-is : (line : List ℕ) → has_slash (slashes_of line) ≡ list_any is_slash line
+has_slash-is line = by (list_any is_slash line) (list_any is_slash (after is_slash line))
+  where
+    by : (any more : Bool) → has_slash (cond any (cond more slash.More slash.One) slash.None) ≡ any
+    by true true = refl
+    by true false = refl
+    by false more = refl
+
+pub has_more-is : (line : List ℕ) → has_more_slashes (slashes_of line) ≡ list_any is_slash (after is_slash line)
+has_more-is line = by (list_any is_slash line) (list_any is_slash (after is_slash line)) (no_more line)
+  where
+    by : (any more : Bool) → (any ≡ false → more ≡ false)
+        → has_more_slashes (cond any (cond more slash.More slash.One) slash.None) ≡ more
+    by true true none = refl
+    by true false none = refl
+    by false more none = sym (none refl)
+
+slashes-snoc : (line : List ℕ) (b : ℕ) → slashes_of (line ++ b ∷ []) ≡ cond (is_slash b) (one_slash_more (slashes_of line)) (slashes_of line)
+slashes-snoc line b =
+    (λ i. cond (slash-snoc line b i) (cond (more-snoc line b i) slash.More slash.One) slash.None)
+    ∙ by (list_any is_slash line) (list_any is_slash (after is_slash line)) (is_slash b) (no_more line)
+  where
+    by : (any more one : Bool) → (any ≡ false → more ≡ false)
+        → cond (any || one) (cond (more || (any && one)) slash.More slash.One) slash.None
+        ≡ cond one (one_slash_more (cond any (cond more slash.More slash.One) slash.None)) (cond any (cond more slash.More slash.One) slash.None)
+    by true true true none = refl
+    by true true false none = refl
+    by true false true none = refl
+    by true false false none = refl
+    by false true one none = let wrong = none refl in absurd (cc)
+    by false false true none = refl
+    by false false false none = refl
+
 bad-separator : (line : List ℕ) (b : ℕ) → is_separator b ≡ true
     → (list_any is_bad_word (ended is_separator (line ++ b ∷ [])) || not (list_all is_hex_digit (since is_separator (line ++ b ∷ []))))
     ≡ ((list_any is_bad_word (ended is_separator line) || not (list_all is_hex_digit (since is_separator line)))
@@ -243,82 +282,66 @@ bad-other line b other =
     ∙ not_both (list_any is_bad_word (ended is_separator line)) (list_all is_hex_digit (since is_separator line)) (is_hex_digit b)
     )
 
--- ---- the line without its carriage return
+-- ---- the line
 
-body_parted : (line : List ℕ) (b : ℕ) → is_separator b ≡ true → body_of (line ++ b ∷ []) ≡ body_parts (body_of line) b
-unfolding body_of
-body_parted line b is = λ i. record {
+word_ended : (line : List ℕ) (b : ℕ) → is_separator b ≡ true → plain_line (line ++ b ∷ []) ≡ word_ends (plain_line line) b
+unfolding plain_line
+word_ended line b is = λ i. record {
   kind = kind_of-snoc line b i;
   write = part_of (write_parted line b is i);
   read = part_of (read_parted line b is i);
   digit = unpaired (since-mark is_separator line b is i);
-  has_slash = slash-snoc line b i;
-  has_more = more-snoc line b i;
+  slashes = slashes-snoc line b i;
   is_bad = bad-separator line b is i;
+  is_returned = false;
 }
 
 digit-other : (line : List ℕ) (b : ℕ) → is_separator b ≡ false
     → unpaired (since is_separator (line ++ b ∷ [])) ≡ digit_after (unpaired (since is_separator line)) b
 digit-other line b other = ap unpaired (since-other is_separator line b other) ∙ unpaired-snoc (since is_separator line) b
 
-and-false : (a c : Bool) → (a || (c && false)) ≡ a
-and-false true c = refl
-and-false false true = refl
-and-false false false = refl
+module _ (line : List ℕ) (b : ℕ) (other : is_separator b ≡ false) where
+  slashes_stay : slashes_of (line ++ b ∷ []) ≡ slashes_of line
+  slashes_stay = slashes-snoc line b ∙ rw (not_slash b other) refl
 
-body_went_on : (line : List ℕ) (b : ℕ) → is_separator b ≡ false → body_of (line ++ b ∷ []) ≡ body_goes_on (body_of line) b
-unfolding body_of
-body_went_on line b other = by (unpaired (since is_separator line)) (list_any is_slash line) refl refl
+  -- the line by the digit that waits, and whether a slash came
+  went_on_by : (d : Option ℕ) (s : Bool) → unpaired (since is_separator line) ≡ d → has_slash (slashes_of line) ≡ s
+      → plain_line (line ++ b ∷ []) ≡ record {
+        kind = kind_takes (kind_of line) b;
+        write = cond s (part_of (part_bytes (before is_slash line))) (part_after d (part_of (part_bytes (before is_slash line))) b);
+        read = cond s (part_after d (part_of (part_bytes (after is_slash line))) b) (part_of (part_bytes (after is_slash line)));
+        digit = digit_after d b;
+        slashes = slashes_of line;
+        is_bad = (list_any is_bad_word (ended is_separator line) || not (list_all is_hex_digit (since is_separator line))) || not (is_hex_digit b);
+        is_returned = false;
+      }
+  unfolding plain_line
+  went_on_by d s isd iss =
+      let some : list_any is_slash line ≡ s = sym (has_slash-is line) ∙ iss in λ i. record {
+        kind = kind_of-snoc line b i;
+        write = write_field line b other d s isd some i;
+        read = read_field line b other d s isd some i;
+        digit = (digit-other line b other ∙ ap (λ e. digit_after e b) isd) i;
+        slashes = slashes_stay i;
+        is_bad = bad-other line b other i;
+        is_returned = false;
+      }
+
+  word_went_on : plain_line (line ++ b ∷ []) ≡ word_goes_on (plain_line line) b
+  unfolding plain_line
+  word_went_on = by (unpaired (since is_separator line)) (has_slash (slashes_of line)) refl refl
+    where
+      by : (d : Option ℕ) (s : Bool) → unpaired (since is_separator line) ≡ d → has_slash (slashes_of line) ≡ s
+          → plain_line (line ++ b ∷ []) ≡ word_goes_on (plain_line line) b
+      by None true isd iss = went_on_by None true isd iss ∙ rw isd refl
+      by None false isd iss = went_on_by None false isd iss ∙ rw isd refl
+      by (Some high) true isd iss = went_on_by (Some high) true isd iss ∙ rw (isd, iss) refl
+      by (Some high) false isd iss = went_on_by (Some high) false isd iss ∙ rw (isd, iss) refl
+
+pub plain_line-snoc : (line : List ℕ) (b : ℕ) → plain_line (line ++ b ∷ []) ≡ plain_takes (plain_line line) b
+unfolding plain_takes
+plain_line-snoc line b = by (is_separator b) refl
   where
-    slash : list_any is_slash (line ++ b ∷ []) ≡ list_any is_slash line
-    slash = slash-snoc line b ∙ rw (not_slash b other) (or-false (list_any is_slash line))
-
-    more : list_any is_slash (after is_slash (line ++ b ∷ [])) ≡ list_any is_slash (after is_slash line)
-    more = more-snoc line b ∙ rw (not_slash b other) (and-false (list_any is_slash (after is_slash line)) (list_any is_slash line))
-
-    by : (d : Option ℕ) (s : Bool) → unpaired (since is_separator line) ≡ d → list_any is_slash line ≡ s
-        → body_of (line ++ b ∷ []) ≡ body_goes_on (body_of line) b
-    by None true isd iss = rw (isd, iss) (λ i. record {
-      kind = kind_of-snoc line b i;
-      write = write_field line b other None true isd iss i;
-      read = read_field line b other None true isd iss i;
-      digit = (digit-other line b other ∙ ap (λ d. digit_after d b) isd) i;
-      has_slash = (slash ∙ iss) i;
-      has_more = more i;
-      is_bad = bad-other line b other i;
-    })
-    by None false isd iss = rw (isd, iss) (λ i. record {
-      kind = kind_of-snoc line b i;
-      write = write_field line b other None false isd iss i;
-      read = read_field line b other None false isd iss i;
-      digit = (digit-other line b other ∙ ap (λ d. digit_after d b) isd) i;
-      has_slash = (slash ∙ iss) i;
-      has_more = more i;
-      is_bad = bad-other line b other i;
-    })
-    by (Some h) true isd iss = rw (isd, iss) (λ i. record {
-      kind = kind_of-snoc line b i;
-      write = write_field line b other (Some h) true isd iss i;
-      read = read_field line b other (Some h) true isd iss i;
-      digit = (digit-other line b other ∙ ap (λ d. digit_after d b) isd) i;
-      has_slash = (slash ∙ iss) i;
-      has_more = more i;
-      is_bad = bad-other line b other i;
-    })
-    by (Some h) false isd iss = rw (isd, iss) (λ i. record {
-      kind = kind_of-snoc line b i;
-      write = write_field line b other (Some h) false isd iss i;
-      read = read_field line b other (Some h) false isd iss i;
-      digit = (digit-other line b other ∙ ap (λ d. digit_after d b) isd) i;
-      has_slash = (slash ∙ iss) i;
-      has_more = more i;
-      is_bad = bad-other line b other i;
-    })
-
-pub body_of-snoc : (line : List ℕ) (b : ℕ) → body_of (line ++ b ∷ []) ≡ body_takes (body_of line) b
-unfolding body_takes
-body_of-snoc line b = by (is_separator b) refl
-  where
-    by : (c : Bool) → is_separator b ≡ c → body_of (line ++ b ∷ []) ≡ cond c (body_parts (body_of line) b) (body_goes_on (body_of line) b)
-    by true is = body_parted line b is
-    by false other = body_went_on line b other
+    by : (c : Bool) → is_separator b ≡ c → plain_line (line ++ b ∷ []) ≡ cond c (word_ends (plain_line line) b) (word_goes_on (plain_line line) b)
+    by true is = word_ended line b is
+    by false other = word_went_on line b other
