@@ -124,6 +124,10 @@ open_read line = if line.is_bad || is_some line.digit then Err fault.BadHex
 abbrev pub open_judged : OpenLine → Judged
 open_judged line = reading_judged (open_read line)
 
+-- the same, where it isn't skipped
+abbrev pub open_told : OpenLine → Option Judged
+open_told line = if is_skipped_kind line.kind then None else Some (open_judged line)
+
 -- ---- a line whose end may come
 
 -- the carriage return at its end is held back, since it is no part of a line that ends here

@@ -217,10 +217,11 @@ impl Decoder {
     pub fn line(&self) -> Option<(u64, Shown<'_>)>
         ensures { option_map told_in result ≡ self.now.shown }
     {
-        if !self.gathered.has_ended || self.gathered.line.is_skipped() {
+        if !self.gathered.has_ended {
             return None;
         }
-        Some((self.gathered.ended, self.gathered.line.shown()))
+        let shown = self.gathered.line.shown()?;
+        Some((self.gathered.ended, shown))
     }
 
     /// How many lines ended that are not skipped, and how many of these were accepted, have a faulty

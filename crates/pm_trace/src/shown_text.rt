@@ -1,14 +1,13 @@
 //! The text of a line that is shown.
 ghost use Rattle.std.specs.Prelude.{◌≡◌, ◌++◌, [], OnOk, string_bytes, option_map, unwrap_or, decimal, codes};
 ghost use Rattle.std.specs.Fmt.{signed_decimal};
-ghost use Rattle.pm_frame.specs.Layout.{payload_bytes};
 ghost use Rattle.pm_trace.specs.ShownLines.{judged_in};
 ghost use Rattle.pm_trace.specs.TraceText.{told_line, told_text, judged_text, address_text, fault_text, message_text};
 ghost use Rattle.pm_trace.specs.TraceText.{plain_text, page_text, payload_text, written_text, asked_text, numbers_text, code_name};
 ghost use Rattle.pm_table.specs.Coefficients.{coefficients_of};
 
 use crate::shown::Shown;
-use pm_frame::{FrameFault, Message, Payload};
+use pm_frame::{FrameFault, FrameView, Message};
 use pm_lines::{push_decimal, push_hex, push_hex_number, push_signed};
 use pm_table::{Code, Coefficients, known};
 use std::alloc::AllocError;
@@ -44,7 +43,7 @@ fn push_shown(text: &mut String, shown: &Shown<'_>) -> Result<(), AllocError>
         Shown::Accepted { addr, view, answer } => {
             push_hex(text, *addr)?;
             text.push_str(" ")?;
-            push_message(text, view.message(), *answer)
+            push_packet(text, view, *answer)
         }
         Shown::Faulty { addr, read, fault } => {
             push_address(text, *addr)?;
@@ -94,66 +93,40 @@ fn push_placed(text: &mut String, name: &str, place: usize) -> Result<(), AllocE
 
 // What a packet says that was accepted.
 #[tactic(auto, using(crate::proofs::Joins::joins), unfolding(crate::specs::TraceText::plain_text))]
-fn push_message(
+fn push_packet(
     text: &mut String,
-    message: Message,
+    view: &FrameView<'_>,
     answer: Option<&[u8]>,
 ) -> Result<(), AllocError>
     ensures { OnOk result (string_bytes text.new ≡ string_bytes text.old
-        ++ message_text message (option_map (λ bytes. bytes.now) answer.entry)) }
+        ++ message_text view.now (option_map (λ bytes. bytes.now) answer.entry)) }
 {
-    match message {
-        Message::SendByte { code } => push_plain(text, None, code, Payload::Empty, answer),
-        Message::WriteByte { code, byte } => push_plain(
-            text,
-            None,
-            code,
-            Payload::Byte(byte),
-            answer,
-        ),
-        Message::WriteWord { code, word } => push_plain(
-            text,
-            None,
-            code,
-            Payload::Word(word),
-            answer,
-        ),
-        Message::PagePlusWrite {
-            page,
-            code,
-            payload,
-        } => { push_plain(text, Some(page), code, payload, answer) }
-        Message::ReadCommand { code } => push_plain(text, None, code, Payload::Empty, answer),
-        Message::PagePlusRead { page, code } => {
-            push_plain(text, Some(page), code, Payload::Empty, answer)
-        }
+    match view.message() {
         Message::ReadCoefficients { code, side } => {
             push_coefficients(text, code, side, answered(answer))
         }
+        _ => push_plain(text, view, answer),
     }
 }
 
 // The page that a packet names, its code's name, and what it carries.
-#[tactic(auto, using(crate::proofs::Joins::joins))]
+#[tactic(auto, using(crate::proofs::Joins::joins), unfolding(crate::specs::TraceText::plain_text))]
 fn push_plain(
     text: &mut String,
-    page: Option<u8>,
-    code: u8,
-    payload: Payload,
+    view: &FrameView<'_>,
     answer: Option<&[u8]>,
 ) -> Result<(), AllocError>
     ensures { OnOk result (string_bytes text.new ≡ string_bytes text.old
-        ++ (page_text page ++ (code_name code
-        ++ payload_text (payload_bytes payload) (option_map (λ bytes. bytes.now) answer.entry)))) }
+        ++ plain_text view.now (option_map (λ bytes. bytes.now) answer.entry)) }
 {
-    push_page(text, page)?;
-    text.push_str(name_of(code))?;
+    push_page(text, view.page())?;
+    text.push_str(name_of(view.code()))?;
     match answer {
         Some(answer) => {
             text.push_str(" read ")?;
             push_hex_number(text, answer)
         }
-        None => push_written(text, payload),
+        None => push_written(text, view.payload()),
     }
 }
 
@@ -172,21 +145,15 @@ fn push_page(text: &mut String, page: Option<u8>) -> Result<(), AllocError>
 
 // What a write carries.
 #[tactic(auto, using(crate::proofs::Joins::joins))]
-fn push_written(text: &mut String, payload: Payload) -> Result<(), AllocError>
+fn push_written(text: &mut String, payload: &[u8]) -> Result<(), AllocError>
     ensures { OnOk result (string_bytes text.new
-        ≡ string_bytes text.old ++ written_text (payload_bytes payload)) }
+        ≡ string_bytes text.old ++ written_text payload.now) }
 {
-    match payload {
-        Payload::Empty => text.push_str(" send"),
-        Payload::Byte(byte) => {
-            text.push_str(" write ")?;
-            push_hex_number(text, &[byte])
-        }
-        Payload::Word(word) => {
-            text.push_str(" write ")?;
-            push_hex_number(text, &word.to_le_bytes())
-        }
+    if payload.is_empty() {
+        return text.push_str(" send");
     }
+    text.push_str(" write ")?;
+    push_hex_number(text, payload)
 }
 
 /// The name of a code that stands in the command table.

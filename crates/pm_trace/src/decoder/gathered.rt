@@ -23,7 +23,7 @@ pub(crate) struct Gathered {
 }
 
 impl Gathered {
-    ghost use Rattle.std.specs.Prelude.{[], false, ◌+◌, ◌≤◌, ◌<◌, ◌^◌, ◌++◌, length, if◌then◌else◌, IfOk, OnOk, OnErr, string_bytes};
+    ghost use Rattle.std.specs.Prelude.{[], true, false, ◌+◌, ◌≤◌, ◌<◌, ◌^◌, ◌++◌, length, if◌then◌else◌, IfOk, OnOk, OnErr, string_bytes};
     ghost use Rattle.pm_trace.specs.Counts.{lines_in};
     ghost use Rattle.pm_trace.specs.Gathered.{kept_in, shown_in, IsBounded, IsReady, Takes, TakesLine};
     ghost use Rattle.pm_trace.specs.Decoding.{now, told, some_told, first_line, line_ended, line_told, CarriesNew};
@@ -123,11 +123,10 @@ impl Gathered {
             (CarriesNew self.old.tally (some_told (line_told (kept_in self.old)))) }
         ensures unchanged { OnErr result (self.new ≡ self.old) }
     {
-        if !self.line.is_skipped() {
-            self.tally.count(&self.line.shown())?;
+        if let Some(shown) = self.line.shown() {
+            self.tally.count(&shown)?;
         }
-        self.ended += 1;
-        self.has_ended = true;
+        self.close();
         Ok(())
     }
 
@@ -145,13 +144,20 @@ impl Gathered {
         ensures text { OnOk result (string_bytes text.new
             ≡ string_bytes text.old ++ told_lines (some_told (line_told (kept_in self.old)))) }
     {
-        if !self.line.is_skipped() {
-            let shown = self.line.shown();
+        if let Some(shown) = self.line.shown() {
             push_told(text, self.ended + 1, &shown)?;
             self.tally.count(&shown)?;
         }
+        self.close();
+        Ok(())
+    }
+
+    // One line more ended.
+    fn close(&mut self)
+        requires { self.old.ended + 1 < 2 ^ 64 }
+        ensures { self.new ≡ record self.old { ended = self.old.ended + 1; has_ended = true } }
+    {
         self.ended += 1;
         self.has_ended = true;
-        Ok(())
     }
 }

@@ -28,7 +28,7 @@ pub(crate) struct OpenLine {
 impl OpenLine {
     ghost use Rattle.std.specs.Prelude.{[], option_map, IfOk, IfErr, Ok, Err};
     ghost use Rattle.pm_trace.specs.OpenLines.{line_of, line_takes, plain_takes, word_ends, word_goes_on, with_byte, is_begun};
-    ghost use Rattle.pm_trace.specs.OpenLines.{open_read, open_judged, is_skipped_kind, Passes, IsAtLineFeed};
+    ghost use Rattle.pm_trace.specs.OpenLines.{open_read, open_told, Passes, IsAtLineFeed};
     ghost use Rattle.pm_trace.specs.ShownLines.{judged_in};
     ghost use Rattle.pm_trace.specs.Trace.{line_read};
 
@@ -198,22 +198,18 @@ impl OpenLine {
         }
     }
 
-    /// What the line says as it stands.
-    pub(crate) fn shown(&self) -> Shown<'_>
-        ensures { judged_in result ≡ open_judged self.now }
+    /// What the line says as it stands, where it isn't skipped.
+    pub(crate) fn shown(&self) -> Option<Shown<'_>>
+        ensures { option_map judged_in result ≡ open_told self.now }
     {
-        match self.parts() {
+        if self.kind.is_skipped() {
+            return None;
+        }
+        Some(match self.parts() {
             Ok((write, read)) => packet_shown(write, read),
             Err(LineFault::Syntax) => Shown::BadSyntax,
             Err(LineFault::BadHex) => Shown::BadHex,
-        }
-    }
-
-    /// Whether the line is skipped as it stands.
-    pub(crate) fn is_skipped(&self) -> bool
-        ensures { result ≡ is_skipped_kind self.now.kind }
-    {
-        self.kind.is_skipped()
+        })
     }
 
     /// Whether the line has a byte.

@@ -1,7 +1,7 @@
-ghost use Rattle.std.specs.Prelude.{◌≡◌};
+ghost use Rattle.std.specs.Prelude.{◌≡◌, ◌≤◌, length};
+ghost use Rattle.pm_trace.specs.Pairs.{paired_bytes, behind_pairs};
 
 use crate::decoder::hex_digit::pair_of;
-use arrayvec::ArrayVec;
 use std::marker::Model;
 
 /// The most bytes that a part of a trace line may have.
@@ -10,16 +10,22 @@ pub const PART_BYTES: usize = 300;
 /// The first bytes of a part, and whether it had more than one may have.
 #[derive(Debug, Drop)]
 pub(crate) struct Part {
-    bytes: ArrayVec<u8, PART_BYTES>,
+    // The bytes, and room for more.
+    bytes: [u8; PART_BYTES],
+    length: usize,
     is_long: bool,
 }
 
 impl Model for Part {
+    ghost use Rattle.std.specs.Prelude.{◌≤◌, take};
     ghost use Rattle.pm_trace.specs.Parts.{Collected};
+    ghost use Rattle.pm_trace.specs.declared.decoder.part.TheConstants.{PART_BYTES};
 
     ghost Value = { Collected };
 
-    ghost view = { λ p. record { bytes = p.bytes.items; is_long = p.is_long } };
+    ghost view = { λ p. record { bytes = take p.length p.bytes; is_long = p.is_long } };
+
+    ghost invariant = { λ p. p.length ≤ PART_BYTES };
 }
 
 impl Part {
@@ -34,7 +40,8 @@ impl Part {
         ensures { result ≡ part_of [] }
     {
         Part {
-            bytes: ArrayVec::new(),
+            bytes: [0; PART_BYTES],
+            length: 0,
             is_long: false,
         }
     }
@@ -44,9 +51,12 @@ impl Part {
     pub(crate) fn take(&mut self, byte: u8)
         ensures { self.new ≡ part_takes self.old byte }
     {
-        if self.bytes.try_push(byte).is_err() {
+        if self.length == PART_BYTES {
             self.is_long = true;
+            return;
         }
+        self.bytes[self.length] = byte;
+        self.length += 1;
     }
 
     /// Takes the bytes that the pairs of digits at the front write, up to what is no such pair, and
@@ -64,7 +74,7 @@ impl Part {
                         return rest;
                     };
                     self.take(byte);
-                    rest = more;
+                    rest = after_space(more);
                 }
                 _ => return rest,
             }
@@ -76,7 +86,7 @@ impl Part {
     pub(crate) fn clear(&mut self)
         ensures { self.new ≡ part_of [] }
     {
-        self.bytes.clear();
+        self.length = 0;
         self.is_long = false;
     }
 
@@ -84,7 +94,7 @@ impl Part {
     pub(crate) fn bytes(&self) -> &[u8]
         ensures { result.now ≡ self.now.bytes }
     {
-        self.bytes.as_slice()
+        &self.bytes[..self.length]
     }
 
     /// Whether it had more bytes than a part may have.
@@ -92,5 +102,17 @@ impl Part {
         ensures { result ≡ self.now.is_long }
     {
         self.is_long
+    }
+}
+
+// What stands after a space, where one stands first: most pairs are followed by one.
+fn after_space(digits: &[u8]) -> &[u8]
+    ensures taken { paired_bytes result.now ≡ paired_bytes digits.entry.now }
+    ensures rest { behind_pairs result.now ≡ behind_pairs digits.entry.now }
+    ensures fewer { length result.now ≤ length digits.entry.now }
+{
+    match digits {
+        [b' ', more @ ..] => more,
+        _ => digits,
     }
 }
