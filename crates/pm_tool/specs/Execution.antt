@@ -118,6 +118,16 @@ abbrev pub GaveSome : Option (List ℕ) → Option (List ℕ) → Type 0
 GaveSome old new =
     (front : List ℕ) × (0 < length front) × (length front ≤ MAX_TEXT) × Consumes old new front
 
+-- how an engine ends that writes its whole text or refuses: what the reader gave makes this text,
+-- with this status, or is refused so; the reader failed exactly where X4 is said
+abbrev pub TextEnds : {R : Type 0} → Held R → (ℕ → List ℕ → Type 0) → (TextFault → Type 0) → End → Type 0
+TextEnds new Gives Refuses (Printed status text) = IsFalse new.failed × Gives status text
+TextEnds new Gives Refuses (CutShort text) = IsFalse new.failed × (status : ℕ) × Gives status text
+TextEnds new Gives Refuses (Refused status words) = (status ≡ 1) × (fault : TextFault)
+    × (words ≡ text_refusal fault) × (IsTrue new.failed ↔ (fault ≡ Read)) × Refuses fault
+TextEnds new Gives Refuses (Broken text words) = ⊥
+TextEnds new Gives Refuses (Misused text) = ⊥
+
 -- ---- `hear`
 
 -- the reader gave a text of which this is the outcome
@@ -135,17 +145,11 @@ HearRefuses old new Write = ⊥
 HearRefuses old new Memory = GaveSome old new
 HearRefuses old new (Setup fault) = ⊥
 
--- how `hear` ends; the reader failed exactly where X4 is said
+-- how `hear` ends
 abbrev pub HearEnds : {R : Type 0} → (R → Option (List ℕ)) → Held R → Held R → End → Type 0
-HearEnds remaining old new (Printed status text) = (status ≡ 0) × IsFalse new.failed
-    × GaveText (remaining old.inner) (remaining new.inner) (Ok text)
-HearEnds remaining old new (CutShort text) = IsFalse new.failed
-    × GaveText (remaining old.inner) (remaining new.inner) (Ok text)
-HearEnds remaining old new (Refused status words) = (status ≡ 1)
-    × (fault : TextFault) × (words ≡ text_refusal fault) × (IsTrue new.failed ↔ (fault ≡ Read))
-    × HearRefuses (remaining old.inner) (remaining new.inner) fault
-HearEnds remaining old new (Broken text words) = ⊥
-HearEnds remaining old new (Misused text) = ⊥
+HearEnds remaining old new end = TextEnds new
+    (λ status text. (status ≡ 0) × GaveText (remaining old.inner) (remaining new.inner) (Ok text))
+    (HearRefuses (remaining old.inner) (remaining new.inner)) end
 
 -- ---- `replay`
 
@@ -175,17 +179,12 @@ abbrev pub replay_status : ReplayEnd → ℕ
 replay_status AllTaken = 0
 replay_status Stopped = 1
 
--- how `replay` ends; the reader failed exactly where X4 is said
+-- how `replay` ends
 abbrev pub ReplayEnds : {R : Type 0} → (R → Option (List ℕ)) → Held R → Held R → End → Type 0
-ReplayEnds remaining old new (Printed status text) = IsFalse new.failed × (end : ReplayEnd)
-    × (status ≡ replay_status end) × GaveScenario (remaining old.inner) (remaining new.inner) text end
-ReplayEnds remaining old new (CutShort text) = IsFalse new.failed × (end : ReplayEnd)
-    × GaveScenario (remaining old.inner) (remaining new.inner) text end
-ReplayEnds remaining old new (Refused status words) = (status ≡ 1)
-    × (fault : TextFault) × (words ≡ text_refusal fault) × (IsTrue new.failed ↔ (fault ≡ Read))
-    × ReplayRefuses (remaining old.inner) (remaining new.inner) fault
-ReplayEnds remaining old new (Broken text words) = ⊥
-ReplayEnds remaining old new (Misused text) = ⊥
+ReplayEnds remaining old new end = TextEnds new
+    (λ status text. (end : ReplayEnd) × (status ≡ replay_status end)
+    × GaveScenario (remaining old.inner) (remaining new.inner) text end)
+    (ReplayRefuses (remaining old.inner) (remaining new.inner)) end
 
 -- ---- `decode`
 

@@ -3,7 +3,7 @@ ghost use Rattle.std.specs.Io.KnownBytes.{Keeps};
 ghost use Rattle.clap.specs.Words.{kind_of};
 ghost use Rattle.pm_tool.specs.Execution.{DecodeEnds, End, HearEnds, IsDone, IsEnd, NumberEnds, ReplayEnds, RunEnds, Says, UsageEnds};
 ghost use Rattle.pm_tool.specs.Execution.{decode_status as status_of_decode, replay_status as status_of_replay};
-ghost use Rattle.pm_tool.specs.Execution.{CutShort, Printed, arguments_of, no_words_end, refusal_line, said_by, status_of, wants_memory};
+ghost use Rattle.pm_tool.specs.Execution.{CutShort, Printed, arguments_of, no_words_end, refusal_line, said_by, status_of, text_refusal, wants_memory};
 ghost use Rattle.pm_tool.specs.Question.{asked_by};
 
 use crate::commandline::{Chosen, chosen};
@@ -71,10 +71,7 @@ fn run_hear<R: Read, W: Write, E: Write>(
 {
     match hear(alloc, input, output) {
         Ok(()) => done(output, errors, 0),
-        Err(fault) => {
-            say_fault(errors, &fault);
-            1
-        }
+        Err(fault) => refuse_text(errors, &fault),
     }
 }
 
@@ -93,10 +90,7 @@ fn run_replay<R: Read, W: Write, E: Write>(
 {
     match replay(alloc, input, output) {
         Ok(end) => done(output, errors, replay_status(end)),
-        Err(fault) => {
-            say_fault(errors, &fault);
-            1
-        }
+        Err(fault) => refuse_text(errors, &fault),
     }
 }
 
@@ -115,11 +109,18 @@ fn run_decode<R: Read, W: Write, E: Write>(
 {
     match decode(alloc, input, output) {
         Ok(end) => done(output, errors, decode_status(end)),
-        Err(fault) => {
-            say_fault(errors, &fault);
-            1
-        }
+        Err(fault) => refuse_text(errors, &fault),
     }
+}
+
+// Says why a text is refused.
+fn refuse_text<E: Write>(errors: &mut Sink<E>, fault: &TextFault) -> u8
+    requires { IsFalse errors.old.failed }
+    ensures status { result ≡ 1 }
+    ensures said { Says E.contents errors.old errors.new (Some (refusal_line (text_refusal fault.now))) }
+{
+    say_fault(errors, fault);
+    1
 }
 
 // The status of a replay that was reported: 1 where it stopped.
