@@ -1,8 +1,7 @@
-//! Digits in base 16, as a trace has them.
+//! Hexadecimal digits, in either case, and the pairs that write a byte.
 ghost use Rattle.std.specs.Prelude.{◌≡◌, ◌≤◌, unwrap_or};
-ghost use Rattle.hex.specs.Hex.{is_hex_digit, hex_digit_value};
-ghost use Rattle.pm_trace.specs.Pairs.{pair_of as spec_pair_of};
-ghost use Rattle.pm_trace.specs.Trace.{digit_value, byte_of as spec_byte_of};
+ghost use Rattle.hex.specs.Hex.{hex_digit_value, is_hex_digit};
+ghost use Rattle.pm_lines.specs.Pairs.{byte_of as spec_byte_of, digit_value, pair_of as spec_pair_of};
 
 // The value of each byte that is a digit, and 255 of each other one.
 #[rattlefmt::skip]
@@ -26,7 +25,7 @@ const DIGIT_VALUES: [u8; 256] = [
 ];
 
 /// The byte that two digits write, where both are digits.
-pub(crate) fn pair_of(high: u8, low: u8) -> Option<u8>
+pub fn pair_of(high: u8, low: u8) -> Option<u8>
     ensures { result ≡ spec_pair_of high low }
 {
     let high = value_or_none(high);
@@ -38,22 +37,15 @@ pub(crate) fn pair_of(high: u8, low: u8) -> Option<u8>
     }
 }
 
-// The value of a digit, and 255 of another byte.
-fn value_or_none(byte: u8) -> u8
-    ensures { result ≡ unwrap_or (hex_digit_value byte) 255 }
-{
-    DIGIT_VALUES[usize::from(byte)]
-}
-
-/// Whether the byte is a digit, in either case.
-pub(crate) fn is_digit(byte: u8) -> bool
+/// Whether the byte is a digit.
+pub fn is_digit(byte: u8) -> bool
     ensures { result ≡ is_hex_digit byte }
 {
     value_or_none(byte) < 16
 }
 
-/// The byte that two digits write.
-pub(crate) fn byte_of(high: u8, low: u8) -> u8
+/// The byte that two digits write; a byte that is no digit counts as 0.
+pub fn byte_of(high: u8, low: u8) -> u8
     ensures { result ≡ spec_byte_of high low }
 {
     value(high) * 16 + value(low)
@@ -66,4 +58,11 @@ fn value(byte: u8) -> u8
 {
     let value = value_or_none(byte);
     if value < 16 { value } else { 0 }
+}
+
+// The value of a digit, and 255 for another byte.
+fn value_or_none(byte: u8) -> u8
+    ensures { result ≡ unwrap_or (hex_digit_value byte) 255 }
+{
+    DIGIT_VALUES[usize::from(byte)]
 }

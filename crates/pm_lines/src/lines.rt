@@ -2,7 +2,7 @@ ghost use Rattle.std.specs.Prelude.{◌≡◌, ◌<◌, ◌+◌, ◌^◌, [], �
 ghost use Rattle.std.specs.List.{list_all};
 ghost use Rattle.pm_lines.specs.Lines.{lines_of, unskipped_from, is_line_feed, is_skipped, is_space, without_return};
 
-use crate::cut::cut_at;
+use crate::cut::cut_at_line_feed;
 use crate::line::Line;
 use std::marker::Model;
 
@@ -53,7 +53,7 @@ impl<'a> Lines<'a> {
         ensures count { self.new.count ≡ self.old.count }
     {
         'lines: while !self.rest.is_empty() {
-            let (line, rest) = cut_at(self.rest, b'\n');
+            let (line, rest) = cut_at_line_feed(self.rest);
             let text = without_carriage_return(line);
             self.rest = rest;
             self.number += 1;
@@ -67,8 +67,8 @@ impl<'a> Lines<'a> {
         None
     }
 
-    /// The number after that of the last line that was passed: once `next_line` gave None, the
-    /// number of a line that is missing.
+    /// The number of the next line. After `next_line` gave `None` it is the number to report for a
+    /// missing line.
     pub fn next_number(&self) -> u64
         ensures { result ≡ self.now.passed + 1 }
     {
@@ -94,8 +94,8 @@ fn is_skipped_line(line: &[u8]) -> bool
     is_blank(line) || line.starts_with(b"#")
 }
 
-// Whether the line has no byte but spaces.
-fn is_blank(line: &[u8]) -> bool
+/// Whether the line has no byte but spaces.
+pub fn is_blank(line: &[u8]) -> bool
     ensures { result ≡ list_all is_space line.now }
 {
     line.iter().all(|byte| *byte == b' ')
