@@ -2,7 +2,7 @@ ghost use Rattle.std.specs.Prelude.{◌≡◌, ◌<◌, ◌+◌, ◌^◌, [], �
 ghost use Rattle.std.specs.List.{list_all};
 ghost use Rattle.pm_lines.specs.Lines.{lines_of, unskipped_from, is_line_feed, is_skipped, is_space, without_return};
 
-use crate::cut::cut_at_line_feed;
+use crate::cut::cut_at;
 use crate::line::Line;
 use std::marker::Model;
 
@@ -53,7 +53,7 @@ impl<'a> Lines<'a> {
         ensures count { self.new.count ≡ self.old.count }
     {
         'lines: while !self.rest.is_empty() {
-            let (line, rest) = cut_at_line_feed(self.rest);
+            let (line, rest) = cut_at(self.rest, b'\n');
             let text = without_carriage_return(line);
             self.rest = rest;
             self.number += 1;
