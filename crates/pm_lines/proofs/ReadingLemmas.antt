@@ -1,19 +1,18 @@
 -- That `std` reads a text without a leading `+` as the definitions of `specs/Digits.antt` do.
-use Rattle.std.proofs.Common.{◌≡◌, ◌≢◌, ◌∙◌, ◌+◌, ◌-◌, ◌*◌, ◌^◌, ◌<◌, ◌≤◌, ◌&&◌, ℕ, ℤ, pos, neg_ℤ, Bool, true, false, cond, zero, suc, refl, lit<, lit≤, sym, ap, ap₂, subst, Decides, arith, List, [], ◌∷◌, length, get_or, Some, None, Result, Ok, Err, option_map, eqb, nat_lt, lt-ltb, ltb-true, true≢false, eq-eqb}
+use Rattle.std.proofs.Common.{◌≡◌, ◌≢◌, ◌∙◌, ◌+◌, ◌-◌, ◌*◌, ◌^◌, ◌<◌, ◌≤◌, ◌&&◌, ℕ, ℤ, pos, neg_ℤ, Bool, true, false, cond, zero, suc, refl, lit<, lit≤, sym, ap, ap₂, subst, Decides, arith, List, [], ◌∷◌, length, get_or, Option, Some, None, Result, Ok, Err, option_map, eqb, nat_lt, lt-ltb, ltb-true, true≢false, eq-eqb}
 use Rattle.std.specs.Option.{IfNone, option_and_then}
 use Rattle.std.specs.Result.{MatchResult, OkIff, result_ok}
 use Rattle.std.specs.Int.{IsInRange}
-use Rattle.std.specs.Char.{digit_value}
+use Rattle.hex.specs.Hex.{hex_digit_value, is_hex_digit}
 use Rattle.std.specs.Str.{IsAscii, IsUtf8}
-use Rattle.std.specs.Str.Parse.{AllDigits, IsNumeral, ParsesSigned, ParsesUnsigned, digits_value, digits_value_after}
-use Rattle.std.proofs.lemmas.Str.Parse.{IsDigitsTest, IsNumeralModel, WeighsDigits, numerals_by_weight, parse_plain, parse_signed_minus, parse_signed_plain, without_leading_plus_none}
+use Rattle.std.specs.Str.Parse.{ParsesSigned, ParsesUnsigned}
+use Rattle.std.proofs.lemmas.Str.Parse.{IsDigitsTest, IsNumeralModel, WeighsDigits, numerals_by_weight, parse_plain, parse_signed_minus, parse_signed_plain}
 use Rattle.std.proofs.lemmas.Bool.Decides.{nat_tests, Decides-eqb}
 use Rattle.std.proofs.lemmas.Nat.{pow_pos}
 use Rattle.std.proofs.lemmas.Str.{IsUtf8-from_ascii}
-use Rattle.std.proofs.lemmas.Int.Digits.{digits_value-lt}
-use Rattle.std.proofs.Math.Nat.{pow-suc}
 use mir.Syntax.{Width}
 use mir.Val.{hbits}
+use Rattle.pm_lines.specs.Pairs.{byte_of, digit_value, pair_of}
 use Rattle.pm_lines.specs.Digits.{are_digits, decimal_of, digit, fits, hex_of, natural_of, place_sum, signed_of, small_of}
 
 both : (a b : Bool) → (a && b) ≡ true → (a ≡ true) × (b ≡ true)
@@ -102,46 +101,48 @@ module _ {E : Type 0} (w : Width) (bits : ℕ) (same : hbits w ≡ bits - 1) (r 
 
 -- ---- hexadecimal
 
-digit_known : (c : ℕ) → nat_lt (digit c) 16 ≡ true → (digit_value c < 16) × (digit c ≡ digit_value c)
-digit_known c e = (grind (arith, nat_tests), grind (arith, nat_tests))
+-- a digit is read as `hex` reads it
+digit_is : (c : ℕ) → hex_digit_value c ≡ cond (nat_lt (digit c) 16) (Some (digit c)) None
+digit_is c = grind (arith, nat_tests)
 
-known_digit : (c : ℕ) → digit_value c < 16 → nat_lt (digit c) 16 ≡ true
-known_digit c h = grind (arith, nat_tests)
-
-all_known : (text : List ℕ) → are_digits 16 text ≡ true → AllDigits 16 text
-all_known [] e = tt
-all_known (c ∷ cs) e = let p = both (nat_lt (digit c) 16) _ e in ((digit_known c p.0).0, all_known cs p.1)
-
-known_all : (text : List ℕ) → AllDigits 16 text → are_digits 16 text ≡ true
-known_all [] h = refl
-known_all (c ∷ cs) h = ap₂ (λ x y. x && y) (known_digit c h.0) (known_all cs h.1)
-
--- the digits after those of n, each at its place
-places_after : (n : ℕ) (text : List ℕ) → are_digits 16 text ≡ true → digits_value_after 16 n text ≡ n * 16 ^ length text + place_sum 16 text
-places_after n [] e = omega arith
-places_after n (c ∷ cs) e =
-    let p = both (nat_lt (digit c) 16) _ e in
-    let same = (digit_known c p.0).1 in
-    let rest = places_after (n * 16 + digit_value c) cs p.1 in
-    rest ∙ (let power : 16 ^ suc (length cs) ≡ 16 ^ length cs * 16 = pow-suc 16 (length cs) in rw (same, power) (omega arith))
-
--- what `from_str_radix` reads of as many digits as the type has is their number
-pub hex_read : {E : Type 0} (bits count : ℕ) (same : 16 ^ count ≡ 2 ^ bits) (r : Result ℕ E) (text : List ℕ) → ParsesUnsigned bits 16 text r → get_or text 0 0 ≢ 43 → length text ≡ count
-    → result_ok r ≡ hex_of count text
-hex_read bits count same r text h plus counted =
-    let bare : OkIff r (IsNumeral 16 text × (digits_value 16 text < 2 ^ bits)) (digits_value 16 text) =
-    subst (λ t. OkIff r (IsNumeral 16 t × (digits_value 16 t < 2 ^ bits)) (digits_value 16 t)) (without_leading_plus_none text plus) h in
-    as_tested r (nat_lt 0 (length text) && are_digits 16 text) _ _ bare
-    (λ e. let p = both (nat_lt 0 (length text)) _ e in let all = all_known text p.1 in
-    ((ltb-true _ _ p.0, all), subst (λ k. digits_value 16 text < k) (ap (λ k. 16 ^ k) counted ∙ same) (digits_value-lt 16 text all)))
-    (λ k. ap₂ (λ x y. x && y) (lt-ltb _ _ k.0.0) (known_all text k.0.1))
-    ∙ go (nat_lt 0 (length text)) (are_digits 16 text) (λ e. places_after 0 text e ∙ omega arith) ∙ rw (eq-eqb (length text) count counted) refl
+-- two digits write a byte
+pub pair_is : (high low : ℕ) → pair_of high low ≡ hex_of 2 (high ∷ low ∷ [])
+pair_is high low =
+    by (nat_lt (digit high) 16) (nat_lt (digit low) 16) (digit_is high) (digit_is low)
   where
-    go : (some digits : Bool) → (digits ≡ true → digits_value 16 text ≡ place_sum 16 text)
-        → cond (some && digits) (Some (digits_value 16 text)) None ≡ cond (some && digits) (Some (place_sum 16 text)) None
-    go true true same = ap Some (same refl)
-    go true false same = refl
-    go false digits same = refl
+    by : (first second : Bool) → hex_digit_value high ≡ cond first (Some (digit high)) None → hex_digit_value low ≡ cond second (Some (digit low)) None
+        → pair_of high low ≡ cond (first && (second && true)) (Some (digit high * 16 ^ 1 + (digit low * 16 ^ 0 + 0))) None
+    by true true is too = rw (is, too) (ap Some (omega arith))
+    by true false is too = rw (is, too) refl
+    by false second is too = rw is refl
+
+-- the word of two bytes
+abbrev pub word_of : Option ℕ → Option ℕ → Option ℕ
+word_of (Some high) (Some low) = Some (high * 256 + low)
+word_of (Some high) None = None
+word_of None low = None
+
+pairs_are : (a b c d : ℕ) → hex_of 4 (a ∷ b ∷ c ∷ d ∷ []) ≡ word_of (hex_of 2 (a ∷ b ∷ [])) (hex_of 2 (c ∷ d ∷ []))
+pairs_are a b c d = by (nat_lt (digit a) 16) (nat_lt (digit b) 16) (nat_lt (digit c) 16) (nat_lt (digit d) 16)
+  where
+    by : (p q r s : Bool)
+        → cond (p && (q && (r && (s && true)))) (Some (digit a * 16 ^ 3 + (digit b * 16 ^ 2 + (digit c * 16 ^ 1 + (digit d * 16 ^ 0 + 0))))) None
+        ≡ word_of (cond (p && (q && true)) (Some (digit a * 16 ^ 1 + (digit b * 16 ^ 0 + 0))) None) (cond (r && (s && true)) (Some (digit c * 16 ^ 1 + (digit d * 16 ^ 0 + 0))) None)
+    by true true true true = ap Some (omega arith)
+    by true true true false = refl
+    by true true false s = refl
+    by true false r s = refl
+    by false q r s = refl
+
+-- four digits write the word of two bytes
+pub word_is : (text : List ℕ) → length text ≡ 4
+    → hex_of 4 text ≡ word_of (pair_of (get_or text 0 0) (get_or text 1 0)) (pair_of (get_or text 2 0) (get_or text 3 0))
+word_is [] four = absurd (omega arith)
+word_is (a ∷ []) four = absurd (omega arith)
+word_is (a ∷ b ∷ []) four = absurd (omega arith)
+word_is (a ∷ b ∷ c ∷ []) four = absurd (omega arith)
+word_is (a ∷ b ∷ c ∷ d ∷ []) four = pairs_are a b c d ∙ ap₂ word_of (sym (pair_is a b)) (sym (pair_is c d))
+word_is (a ∷ b ∷ c ∷ d ∷ more ∷ rest) four = absurd (omega arith)
 
 -- ---- small numbers
 

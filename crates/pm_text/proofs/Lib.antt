@@ -1,4 +1,7 @@
 pub mod CountingLemmas
+mod EventLemmas
 pub mod FloorLemmas
+mod FrameLemmas
 pub mod Joins
+mod OutputLemmas
 pub mod ReplayLemmas

@@ -11,9 +11,9 @@ use Rattle.pm_lines.specs.declared.fault.TextFault.{TextFault}
 use Rattle.pm_lines.specs.declared.fault.TextFault.TheVariants.{Syntax, BadHex, TooLong, Read, Write, Memory, Setup}
 use Rattle.pm_lines.specs.declared.text.TheConstants.{MAX_TEXT}
 use Rattle.pm_lines.specs.Lines.{lines_of, unskipped_from}
-use Rattle.pm_scenario.specs.Reading.{row}
-use Rattle.pm_scenario.specs.ScenarioText.{HasEvent, IsOfScenario, scenario_of}
-use Rattle.pm_scenario.specs.declared.scenario.Scenario.{Scenario}
+use Rattle.pm_text.specs.Readers.{row}
+use Rattle.pm_text.specs.ScenarioText.{HasEvent, IsOfScenario, scenario_of}
+use Rattle.pm_text.specs.declared.scenario.Scenario.{Scenario}
 use Rattle.pm_text.specs.Replay.{IsOfReplay, taken_by}
 
 -- there is an element at a place

@@ -6,8 +6,8 @@ use Rattle.pm_world.specs.declared.stop.SetupFault.{SetupFault}
 use Rattle.pm_world.specs.declared.stop.Stop.{Stop}
 use Rattle.pm_lines.specs.declared.fault.TextFault.{TextFault}
 use Rattle.pm_lines.specs.declared.fault.TextFault.TheVariants.{Syntax, BadHex, TooLong, Read, Write, Memory, Setup}
-use Rattle.pm_scenario.specs.ScenarioText.{scenario_of}
-use Rattle.pm_scenario.specs.declared.scenario.Scenario.{Scenario}
+use Rattle.pm_text.specs.ScenarioText.{scenario_of}
+use Rattle.pm_text.specs.declared.scenario.Scenario.{Scenario}
 use Rattle.pm_text.specs.Report.{report_text}
 use Rattle.pm_text.specs.declared.ran.Ran.{Ran}
 use Rattle.pm_text.specs.declared.replay_end.ReplayEnd.{ReplayEnd}

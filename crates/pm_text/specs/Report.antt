@@ -24,7 +24,7 @@ use Rattle.pm_world.specs.declared.stop.Cause.TheVariants.{Full, NothingSent, Wr
 use Rattle.pm_world.specs.declared.stop.Stop.{Stop}
 use Rattle.pm_lines.specs.FaultWords.{host_fault_words}
 use Rattle.pm_lines.specs.Numbers.{hex_byte}
-use Rattle.pm_scenario.specs.Kinds.{register_digits, register_name}
+use Rattle.pm_text.specs.Kinds.{register_digits, register_name}
 
 -- ---- words
 

@@ -7,7 +7,7 @@ ghost use Rattle.pm_world.specs.Setup.{setup_fault};
 ghost use Rattle.pm_world.specs.declared.stop.SetupFault.{SetupFault as NoSetup};
 ghost use Rattle.pm_lines.specs.Streams.{AppendsFront, IsWholeText};
 ghost use Rattle.pm_lines.specs.declared.text.TheConstants.{MAX_TEXT};
-ghost use Rattle.pm_scenario.specs.ScenarioText.{scenario_of};
+ghost use Rattle.pm_text.specs.ScenarioText.{scenario_of};
 ghost use Rattle.pm_text.specs.Replay.{IsOfReplay, IsReplay, IsRun, RefusesSetup, end_by, taken_by};
 ghost use Rattle.pm_text.specs.declared.replay_end.ReplayEnd.{ReplayEnd as Ending};
 
@@ -15,7 +15,7 @@ use crate::ran::Ran;
 use crate::replay_end::ReplayEnd;
 use crate::report::render_report;
 use pm_lines::{Sink, Source, TextFault, read_text};
-use pm_scenario::{Scenario, read_scenario};
+use crate::scenario::{Scenario, read_scenario};
 use pm_world::{SetupFault, Stop, World};
 use std::alloc::Global;
 use std::io::{Read, Write};

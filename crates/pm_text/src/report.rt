@@ -2,13 +2,16 @@
 ghost use Rattle.std.specs.Prelude.{◌≡◌, ◌++◌, IfOk, IfErr, OnOk, codes, is_some, string_bytes};
 ghost use Rattle.pm_text.specs.Report.{cause_text, cml_line, end_text, first_line, job_line, job_text, report_text, seen_line, world_lines};
 
-use crate::outputs::push_outputs;
+mod outputs;
+mod settings;
+
 use crate::ran::Ran;
-use crate::settings::{push_hex_word, push_setting};
+use outputs::push_outputs;
 use pm_host::JobEnd;
 use pm_lines::{TextFault, host_fault_words, push_decimal, push_hex};
 use pm_table::Cell;
 use pm_world::{Cause, Stop, World};
+use settings::{push_hex_word, push_setting};
 use std::alloc::{AllocError, Global};
 
 /// The report of a run. Its first line is `ran N`, or `stopped N` and the cause, where an event wasn't

@@ -4,7 +4,7 @@ mod faults;
 
 use pm_device::{Config, OutputStart};
 use pm_lines::TextFault;
-use pm_scenario::{Scenario, read_scenario};
+use pm_text::{Scenario, read_scenario};
 use pm_table::Coefficients;
 use std::alloc::{AllocError, Global};
 use std::test::Fail;

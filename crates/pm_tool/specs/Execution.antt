@@ -22,7 +22,7 @@ use Rattle.pm_trace.specs.Trace.{trace_of}
 use Rattle.pm_trace.specs.TraceText.{end_of, told_lines, trace_text}
 use Rattle.pm_trace.specs.declared.decode_end.DecodeEnd.{DecodeEnd}
 use Rattle.pm_trace.specs.declared.decode_end.DecodeEnd.TheVariants.{Clean, BadLines}
-use Rattle.pm_scenario.specs.ScenarioText.{scenario_of}
+use Rattle.pm_text.specs.ScenarioText.{scenario_of}
 use Rattle.pm_text.specs.Replay.{IsReplay, RefusesSetup}
 use Rattle.pm_text.specs.declared.replay_end.ReplayEnd.{ReplayEnd}
 use Rattle.pm_text.specs.declared.replay_end.ReplayEnd.TheVariants.{Ran as AllTaken, Stopped}

@@ -8,7 +8,7 @@ use Rattle.pm_device.specs.declared.config.ConfigFault.TheVariants.{OutputCount,
 use Rattle.pm_world.specs.declared.stop.SetupFault.{SetupFault}
 use Rattle.pm_world.specs.declared.stop.SetupFault.TheVariants.{Device, Host}
 use Rattle.pm_lines.specs.FaultWords.{host_fault_words, num_fault_words, table_fault_words}
-use Rattle.pm_scenario.specs.Kinds.{register_name}
+use Rattle.pm_text.specs.Kinds.{register_name}
 
 abbrev pub cell_words : Cell → List ℕ
 cell_words (Out output register) = decimal output ++ (codes " " ++ register_name register)

@@ -7,7 +7,7 @@ ghost use Rattle.pm_tool.specs.SetupText.{joined_words, setup_fault_words};
 use crate::pieces::put_all;
 use pm_device::ConfigFault;
 use pm_lines::{host_fault_words, num_fault_words, table_fault_words};
-use pm_scenario::register_name;
+use pm_text::register_name;
 use pm_table::Cell;
 use pm_text::{Sink, TextFault};
 use pm_world::SetupFault;

@@ -2,7 +2,7 @@
 
 use super::{fault_of, head_with, with_event};
 use pm_lines::{MAX_TEXT, TextFault};
-use pm_scenario::read_scenario;
+use pm_text::read_scenario;
 use std::test::Fail;
 
 #[test]

@@ -1,0 +1,68 @@
+-- The kinds of a scenario's words. The forms are this project's own choice; names are printed as in
+-- PMBus 1.3 Part II.
+use Rattle.std.specs.Prelude.{ℕ, ◌&&◌, nat_le, if◌then◌else◌, List, [], ◌∷◌, length, Option, Some, None, option_map, option_and_then, bytes_eq, codes}
+use Rattle.pm_table.specs.declared.cell.Cell.{Cell}
+use Rattle.pm_table.specs.declared.cell.Cell.TheVariants.{Out, Protect}
+use Rattle.pm_table.specs.declared.cell.Reg.{Reg}
+use Rattle.pm_table.specs.declared.cell.Reg.TheVariants.{Operation, VoutCommand, VoutMax, MarginHigh, MarginLow}
+use Rattle.pm_lines.specs.Bytes.{bytes_of}
+use Rattle.pm_lines.specs.Digits.{hex_of, small_of}
+use Rattle.pm_text.specs.Readers.{named}
+
+-- this word and no other
+abbrev pub is_word : List ℕ → List ℕ → Option (Unit {0})
+is_word name text = if bytes_eq text name then Some tt else None
+
+-- an output's number, 0 to 255, or `-` for the device: None
+abbrev pub place_of : List ℕ → Option (Option ℕ)
+place_of text = if bytes_eq text (codes "-") then Some None
+    else option_map (λ output. Some output) (small_of text)
+
+-- the registers of an output, and their names
+abbrev pub register_name : Reg → List ℕ
+register_name Operation = codes "OPERATION"
+register_name VoutCommand = codes "VOUT_COMMAND"
+register_name VoutMax = codes "VOUT_MAX"
+register_name MarginHigh = codes "VOUT_MARGIN_HIGH"
+register_name MarginLow = codes "VOUT_MARGIN_LOW"
+
+abbrev pub with_name : Reg → List ℕ × Reg
+with_name register = (register_name register, register)
+
+abbrev pub register_named : List ℕ → Option Reg
+register_named = named (with_name Operation ∷ with_name VoutCommand ∷ with_name VoutMax
+    ∷ with_name MarginHigh ∷ with_name MarginLow ∷ [])
+
+-- the device's own cell
+abbrev pub device_cell_named : List ℕ → Option Cell
+device_cell_named = named ((codes "WRITE_PROTECT", Protect) ∷ [])
+
+-- the codes of an output's readings, and of the device's
+abbrev pub output_reading_named : List ℕ → Option ℕ
+output_reading_named = named ((codes "READ_VOUT", 0x8B) ∷ (codes "READ_IOUT", 0x8C) ∷ [])
+
+abbrev pub device_reading_named : List ℕ → Option ℕ
+device_reading_named = named ((codes "READ_VIN", 0x88) ∷ (codes "READ_TEMPERATURE_1", 0x8D) ∷ [])
+
+-- how many digits a cell's word has: OPERATION and WRITE_PROTECT are bytes
+abbrev pub register_digits : Reg → ℕ
+register_digits Operation = 2
+register_digits VoutCommand = 4
+register_digits VoutMax = 4
+register_digits MarginHigh = 4
+register_digits MarginLow = 4
+
+abbrev pub cell_digits : Cell → ℕ
+cell_digits (Out output register) = register_digits register
+cell_digits Protect = 2
+
+-- a cell's word in hexadecimal
+abbrev pub cell_word : Cell → List ℕ → Option ℕ
+cell_word cell text = hex_of (cell_digits cell) text
+
+-- one word of 1 to 16 bytes in hexadecimal
+abbrev pub as_frame : List ℕ → Option (List ℕ)
+as_frame bytes = if nat_le 1 (length bytes) && nat_le (length bytes) 16 then Some bytes else None
+
+abbrev pub frame_bytes : List ℕ → Option (List ℕ)
+frame_bytes text = option_and_then as_frame (bytes_of (text ∷ []))

@@ -1,0 +1,77 @@
+//! The cells that lines name, and their words.
+ghost use Rattle.std.specs.Prelude.{◌≡◌, ◌==◌, bytes_eq, find};
+ghost use Rattle.pm_text.specs.EventLines.{cell as cell_field};
+ghost use Rattle.pm_text.specs.Kinds as kinds;
+ghost use Rattle.pm_text.specs.Readers.{Reads, field};
+ghost use Rattle.pm_text.specs.declared.scenario.fault.ScenarioFault.TheVariants.{Syntax, BadHex};
+
+use crate::scenario::fields::Fields;
+use crate::scenario::fault::ScenarioFault;
+use crate::register::{is_byte_register, register_name};
+use pm_table::{Cell, Reg};
+
+/// The registers of an output.
+const REGISTERS: [Reg; 5] = [
+    Reg::Operation,
+    Reg::VoutCommand,
+    Reg::VoutMax,
+    Reg::MarginHigh,
+    Reg::MarginLow,
+];
+
+/// `O NAME`, or `- WRITE_PROTECT`.
+#[tactic(auto, unfolding(crate::specs::EventLines::cell))]
+pub(crate) fn cell(fields: &mut Fields<'_>) -> Result<Cell, ScenarioFault>
+    ensures { Reads result fields.new (cell_field fields.old) }
+{
+    let Some(output) = fields.place()? else {
+        fields.keyword("WRITE_PROTECT")?;
+        return Ok(Cell::Protect);
+    };
+    let register = register(fields)?;
+    Ok(Cell::Out(output, register))
+}
+
+/// The name of an output's register: otherwise X1.
+pub(crate) fn register(fields: &mut Fields<'_>) -> Result<Reg, ScenarioFault>
+    ensures { Reads result fields.new (field Syntax kinds.register_named fields.old) }
+{
+    let name = fields.word()?;
+    match named_among(&REGISTERS, name) {
+        Some(register) => Ok(register),
+        None => Err(fields.syntax()),
+    }
+}
+
+/// A word of the cell, with two digits where it is a byte and four otherwise: X2 where it isn't so.
+pub(crate) fn cell_word(fields: &mut Fields<'_>, cell: Cell) -> Result<u16, ScenarioFault>
+    ensures { Reads result fields.new (field BadHex (kinds.cell_word cell) fields.old) }
+{
+    if is_byte_cell(cell) {
+        let byte = fields.hex_byte()?;
+        Ok(u16::from(byte))
+    } else {
+        fields.hex_word()
+    }
+}
+
+// The first of the registers that has this name.
+fn named_among(registers: &[Reg], name: &[u8]) -> Option<Reg>
+    ensures { result ≡ find (λ register. bytes_eq name.now (kinds.register_name register))
+        registers.now }
+{
+    registers
+        .iter()
+        .copied()
+        .find(|register| name == register_name(*register).as_bytes())
+}
+
+// Whether the cell's words are bytes.
+fn is_byte_cell(cell: Cell) -> bool
+    ensures { result ≡ (kinds.cell_digits cell == 2) }
+{
+    match cell {
+        Cell::Out(_, register) => is_byte_register(register),
+        Cell::Protect => true,
+    }
+}
