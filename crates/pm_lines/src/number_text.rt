@@ -59,6 +59,10 @@ pub fn push_hex_number(text: &mut String, bytes: &[u8]) -> Result<(), AllocError
 {
     match bytes {
         [] => Ok(()),
+        [low, high] => {
+            push_hex(text, *high)?;
+            push_hex(text, *low)
+        }
         [low, higher @ ..] => {
             push_hex_number(text, higher)?;
             push_hex(text, *low)

@@ -4,10 +4,9 @@ use Rattle.std.specs.Io.KnownBytes.{Appends, Consumes, Keeps}
 use Rattle.std.proofs.KnownBytes.{Appends-kept}
 use Rattle.clap.specs.declared.error.kind.ErrorKind.{ErrorKind}
 use Rattle.clap.specs.declared.error.kind.ErrorKind.TheVariants.{DisplayHelp, DisplayVersion, OutOfMemory}
-use Rattle.pm_lines.specs.Streams.{AppendsFront, Held, IsWholeText}
+use Rattle.pm_lines.specs.Streams.{AppendsFront, Held, IsWholeText, max_text}
 use Rattle.pm_lines.specs.declared.fault.TextFault.{TextFault}
 use Rattle.pm_lines.specs.declared.fault.TextFault.TheVariants.{Syntax, BadHex, TooLong, Read, Write, Memory, Setup}
-use Rattle.pm_lines.specs.declared.text.TheConstants.{MAX_TEXT}
 use Rattle.std.specs.declared.io.ErrorKind.{ErrorKind as IoKind}
 use Rattle.std.specs.declared.io.ErrorKind.TheVariants.{OutOfMemory as IoMemory}
 use Rattle.clap.specs.Kinds.{IsAmong}
@@ -174,10 +173,10 @@ module _ {W E : Type 0} (w : Writers W E) where
 
     -- what holds where `decode` breaks off
     pub record DecodeRefusal (fault : TextFault) : Type 0 where
-      pub too_long : fault ≡ TooLong → (front : List ℕ) × (more : List ℕ) × (length front ≡ MAX_TEXT) × (0 < length more)
+      pub too_long : fault ≡ TooLong → (front : List ℕ) × (more : List ℕ) × (length front ≡ max_text) × (0 < length more)
           × Consumes (r.remaining r.old.inner) (r.remaining r.new.inner) (front ++ more)
           × Appends (w.out w.output.inner) (w.out w.output'.inner) (told_lines (said_of front))
-      pub failed : fault ≡ Read → (front : List ℕ) × (length front ≤ MAX_TEXT)
+      pub failed : fault ≡ Read → (front : List ℕ) × (length front ≤ max_text)
           × Consumes (r.remaining r.old.inner) (r.remaining r.new.inner) front
           × Appends (w.out w.output.inner) (w.out w.output'.inner) (told_lines (said_of front))
       pub short : fault ≡ Write → (front : List ℕ) × Consumes (r.remaining r.old.inner) (r.remaining r.new.inner) front

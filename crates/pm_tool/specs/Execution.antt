@@ -11,10 +11,9 @@ use Rattle.clap.specs.Walk.{texts}
 use Rattle.clap.specs.Words.{Text, fault_of, subcommand_of}
 use Rattle.clap.specs.declared.error.kind.ErrorKind.{ErrorKind}
 use Rattle.pm_lines.specs.Faults.{fault_line, fault_setup, fault_words}
-use Rattle.pm_lines.specs.Streams.{AppendsFront, Held, IsWholeText}
+use Rattle.pm_lines.specs.Streams.{AppendsFront, Held, IsWholeText, max_text}
 use Rattle.pm_lines.specs.declared.fault.TextFault.{TextFault}
 use Rattle.pm_lines.specs.declared.fault.TextFault.TheVariants.{Syntax, BadHex, TooLong, Read, Write, Memory, Setup}
-use Rattle.pm_lines.specs.declared.text.TheConstants.{MAX_TEXT}
 use Rattle.pm_world.specs.declared.stop.SetupFault.{SetupFault}
 use Rattle.pm_trace.specs.Counts.{counts_of}
 use Rattle.pm_trace.specs.Decoding.{said}
@@ -112,11 +111,11 @@ text_refusal fault =
 
 -- more bytes came than a text may have, or some that memory was wanted for
 abbrev pub GaveMore : Option (List ℕ) → Option (List ℕ) → Type 0
-GaveMore old new = (front : List ℕ) × (MAX_TEXT < length front) × Consumes old new front
+GaveMore old new = (front : List ℕ) × (max_text < length front) × Consumes old new front
 
 abbrev pub GaveSome : Option (List ℕ) → Option (List ℕ) → Type 0
 GaveSome old new =
-    (front : List ℕ) × (0 < length front) × (length front ≤ MAX_TEXT) × Consumes old new front
+    (front : List ℕ) × (0 < length front) × (length front ≤ max_text) × Consumes old new front
 
 -- how an engine ends that writes its whole text or refuses: what the reader gave makes this text,
 -- with this status, or is refused so; the reader failed exactly where X4 is said
@@ -201,9 +200,9 @@ GaveTrace old new text end = (input : List ℕ) × IsWholeText old new input
 -- why `decode` breaks off, and what it has told until then: more bytes than a trace may have, or a
 -- failed read, and the lines that ended before; want of memory, and a front of these
 abbrev pub DecodeBreaks : Option (List ℕ) → Option (List ℕ) → List ℕ → TextFault → Type 0
-DecodeBreaks old new text TooLong = (front : List ℕ) × (more : List ℕ) × (length front ≡ MAX_TEXT)
+DecodeBreaks old new text TooLong = (front : List ℕ) × (more : List ℕ) × (length front ≡ max_text)
     × (0 < length more) × Consumes old new (front ++ more) × (text ≡ told_lines (said front))
-DecodeBreaks old new text Read = (front : List ℕ) × (length front ≤ MAX_TEXT)
+DecodeBreaks old new text Read = (front : List ℕ) × (length front ≤ max_text)
     × Consumes old new front × (text ≡ told_lines (said front))
 DecodeBreaks old new text Memory = (front : List ℕ) × (rest : List ℕ)
     × Consumes old new front × (told_lines (said front) ≡ text ++ rest)

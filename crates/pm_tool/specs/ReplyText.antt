@@ -1,7 +1,7 @@
 -- What a converter's answer is written as, and an output's word of VOUT_COMMAND. This project's own
 -- choice.
-use Rattle.std.specs.Prelude.{ℕ, ◌/◌, ◌%◌, List, [], ◌∷◌, ◌++◌, flat_map, decimal, codes}
-use Rattle.hex.specs.Hex.{encode_upper}
+use Rattle.std.specs.Prelude.{ℕ, List, ◌++◌, flat_map, decimal, codes}
+use Rattle.pm_lines.specs.Numbers.{hex_byte, hex_word}
 use Rattle.pm_frame.specs.declared.fault.FrameFault.{FrameFault}
 use Rattle.pm_frame.specs.declared.fault.FrameFault.TheVariants.{NotOurs, Short, Long, WrongCount, WrongPec, UnknownCode, WrongDirection, Nested as NotCarried}
 use Rattle.pm_device.specs.declared.heard.DeviceFault.{DeviceFault}
@@ -30,10 +30,6 @@ device_fault_words Protected = codes "K5 Protected"
 device_fault_words Nested = codes "K6 Nested"
 device_fault_words ReadOnly = codes "K7 ReadOnly"
 
--- a byte as two upper-case hexadecimal digits
-abbrev pub hex_byte : ℕ → List ℕ
-hex_byte byte = encode_upper (byte ∷ [])
-
 -- bytes in hexadecimal, a space before each
 abbrev pub spaced_bytes : List ℕ → List ℕ
 spaced_bytes bytes = flat_map (λ byte. codes " " ++ hex_byte byte) bytes
@@ -52,4 +48,4 @@ as_line words = words ++ codes "\n"
 -- the line of an output: its number, and its word of VOUT_COMMAND, the high byte first
 abbrev pub output_line : ℕ → ℕ → List ℕ
 output_line output word = as_line (codes "output " ++ decimal output ++ codes " VOUT_COMMAND "
-    ++ hex_byte (word / 256) ++ hex_byte (word % 256))
+    ++ hex_word word)

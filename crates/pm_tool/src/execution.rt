@@ -13,7 +13,45 @@ use crate::script::hear;
 use clap::error::ErrorKind;
 use pm_text::{DecodeEnd, ReplayEnd, Sink, Source, TextFault, decode, replay};
 use std::alloc::Global;
+use std::env;
 use std::io::{self, Read, Write};
+use std::process::ExitCode;
+use std::rt::Runtime;
+
+/// Runs the program over the parts of a runtime: its arguments and its input, standard output and
+/// standard error. What `main` does is this one call. No clause can say what a terminal or a file
+/// gives or takes: `run` says what is read and written.
+pub fn program<R: Runtime + AllocGlobal, W: Write + Drop, E: Write + Drop>(
+    rt: &R,
+    output: W,
+    errors: E,
+) -> ExitCode {
+    let mut input = Source::new(rt.reader());
+    let mut output = Sink::new(output);
+    let mut errors = Sink::new(errors);
+    let texts = arguments(rt);
+    let words = match &texts {
+        Ok(texts) => texts
+            .iter()
+            .map(|text| text.as_str())
+            .collect(rt.alloc())
+            .map_err(|_| io::ErrorKind::OutOfMemory),
+        Err(kind) => Err(*kind),
+    };
+    let words = words
+        .as_ref()
+        .map(|words: &Vec<&str>| words.as_slice())
+        .map_err(|kind| *kind);
+    ExitCode::from(run(rt.alloc(), words, &mut input, &mut output, &mut errors))
+}
+
+// The arguments as texts, or why they can't be had as such.
+fn arguments<R: Runtime + AllocGlobal>(rt: &R) -> Result<Vec<String>, io::ErrorKind> {
+    let arguments = env::args(rt).map_err(|error| error.kind())?;
+    arguments
+        .collect(rt.alloc())
+        .map_err(|_| io::ErrorKind::OutOfMemory)
+}
 
 /// Runs the program: does what the words of the command line ask, over any reader and any two
 /// writers, and answers the exit status. The words are those of the arguments, the program's name

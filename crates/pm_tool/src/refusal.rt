@@ -4,12 +4,10 @@ ghost use Rattle.std.specs.Prelude.{◌≡◌, ◌++◌, IsFalse, Some, codes, o
 ghost use Rattle.pm_tool.specs.Execution.{Says, line_words, refusal_line, text_refusal};
 ghost use Rattle.pm_tool.specs.SetupText.{joined_words, setup_fault_words};
 
-use crate::pieces::put_all;
 use pm_device::ConfigFault;
 use pm_lines::{host_fault_words, num_fault_words, table_fault_words};
-use pm_text::register_name;
 use pm_table::Cell;
-use pm_text::{Sink, TextFault};
+use pm_text::{Sink, TextFault, register_name};
 use pm_world::SetupFault;
 use std::io::Write;
 
@@ -21,17 +19,14 @@ pub(crate) fn say<E: Write>(errors: &mut Sink<E>, words: &str, line: Option<u64>
 {
     let mut digits = itoa::Buffer::new();
     let _ = match line {
-        None => put_all(errors, &[b"pmb: ", words.as_bytes(), b"\n"]),
-        Some(line) => put_all(
-            errors,
-            &[
-                b"pmb: ",
-                words.as_bytes(),
-                b" line ",
-                digits.format(line).as_bytes(),
-                b"\n",
-            ],
-        ),
+        None => errors.put_all(&[b"pmb: ", words.as_bytes(), b"\n"]),
+        Some(line) => errors.put_all(&[
+            b"pmb: ",
+            words.as_bytes(),
+            b" line ",
+            digits.format(line).as_bytes(),
+            b"\n",
+        ]),
     };
 }
 
@@ -55,26 +50,20 @@ fn say_setup<E: Write>(errors: &mut Sink<E>, fault: SetupFault)
     let words = setup_words(fault);
     let mut digits = itoa::Buffer::new();
     let _ = match words.output {
-        None => put_all(
-            errors,
-            &[
-                b"pmb: X7 Setup ",
-                words.head.as_bytes(),
-                words.tail.as_bytes(),
-                b"\n",
-            ],
-        ),
-        Some(output) => put_all(
-            errors,
-            &[
-                b"pmb: X7 Setup ",
-                words.head.as_bytes(),
-                digits.format(output).as_bytes(),
-                b" ",
-                words.tail.as_bytes(),
-                b"\n",
-            ],
-        ),
+        None => errors.put_all(&[
+            b"pmb: X7 Setup ",
+            words.head.as_bytes(),
+            words.tail.as_bytes(),
+            b"\n",
+        ]),
+        Some(output) => errors.put_all(&[
+            b"pmb: X7 Setup ",
+            words.head.as_bytes(),
+            digits.format(output).as_bytes(),
+            b" ",
+            words.tail.as_bytes(),
+            b"\n",
+        ]),
     };
 }
 

@@ -10,8 +10,7 @@ use Rattle.std.proofs.lemmas.List.Sums.{fold-append}
 use Rattle.std.proofs.lemmas.Bool.Decides.{nat_tests}
 use Rattle.hex.specs.Hex.{is_hex_digit}
 use Rattle.pm_lines.specs.Lines.{is_space, is_line_feed}
-use Rattle.pm_trace.specs.Trace.{byte_of}
-use Rattle.pm_trace.specs.Pairs.{paired_bytes, behind_pairs, pairs_front}
+use Rattle.pm_lines.specs.Pairs.{byte_of, paired_bytes, behind_pairs}
 use Rattle.pm_trace.specs.Parts.{Collected, part_takes}
 use Rattle.pm_trace.specs.OpenLines.{line_takes, plain_takes, kind_takes, has_slash, begins_with_pair, takes_pairs, Passes}
 use Rattle.pm_trace.specs.declared.decoder.slashes.Slashes.{Slashes}
@@ -19,6 +18,13 @@ use Rattle.pm_trace.specs.declared.decoder.slashes.Slashes.TheVariants as slash
 use Rattle.pm_trace.specs.declared.decoder.line_kind.LineKind.{LineKind}
 use Rattle.pm_trace.specs.declared.decoder.line_kind.LineKind.TheVariants.{Empty, Blank, Comment, Packet}
 use Rattle.pm_trace.specs.declared.decoder.open_line.OpenLine.{OpenLine}
+
+-- the bytes of the pairs of digits that stand first, with the spaces between them
+abbrev pairs_front : List ℕ → List ℕ
+pairs_front [] = []
+pairs_front (x ∷ []) = cond (is_space x) (x ∷ []) []
+pairs_front (x ∷ y ∷ rest) =
+    cond (is_space x) (x ∷ pairs_front (y ∷ rest)) (cond (is_hex_digit x && is_hex_digit y) (x ∷ y ∷ pairs_front rest) [])
 
 -- a packet's line where nothing is held back
 abbrev between : Collected → Collected → Slashes → Bool → OpenLine
@@ -113,7 +119,7 @@ was_read write read slashes bad some bytes =
 -- ---- the bytes of the pairs
 
 -- what stands first and what is left are the whole
-pub front_split : (bytes : List ℕ) → bytes ≡ pairs_front bytes ++ behind_pairs bytes
+front_split : (bytes : List ℕ) → bytes ≡ pairs_front bytes ++ behind_pairs bytes
 front_split [] = refl
 front_split (x ∷ []) = by (is_space x)
   where
@@ -130,7 +136,7 @@ front_split (x ∷ y ∷ rest) = by (is_space x) (is_hex_digit x && is_hex_digit
     by false false one two = refl
 
 -- no line feed stands among the pairs
-pub front_plain : (bytes : List ℕ) → list_any is_line_feed (pairs_front bytes) ≡ false
+front_plain : (bytes : List ℕ) → list_any is_line_feed (pairs_front bytes) ≡ false
 front_plain [] = refl
 front_plain (x ∷ []) = by (is_space x) refl
   where

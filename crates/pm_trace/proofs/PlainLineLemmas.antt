@@ -10,14 +10,14 @@ use Rattle.std.proofs.lemmas.List.Folds.{list_any-append, list_all-append}
 use Rattle.std.proofs.lemmas.Grind.{flat_map-append}
 use Rattle.hex.specs.Hex.{is_hex_digit}
 use Rattle.pm_lines.specs.Lines.{is_space}
+use Rattle.pm_lines.specs.Pairs.{byte_of}
 use Rattle.pm_trace.specs.Marks.{ended, since, before, after}
-use Rattle.pm_trace.specs.Trace.{is_slash, is_separator, byte_of, unpaired, word_bytes, is_bad_word, part_bytes}
+use Rattle.pm_trace.specs.Trace.{is_slash, is_separator, unpaired, word_bytes, is_bad_word, part_bytes, max_part}
 use Rattle.pm_trace.specs.Parts.{Collected, part_of, part_takes}
 use Rattle.pm_trace.specs.OpenLines.{kind_of, kind_takes, slashes_of, one_slash_more, has_slash, has_more_slashes, plain_line, plain_takes, word_ends, word_goes_on}
 use Rattle.pm_trace.specs.declared.decoder.slashes.Slashes.{Slashes}
 use Rattle.pm_trace.specs.declared.decoder.slashes.Slashes.TheVariants as slash
 use Rattle.pm_trace.specs.declared.decoder.line_kind.LineKind.TheVariants.{Blank, Comment, Packet}
-use Rattle.pm_trace.specs.declared.decoder.part.TheConstants.{PART_BYTES}
 use Rattle.pm_trace.proofs.MarkLemmas.{before_none, after_none, ended-mark, ended-other, since-mark, since-other, split-ended, before-marked, before-unmarked, after-marked, after-unmarked}
 
 -- ---- pairs of digits
@@ -76,19 +76,19 @@ part_bytes-other part b other =
 pub part_of-snoc : (bytes : List ℕ) (b : ℕ) → part_of (bytes ++ b ∷ []) ≡ part_takes (part_of bytes) b
 unfolding part_of part_takes
 part_of-snoc bytes b =
-    elim (cases_lt (length bytes) PART_BYTES) [
+    elim (cases_lt (length bytes) max_part) [
       | inl room ↦
-          let whole : take PART_BYTES bytes ≡ bytes = take_all PART_BYTES bytes (omega arith) in
-          let more : take PART_BYTES (bytes ++ b ∷ []) ≡ bytes ++ b ∷ [] = take_all PART_BYTES (bytes ++ b ∷ []) (omega (arith, length-append bytes (b ∷ []))) in
-          let fits : ltb (length bytes) PART_BYTES ≡ true = grind (arith, nat_tests) in
-          let short : ltb PART_BYTES (length bytes) ≡ false = grind (arith, nat_tests) in
-          let longer : ltb PART_BYTES (length (bytes ++ b ∷ [])) ≡ false = grind (arith, nat_tests, length-append bytes (b ∷ [])) in
+          let whole : take max_part bytes ≡ bytes = take_all max_part bytes (omega arith) in
+          let more : take max_part (bytes ++ b ∷ []) ≡ bytes ++ b ∷ [] = take_all max_part (bytes ++ b ∷ []) (omega (arith, length-append bytes (b ∷ []))) in
+          let fits : ltb (length bytes) max_part ≡ true = grind (arith, nat_tests) in
+          let short : ltb max_part (length bytes) ≡ false = grind (arith, nat_tests) in
+          let longer : ltb max_part (length (bytes ++ b ∷ [])) ≡ false = grind (arith, nat_tests, length-append bytes (b ∷ [])) in
           rw (more, longer, whole, fits, short) refl
       | inr full ↦
-          let same : take PART_BYTES (bytes ++ b ∷ []) ≡ take PART_BYTES bytes = take-append-le PART_BYTES bytes (b ∷ []) full in
-          let size : length (take PART_BYTES bytes) ≡ PART_BYTES = length-take-le PART_BYTES bytes full in
-          let fits : ltb (length (take PART_BYTES bytes)) PART_BYTES ≡ false = grind (arith, nat_tests) in
-          let longer : ltb PART_BYTES (length (bytes ++ b ∷ [])) ≡ true = grind (arith, nat_tests, length-append bytes (b ∷ [])) in
+          let same : take max_part (bytes ++ b ∷ []) ≡ take max_part bytes = take-append-le max_part bytes (b ∷ []) full in
+          let size : length (take max_part bytes) ≡ max_part = length-take-le max_part bytes full in
+          let fits : ltb (length (take max_part bytes)) max_part ≡ false = grind (arith, nat_tests) in
+          let longer : ltb max_part (length (bytes ++ b ∷ [])) ≡ true = grind (arith, nat_tests, length-append bytes (b ∷ [])) in
           rw (same, longer, fits) refl
     ]
 

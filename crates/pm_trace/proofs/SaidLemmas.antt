@@ -11,14 +11,13 @@ use Rattle.std.proofs.lemmas.List.Folds.{list_any-append}
 use Rattle.std.proofs.lemmas.List.Sums.{sum_by-append, fold-append}
 use Rattle.pm_lines.specs.Lines.{is_line_feed, is_space, is_skipped, is_unskipped, has_bytes, without_return, without_empty_last, carriage_return, lines_of, unskipped_from}
 use Rattle.pm_trace.specs.Marks.{ended, since, before, after}
-use Rattle.pm_trace.specs.Trace.{Told, told_of, Accepted, Faulty, BadSyntax, BadHex, is_slash, is_separator, is_bad_word, has_bad_word, is_long, is_misshapen, part_bytes, parts_of, line_read, line_judged, reading_judged, trace_of, unpaired}
+use Rattle.pm_trace.specs.Trace.{Told, told_of, Accepted, Faulty, BadSyntax, BadHex, is_slash, is_separator, is_bad_word, has_bad_word, is_long, is_misshapen, part_bytes, parts_of, line_read, line_judged, reading_judged, trace_of, unpaired, max_part}
 use Rattle.pm_trace.specs.Counts.{counts_of, counts_with, one_counted, one_more, counted, code_told, is_accepted, is_faulty, is_bad}
 use Rattle.pm_trace.specs.Parts.{part_of}
 use Rattle.pm_trace.specs.OpenLines.{kind_of, is_skipped_kind, is_empty_kind, slashes_of, has_slash, plain_line, open_read, open_judged, line_of, line_takes, is_begun}
 use Rattle.pm_trace.specs.Decoding.{now, said, kept_takes, next, told, some_told, line_told, line_ended, told_at_end}
 use Rattle.pm_trace.specs.declared.line_fault.LineFault.TheVariants as fault
 use Rattle.pm_trace.specs.declared.decoder.line_kind.LineKind.TheVariants.{Blank, Comment, Packet}
-use Rattle.pm_trace.specs.declared.decoder.part.TheConstants.{PART_BYTES}
 use Rattle.pm_trace.specs.declared.trace_line.TraceLine.{TraceLine}
 use Rattle.hex.specs.Hex.{is_hex_digit}
 use Rattle.pm_frame.specs.View.{message_code}
@@ -50,16 +49,16 @@ bad_word line =
     ∙ sym (or_assoc (list_any is_bad_word (ended is_separator line)) (not (list_all is_hex_digit (since is_separator line)))
     (is_some (unpaired (since is_separator line))))
 
-short_part : (part : List ℕ) → is_long part ≡ false → take PART_BYTES (part_bytes part) ≡ part_bytes part
+short_part : (part : List ℕ) → is_long part ≡ false → take max_part (part_bytes part) ≡ part_bytes part
 short_part part short =
-    let few : length (part_bytes part) ≤ PART_BYTES = grind (arith, nat_tests) in
-    take_all PART_BYTES (part_bytes part) few
+    let few : length (part_bytes part) ≤ max_part = grind (arith, nat_tests) in
+    take_all max_part (part_bytes part) few
 
 -- as much of the parts as is kept
 abbrev pub short_parts : List ℕ → TraceLine
 short_parts line = record {
-  write = take PART_BYTES (part_bytes (before is_slash line));
-  read = cond (list_any is_slash line) (Some (take PART_BYTES (part_bytes (after is_slash line)))) None;
+  write = take max_part (part_bytes (before is_slash line));
+  read = cond (list_any is_slash line) (Some (take max_part (part_bytes (after is_slash line)))) None;
 }
 
 -- the law of a line's reading: what is kept of a line reads as the line does

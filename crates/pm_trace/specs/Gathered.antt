@@ -2,7 +2,7 @@
 use Rattle.std.specs.Prelude.{◌≡◌, ℕ, ◌+◌, ◌≤◌, false, if◌then◌else◌, List, [], ◌∷◌, ◌++◌, length, Option, Some, None}
 use Rattle.std.specs.List.{fold, list_any}
 use Rattle.pm_lines.specs.Lines.{is_line_feed}
-use Rattle.pm_lines.specs.declared.text.TheConstants.{MAX_TEXT}
+use Rattle.pm_lines.specs.Streams.{max_text}
 use Rattle.pm_trace.specs.declared.decoder.gathered.Gathered.{Gathered}
 use Rattle.pm_trace.specs.declared.decoder.standing.Standing.{Standing}
 use Rattle.pm_trace.specs.declared.decoder.standing.Standing.TheVariants.{Open, Finished, Failed}
@@ -31,7 +31,7 @@ shown_in g = if g.has_ended
 pub record IsBounded (more : ℕ) (g : Gathered) : Type 0 where
   pub counted : lines_in g.tally ≤ g.ended
   pub ended : g.ended ≤ g.taken + more
-  pub taken : g.taken ≤ MAX_TEXT
+  pub taken : g.taken ≤ max_text
 
 -- the end of all bytes may end one line more, and after a refusal no line ends
 abbrev pub lines_at_end : Standing → ℕ
@@ -43,7 +43,7 @@ lines_at_end (Failed fault) = 1
 pub record IsReady (g : Gathered) (bytes : List ℕ) : Type 0 where
   pub open_line : g.has_ended ≡ false
   pub bounded : IsBounded 0 g
-  pub room : g.taken + length bytes ≤ MAX_TEXT
+  pub room : g.taken + length bytes ≤ max_text
 
 -- bytes were taken up to the first line feed, and with it, or all of them; a line that ends with it
 -- isn't ended yet

@@ -4,9 +4,10 @@
 use Rattle.std.specs.Prelude.{◌≡◌, ℕ, Bool, true, false, not, ◌&&◌, ◌||◌, ◌==◌, nat_eq, if◌then◌else◌, List, [], ◌∷◌, ◌++◌, is_some, Option, Some, None, Result, Ok, Err, ⊤}
 use Rattle.std.specs.List.{fold, list_any, list_all, ends_with}
 use Rattle.hex.specs.Hex.{is_hex_digit}
+use Rattle.pm_lines.specs.Pairs.{byte_of}
 use Rattle.pm_lines.specs.Lines.{is_line_feed, is_space, without_return, carriage_return}
 use Rattle.pm_trace.specs.Marks.{ended, since, before, after}
-use Rattle.pm_trace.specs.Trace.{is_slash, is_separator, byte_of, unpaired, is_bad_word, part_bytes, reading_judged, Judged}
+use Rattle.pm_trace.specs.Trace.{is_slash, is_separator, unpaired, is_bad_word, part_bytes, reading_judged, Judged}
 use Rattle.pm_trace.specs.declared.line_fault.LineFault.{LineFault}
 use Rattle.pm_trace.specs.declared.line_fault.LineFault.TheVariants as fault
 use Rattle.pm_trace.specs.declared.decoder.line_kind.LineKind.{LineKind}

@@ -1,5 +1,4 @@
 mod gathered;
-mod hex_digit;
 mod line_kind;
 pub(crate) mod open_line;
 mod part;
@@ -49,7 +48,7 @@ impl Decoder {
     ghost use Rattle.pm_trace.specs.Decoding.{IsFresh, Feeds, Finishes, Fails, CarriesNew, refusal_of, taken_of, first_line, told, told_by, some_told};
     ghost use Rattle.pm_trace.specs.ShownLines.{told_in};
     ghost use Rattle.pm_trace.specs.TraceText.{told_lines};
-    ghost use Rattle.pm_lines.specs.declared.text.TheConstants.{MAX_TEXT};
+    ghost use Rattle.pm_lines.specs.Streams.{max_text};
 
     /// A decoder that took no byte. Takes no memory.
     pub fn new(alloc: Global) -> Decoder
@@ -82,7 +81,7 @@ impl Decoder {
     pub fn feed(&mut self, piece: &[u8]) -> Result<Fed, TextFault>
         ensures fed { IfOk result (λ fed. Feeds self.old piece.now fed self.new) }
         ensures within { IfOk result (λ fed. fed.taken ≤ length piece.now) }
-        ensures room { self.new.kept.taken ≤ MAX_TEXT }
+        ensures room { self.new.kept.taken ≤ max_text }
         ensures failed { IfErr result (λ fault. Fails self.old fault self.new) }
 
         // X3 and a repeated refusal come exactly where they are due, and X6 only for a new code.
@@ -102,7 +101,7 @@ impl Decoder {
     fn take(&mut self, piece: &[u8]) -> Result<Fed, TextFault>
         ensures fed { IfOk result (λ fed. Feeds self.old piece.now fed self.new) }
         ensures within { IfOk result (λ fed. fed.taken ≤ length piece.now) }
-        ensures room { self.new.kept.taken ≤ MAX_TEXT }
+        ensures room { self.new.kept.taken ≤ max_text }
         ensures counts { OnErr result (self.new.kept.counts ≡ self.old.kept.counts) }
         ensures taken { OnOk result (refusal_of self.old piece.now ≡ None) }
         ensures refused { IfErr result (λ fault. (refusal_of self.old piece.now ≡ Some fault)
@@ -122,7 +121,7 @@ impl Decoder {
     pub(crate) fn tell(&mut self, piece: &[u8], text: &mut String) -> Result<Fed, TextFault>
         ensures fed { IfOk result (λ fed. Feeds self.old piece.now fed self.new) }
         ensures within { IfOk result (λ fed. fed.taken ≤ length piece.now) }
-        ensures room { self.new.kept.taken ≤ MAX_TEXT }
+        ensures room { self.new.kept.taken ≤ max_text }
         ensures text { OnOk result (string_bytes text.new
             ≡ string_bytes text.old ++ told_lines (told self.old.kept (taken_of self.old piece.now))) }
         ensures taken { OnOk result (refusal_of self.old piece.now ≡ None) }
@@ -140,7 +139,7 @@ impl Decoder {
     // How many bytes of a piece may be looked at, or why none is taken.
     fn room(&self, piece: &[u8]) -> Result<usize, TextFault>
         ensures within { IfOk result (λ room. room ≤ length piece.now) }
-        ensures room { IfOk result (λ room. self.now.kept.taken + room ≤ MAX_TEXT) }
+        ensures room { IfOk result (λ room. self.now.kept.taken + room ≤ max_text) }
         ensures open { IfOk result (λ room. 0 < room → self.now.standing ≡ Standing.Open) }
         ensures taken { IfOk result (λ room. taken_of self.now piece.now ≡ first_line (take room piece.now)) }
         ensures refused { result_err result ≡ refusal_of self.now piece.now }
@@ -160,7 +159,7 @@ impl Decoder {
     // Refuses from then on.
     fn fail(&mut self, fault: TextFault)
         ensures fails { Fails self.old fault self.new }
-        ensures room { self.new.kept.taken ≤ MAX_TEXT }
+        ensures room { self.new.kept.taken ≤ max_text }
     {
         self.gathered.begin();
         self.standing = Standing::Failed(fault);

@@ -1,8 +1,9 @@
 ghost use Rattle.std.specs.Prelude.{◌≡◌, ◌⊎◌, IfOk, IfErr, IsOk, Ok, Err, string_bytes};
-ghost use Rattle.pm_trace.specs.Trace.{line_read, parts_judged};
+ghost use Rattle.pm_trace.specs.Trace.{line_read, max_part, parts_judged};
 ghost use Rattle.pm_trace.specs.TraceText.{told_text};
 
 use crate::byte_list::ByteList;
+use crate::decoder::PART_BYTES;
 use crate::decoder::open_line::OpenLine;
 use crate::line_fault::LineFault;
 use crate::shown::packet_shown;
@@ -32,6 +33,7 @@ pub fn read_trace_line(alloc: Global, line: &[u8]) -> Result<TraceLine, TextFaul
     ensures fault { IfErr result (λ fault. ((fault ≡ TextFault.Syntax 1) × (line_read line.now ≡ Err LineFault.Syntax))
         ⊎ (((fault ≡ TextFault.BadHex 1) × (line_read line.now ≡ Err LineFault.BadHex))
         ⊎ ((fault ≡ TextFault.Memory) × IsOk (line_read line.now)))) }
+    ensures limit { PART_BYTES ≡ max_part }
 {
     let open = OpenLine::of(line);
     let (write, read) = match open.parts() {

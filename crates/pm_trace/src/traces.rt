@@ -3,7 +3,7 @@ ghost use Rattle.std.specs.Prelude.{◌≡◌, ◌⊎◌, ◌+◌, ◌<◌, ◌�
 ghost use Rattle.std.specs.Prelude.{IfSome, IfOk, IfErr, OnOk, IsErrOf, IsTrue, IsFalse, string_bytes};
 ghost use Rattle.std.specs.Io.KnownBytes.{Appends, Consumes, IsAtEnd};
 ghost use Rattle.pm_trace.specs.declared.decoder.standing.Standing.{Standing};
-ghost use Rattle.pm_lines.specs.declared.text.TheConstants.{MAX_TEXT};
+ghost use Rattle.pm_lines.specs.Streams.{max_text};
 ghost use Rattle.pm_trace.specs.Counts.{counts_of};
 ghost use Rattle.pm_trace.specs.Decoding.{said, told, some_told, told_at_end, kept_at_end, IsFresh};
 ghost use Rattle.pm_trace.specs.Written.{PushesFront, Written};
@@ -51,10 +51,10 @@ pub fn decode<R: Read, W: Write>(
 
     // The reader gave more than a text may have, or failed: what ended before was written.
     ensures too_long { IsErrOf result TextFault.TooLong → (front : List ℕ) × (more : List ℕ)
-        × (length front ≡ MAX_TEXT) × (0 < length more)
+        × (length front ≡ max_text) × (0 < length more)
         × Consumes (R.remaining reader.old.inner) (R.remaining reader.new.inner) (front ++ more)
         × Appends (W.contents writer.old.inner) (W.contents writer.new.inner) (told_lines (said front)) }
-    ensures cut { IsErrOf result TextFault.Read → (front : List ℕ) × (length front ≤ MAX_TEXT)
+    ensures cut { IsErrOf result TextFault.Read → (front : List ℕ) × (length front ≤ max_text)
         × Consumes (R.remaining reader.old.inner) (R.remaining reader.new.inner) front
         × Appends (W.contents writer.old.inner) (W.contents writer.new.inner) (told_lines (said front)) }
 
@@ -100,10 +100,10 @@ fn decode_pieces<R: Read, W: Write>(
         (W.contents writer.old.inner) (W.contents writer.new.inner) input decoder.new
         × IsAtEnd (R.remaining reader.new.inner)) }
     ensures too_long { IsErrOf result TextFault.TooLong → (front : List ℕ) × (more : List ℕ)
-        × (length front ≡ MAX_TEXT) × (0 < length more)
+        × (length front ≡ max_text) × (0 < length more)
         × Consumes (R.remaining reader.old.inner) (R.remaining reader.new.inner) (front ++ more)
         × Appends (W.contents writer.old.inner) (W.contents writer.new.inner) (told_lines (said front)) }
-    ensures cut { IsErrOf result TextFault.Read → (front : List ℕ) × (length front ≤ MAX_TEXT)
+    ensures cut { IsErrOf result TextFault.Read → (front : List ℕ) × (length front ≤ max_text)
         × Consumes (R.remaining reader.old.inner) (R.remaining reader.new.inner) front
         × Appends (W.contents writer.old.inner) (W.contents writer.new.inner) (told_lines (said front)) }
     ensures write { IsErrOf result TextFault.Write → (front : List ℕ)
@@ -137,7 +137,7 @@ fn decode_pieces<R: Read, W: Write>(
 // where the trace grows past its limit; the lines that ended before that are in the text.
 fn push_lines(text: &mut String, decoder: &mut Decoder, piece: &[u8]) -> Result<bool, TextFault>
     requires open { decoder.old.standing ≡ Standing.Open }
-    requires room { decoder.old.kept.taken ≤ MAX_TEXT }
+    requires room { decoder.old.kept.taken ≤ max_text }
     ensures pushed { IfOk result (PushesFront (string_bytes text.old) (string_bytes text.new)
         decoder.old decoder.new piece.now) }
     ensures fault { IfErr result (λ fault. fault ≡ TextFault.Memory) }

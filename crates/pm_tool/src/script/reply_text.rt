@@ -1,12 +1,10 @@
 ghost use Rattle.std.specs.Prelude.{◌≡◌, ◌<◌, [], ◌∷◌, ◌++◌, OnOk, decimal};
-ghost use Rattle.pm_tool.specs.ReplyText.{as_line, device_fault_words, frame_fault_words, hex_byte, output_line, reply_words, spaced_bytes};
+ghost use Rattle.pm_tool.specs.ReplyText.{as_line, device_fault_words, frame_fault_words, output_line, reply_words, spaced_bytes};
 
 use pm_device::{DeviceFault, Heard};
 use pm_frame::FrameFault;
+use pm_lines::hex_digits;
 use std::alloc::AllocError;
-
-/// The hexadecimal digits, in upper case.
-const DIGITS: [u8; 16] = *b"0123456789ABCDEF";
 
 /// Puts the line of a converter's answer behind a text.
 pub(super) fn push_reply(text: &mut Vec<u8>, heard: &Heard) -> Result<(), AllocError>
@@ -43,17 +41,6 @@ fn push_spaced(text: &mut Vec<u8>, bytes: &[u8]) -> Result<(), AllocError>
         text.extend_from_slice(&hex_digits(*byte))?;
     }
     Ok(())
-}
-
-// A byte as two hexadecimal digits.
-#[tactic(auto, unfolding(hex::specs::Hex::encode_with))]
-fn hex_digits(byte: u8) -> [u8; 2]
-    ensures { result ≡ hex_byte byte }
-{
-    [
-        DIGITS[usize::from(byte / 16)],
-        DIGITS[usize::from(byte % 16)],
-    ]
 }
 
 // The letters and the name of the converter's refusal, and the frame's fault behind K1.
@@ -100,7 +87,6 @@ fn push_placed(text: &mut Vec<u8>, name: &[u8], place: usize) -> Result<(), Allo
 }
 
 /// The line of an output, whose number has one digit, and of its word of VOUT_COMMAND.
-#[tactic(auto, unfolding(hex::specs::Hex::encode_with))]
 pub(super) fn output_line(output: u8, word: u16) -> [u8; 27]
     requires { output < 10 }
     ensures { result ≡ output_line output word }

@@ -1,5 +1,5 @@
 ghost use Rattle.std.specs.Prelude.{◌≡◌};
-ghost use Rattle.pm_lines.specs.declared.text.TheConstants.{MAX_TEXT};
+ghost use Rattle.pm_lines.specs.Streams.{max_text};
 
 use crate::decoder::open_line::OpenLine;
 use crate::fed::Fed;
@@ -113,7 +113,7 @@ impl Gathered {
     pub(crate) fn end_line(&mut self) -> Result<(), AllocError>
         requires open { self.old.has_ended ≡ false }
         requires counted { lines_in self.old.tally ≤ self.old.ended }
-        requires ended { self.old.ended ≤ MAX_TEXT }
+        requires ended { self.old.ended ≤ max_text }
         ensures kept { OnOk result (kept_in self.new ≡ line_ended (kept_in self.old)) }
         ensures shown { OnOk result (shown_in self.new ≡ line_told (kept_in self.old)) }
         ensures ended { OnOk result (self.new.ended ≡ self.old.ended + 1) }
@@ -134,7 +134,7 @@ impl Gathered {
     fn end_told_line(&mut self, text: &mut String) -> Result<(), AllocError>
         requires open { self.old.has_ended ≡ false }
         requires counted { lines_in self.old.tally ≤ self.old.ended }
-        requires ended { self.old.ended ≤ MAX_TEXT }
+        requires ended { self.old.ended ≤ max_text }
         ensures kept { OnOk result (kept_in self.new ≡ line_ended (kept_in self.old)) }
         ensures shown { OnOk result (shown_in self.new ≡ line_told (kept_in self.old)) }
         ensures ended { OnOk result (self.new.ended ≡ self.old.ended + 1) }

@@ -1,7 +1,7 @@
 ghost use Rattle.std.specs.Prelude.{◌≡◌};
 ghost use Rattle.pm_trace.specs.OpenLines.{begins_with_pair as spec_begins_with_pair};
 
-use crate::decoder::hex_digit::pair_of;
+use pm_lines::pair_of;
 
 /// What a line of a trace is by its first bytes.
 #[derive(Clone, Copy, Debug, PartialEq, Eq)]

@@ -1,11 +1,11 @@
 ghost use Rattle.std.specs.Prelude.{◌≡◌};
 
-use crate::decoder::hex_digit::{byte_of, is_digit};
 use crate::decoder::line_kind::LineKind;
 use crate::decoder::part::Part;
 use crate::decoder::slashes::Slashes;
 use crate::line_fault::LineFault;
 use crate::shown::{Shown, packet_shown};
+use pm_lines::{byte_of, is_digit};
 
 /// What is kept of a line of a trace while its bytes come one after another.
 #[derive(Debug, Drop)]

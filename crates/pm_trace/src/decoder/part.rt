@@ -1,7 +1,7 @@
 ghost use Rattle.std.specs.Prelude.{◌≡◌, ◌≤◌, length};
-ghost use Rattle.pm_trace.specs.Pairs.{paired_bytes, behind_pairs};
+ghost use Rattle.pm_lines.specs.Pairs.{paired_bytes, behind_pairs};
 
-use crate::decoder::hex_digit::pair_of;
+use pm_lines::pair_of;
 use std::marker::Model;
 
 /// The most bytes that a part of a trace line may have.
@@ -29,7 +29,7 @@ impl Model for Part {
 }
 
 impl Part {
-    ghost use Rattle.pm_trace.specs.Pairs.{paired_bytes, behind_pairs};
+    ghost use Rattle.pm_lines.specs.Pairs.{paired_bytes, behind_pairs};
     ghost use Rattle.pm_trace.specs.Parts.{part_of, part_takes};
     ghost use Rattle.std.specs.List.{fold};
     ghost use Rattle.std.specs.Prelude.{[]};

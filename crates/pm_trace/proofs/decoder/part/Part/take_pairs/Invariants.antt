@@ -1,6 +1,6 @@
 use Rattle.std.proofs.Common.{◌≡◌, length}
 use Rattle.std.specs.List.{fold}
-use Rattle.pm_trace.specs.Pairs.{paired_bytes, behind_pairs}
+use Rattle.pm_lines.specs.Pairs.{paired_bytes, behind_pairs}
 use Rattle.pm_trace.specs.Parts.{part_takes}
 use Rattle.pm_trace.proofs.decoder.part.Part.take_pairs.Given as goal
 
