@@ -12,40 +12,41 @@ use Rattle.pm_world.specs.declared.event.Back.TheVariants as returns
 use Rattle.pm_world.specs.declared.event.Event.{Event}
 use Rattle.pm_world.specs.declared.event.Event.TheVariants.{Order, OrderMicro, Check, Learn, Clear, Deliver, Finish, Exchange, RestartDevice, RestartHost, Reading as Measure}
 use Rattle.pm_lines.specs.Digits.{hex_of, signed_of, small_of}
-use Rattle.pm_text.specs.Kinds.{place_of, register_named, device_cell_named, output_reading_named, device_reading_named, cell_word, frame_bytes}
+use Rattle.pm_text.specs.Kinds.{output_or_device, register_named, device_cell_named, output_reading_named, device_reading_named, cell_word, frame_bytes}
 use Rattle.pm_text.specs.Readers.{◌>>=◌, Field, field, gives, named, one_of}
+use Rattle.pm_text.specs.declared.form.Form.{Form}
 use Rattle.pm_text.specs.declared.scenario.fault.ScenarioFault.TheVariants.{Syntax, BadHex}
 
 -- `O NAME`, or `- WRITE_PROTECT`
-abbrev pub cell_at : Option ℕ → Field Cell
-cell_at None = field Syntax device_cell_named
-cell_at (Some output) = do
-  register ← field Syntax register_named
+abbrev pub cell_at : Form → Option ℕ → Field Cell
+cell_at form None = field Syntax device_cell_named
+cell_at form (Some output) = do
+  register ← field Syntax (register_named form)
   gives (Out output register)
 
-unfoldable pub cell : Field Cell
-cell = do
-  place ← field Syntax place_of
-  cell_at place
+unfoldable pub cell : Form → Field Cell
+cell form = do
+  output ← field Syntax output_or_device
+  cell_at form output
 
 -- `O NAME HEX`, or `- WRITE_PROTECT HH`
-unfoldable pub order_rest : Field Event
-order_rest = do
-  ordered ← cell
+unfoldable pub order_rest : Form → Field Event
+order_rest form = do
+  ordered ← cell form
   word ← field BadHex (cell_word ordered)
   gives (Order ordered word)
 
 -- `O NAME K`, K in microvolts
-unfoldable pub volts_rest : Field Event
-volts_rest = do
+unfoldable pub volts_rest : Form → Field Event
+volts_rest form = do
   output ← field Syntax small_of
-  register ← field Syntax register_named
+  register ← field Syntax (register_named form)
   microvolts ← field Syntax (signed_of 64)
   gives (OrderMicro (Out output register) microvolts)
 
-unfoldable pub check_rest : Field Event
-check_rest = do
-  checked ← cell
+unfoldable pub check_rest : Form → Field Event
+check_rest form = do
+  checked ← cell form
   gives (Check checked)
 
 unfoldable pub learn_rest : Field Event
@@ -126,15 +127,15 @@ reading_at (Some output) = do
 
 unfoldable pub reading_rest : Field Event
 reading_rest = do
-  place ← field Syntax place_of
-  reading_at place
+  output ← field Syntax output_or_device
+  reading_at output
 
--- an event line: its first word, and the words behind it
-unfoldable pub event_line : Field Event
-event_line = one_of (
-    (codes "order", order_rest) ∷
-    (codes "volts", volts_rest) ∷
-    (codes "check", check_rest) ∷
+-- an event line: its first word, and the words that follow it
+unfoldable pub event_line : Form → Field Event
+event_line form = one_of (
+    (codes "order", order_rest form) ∷
+    (codes "volts", volts_rest form) ∷
+    (codes "check", check_rest form) ∷
     (codes "learn", learn_rest) ∷
     (codes "clear", clear_rest) ∷
     (codes "deliver", deliver_rest) ∷

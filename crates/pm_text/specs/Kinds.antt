@@ -1,6 +1,6 @@
 -- The kinds of a scenario's words. The forms are this project's own choice; names are printed as in
 -- PMBus 1.3 Part II.
-use Rattle.std.specs.Prelude.{ℕ, ◌&&◌, nat_le, if◌then◌else◌, List, [], ◌∷◌, length, Option, Some, None, option_map, option_and_then, bytes_eq, codes}
+use Rattle.std.specs.Prelude.{ℕ, ◌&&◌, nat_le, if◌then◌else◌, List, [], ◌∷◌, length, map, Option, Some, None, option_map, option_and_then, bytes_eq, codes}
 use Rattle.pm_table.specs.declared.cell.Cell.{Cell}
 use Rattle.pm_table.specs.declared.cell.Cell.TheVariants.{Out, Protect}
 use Rattle.pm_table.specs.declared.cell.Reg.{Reg}
@@ -8,14 +8,20 @@ use Rattle.pm_table.specs.declared.cell.Reg.TheVariants.{Operation, VoutCommand,
 use Rattle.pm_lines.specs.Bytes.{bytes_of}
 use Rattle.pm_lines.specs.Digits.{hex_of, small_of}
 use Rattle.pm_text.specs.Readers.{named}
+use Rattle.pm_text.specs.declared.form.Form.{Form}
+use Rattle.pm_text.specs.declared.form.Form.TheVariants.{First}
+
+-- the form of a text that calls itself so
+abbrev pub form_named : List ℕ → Option Form
+form_named = named ((codes "1", First) ∷ [])
 
 -- this word and no other
 abbrev pub is_word : List ℕ → List ℕ → Option (Unit {0})
 is_word name text = if bytes_eq text name then Some tt else None
 
 -- an output's number, 0 to 255, or `-` for the device: None
-abbrev pub place_of : List ℕ → Option (Option ℕ)
-place_of text = if bytes_eq text (codes "-") then Some None
+abbrev pub output_or_device : List ℕ → Option (Option ℕ)
+output_or_device text = if bytes_eq text (codes "-") then Some None
     else option_map (λ output. Some output) (small_of text)
 
 -- the registers of an output, and their names
@@ -29,9 +35,12 @@ register_name MarginLow = codes "VOUT_MARGIN_LOW"
 abbrev pub with_name : Reg → List ℕ × Reg
 with_name register = (register_name register, register)
 
-abbrev pub register_named : List ℕ → Option Reg
-register_named = named (with_name Operation ∷ with_name VoutCommand ∷ with_name VoutMax
-    ∷ with_name MarginHigh ∷ with_name MarginLow ∷ [])
+-- the registers that texts of a form name
+abbrev pub registers_of : Form → List Reg
+registers_of First = Operation ∷ VoutCommand ∷ VoutMax ∷ MarginHigh ∷ MarginLow ∷ []
+
+abbrev pub register_named : Form → List ℕ → Option Reg
+register_named form = named (map with_name (registers_of form))
 
 -- the device's own cell
 abbrev pub device_cell_named : List ℕ → Option Cell

@@ -32,6 +32,16 @@ abbrev pub Reads : {S A : Type 0} → Result A ScenarioFault → S → Result (A
 Reads (Ok x) left read = read ≡ Ok (x, left)
 Reads (Err fault) left read = read ≡ Err fault
 
+-- the same of a call that leaves the value in a place of the caller's
+abbrev pub ReadsTo : {S A : Type 0} → Result (Unit {0}) ScenarioFault → A → S → Result (A × S) ScenarioFault → Type 0
+ReadsTo (Ok done) x left read = read ≡ Ok (x, left)
+ReadsTo (Err fault) x left read = read ≡ Err fault
+
+-- and where nothing is said of what is left
+abbrev pub IsRead : {A : Type 0} → Result (Unit {0}) ScenarioFault → A → Result A ScenarioFault → Type 0
+IsRead (Ok done) x read = read ≡ Ok x
+IsRead (Err fault) x read = read ≡ Err fault
+
 -- ---- the words of a line
 
 -- a reader of the words that are left of a line

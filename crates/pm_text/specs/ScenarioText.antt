@@ -9,22 +9,25 @@ use Rattle.pm_lines.specs.Digits.{hex_of, signed_of, small_of}
 use Rattle.pm_lines.specs.Lines.{Numbered, lines_of, unskipped_from}
 use Rattle.pm_lines.specs.declared.fault.TextFault.{TextFault}
 use Rattle.pm_lines.specs.declared.fault.TextFault.TheVariants as text
-use Rattle.pm_lines.specs.declared.text.TheConstants.{MAX_TEXT}
+use Rattle.pm_lines.specs.Streams.{max_text}
 use Rattle.pm_text.specs.EventLines.{event_line}
-use Rattle.pm_text.specs.Kinds.{is_word}
+use Rattle.pm_text.specs.Kinds.{form_named, is_word}
 use Rattle.pm_text.specs.Readers.{◌>>=◌, Field, Part, Rest, field, gives, line, line_as, one_of}
+use Rattle.pm_text.specs.declared.form.Form.{Form}
+use Rattle.pm_text.specs.declared.form.Form.TheVariants.{First}
 use Rattle.pm_text.specs.declared.scenario.fault.ScenarioFault.{ScenarioFault}
 use Rattle.pm_text.specs.declared.scenario.fault.ScenarioFault.TheVariants as fault
 use Rattle.pm_text.specs.declared.scenario.Scenario.{Scenario}
+use Rattle.pm_text.specs.declared.scenario.header.Header.{Header}
 use Rattle.pm_text.specs.declared.scenario.starts.Starts.{Starts}
 
 -- ---- the lines before the events
 
 -- `scenario 1`
-unfoldable pub version_line : Field (Unit {0})
-version_line = do
+unfoldable pub form_line : Field Form
+form_line = do
   _ ← field fault.Syntax (is_word (codes "scenario"))
-  field fault.Syntax (is_word (codes "1"))
+  field fault.Syntax form_named
 
 -- `address HH`
 unfoldable pub address_line : Field ℕ
@@ -54,8 +57,8 @@ coefficients_line = do
   gives (record { m = m; b = b; r = r })
 
 -- MODE OPERATION COMMAND MAX HIGH LOW: two bytes and four words
-unfoldable pub output_rest : Field OutputStart
-output_rest = do
+unfoldable pub output_rest : Form → Field OutputStart
+output_rest First = do
   mode ← field fault.BadHex (hex_of 2)
   operation ← field fault.BadHex (hex_of 2)
   command ← field fault.BadHex (hex_of 4)
@@ -71,18 +74,18 @@ output_rest = do
     low = low;
   })
 
-abbrev pub some_start : Field (Option OutputStart)
-some_start = do
-  start ← output_rest
+abbrev pub some_start : Form → Field (Option OutputStart)
+some_start form = do
+  start ← output_rest form
   gives (Some start)
 
 -- `output ..`, or `begin`: None
-unfoldable pub output_line : Field (Option OutputStart)
-output_line = one_of ((codes "output", some_start) ∷ (codes "begin", gives None) ∷ [])
+unfoldable pub output_line : Form → Field (Option OutputStart)
+output_line form = one_of ((codes "output", some_start form) ∷ (codes "begin", gives None) ∷ [])
 
 -- ---- the outputs and the events
 
--- an output, or `begin`, and the outputs behind it
+-- an output, or `begin`, and the outputs that follow it
 abbrev pub start_before : Result (Option OutputStart) ScenarioFault → Result (List OutputStart × Rest) ScenarioFault → Rest → Result (List OutputStart × Rest) ScenarioFault
 start_before (Err first) rest left = Err first
 start_before (Ok None) rest left = Ok ([], left)
@@ -90,23 +93,25 @@ start_before (Ok (Some start)) (Err first) left = Err first
 start_before (Ok (Some start)) (Ok starts) left = Ok (start ∷ starts.0, starts.1)
 
 -- the outputs up to the line `begin`
-abbrev pub outputs_in : ℕ → List Numbered → Result (List OutputStart × Rest) ScenarioFault
-outputs_in count [] = Err (fault.Syntax (suc count))
-outputs_in count (line ∷ lines) = start_before (line_as output_line line) (outputs_in count lines)
+abbrev pub outputs_in : Form → ℕ → List Numbered → Result (List OutputStart × Rest) ScenarioFault
+outputs_in form count [] = Err (fault.Syntax (suc count))
+outputs_in form count (line ∷ lines) =
+    start_before (line_as (output_line form) line) (outputs_in form count lines)
     (record { count = count; lines = lines })
 
-unfoldable pub outputs : Part (List OutputStart)
-outputs rest = outputs_in rest.count rest.lines
+unfoldable pub outputs : Form → Part (List OutputStart)
+outputs form rest = outputs_in form rest.count rest.lines
 
--- an event, and those of the lines behind it, or the first fault
+-- an event, and those of the lines that follow it, or the first fault
 abbrev pub event_before : Result Event ScenarioFault → Result (List Event) ScenarioFault → Result (List Event) ScenarioFault
 event_before (Err first) events = Err first
 event_before (Ok event) (Err first) = Err first
 event_before (Ok event) (Ok events) = Ok (event ∷ events)
 
-abbrev pub events_in : List Numbered → Result (List Event) ScenarioFault
-events_in [] = Ok []
-events_in (line ∷ lines) = event_before (line_as event_line line) (events_in lines)
+abbrev pub events_in : Form → List Numbered → Result (List Event) ScenarioFault
+events_in form [] = Ok []
+events_in form (line ∷ lines) =
+    event_before (line_as (event_line form) line) (events_in form lines)
 
 -- ---- the whole
 
@@ -137,25 +142,29 @@ config_of address protect coefficients starts = record {
   coefficients = coefficients;
 }
 
--- a configuration, and the passes of a job
-abbrev pub header : Part (Config × ℕ)
+-- what stands before the events
+abbrev pub header : Part Header
 header = do
-  _ ← line version_line
+  form ← line form_line
   address ← line address_line
   passes ← line passes_line
   protect ← line protect_line
   coefficients ← line coefficients_line
-  starts ← outputs
-  gives (config_of address protect coefficients starts, passes)
+  starts ← outputs form
+  gives (record {
+    form = form;
+    config = config_of address protect coefficients starts;
+    passes = passes;
+  })
 
-abbrev pub with_events : Config × ℕ → Result (List Event) ScenarioFault → Result Scenario ScenarioFault
+abbrev pub with_events : Header → Result (List Event) ScenarioFault → Result Scenario ScenarioFault
 with_events head (Err first) = Err first
 with_events head (Ok events) =
-    Ok (record { config = head.0; passes = head.1; events = events })
+    Ok (record { config = head.config; passes = head.passes; events = events })
 
-abbrev pub scenario_by : Result ((Config × ℕ) × Rest) ScenarioFault → Result Scenario ScenarioFault
+abbrev pub scenario_by : Result (Header × Rest) ScenarioFault → Result Scenario ScenarioFault
 scenario_by (Err first) = Err first
-scenario_by (Ok got) = with_events got.0 (events_in got.1.lines)
+scenario_by (Ok got) = with_events got.0 (events_in got.0.form got.1.lines)
 
 -- a text that is read line by line
 abbrev pub rest_of : List ℕ → Rest
@@ -171,17 +180,17 @@ as_text_fault (Err first) = Err (text_fault first)
 
 -- The scenario of a text, or the fault of its first faulty line; X3 comes before all.
 unfoldable pub scenario_of : List ℕ → Result Scenario TextFault
-scenario_of bytes = if nat_lt MAX_TEXT (length bytes) then Err text.TooLong
+scenario_of bytes = if nat_lt max_text (length bytes) then Err text.TooLong
     else as_text_fault (scenario_by (header (rest_of bytes)))
 
 -- there is a first line, and it is an event line
-abbrev pub HasFirst : List Numbered → Type 0
-HasFirst [] = ⊥
-HasFirst (line ∷ lines) = IsOk (line_as event_line line)
+abbrev pub HasFirst : Form → List Numbered → Type 0
+HasFirst form [] = ⊥
+HasFirst form (line ∷ lines) = IsOk (line_as (event_line form) line)
 
 -- the lines before the events are read, and so is a first event line
 abbrev pub HasEvent : List ℕ → Type 0
-HasEvent bytes = IsOkAnd (header (rest_of bytes)) (λ got. HasFirst got.1.lines)
+HasEvent bytes = IsOkAnd (header (rest_of bytes)) (λ got. HasFirst got.0.form got.1.lines)
 
 -- the faults of the text of a scenario
 abbrev pub IsOfScenario : TextFault → Type 0

@@ -7,6 +7,7 @@
 //! that a caller needs this crate alone. What a world does is not here.
 #![tactic(auto)]
 
+mod form;
 mod ran;
 mod register;
 mod replay_end;
@@ -14,14 +15,15 @@ mod replays;
 mod report;
 mod scenario;
 
+pub use form::Form;
 pub use pm_lines::{MAX_TEXT, Sink, Source, TextFault};
 pub use pm_trace::{
     ByteList, DecodeEnd, Decoder, Fed, Shown, TraceLine, decode, read_trace_line, render_line,
 };
 pub use ran::Ran;
 pub use register::{is_byte_register, register_name};
-pub use replays::replay;
 pub use replay_end::ReplayEnd;
+pub use replays::replay;
 pub use report::render_report;
 pub use scenario::events::Events;
 pub use scenario::{Scenario, read_scenario};

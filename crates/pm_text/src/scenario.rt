@@ -1,5 +1,6 @@
 ghost use Rattle.std.specs.Prelude.{◌≡◌, ◌⊎◌, ◌<◌, length, Ok, Err, IfOk, IfErr, IsErrOf};
 ghost use Rattle.pm_lines.specs.Faults.{IsOfText};
+ghost use Rattle.pm_lines.specs.Streams.{max_text};
 ghost use Rattle.pm_lines.specs.declared.fault.TextFault.TheVariants.{Memory};
 ghost use Rattle.pm_text.specs.ScenarioText.{HasEvent, HasFirst, IsOfScenario, as_text_fault, events_in, scenario_of};
 
@@ -13,9 +14,10 @@ mod header;
 mod rows;
 mod starts;
 
+use crate::form::Form;
 use event_line::event_line;
 use events::Events;
-use header::header;
+use header::{Header, read_header};
 use pm_device::Config;
 use pm_lines::{MAX_TEXT, TextFault};
 use pm_world::Event;
@@ -53,15 +55,19 @@ pub fn read_scenario(alloc: Global, text: &[u8]) -> Result<Scenario, TextFault>
     ensures faults { IfErr result IsOfScenario }
 
     // X3 comes only for more bytes than a text may have, and memory is wanted only for an event.
-    ensures too_long { IsErrOf result TextFault.TooLong → MAX_TEXT < length text.now }
+    ensures too_long { IsErrOf result TextFault.TooLong → max_text < length text.now }
     ensures memory { IsErrOf result Memory → HasEvent text.now }
 {
     if text.len() > MAX_TEXT {
         return Err(TextFault::TooLong);
     }
     let mut rows = Rows::new(text);
-    let (config, passes) = header(&mut rows)?;
-    let events = events_left(alloc, &mut rows)?;
+    let Header {
+        form,
+        config,
+        passes,
+    } = read_header(&mut rows)?;
+    let events = events_left(alloc, form, &mut rows)?;
     Ok(Scenario {
         config,
         passes,
@@ -70,16 +76,17 @@ pub fn read_scenario(alloc: Global, text: &[u8]) -> Result<Scenario, TextFault>
 }
 
 // The events of the lines that are left.
-fn events_left(alloc: Global, rows: &mut Rows<'_>) -> Result<Vec<Event>, TextFault>
-    ensures events { IfOk result (λ events. events_in rows.old.lines ≡ Ok events.items) }
+fn events_left(alloc: Global, form: Form, rows: &mut Rows<'_>) -> Result<Vec<Event>, TextFault>
+    ensures events { IfOk result (λ events. events_in form rows.old.lines ≡ Ok events.items) }
     ensures fault { IfErr result (λ fault. (fault ≡ Memory)
-        ⊎ (as_text_fault (events_in rows.old.lines) ≡ Err fault)) }
+        ⊎ (as_text_fault (events_in form rows.old.lines) ≡ Err fault)) }
     ensures faults { IfErr result IsOfText }
-    ensures memory { IsErrOf result Memory → HasFirst rows.old.lines }
+    ensures memory { IsErrOf result Memory → HasFirst form rows.old.lines }
 {
     let mut events = Vec::new(alloc);
     'lines: while let Some(line) = rows.next() {
-        let event = event_line(line)?;
+        let mut event = Event::RestartHost;
+        event_line(form, line, &mut event)?;
         events.push(event)?;
     }
     Ok(events)

@@ -1,34 +1,35 @@
-//! The lines of outputs: what each commands, its five settings, and its status.
+//! The lines of outputs: what each commands, its settings, and its status.
 ghost use Rattle.std.specs.Prelude.{◌≡◌, ◌<◌, ◌++◌, OnOk, string_bytes};
 ghost use Rattle.pm_text.specs.Report.{all_outputs, commanded_line, floor_micros, on_text, output_head, output_lines, register_lines, status_line, voltage_text};
 
-use crate::report::settings::{push_hex_word, push_register};
-use pm_lines::{push_decimal, push_hex, push_signed};
+use crate::form::Form;
+use crate::report::settings::push_register;
+use pm_lines::{push_decimal, push_hex, push_hex_word, push_signed};
 use pm_num::Frac;
-use pm_table::Reg;
 use pm_world::World;
 use std::alloc::AllocError;
 
-/// Puts the lines of all outputs behind a text.
-pub(crate) fn push_outputs(text: &mut String, world: &World) -> Result<(), AllocError>
-    ensures { OnOk result (string_bytes text.new ≡ string_bytes text.old ++ all_outputs world.now) }
+/// Appends the lines of all outputs.
+pub(crate) fn push_outputs(text: &mut String, form: Form, world: &World) -> Result<(), AllocError>
+    ensures { OnOk result (string_bytes text.new
+        ≡ string_bytes text.old ++ all_outputs form world.now) }
 {
     for output in 0..world.device().count() {
-        push_output(text, world, output)?;
+        push_output(text, form, world, output)?;
     }
     Ok(())
 }
 
-// The lines of an output that is there.
+// The lines of an output.
 #[tactic(auto, using(crate::proofs::Joins::joins), unfolding(crate::specs::Report::output_lines))]
-fn push_output(text: &mut String, world: &World, output: u8) -> Result<(), AllocError>
+fn push_output(text: &mut String, form: Form, world: &World, output: u8) -> Result<(), AllocError>
     requires { output < world.now.device.config.count }
     ensures { OnOk result (string_bytes text.new
-        ≡ string_bytes text.old ++ output_lines world.now output) }
+        ≡ string_bytes text.old ++ output_lines form world.now output) }
 {
     let device = world.device();
     push_commanded(text, output, device.is_on(output), device.commanded(output))?;
-    push_registers(text, world, output)?;
+    push_registers(text, form, world, output)?;
     push_status(text, world, output)
 }
 
@@ -60,18 +61,22 @@ fn push_head(text: &mut String, output: u8, is_on: bool) -> Result<(), AllocErro
     text.push_str(on_words(is_on))
 }
 
-// The five settings of an output.
-#[tactic(auto, using(crate::proofs::Joins::joins), unfolding(crate::specs::Report::register_lines))]
-fn push_registers(text: &mut String, world: &World, output: u8) -> Result<(), AllocError>
+// The settings of an output.
+fn push_registers(
+    text: &mut String,
+    form: Form,
+    world: &World,
+    output: u8,
+) -> Result<(), AllocError>
     requires { output < world.now.device.config.count }
     ensures { OnOk result (string_bytes text.new
-        ≡ string_bytes text.old ++ register_lines world.now output) }
+        ≡ string_bytes text.old ++ register_lines form world.now output) }
 {
-    push_register(text, world, output, Reg::Operation)?;
-    push_register(text, world, output, Reg::VoutCommand)?;
-    push_register(text, world, output, Reg::VoutMax)?;
-    push_register(text, world, output, Reg::MarginHigh)?;
-    push_register(text, world, output, Reg::MarginLow)
+    let registers = form.registers();
+    for register in registers.iter() {
+        push_register(text, world, output, *register)?;
+    }
+    Ok(())
 }
 
 // Whether an output is on.

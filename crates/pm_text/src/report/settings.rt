@@ -1,16 +1,16 @@
 //! The lines of settings: what the converter holds of a cell, and what the host says of it.
 ghost use Rattle.std.specs.Prelude.{◌≡◌, ◌<◌, ◌++◌, OnOk, string_bytes};
 ghost use Rattle.pm_table.specs.Cell.{IsCell};
-ghost use Rattle.pm_text.specs.Report.{cell_text, hex_word, register_line, setting_line, standing_text};
+ghost use Rattle.pm_text.specs.Report.{cell_text, register_line, setting_line, standing_text};
 
-use pm_host::Standing;
-use pm_lines::push_hex;
 use crate::register::{is_byte_register, register_name};
+use pm_host::Standing;
+use pm_lines::{push_hex, push_hex_word};
 use pm_table::{Cell, Reg};
 use pm_world::World;
 use std::alloc::AllocError;
 
-/// Puts the line of an output's register behind a text.
+/// Appends the line of an output's register.
 pub(crate) fn push_register(
     text: &mut String,
     world: &World,
@@ -29,7 +29,7 @@ pub(crate) fn push_register(
     )
 }
 
-/// Puts the line of a cell that is there behind a text, under this name.
+/// Appends the line of a cell, under this name.
 #[tactic(auto, using(crate::proofs::Joins::joins), unfolding(crate::specs::Report::setting_line))]
 pub(crate) fn push_setting(
     text: &mut String,
@@ -73,13 +73,4 @@ fn push_cell_word(text: &mut String, cell: Cell, word: u16) -> Result<(), AllocE
         Cell::Out(_, register) if !is_byte_register(register) => push_hex_word(text, word),
         _ => push_hex(text, (word % 256) as u8),
     }
-}
-
-/// Puts a word in hexadecimal behind a text, as four digits in upper case.
-#[tactic(auto, using(crate::proofs::Joins::joins), unfolding(crate::specs::Report::hex_word))]
-pub(crate) fn push_hex_word(text: &mut String, word: u16) -> Result<(), AllocError>
-    ensures { OnOk result (string_bytes text.new ≡ string_bytes text.old ++ hex_word word) }
-{
-    push_hex(text, (word / 256) as u8)?;
-    push_hex(text, (word % 256) as u8)
 }

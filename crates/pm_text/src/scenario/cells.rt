@@ -5,39 +5,31 @@ ghost use Rattle.pm_text.specs.Kinds as kinds;
 ghost use Rattle.pm_text.specs.Readers.{Reads, field};
 ghost use Rattle.pm_text.specs.declared.scenario.fault.ScenarioFault.TheVariants.{Syntax, BadHex};
 
-use crate::scenario::fields::Fields;
-use crate::scenario::fault::ScenarioFault;
+use crate::form::Form;
 use crate::register::{is_byte_register, register_name};
+use crate::scenario::fault::ScenarioFault;
+use crate::scenario::fields::Fields;
 use pm_table::{Cell, Reg};
-
-/// The registers of an output.
-const REGISTERS: [Reg; 5] = [
-    Reg::Operation,
-    Reg::VoutCommand,
-    Reg::VoutMax,
-    Reg::MarginHigh,
-    Reg::MarginLow,
-];
 
 /// `O NAME`, or `- WRITE_PROTECT`.
 #[tactic(auto, unfolding(crate::specs::EventLines::cell))]
-pub(crate) fn cell(fields: &mut Fields<'_>) -> Result<Cell, ScenarioFault>
-    ensures { Reads result fields.new (cell_field fields.old) }
+pub(crate) fn cell(form: Form, fields: &mut Fields<'_>) -> Result<Cell, ScenarioFault>
+    ensures { Reads result fields.new (cell_field form fields.old) }
 {
-    let Some(output) = fields.place()? else {
+    let Some(output) = fields.output_or_device()? else {
         fields.keyword("WRITE_PROTECT")?;
         return Ok(Cell::Protect);
     };
-    let register = register(fields)?;
+    let register = register(form, fields)?;
     Ok(Cell::Out(output, register))
 }
 
 /// The name of an output's register: otherwise X1.
-pub(crate) fn register(fields: &mut Fields<'_>) -> Result<Reg, ScenarioFault>
-    ensures { Reads result fields.new (field Syntax kinds.register_named fields.old) }
+pub(crate) fn register(form: Form, fields: &mut Fields<'_>) -> Result<Reg, ScenarioFault>
+    ensures { Reads result fields.new (field Syntax (kinds.register_named form) fields.old) }
 {
     let name = fields.word()?;
-    match named_among(&REGISTERS, name) {
+    match named_among(&form.registers(), name) {
         Some(register) => Ok(register),
         None => Err(fields.syntax()),
     }

@@ -2,7 +2,7 @@
 ghost use Rattle.std.specs.Prelude.{◌≡◌, Ok, Err, [], ◌∷◌, MatchResult, List, ℕ};
 ghost use Rattle.pm_lines.specs.Digits.{hex_of, signed_of, small_of};
 ghost use Rattle.pm_lines.specs.Lines.{words_of};
-ghost use Rattle.pm_text.specs.Kinds.{is_word, place_of};
+ghost use Rattle.pm_text.specs.Kinds.{is_word, output_or_device};
 ghost use Rattle.pm_text.specs.Readers.{Reads, field, word as next_word};
 ghost use Rattle.pm_text.specs.declared.scenario.fault.ScenarioFault.TheVariants.{Syntax, BadHex};
 
@@ -142,8 +142,8 @@ impl<'a> Fields<'a> {
     }
 
     /// An output's number, 0 to 255, or `-` for the device: otherwise X1.
-    pub(crate) fn place(&mut self) -> Result<Option<u8>, ScenarioFault>
-        ensures { Reads result self.new (field Syntax place_of self.old) }
+    pub(crate) fn output_or_device(&mut self) -> Result<Option<u8>, ScenarioFault>
+        ensures { Reads result self.new (field Syntax output_or_device self.old) }
     {
         let word = self.word()?;
         if word == b"-".as_slice() {

@@ -7,8 +7,8 @@ use Rattle.pm_text.proofs.scenario.events_left.Given as goal
 -- but after a first event line
 abbrev pub invariant-lines : goal.invariant-lines
 invariant-lines l = record {
-  events : events_in l.fn.rows.lines ≡ after l.events.items (events_in l.rows.lines);
-  first : (l.rows.lines ≡ l.fn.rows.lines) ⊎ HasFirst l.fn.rows.lines;
+  events : events_in l.form l.fn.rows.lines ≡ after l.events.items (events_in l.form l.rows.lines);
+  first : (l.rows.lines ≡ l.fn.rows.lines) ⊎ HasFirst l.form l.fn.rows.lines;
 }
 
 abbrev pub decreases-lines : goal.decreases-lines

@@ -7,6 +7,6 @@ use Rattle.pm_text.proofs.report.outputs.push_outputs.Given as goal
 abbrev pub invariant-loop-output : goal.invariant-loop-output
 invariant-loop-output l = record {
   written : string_bytes l.text ≡ string_bytes l.fn.text
-      ++ flat_map (output_lines l.world) (take l.output (range_with_len 0 l.world.device.config.count));
+      ++ flat_map (output_lines l.form l.world) (take l.output (range_with_len 0 l.world.device.config.count));
   within : l.output ≤ l.world.device.config.count;
 }

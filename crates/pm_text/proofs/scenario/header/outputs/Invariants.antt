@@ -8,7 +8,7 @@ use Rattle.pm_text.proofs.scenario.header.outputs.Given as goal
 abbrev pub invariant-outputs : goal.invariant-outputs
 invariant-outputs l =
     (given : List OutputStart) × (l.starts ≡ starts_of given)
-    × (outputs_in l.fn.rows.count l.fn.rows.lines ≡ behind given (outputs_in l.rows.count l.rows.lines))
+    × (outputs_in l.form l.fn.rows.count l.fn.rows.lines ≡ behind given (outputs_in l.form l.rows.count l.rows.lines))
 
 abbrev pub decreases-outputs : goal.decreases-outputs
 decreases-outputs l = length l.rows.lines
