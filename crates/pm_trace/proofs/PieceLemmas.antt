@@ -1,5 +1,5 @@
 -- A decoder that is called again and again.
-use Rattle.std.proofs.Common.{◌≡◌, ℕ, ◌+◌, ◌-◌, Bool, true, false, cond, List, [], ◌∷◌, ◌++◌, length, take, drop, None, refl, sym, ap, subst, ◌∙◌, arith, append_assoc, append-nil, take-append-drop}
+use Rattle.std.proofs.Common.{inl, inr, ◌≡◌, ℕ, ◌+◌, ◌-◌, Bool, true, false, cond, List, [], ◌∷◌, ◌++◌, length, take, drop, None, refl, sym, ap, subst, ◌∙◌, arith, append_assoc, append-nil, take-append-drop}
 use Rattle.std.specs.Prelude.{flat_map}
 use Rattle.std.specs.List.{concat, count_by}
 use Rattle.std.proofs.lemmas.List.Sums.{sum_by-cons}
@@ -172,9 +172,9 @@ pub record StopsAt (bytes : List ℕ) (pieces : List (List ℕ)) (lines : List T
 
 stops : (bytes : List ℕ) (old new : Holding) (pieces : List (List ℕ)) (lines : List Told) → Took bytes old → Stops old pieces lines new
     → StopsAt bytes pieces lines
-stops bytes old new [] lines took (none, fails) =
+stops bytes old new [] lines took (none, fault, fails) =
     record { taken = bytes; more = []; split = refl; lines_are = sym (ap (λ l. said bytes ++ l) none ∙ append-nil (said bytes)) }
-stops bytes old new (piece ∷ pieces) lines took (calls, left, mid, front, rest, run, taken, split, inl (none, fails)) =
+stops bytes old new (piece ∷ pieces) lines took (calls, left, mid, front, rest, run, taken, split, inl (none, fault, fails)) =
     let all = takes_all bytes old mid calls front took run in
     let n = flat_map taken_in calls in
     record {
