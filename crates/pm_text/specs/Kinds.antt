@@ -5,7 +5,7 @@ use Rattle.pm_table.specs.declared.cell.Cell.{Cell}
 use Rattle.pm_table.specs.declared.cell.Cell.TheVariants.{Out, Protect}
 use Rattle.pm_table.specs.declared.cell.Reg.{Reg}
 use Rattle.pm_table.specs.declared.cell.Reg.TheVariants.{Operation, VoutCommand, VoutMax, MarginHigh, MarginLow}
-use Rattle.pm_lines.specs.Bytes.{bytes_of}
+use Rattle.pm_lines.specs.Bytes.{word_bytes}
 use Rattle.pm_lines.specs.Digits.{hex_of, small_of}
 use Rattle.pm_text.specs.Readers.{named}
 use Rattle.pm_text.specs.declared.form.Form.{Form}
@@ -74,4 +74,4 @@ abbrev pub as_frame : List ℕ → Option (List ℕ)
 as_frame bytes = if nat_le 1 (length bytes) && nat_le (length bytes) 16 then Some bytes else None
 
 abbrev pub frame_bytes : List ℕ → Option (List ℕ)
-frame_bytes text = option_and_then as_frame (bytes_of (text ∷ []))
+frame_bytes text = option_and_then as_frame (word_bytes text)
