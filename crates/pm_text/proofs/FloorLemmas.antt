@@ -2,7 +2,7 @@
 use Rattle.std.proofs.Common.{◌≡◌, ◌^◌, ◌<◌, ℕ, ℤ, pos, negsuc, ◌+ℤ◌, ◌*ℤ◌, ◌≤ℤ◌, ◌<ℤ◌, arith}
 use Rattle.std.specs.Int.{int_div_euclid}
 use Rattle.std.proofs.lemmas.Int.{ints, by_lt_z}
-use Rattle.pm_num.specs.Laws.Integers.{lt-times}
+use Rattle.pm_num.specs.Lemmas.Integers.{lt-times}
 use Rattle.pm_num.specs.Ratio.{AtMost, Ratio, micros}
 use Rattle.pm_text.specs.Report.{floor_micros}
 

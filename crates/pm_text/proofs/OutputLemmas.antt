@@ -4,9 +4,10 @@ use Rattle.std.proofs.Common.{arith, add-one, append_assoc, append-nil, length-a
 use Rattle.std.specs.Prelude.{replicate, slice_set, take}
 use Rattle.std.proofs.lemmas.List.{take-replicate}
 use Rattle.pm_device.specs.declared.config.OutputStart.{OutputStart}
+use Rattle.pm_device.specs.Start.{no_start}
 use Rattle.pm_lines.specs.Lines.{Numbered}
 use Rattle.pm_text.specs.Readers.{Rest, line_as}
-use Rattle.pm_text.specs.ScenarioText.{counted, first_eight, no_start, output_line, outputs_in, start_before, starts_of}
+use Rattle.pm_text.specs.ScenarioText.{counted, first_eight, output_line, outputs_in, start_before, starts_of}
 use Rattle.pm_text.specs.declared.form.Form.{Form}
 use Rattle.pm_text.specs.declared.scenario.fault.ScenarioFault.{ScenarioFault}
 use Rattle.pm_text.specs.declared.scenario.fault.ScenarioFault.TheVariants.{Syntax}
