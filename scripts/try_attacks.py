@@ -1,108 +1,220 @@
 #!/usr/bin/env python3
-"""Tries each planted bug of attacks/CRATE, one at a time, on a copy, and says which stay proved.
+"""Tries the planted bugs of attacks/CRATE on a copy, and says which stay proved.
 
-    scripts/try_attacks.py CRATE [NAME ..] [--jobs N]
+    scripts/try_attacks.py CRATE [NAME ..] [--folder F] [--alone] [--no-tests] [--jobs N]
 
 An edit has lines `file: src/x.rt` and pairs `old: ..`, `new: ..`, each text one line that stands once in that
-file. For each bug it prints `refused` with what isn't proved, `broken` where it doesn't compile, or `PROVED`, and
-then whether a test fails with it: the crate's own, and those of pm_tests that are named for the crate.
-Run it at the top of the repository after an `rt check` of the crate, whose work the copy keeps.
+file. Edits of different functions are tried together, in one check that says of each function whether it's
+proved; --alone tries one at a time. The verdicts:
+
+    refused   a function that the edit changes isn't proved: the note says why
+    renamed   a proof by hand names a goal that the edit renamed, which says nothing of the bug
+    broken    it doesn't compile, or a text doesn't stand once in its file
+    PROVED    and then whether a test fails with it: the crate's own, and those of pm_tests, or of pm_text_tests
+              where pm_tests doesn't stand on the crate
+
+Run it at the top of the repository after an `rt check` of the crate, whose work the copy keeps. --folder takes
+the edits from elsewhere, as crates/CRATE/must-fail.
 """
 import os
-import shutil
-import subprocess
+import re
 import sys
-import tempfile
 import time
 
+from crate_copy import CrateCopy, read, taken, why_not
 
-def read_edit(home, path):
-    """The crate's files that an edit names, with their changed texts; or why it can't be read."""
-    texts, name, old = {}, None, None
-    with open(path, encoding="utf-8") as lines:
-        for line in lines.read().split("\n"):
-            if line.startswith("file: "):
-                name = line[6:].strip()
-                if name not in texts:
-                    with open(os.path.join(home, name), encoding="utf-8") as f:
-                        texts[name] = f.read()
-            elif line.startswith("old: "):
-                old = line[5:]
-            elif line.startswith("new: "):
-                if name is None or old is None or texts[name].count(old) != 1:
-                    return None, "the text %r doesn't stand once in %s" % (old, name)
-                texts[name] = texts[name].replace(old, line[5:])
-    return texts, "" if texts else "it names no file"
+# what is said of a function that only stands on one that isn't proved
+BELOW = re.compile(r": no proof: (it calls|its contract rests)")
+FUNCTION = re.compile(r"( *)(?:pub(?:\([a-z]+\))? )?(?:const )?fn (\w+)")
 
 
-def run(folder, *words):
-    """The lines that a command prints."""
-    done = subprocess.run(words, cwd=folder, stdout=subprocess.PIPE, stderr=subprocess.STDOUT, text=True)
-    return done.stdout.rstrip().split("\n")
-
-
-def failed_test(folder):
-    """The first line of a failed test, if one fails."""
-    for line in run(folder, "rt", "try", "--test"):
-        if "FAILED" in line or "panicked" in line or (" failed" in line and " 0 failed" not in line):
-            return line
+def function_at(text, place):
+    """The name of the function whose body has this place of a file's text, if one has."""
+    start = 0
+    found = None
+    for line in text.split("\n"):
+        head = FUNCTION.match(line)
+        if head:
+            found = (head.group(1), head.group(2))
+        if start + len(line) >= place:
+            return found[1] if found and not head else None
+        if found and line.startswith((found[0] + "}", found[0] + "{}")):
+            found = None
+        start += len(line) + 1
     return None
 
 
-def try_edit(copy, crate, path, jobs):
-    """The verdict on one planted bug, and a note on it."""
-    home = os.path.join(copy, "crates", crate)
-    texts, why = read_edit(home, path)
-    if why:
-        return "unread", why
-    kept = {}
-    for name, text in texts.items():
-        with open(os.path.join(home, name), encoding="utf-8") as f:
-            kept[name] = f.read()
-        with open(os.path.join(home, name), "w", encoding="utf-8") as f:
-            f.write(text)
-    try:
-        lines = run(home, "rt", "check", "--jobs", jobs)
-        if any(line.startswith("logic=proved") for line in lines):
-            tests = [home] if crate in ("pm_num", "pm_table", "pm_frame", "pm_text", "pm_tool") else []
-            for folder in tests + [os.path.join(copy, "crates", "pm_tests")]:
-                line = failed_test(folder)
-                if line:
-                    return "PROVED", "a test notices: " + line[:150]
-            return "PROVED", "NO TEST NOTICES"
-        errors = [line for line in lines if ": error" in line or "error[" in line or "not proved" in line]
-        judged = any(line.startswith("logic=") for line in lines)
-        return "refused" if judged else "broken", (errors or lines[-1:])[0][:200]
-    finally:
-        for name, text in kept.items():
-            with open(os.path.join(home, name), "w", encoding="utf-8") as f:
-                f.write(text)
+class Edit:
+    """A planted bug: the replacements in each file, and the functions that they change."""
+
+    def __init__(self, home, path):
+        self.name = os.path.basename(path)[:-len(".edit")]
+        self.why = ""
+        self.texts = {}
+        self.pieces = []
+        self.functions = set()
+        self.read(home, read(path).split("\n"))
+        if not self.texts and not self.why:
+            self.why = "it names no file"
+
+    def read(self, home, lines):
+        name = old = None
+        originals = {}
+        for line in lines:
+            if line.startswith("file: "):
+                name = line[6:].strip()
+                originals.setdefault(name, read(os.path.join(home, name)))
+                self.texts.setdefault(name, originals[name])
+            elif line.startswith("old: "):
+                old = line[5:]
+            elif line.startswith("new: "):
+                if name is None or old is None or self.texts[name].count(old) != 1:
+                    self.why = "the text %r doesn't stand once in %s" % (old, name)
+                    return
+                self.texts[name] = self.texts[name].replace(old, line[5:])
+                self.place(name, originals[name], old, line[5:])
+
+    def place(self, name, original, old, new):
+        """Notes where the text stands; what changes no function, or an earlier edit's text, is tried alone."""
+        at = original.find(old)
+        function = function_at(original, at) if original.count(old) == 1 else None
+        self.functions.add((name, function) if function else None)
+        self.pieces.append((name, at, old, new))
+
+    def is_joinable(self):
+        return None not in self.functions
+
+    def lines_of(self, crate, lines):
+        """What a check says of the functions that it changes."""
+        found = []
+        for name, function in self.functions - {None}:
+            module = name[len("src/"):-len(".rt")].replace("/", "::")
+            module = "" if module in ("lib", "main") else module + "::"
+            head = re.compile(r"fn %s::%s(?:[^: ]+::)*%s:" % (crate, module, function))
+            found += [line for line in lines if head.match(line)]
+        return found
+
+    def misnamed(self, lines):
+        """The line that says that a proof of such a function names a goal that isn't one."""
+        for line in lines:
+            folders = line.split(":")[0].split("/")
+            if "that can be named from here" in line and any(f and f[1] in folders for f in self.functions):
+                return line
+        return None
+
+
+def joined(copy, edits):
+    """The files' texts with all of these edits."""
+    pieces = {}
+    for edit in edits:
+        for name, at, old, new in edit.pieces:
+            pieces.setdefault(name, []).append((at, old, new))
+    texts = {}
+    for name, those in pieces.items():
+        text = read(os.path.join(copy.home, name))
+        for at, old, new in sorted(those, reverse=True):
+            text = text[:at] + new + text[at + len(old):]
+        texts[name] = text
+    return texts
+
+
+def groups_of(edits, alone):
+    """The edits in groups of different functions."""
+    groups = []
+    for edit in edits:
+        for functions, group in groups:
+            if not alone and edit.is_joinable() and None not in functions and not functions & edit.functions:
+                functions |= edit.functions
+                group.append(edit)
+                break
+        else:
+            groups.append((set(edit.functions), [edit]))
+    return [group for _, group in groups]
+
+
+def judged(copy, edits):
+    """The verdict on each edit of a group, with a note; None where the check says nothing of it."""
+    one = len(edits) == 1
+    kept = copy.write(edits[0].texts if one else joined(copy, edits))
+    lines, verdict = copy.check()
+    copy.write(kept)
+    if verdict is None:
+        return [("broken", why_not(lines))] if one else [None] * len(edits)
+    if verdict == "logic=proved":
+        return [("PROVED", "")] * len(edits)
+    found = []
+    for edit in edits:
+        told = edit.lines_of(copy.crate, lines)
+        own = [line for line in told if not line.endswith(": proved") and not BELOW.search(line)]
+        if edit.misnamed(lines):
+            found.append(("renamed", edit.misnamed(lines)))
+        elif own or one:
+            found.append(("refused", own[0] if own else why_not(lines)))
+        elif told and all(line.endswith(": proved") for line in told):
+            found.append(("PROVED", ""))
+        else:
+            found.append(None)
+    return found
+
+
+def report(copy, edit, verdict, note, tests, seconds):
+    if verdict == "PROVED" and tests:
+        kept = copy.write(edit.texts)
+        line = copy.failed_test()
+        copy.write(kept)
+        note = "a test notices: " + line if line else "NO TEST NOTICES"
+    print("%-8s %-55s %3d s  %s" % (verdict, edit.name, seconds, note[:200]), flush=True)
+
+
+def try_all(copy, edits, alone, tests):
+    """Tries them, in as few checks as may be, and prints each one's verdict."""
+    for edit in edits:
+        if edit.why:
+            report(copy, edit, "broken", edit.why, False, 0)
+    groups = groups_of([edit for edit in edits if not edit.why], alone)
+    while groups:
+        group = groups.pop(0)
+        start = time.time()
+        found = judged(copy, group)
+        left = [edit for edit, verdict in zip(group, found) if verdict is None]
+        for edit, verdict in zip(group, found):
+            if verdict is not None:
+                report(copy, edit, *verdict, tests, (time.time() - start) / len(group))
+        if left and len(left) == len(group):
+            half = (len(left) + 1) // 2
+            groups += [left[:half], left[half:]]
+        elif left:
+            groups.append(left)
 
 
 def main():
     words = sys.argv[1:]
-    jobs = "1"
-    if "--jobs" in words:
-        at = words.index("--jobs")
-        jobs = words[at + 1]
-        del words[at:at + 2]
-    if not words or "--help" in words:
+    jobs = taken(words, "--jobs") or "1"
+    folder = taken(words, "--folder")
+    flags = [word for word in words if word.startswith("--")]
+    words = [word for word in words if not word.startswith("--")]
+    if not words or set(flags) - {"--alone", "--no-tests"}:
         sys.exit(__doc__)
     crate, names = words[0], words[1:]
-    folder = os.path.join("attacks", crate)
+    folder = folder or os.path.join("attacks", crate)
     if not os.path.isdir(folder):
         sys.exit("no %s here: run it at the top of the repository" % folder)
-    copy = tempfile.mkdtemp(prefix="attacks-")
+    home = os.path.join("crates", crate)
+    paths = [os.path.join(folder, name) for name in sorted(os.listdir(folder)) if name.endswith(".edit")]
+    edits = [Edit(home, path) for path in paths]
+    unknown = set(names) - {edit.name for edit in edits}
+    if unknown:
+        sys.exit("no edit has the name %s" % ", ".join(sorted(unknown)))
+    copy = CrateCopy(crate, jobs)
     try:
-        shutil.copytree("crates", os.path.join(copy, "crates"), symlinks=True)
-        shutil.copy("crates.txt", copy)
-        for edit in sorted(os.listdir(folder)):
-            if edit.endswith(".edit") and (not names or edit[:-5] in names):
-                start = time.time()
-                verdict, note = try_edit(copy, crate, os.path.join(folder, edit), jobs)
-                print("%-8s %-50s %3d s  %s" % (verdict, edit[:-5], time.time() - start, note), flush=True)
+        lines, verdict = copy.check()
+        if verdict != "logic=proved":
+            sys.exit("the crate isn't proved as it stands: " + why_not(lines))
+        chosen = [edit for edit in edits if not names or edit.name in names]
+        try_all(copy, chosen, "--alone" in flags, "--no-tests" not in flags)
     finally:
-        shutil.rmtree(copy, ignore_errors=True)
+        copy.drop()
 
 
-main()
+if __name__ == "__main__":
+    main()

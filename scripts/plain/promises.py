@@ -1,44 +1,145 @@
-"""What is promised of both ends together, tried on random scenarios: so that the plain model, too, is held
-to something that it wasn't written from."""
-from .converter import PROTECT, REGISTERS
+"""What is promised of both ends together, tried on lists of events: so that the plain model, too, is held
+to something that it wasn't written from. Nothing here asks a converter or a host what it promises: it
+looks at the events, at the words of the cells, and at what the host says."""
+from fractions import Fraction
+
+from .converter import ALLOWED, HIGH, LOW, COMMAND, MAX, OPERATION, PROTECT, REGISTERS
 from .draw_scenarios import scenario_text
-from .host import ANY
+from .host import ANY, write_of
+from .numbers import value_of
+from .packets import write_part
 from .scenario import read_scenario
 from .world import World, world_fault
 
 
-def broken_promises(text):
-    """The promises that the scenario breaks, after each event: none, if all is well."""
-    scenario = read_scenario(text)
-    if isinstance(scenario, str) or world_fault(*scenario[:2]):
-        return
-    setup, passes, events = scenario
-    world = World(setup, passes)
-    cells = [PROTECT, *((output, register) for output in world.device.outputs for register in REGISTERS)]
-    own = {cell: {world.device.cells[cell]} for cell in cells}
-    frames, at, last_restart = 0, [], -1
-    for place, event in enumerate(events):
-        transcript = len(world.host.transcript)
-        if world.step(event):
-            return
-        added = world.host.transcript[transcript:]
-        at += [place] * (len(world.host.marks) - len(at))
+class Watch:
+    """A world of a sound configuration, and what its events are held to. `step` gives the promises that
+    an event breaks: none, if all is well. `reached` counts what came to pass."""
+
+    def __init__(self, setup, passes):
+        self.world = World(setup, passes)
+        self.passes, self.start = passes, dict(self.world.device.cells)
+        self.cells = [PROTECT, *((it, register) for it in self.world.device.outputs for register in REGISTERS)]
+        self.own = {cell: {word} for cell, word in self.start.items()}
+        self.settings, self.pending = dict(self.start), None
+        self.events, self.at, self.last_restart, self.host_start = [], [], -1, -1
+        self.frames, self.job_at, self.was_allowed, self.reached = 0, None, False, set()
+
+    def step(self, event):
+        """The cause why the event isn't taken, if there is one, and the promises that it breaks."""
+        host, place = self.world.host, len(self.events)
+        before, known = len(host.transcript), {cell: host.possible(cell) for cell in self.cells}
+        sent, protect = host.sending(), self.world.device.cells[PROTECT]
+        cause = self.world.step(event)
+        if cause:
+            self.reached.add(cause)
+            return cause, []
+        self.events.append(event)
+        added = host.transcript[before:]
+        self.at += [place] * (len(host.marks) - len(self.at))
         if event == ("restart", "device"):
-            last_restart = place
-        if added and added[0][0] == "order":
-            own[added[0][1]].add(added[0][2])
-        frames = frames + 1 if event[0] in ("finish", "exchange") else 0 if added else frames
-        if frames > 2 * passes:
-            yield place, "a job sends no more than twice as many frames as passes"
-        for cell in cells:
-            word = world.device.cells[cell]
-            if word not in own[cell]:
-                yield place, "a word is a start word or one ordered for that very cell"
-            yield from broken_knowledge(world, cell, word, at, last_restart, place)
-        for output in world.device.outputs:
-            form = world.host.format(output)
-            if form and form != form_of(world, output):
-                yield place, "a format that was learned is the converter's"
+            self.last_restart = place
+        if event == ("restart", "host"):
+            self.host_start, self.pending = place, None
+        return None, [*self.of_jobs(event, added, protect), *self.of_settings(event, sent),
+                      *self.of_voltages(), *self.of_knowledge(known)]
+
+    def of_jobs(self, event, added, protect):
+        """A job's frames, formats and orders in microvolts, and undisturbed orders."""
+        host, place = self.world.host, len(self.events) - 1
+        if added and added[0][0] in ("order", "check", "learn", "clear"):
+            self.frames, self.job_at = 0, place
+            if added[0][0] == "order":
+                self.own[added[0][1]].add(added[0][2])
+                self.pending, code = added[0][1:], added[0][1][1]
+                self.was_allowed = protect == 0 or code in ALLOWED[protect]
+        elif event[0] in ("finish", "exchange"):
+            self.frames += 1
+        if self.frames + (host.sending() is not None) > 2 * self.passes:
+            yield "a job sends no more than twice as many frames as passes"
+        if host.job() == "done" and self.frames > 2 and self.pending:
+            self.reached.add("an order done in a later pass")
+        if host.job().startswith("differs"):
+            self.reached.add("differs")
+        if self.is_undisturbed() and self.was_allowed:
+            self.reached.add("an undisturbed order")
+            cell, word = self.pending
+            if (host.job(), self.frames, host.standing(cell), self.world.device.cells[cell]) != ("done", 2, word, word):
+                yield "an undisturbed allowed order ends confirmed and held after one write and one read"
+        for output in self.world.device.outputs:
+            form = host.format(output)
+            if form and form != form_of(self.world, output):
+                yield "a format that was learned is the converter's"
+
+    def is_undisturbed(self):
+        """The last job is an order, heard whole at least once, and now read back with nothing lost."""
+        if not self.pending or self.job_at is None:
+            return False
+        events = self.events[self.job_at:]
+        if len(events) < 4 or events[-1] != ("exchange", ("whole",), ("whole",)) or events[-2][0] != "finish":
+            return False
+        host, cell, word = self.world.host, *self.pending
+        frame = write_part(host.address, write_of(cell, word))
+        heard = [event[1] for event in events[1:-2] if event[0] == "deliver"]
+        return len(heard) == len(events) - 3 and any(is_whole(frame, arrival) for arrival in heard)
+
+    def of_settings(self, event, sent):
+        """The settings are those of plain orders: one takes only at a delivery, while its job is open."""
+        cells = self.world.device.cells
+        if event == ("restart", "device"):
+            self.settings = dict(self.start)
+        elif event[0] == "deliver" and self.pending and cells[self.pending[0]] == self.pending[1]:
+            self.settings[self.pending[0]] = self.pending[1]
+        if self.settings != cells:
+            yield "the settings are those of a run of plain orders"
+        for cell in self.cells:
+            if cells[cell] not in self.own[cell]:
+                yield "a word is a start word or one ordered for that very cell"
+        if self.world.host.sending() is None:
+            self.pending = None
+
+    def of_voltages(self):
+        for output in self.world.device.outputs:
+            form = form_of(self.world, output)
+            words = self.own[output, OPERATION]
+            registers = {HIGH if it >> 4 == 0xA else LOW if it >> 4 == 0x9 else COMMAND for it in words}
+            selected = {Fraction(*value_of(form, word)) for it in registers for word in self.own[output, it]}
+            most = {Fraction(*value_of(form, word)) for word in self.own[output, MAX]}
+            voltage = Fraction(*self.world.device.commanded(output))
+            if not any(voltage == min(one, other) for one in selected for other in most):
+                yield "an output commands a value of its own, cut to its own VOUT_MAX"
+
+    def of_knowledge(self, known):
+        host = self.world.host
+        for cell in self.cells:
+            yield from self.of_cell(cell, self.world.device.cells[cell], known[cell])
+        if host.restart_seen():
+            self.reached.add("a restart that is seen")
+            if self.last_restart < self.host_start or self.last_restart == -1:
+                yield "a restart is seen only where the converter restarted since the host's start"
+
+    def of_cell(self, cell, word, known):
+        host, marks, place = self.world.host, self.world.host.marks, len(self.events) - 1
+        good = [it for it, mark in enumerate(marks) if mark[0] == "good" and mark[1] == cell]
+        has_restarted = not good or self.last_restart > self.at[good[-1]]
+        confirmed, possible = host.standing(cell), host.possible(cell)
+        if confirmed is not None and not has_restarted and confirmed != word:
+            yield "a confirmed word is held until the converter restarts"
+        if possible is not ANY and not has_restarted and word not in possible:
+            yield "the converter's word is among the possible ones until it restarts"
+        if possible is not ANY and (len(possible) > 16 or self.at[good[-1]] <= self.host_start):
+            yield "at most 16 words are possible, counted from an answer since the host's start"
+        if possible is not ANY and len(possible) == 16:
+            self.reached.add("16 possible words")
+        if good and self.at[good[-1]] == place and known is not ANY and marks[good[-1]][2] not in known:
+            if len(good) < 2 or not self.at[good[-2]] < self.last_restart < place:
+                yield "an answer surprises only where the converter restarted since the one before"
+
+
+def is_whole(frame, arrival):
+    if arrival[0] == "cut":
+        return arrival[1] >= len(frame)
+    return arrival[0] == "whole" or list(arrival[1]) == list(frame) and arrival[2] == "stop"
 
 
 def form_of(world, output):
@@ -48,20 +149,18 @@ def form_of(world, output):
     return ("direct", *coefficients) if mode & 0x40 else ("ulinear16", (mode ^ 0x10) - 0x10)
 
 
-def broken_knowledge(world, cell, word, at, last_restart, place):
-    marks = world.host.marks
-    good = [it for it, mark in enumerate(marks) if mark[0] == "good" and mark[1] == cell]
-    has_restarted = not good or last_restart > at[good[-1]]
-    confirmed, possible = world.host.standing(cell), world.host.possible(cell)
-    if confirmed is not None and not has_restarted and confirmed != word:
-        yield place, "a confirmed word is held until the converter restarts"
-    if possible is not ANY and not has_restarted and word not in possible:
-        yield place, "the converter's word is among the possible ones until it restarts"
-    if possible is not ANY and len(possible) > 16:
-        yield place, "no more than 16 words are possible"
-    if good and marks[good[-1]][3] and at[good[-1]] == place:
-        if len(good) < 2 or not at[good[-2]] < last_restart < place:
-            yield place, "an answer surprises only where the converter restarted since the one before"
+def broken_promises(text):
+    """The promises that a scenario breaks, with the event: none, if all is well."""
+    scenario = read_scenario(text)
+    if isinstance(scenario, str) or world_fault(*scenario[:2]):
+        return
+    setup, passes, events = scenario
+    watch = Watch(setup, passes)
+    for place, event in enumerate(events):
+        cause, broken = watch.step(event)
+        yield from ((place, promise) for promise in broken)
+        if cause:
+            return
 
 
 def try_promises(dice, count):

@@ -1,5 +1,5 @@
 -- What an event makes of the words of the cells and of PAGE. A refusal and a read change neither.
-use Rattle.std.specs.Prelude.{ℕ, List, Option, Some, None}
+use Rattle.std.specs.Prelude.{ℕ, List}
 use Rattle.pm_model.specs.Settings.{Words, with_word}
 use Rattle.pm_device.specs.declared.act.Act.{Act}
 use Rattle.pm_device.specs.declared.act.Act.TheVariants.{Put, Select, ClearFaults, ClearVout, ClearCml}
@@ -17,66 +17,61 @@ pub data Event : Type 0 where
   Restarted : Event
   Reading : (output code word : ℕ) → Event
 
--- what an event comes to, at the words and PAGE of that moment
+-- what a converter keeps from one event to the next, beside readings and status: the words of the
+-- cells, and PAGE
+pub record Kept : Type 0 where
+  pub words : Words
+  pub page : ℕ
+
+abbrev pub kept_in : Held → Kept
+kept_in held = record { words = held.words; page = held.page }
+
+-- what an event comes to, by what is kept at that moment
 pub data Outcome : Type 0 where
   Heard : (verdict : Verdict) → Outcome
   Restarts : Outcome
   Measures : (output code word : ℕ) → Outcome
 
-abbrev pub outcome_of : Config → Words → ℕ → Event → Outcome
-outcome_of config words page (Hearing bytes ending) =
-    Heard (verdict_of config words page bytes ending)
-outcome_of config words page Restarted = Restarts
-outcome_of config words page (Reading output code word) = Measures output code word
+abbrev pub outcome_of : Config → Kept → Event → Outcome
+outcome_of config kept (Hearing bytes ending) =
+    Heard (verdict_of config kept.words kept.page bytes ending)
+outcome_of config kept Restarted = Restarts
+outcome_of config kept (Reading output code word) = Measures output code word
 
--- the act that is taken, if one is
-abbrev pub act_taken : Verdict → Option Act
-act_taken (Takes act) = Some act
-act_taken Ignores = None
-act_taken (Refuses fault) = None
-act_taken (Answers request) = None
+-- what a restart gives: every cell its start word, and PAGE is 0
+abbrev pub restart_words : Config → Words
+restart_words config = start_words config
 
--- what a hearing does, if it is a write that is taken
-abbrev pub act_of : Held → List ℕ → Ending → Option Act
-act_of held bytes ending = act_taken (verdict_of held.config held.words held.page bytes ending)
+abbrev pub restarted : Config → Kept
+restarted config = record { words = restart_words config; page = 0 }
 
--- the words after an act
-abbrev pub act_words : Words → Option Act → Words
-act_words words None = words
-act_words words (Some (Put cell word)) = with_word words cell word
-act_words words (Some (Select page)) = words
-act_words words (Some (ClearFaults output)) = words
-act_words words (Some (ClearVout output byte)) = words
-act_words words (Some (ClearCml byte)) = words
+-- what is kept after an act
+abbrev pub kept_by_act : Kept → Act → Kept
+kept_by_act kept (Put cell word) = record kept { words = with_word kept.words cell word }
+kept_by_act kept (Select page) = record kept { page = page }
+kept_by_act kept (ClearFaults output) = kept
+kept_by_act kept (ClearVout output byte) = kept
+kept_by_act kept (ClearCml byte) = kept
 
--- PAGE after an act
-abbrev pub act_page : ℕ → Option Act → ℕ
-act_page page None = page
-act_page page (Some (Put cell word)) = page
-act_page page (Some (Select selected)) = selected
-act_page page (Some (ClearFaults output)) = page
-act_page page (Some (ClearVout output byte)) = page
-act_page page (Some (ClearCml byte)) = page
+-- what is kept after what an event came to
+abbrev pub kept_by : Config → Kept → Outcome → Kept
+kept_by config kept (Heard (Takes act)) = kept_by_act kept act
+kept_by config kept (Heard Ignores) = kept
+kept_by config kept (Heard (Refuses fault)) = kept
+kept_by config kept (Heard (Answers request)) = kept
+kept_by config kept Restarts = restarted config
+kept_by config kept (Measures output code word) = kept
 
--- the words after what an event came to: a restart gives every cell its start word
-abbrev pub words_by : Config → Words → Outcome → Words
-words_by config words (Heard verdict) = act_words words (act_taken verdict)
-words_by config words Restarts = start_words config
-words_by config words (Measures output code word) = words
-
--- PAGE after what an event came to: a restart makes it 0
-abbrev pub page_by : ℕ → Outcome → ℕ
-page_by page (Heard verdict) = act_page page (act_taken verdict)
-page_by page Restarts = 0
-page_by page (Measures output code word) = page
-
--- what an event comes to at a converter that holds this
+-- what an event comes to at a converter that holds this, and what it keeps after it
 abbrev pub outcome_in : Held → Event → Outcome
-outcome_in held event = outcome_of held.config held.words held.page event
+outcome_in held event = outcome_of held.config (kept_in held) event
+
+abbrev pub kept_after : Held → Event → Kept
+kept_after held event = kept_by held.config (kept_in held) (outcome_in held event)
 
 -- the words and PAGE after an event
 abbrev pub words_after : Held → Event → Words
-words_after held event = words_by held.config held.words (outcome_in held event)
+words_after held event = (kept_after held event).words
 
 abbrev pub page_after : Held → Event → ℕ
-page_after held event = page_by held.page (outcome_in held event)
+page_after held event = (kept_after held event).page

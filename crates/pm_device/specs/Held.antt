@@ -5,6 +5,7 @@ use Rattle.std.specs.Option.{option_and_then}
 use Rattle.std.specs.Result.{result_ok}
 use Rattle.pm_num.specs.AnyFormat.{Shape, InLinear11, shape_value}
 use Rattle.pm_num.specs.Ratio.{Ratio}
+use Rattle.pm_table.specs.Codes as command
 use Rattle.pm_table.specs.VoutMode.{mode_of}
 use Rattle.pm_table.specs.Format.{shape_in}
 use Rattle.pm_model.specs.Settings.{Words}
@@ -24,10 +25,10 @@ no_readings = record { vout = replicate 8 0; iout = replicate 8 0; vin = 0; temp
 
 -- a READ code of the device, and one of an output
 abbrev pub is_device_reading : ℕ → Bool
-is_device_reading code = code == 0x88 || code == 0x8D
+is_device_reading code = code == command.read_vin || code == command.read_temperature_1
 
 abbrev pub is_output_reading : ℕ → Bool
-is_output_reading code = code == 0x8B || code == 0x8C
+is_output_reading code = code == command.read_vout || code == command.read_iout
 
 -- there is such a reading at a converter with so many outputs
 abbrev pub is_reading : ℕ → ℕ → ℕ → Bool
@@ -37,19 +38,19 @@ is_reading count output code =
 -- the word that a READ code answers at an output, 0 for any other code
 abbrev pub reading_at : Measured → ℕ → ℕ → ℕ
 reading_at readings output code =
-    if code == 0x88 then readings.vin
-    else (if code == 0x8B then slice_index readings.vout output
-    else (if code == 0x8C then slice_index readings.iout output
-    else (if code == 0x8D then readings.temperature
+    if code == command.read_vin then readings.vin
+    else (if code == command.read_vout then slice_index readings.vout output
+    else (if code == command.read_iout then slice_index readings.iout output
+    else (if code == command.read_temperature_1 then readings.temperature
     else 0)))
 
 -- the readings with another word for one of them
 abbrev pub with_reading : Measured → ℕ → ℕ → ℕ → Measured
 with_reading readings output code word =
-    if code == 0x88 then record readings { vin = word }
-    else (if code == 0x8B then record readings { vout = slice_set readings.vout output word }
-    else (if code == 0x8C then record readings { iout = slice_set readings.iout output word }
-    else (if code == 0x8D then record readings { temperature = word }
+    if code == command.read_vin then record readings { vin = word }
+    else (if code == command.read_vout then record readings { vout = slice_set readings.vout output word }
+    else (if code == command.read_iout then record readings { iout = slice_set readings.iout output word }
+    else (if code == command.read_temperature_1 then record readings { temperature = word }
     else readings)))
 
 -- the bits of STATUS_CML (PMBus 1.3 Part II) that this converter can set: an unsupported command,
@@ -63,13 +64,13 @@ pub record CmlFaults : Type 0 where
 abbrev pub no_faults : CmlFaults
 no_faults = record { command = false; «data» = false; pec = false; other = false }
 
--- the whole of it; `over` has bit 3 of STATUS_VOUT for each of the eight places for an output
+-- the whole of it; `cut` has bit 3 of STATUS_VOUT for each of the eight places for an output
 pub record Held : Type 0 where
   pub config : Config
   pub words : Words
   pub page : ℕ
   pub readings : Measured
-  pub over : List Bool
+  pub cut : List Bool
   pub faults : CmlFaults
 
 -- the VOUT_MODE byte of an output, which is fixed
@@ -82,7 +83,7 @@ shape_made config output =
     option_and_then (λ mode. result_ok (shape_in mode config.coefficients))
     (result_ok (mode_of (mode_for config output)))
 
--- that format; where it is none, as for an output that isn't there, LINEAR11 stands for it
+-- that format; where it is none, LINEAR11 stands for it
 unfoldable pub shape_for : Config → ℕ → Shape
 shape_for config output = unwrap_or (shape_made config output) InLinear11
 

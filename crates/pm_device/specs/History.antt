@@ -16,10 +16,9 @@ use Rattle.pm_device.specs.declared.heard.Ending.TheVariants.{Stop}
 use Rattle.pm_device.specs.declared.heard.Heard.TheVariants.{Taken}
 use Rattle.pm_device.specs.declared.verdict.Verdict.TheVariants.{Ignores, Refuses, Takes, Answers}
 use Rattle.pm_device.specs.Held.{Held, Measured, CmlFaults, no_readings, no_faults, is_reading, with_reading}
-use Rattle.pm_device.specs.Start.{start_words}
 use Rattle.pm_device.specs.Verdict.{output_in, written_word}
-use Rattle.pm_device.specs.Effect.{Event, Hearing, Restarted, Reading, Outcome, Heard, Restarts, Measures, outcome_in, words_by, page_by}
-use Rattle.pm_device.specs.Status.{CmlBit, Command, Data, Pec, Other, has_bit, kept, is_over, over_at, vout_in, cml_in, clears, act_clears_cml, sets_cml}
+use Rattle.pm_device.specs.Effect.{Event, Hearing, Restarted, Reading, Outcome, Heard, Restarts, Measures, outcome_in, kept_by, kept_in, restarted, restart_words}
+use Rattle.pm_device.specs.Status.{CmlBit, Command, Data, Pec, Other, has_bit, kept, is_output_cut, cut_at, vout_in, cml_in, clears, act_clears_cml, sets_cml}
 use Rattle.pm_device.specs.Reply.{reply_of}
 
 -- one bit for each of the eight places for an output
@@ -49,7 +48,7 @@ now config past = record {
   words = (kept config past).words;
   page = (kept config past).page;
   readings = readings_in config past;
-  over = each_output (vout_in config past);
+  cut = each_output (vout_in config past);
   faults = record {
     command = cml_in config past Command;
     «data» = cml_in config past Data;
@@ -62,39 +61,39 @@ now config past = record {
 unfoldable pub start_of : Config → Held
 start_of config = record {
   config = config;
-  words = start_words config;
-  page = 0;
+  words = (restarted config).words;
+  page = (restarted config).page;
   readings = no_readings;
-  over = each_output (is_over config (start_words config));
+  cut = each_output (is_output_cut config (restart_words config));
   faults = no_faults;
 }
 
 -- an output's latch that is cleared, or set: what is above VOUT_MAX now shows at once
 abbrev pub cleared : Config → Words → List Bool → ℕ → List Bool
-cleared config words over output = slice_set over output (is_over config words output)
+cleared config words cut output = slice_set cut output (is_output_cut config words output)
 
 abbrev pub latched : Config → Words → List Bool → ℕ → List Bool
-latched config words over output =
-    slice_set over output (over_at over output || is_over config words output)
+latched config words cut output =
+    slice_set cut output (cut_at cut output || is_output_cut config words output)
 
 -- the latches of STATUS_VOUT after an act, which leaves these words
-abbrev pub over_by_act : Config → Words → List Bool → Act → List Bool
-over_by_act config words over (Put (Out output register) word) = latched config words over output
-over_by_act config words over (Put Protect word) = over
-over_by_act config words over (Select page) = over
-over_by_act config words over (ClearFaults output) = cleared config words over output
-over_by_act config words over (ClearVout output byte) =
-    if has_bit byte 0x08 then cleared config words over output else over
-over_by_act config words over (ClearCml byte) = over
+abbrev pub cut_by_act : Config → Words → List Bool → Act → List Bool
+cut_by_act config words cut (Put (Out output register) word) = latched config words cut output
+cut_by_act config words cut (Put Protect word) = cut
+cut_by_act config words cut (Select page) = cut
+cut_by_act config words cut (ClearFaults output) = cleared config words cut output
+cut_by_act config words cut (ClearVout output byte) =
+    if has_bit byte 0x08 then cleared config words cut output else cut
+cut_by_act config words cut (ClearCml byte) = cut
 
 -- the latches after what an event came to
-abbrev pub over_by : Config → Words → List Bool → Outcome → List Bool
-over_by config words over (Heard (Takes act)) = over_by_act config words over act
-over_by config words over (Heard Ignores) = over
-over_by config words over (Heard (Refuses fault)) = over
-over_by config words over (Heard (Answers request)) = over
-over_by config words over Restarts = each_output (is_over config words)
-over_by config words over (Measures output code word) = over
+abbrev pub cut_by : Config → Words → List Bool → Outcome → List Bool
+cut_by config words cut (Heard (Takes act)) = cut_by_act config words cut act
+cut_by config words cut (Heard Ignores) = cut
+cut_by config words cut (Heard (Refuses fault)) = cut
+cut_by config words cut (Heard (Answers request)) = cut
+cut_by config words cut Restarts = each_output (is_output_cut config words)
+cut_by config words cut (Measures output code word) = cut
 
 -- a bit of STATUS_CML after what an event came to
 abbrev pub fault_by : Outcome → CmlBit → Bool → Bool
@@ -112,13 +111,13 @@ faults_by faults outcome = record {
 -- what a converter holds after what an event came to
 unfoldable pub after : Held → Outcome → Held
 after held outcome =
-    let words = words_by held.config held.words outcome in
+    let kept = kept_by held.config (kept_in held) outcome in
     record {
       config = held.config;
-      words = words;
-      page = page_by held.page outcome;
+      words = kept.words;
+      page = kept.page;
       readings = readings_by held.config held.readings outcome;
-      over = over_by held.config words held.over outcome;
+      cut = cut_by held.config kept.words held.cut outcome;
       faults = faults_by held.faults outcome;
     }
 

@@ -1,3 +1,4 @@
+-- What the crate promises.
 pub mod Held
 pub mod Start
 pub mod Verdict
@@ -5,3 +6,5 @@ pub mod Effect
 pub mod Status
 pub mod Reply
 pub mod History
+pub mod FaultWords
+pub mod Laws

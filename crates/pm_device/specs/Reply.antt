@@ -4,6 +4,7 @@
 use Rattle.std.specs.Prelude.{ℕ, ◌/◌, ◌%◌, ◌==◌, if◌then◌else◌, List, [], ◌∷◌, take}
 use Rattle.std.specs.Option.{option_map_or}
 use Rattle.pm_table.specs.Cell.{cell_at}
+use Rattle.pm_table.specs.Codes as command
 use Rattle.pm_table.specs.Commands.{payload_length}
 use Rattle.pm_table.specs.Coefficients.{coefficient_bytes}
 use Rattle.pm_frame.specs.declared.message.Message.{Message}
@@ -22,14 +23,14 @@ use Rattle.pm_device.specs.Status.{status_byte, status_word, status_vout, status
 -- the word of a code that isn't a cell's
 abbrev pub plain_register : Held → ℕ → ℕ → ℕ
 plain_register held output code =
-    if code == 0x00 then held.page
-    else (if code == 0x19 then 0x80
-    else (if code == 0x20 then mode_for held.config output
-    else (if code == 0x78 then status_byte held output
-    else (if code == 0x79 then status_word held output
-    else (if code == 0x7A then status_vout held output
-    else (if code == 0x7E then status_cml held
-    else (if code == 0x98 then 0x33
+    if code == command.page then held.page
+    else (if code == command.capability then 0x80
+    else (if code == command.vout_mode then mode_for held.config output
+    else (if code == command.status_byte then status_byte held output
+    else (if code == command.status_word then status_word held output
+    else (if code == command.status_vout then status_vout held output
+    else (if code == command.status_cml then status_cml held
+    else (if code == command.pmbus_revision then 0x33
     else reading_at held.readings output code)))))))
 
 -- the word that a code reads as, at an output

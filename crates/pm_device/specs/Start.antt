@@ -16,10 +16,10 @@ use Rattle.pm_table.specs.declared.vout_mode.VoutMode.{VoutMode}
 use Rattle.pm_table.specs.declared.vout_mode.VoutMode.TheVariants.{Linear, Direct}
 use Rattle.pm_table.specs.declared.fault.TableFault.{TableFault}
 use Rattle.pm_table.specs.Address.{IsAddress}
-use Rattle.pm_table.specs.Cell.{cell_accepts, register_accepts}
+use Rattle.pm_table.specs.Cell.{cell_accepts, register_accepts, registers, IsCell}
 use Rattle.pm_table.specs.VoutMode.{mode_of}
 use Rattle.pm_table.specs.Format.{shape_in}
-use Rattle.pm_model.specs.Settings.{Words, IsCell, words_of}
+use Rattle.pm_model.specs.Settings.{Words, words_of}
 use Rattle.pm_device.specs.declared.config.Config.{Config}
 use Rattle.pm_device.specs.declared.config.OutputStart.{OutputStart}
 use Rattle.pm_device.specs.declared.config.ConfigFault.{ConfigFault}
@@ -36,8 +36,7 @@ register_start MarginLow start = start.low
 
 -- an output's start words, in the order of its registers
 abbrev pub start_row : OutputStart → List ℕ
-start_row start =
-    start.operation ∷ start.command ∷ start.max ∷ start.high ∷ start.low ∷ []
+start_row start = map (λ register. register_start register start) registers
 
 -- the start word of a cell
 abbrev pub start_word : Config → Cell → ℕ
@@ -66,10 +65,6 @@ has_direct config = list_any (λ start. is_direct (mode_of start.mode)) (outputs
 -- a start that stands for an output that isn't there
 abbrev pub no_start : OutputStart
 no_start = record { mode = 0; operation = 0; command = 0; max = 0; high = 0; low = 0 }
-
--- the registers in their order
-abbrev pub registers : List Reg
-registers = Operation ∷ VoutCommand ∷ VoutMax ∷ MarginHigh ∷ MarginLow ∷ []
 
 -- an output's first register that doesn't accept its start word
 abbrev pub bad_register : ℕ → OutputStart → Option Cell
@@ -123,12 +118,16 @@ pub record IsSound (config : Config) : Type 0 where
   pub formats : (output : ℕ) → output < config.count →
       shape_made config output ≡ Some (shape_for config output)
 
+-- the list has the format of each output of a configuration
+abbrev pub AreFormats : Config → List AnyFormat → Type 0
+AreFormats config formats = (output : ℕ) → output < 8 →
+    shape_of (slice_index_or formats output Linear11) ≡ shape_for config output
+
 -- What a converter keeps true of what it keeps: its formats are those of its configuration, which is
 -- sound, PAGE names an output that is there, and there is a latch for each place for an output.
-pub record IsKept (config : Config) (formats : List AnyFormat) (count page : ℕ) (over : List Bool) : Type 0 where
+pub record IsKept (config : Config) (formats : List AnyFormat) (count page : ℕ) (cut : List Bool) : Type 0 where
   pub sound : IsSound config
-  pub shapes : (output : ℕ) → output < 8 →
-      shape_of (slice_index_or formats output Linear11) ≡ shape_for config output
+  pub shapes : AreFormats config formats
   pub counted : count ≡ config.count
   pub selected : page < config.count
-  pub latches : length over ≡ 8
+  pub latches : length cut ≡ 8

@@ -13,12 +13,11 @@ use Rattle.pm_model.specs.Commanded.{is_cut}
 use Rattle.pm_device.specs.declared.act.Act.{Act}
 use Rattle.pm_device.specs.declared.act.Act.TheVariants.{Put, Select, ClearFaults, ClearVout, ClearCml}
 use Rattle.pm_device.specs.declared.config.Config.{Config}
-use Rattle.pm_device.specs.declared.heard.DeviceFault.{DeviceFault}
-use Rattle.pm_device.specs.declared.heard.DeviceFault.TheVariants.{Frame, UnsupportedCode, UnsupportedData, BadPage, Protected, Nested, ReadOnly}
+use Rattle.pm_device.specs.declared.fault.DeviceFault.{DeviceFault}
+use Rattle.pm_device.specs.declared.fault.DeviceFault.TheVariants.{Frame, UnsupportedCode, UnsupportedData, BadPage, Protected, Nested, ReadOnly}
 use Rattle.pm_device.specs.declared.verdict.Verdict.TheVariants.{Ignores, Refuses, Takes, Answers}
 use Rattle.pm_device.specs.Held.{Held, CmlFaults, value_for}
-use Rattle.pm_device.specs.Start.{start_words}
-use Rattle.pm_device.specs.Effect.{Event, Outcome, Heard, Restarts, Measures, outcome_of, words_by, page_by}
+use Rattle.pm_device.specs.Effect.{Event, Kept, Outcome, Heard, Restarts, Measures, outcome_of, kept_by, restarted, restart_words}
 
 -- the byte has the bit set
 abbrev pub has_bit : ℕ → ℕ → Bool
@@ -64,27 +63,19 @@ pub record Moment : Type 0 where
   pub outcome : Outcome
   pub words : Words
 
--- the words and PAGE after a past, newest event first
-pub record Kept : Type 0 where
-  pub words : Words
-  pub page : ℕ
-
+-- what a converter keeps after a past, newest event first
 unfoldable pub kept : Config → List Event → Kept
-kept config [] = record { words = start_words config; page = 0 }
+kept config [] = restarted config
 kept config (event ∷ past) =
-    let before = kept config past in
-    let outcome = outcome_of config before.words before.page event in
-    record { words = words_by config before.words outcome; page = page_by before.page outcome }
+    let before = kept config past in kept_by config before (outcome_of config before event)
 
 -- the moments since a converter was made, which counts as a restart
 unfoldable pub moments : Config → List Event → List Moment
-moments config [] = record { outcome = Restarts; words = start_words config } ∷ []
-moments config (event ∷ past) =
-    let before = kept config past in
-    record {
-      outcome = outcome_of config before.words before.page event;
-      words = (kept config (event ∷ past)).words;
-    } ∷ moments config past
+moments config [] = record { outcome = Restarts; words = restart_words config } ∷ []
+moments config (event ∷ past) = record {
+  outcome = outcome_of config (kept config past) event;
+  words = (kept config (event ∷ past)).words;
+} ∷ moments config past
 
 -- the moments from the last one that passes a test on, newest first
 abbrev pub from_last : (Outcome → Bool) → List Moment → List Moment
@@ -131,14 +122,14 @@ sets_cml bit Restarts = false
 sets_cml bit (Measures output code word) = false
 
 -- the output is there, and its selected value is above VOUT_MAX
-unfoldable pub is_over : Config → Words → ℕ → Bool
-is_over config words output =
+unfoldable pub is_output_cut : Config → Words → ℕ → Bool
+is_output_cut config words output =
     nat_lt output config.count && is_cut (value_for config output) words output
 
 -- bit 3 of an output's STATUS_VOUT after a past: its selected value was above VOUT_MAX at some
 -- moment from the last clearing on
 unfoldable pub vout_in : Config → List Event → ℕ → Bool
-vout_in config past output = list_any (λ moment. is_over config moment.words output)
+vout_in config past output = list_any (λ moment. is_output_cut config moment.words output)
     (from_last (clears (act_clears_vout output)) (moments config past))
 
 -- a bit of STATUS_CML after a past: some refusal since the last clearing set it
@@ -155,12 +146,12 @@ abbrev pub is_on : Held → ℕ → Bool
 is_on held output = has_bit (word_at held.words (Out output Operation)) 0x80
 
 -- what is latched of an output
-abbrev pub over_at : List Bool → ℕ → Bool
-over_at over output = slice_index_or over output false
+abbrev pub cut_at : List Bool → ℕ → Bool
+cut_at cut output = slice_index_or cut output false
 
 -- STATUS_VOUT: bit 3, VOUT_MAX warning
 abbrev pub status_vout : Held → ℕ → ℕ
-status_vout held output = marked 0x08 (over_at held.over output)
+status_vout held output = marked 0x08 (cut_at held.cut output)
 
 -- STATUS_CML: bit 7, an unsupported command; bit 6, unsupported data; bit 5, a wrong PEC; bit 1,
 -- another communication fault
@@ -176,13 +167,13 @@ status_cml held = cml_byte held.faults
 abbrev pub status_byte : Held → ℕ → ℕ
 status_byte held output =
     marked 0x40 (not (is_on held output)) + marked 0x02 (not (status_cml held == 0))
-    + marked 0x01 (over_at held.over output)
+    + marked 0x01 (cut_at held.cut output)
 
 -- STATUS_WORD: STATUS_BYTE; bit 15, a bit of STATUS_VOUT is set; bit 11, the power isn't good, which
 -- is that the output is off
 abbrev pub status_word : Held → ℕ → ℕ
 status_word held output =
-    status_byte held output + marked 0x8000 (over_at held.over output)
+    status_byte held output + marked 0x8000 (cut_at held.cut output)
     + marked 0x0800 (not (is_on held output))
 
 -- one bit of what is latched, and the same with one bit set

@@ -4,7 +4,8 @@
 use Rattle.std.specs.Prelude.{◌≡◌, ℕ, ◌<◌, Bool, true, false, not, ◌&&◌, ◌||◌, ◌==◌, nat_lt, if◌then◌else◌, List, Option, Some, None, unwrap_or}
 use Rattle.std.specs.Option.{option_map, option_map_or}
 use Rattle.pm_table.specs.declared.cell.Cell.TheVariants.{Out, Protect}
-use Rattle.pm_table.specs.Cell.{cell_at, cell_accepts}
+use Rattle.pm_table.specs.Cell.{cell_at, cell_accepts, is_voltage_code, IsCell}
+use Rattle.pm_table.specs.Codes as command
 use Rattle.pm_table.specs.Protection.{is_allowed}
 use Rattle.pm_frame.specs.declared.fault.FrameFault.{FrameFault}
 use Rattle.pm_frame.specs.declared.fault.FrameFault.TheVariants as frame
@@ -15,11 +16,11 @@ use Rattle.pm_frame.specs.declared.message.Payload.TheVariants.{Empty, Byte, Wor
 use Rattle.pm_frame.specs.Fault.{write_fault, request_fault}
 use Rattle.pm_frame.specs.Layout.{is_read_message, fits_layout}
 use Rattle.pm_frame.specs.View.{message_in, message_page, message_code}
-use Rattle.pm_model.specs.Settings.{Words, IsCell, word_at}
+use Rattle.pm_model.specs.Settings.{Words, word_at}
 use Rattle.pm_device.specs.declared.act.Act.{Act}
 use Rattle.pm_device.specs.declared.act.Act.TheVariants.{Put, Select, ClearFaults, ClearVout, ClearCml}
 use Rattle.pm_device.specs.declared.config.Config.{Config}
-use Rattle.pm_device.specs.declared.heard.DeviceFault.TheVariants.{Frame, UnsupportedCode, UnsupportedData, BadPage, Protected, Nested, ReadOnly}
+use Rattle.pm_device.specs.declared.fault.DeviceFault.TheVariants.{Frame, UnsupportedCode, UnsupportedData, BadPage, Protected, Nested, ReadOnly}
 use Rattle.pm_device.specs.declared.heard.Ending.{Ending}
 use Rattle.pm_device.specs.declared.heard.Ending.TheVariants.{Stop, Restart}
 use Rattle.pm_device.specs.declared.verdict.Verdict.{Verdict}
@@ -55,10 +56,10 @@ names_no_output count message =
 -- page, CLEAR_FAULTS, or that status bits are cleared
 abbrev pub act_in : ℕ → ℕ → ℕ → Option Act
 act_in code output word =
-    if code == 0x00 then Some (Select word)
-    else (if code == 0x03 then Some (ClearFaults output)
-    else (if code == 0x7A then Some (ClearVout output word)
-    else (if code == 0x7E then Some (ClearCml word)
+    if code == command.page then Some (Select word)
+    else (if code == command.clear_faults then Some (ClearFaults output)
+    else (if code == command.status_vout then Some (ClearVout output word)
+    else (if code == command.status_cml then Some (ClearCml word)
     else option_map (λ cell. Put cell word) (cell_at code output))))
 
 -- the act asks for a page that has no output
@@ -93,15 +94,24 @@ write_verdict config words page message =
     (act_in (message_code message) (output_in page message) (written_word message))
     (Refuses UnsupportedCode)
 
--- the codes of the voltages that the coefficients are for
+-- the codes that the coefficients are for: those of the voltages that are set, and READ_VOUT
 abbrev pub has_coefficients : ℕ → Bool
-has_coefficients code =
-    code == 0x21 || code == 0x24 || code == 0x25 || code == 0x26 || code == 0x8B
+has_coefficients code = is_voltage_code code || code == command.read_vout
 
 -- COEFFICIENTS is answered for such a code, for values written or read, where some output is DIRECT
 abbrev pub answers_coefficients : Config → ℕ → ℕ → Bool
 answers_coefficients config code side =
     has_coefficients code && (side == 0x00 || side == 0x01) && has_direct config
+
+-- a request without a fault is answered: its page is there, or its coefficients are
+abbrev pub is_answered : Config → Message → Bool
+is_answered config (ReadCommand code) = true
+is_answered config (PagePlusRead page code) = nat_lt page config.count
+is_answered config (ReadCoefficients code side) = answers_coefficients config code side
+is_answered config (SendByte code) = false
+is_answered config (WriteByte code byte) = false
+is_answered config (WriteWord code word) = false
+is_answered config (PagePlusWrite page code payload) = false
 
 -- what a request without a fault comes to: K4 where there is no such output, K3 where there are no
 -- coefficients to answer

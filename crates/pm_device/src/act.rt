@@ -23,19 +23,20 @@ impl Act {
     /// What the write of a code asks for, at an output and with the number that it carries; `None`
     /// for a code that this converter has no act for. The number of a code of one byte is a byte.
     #[tactic(auto, unfolding(pm_table::specs::Commands::line_of))]
-    pub(crate) fn of_code(code: u8, output: u8, word: u16) -> Option<Act>
-        requires { payload_length code ≡ 1 → word < 2 ^ 8 }
-        ensures value { result ≡ spec.act_in code output word }
+    pub(crate) fn of_code(code: Code, output: u8, word: u16) -> Option<Act>
+        requires { payload_length code.0 ≡ 1 → word < 2 ^ 8 }
+        ensures value { result ≡ spec.act_in code.0 output word }
         ensures output { IfSome result (spec.ActsOn output) }
     {
         match code {
-            0x00 => Some(Act::Select(word as u8)),
-            0x03 => Some(Act::ClearFaults(output)),
-            0x7A => Some(Act::ClearVout(output, word as u8)),
-            0x7E => Some(Act::ClearCml(word as u8)),
-            _ => cell_of(Code(code), output).map(|cell| Act::Put(cell, word)),
+            Code::PAGE => Some(Act::Select(word as u8)),
+            Code::CLEAR_FAULTS => Some(Act::ClearFaults(output)),
+            Code::STATUS_VOUT => Some(Act::ClearVout(output, word as u8)),
+            Code::STATUS_CML => Some(Act::ClearCml(word as u8)),
+            _ => cell_of(code, output).map(|cell| Act::Put(cell, word)),
         }
     }
+
     /// Whether the act asks for a page from this count on.
     pub(crate) fn selects_no_output(&self, count: u8) -> bool
         ensures { result ≡ spec.selects_no_output count self.now }

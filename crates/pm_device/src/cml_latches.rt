@@ -6,8 +6,8 @@ ghost use Rattle.pm_device.specs.Effect.{Heard as Came};
 ghost use Rattle.pm_device.specs.declared.act.Act.TheVariants as act;
 ghost use Rattle.pm_device.specs.declared.verdict.Verdict.TheVariants as verdict;
 
-use crate::heard::DeviceFault;
-use crate::status::StatusCml;
+use crate::fault::DeviceFault;
+use crate::status_bits::StatusCml;
 use bitflags::Flags;
 use pm_frame::FrameFault;
 use std::marker::Model;

@@ -1,10 +1,10 @@
 ghost use Rattle.std.specs.Prelude.{◌≡◌, ◌≤◌, length};
 ghost use Rattle.pm_device.specs.Held.{mode_for};
 ghost use Rattle.pm_device.specs.Start.{has_direct, outputs};
-ghost use Rattle.pm_device.specs.Verdict.{answers_coefficients};
+ghost use Rattle.pm_device.specs.Verdict.{answers_coefficients, has_coefficients};
 
 use pm_num::NumFault;
-use pm_table::{Cell, Coefficients, TableFault, VoutMode};
+use pm_table::{Cell, Code, Coefficients, Reg, TableFault, VoutMode, cell_of};
 use thiserror::Error;
 
 mod faults;
@@ -27,6 +27,33 @@ pub struct OutputStart {
     pub high: u16,
     /// VOUT_MARGIN_LOW.
     pub low: u16,
+}
+
+impl OutputStart {
+    ghost use Rattle.pm_device.specs.Start.{register_start};
+
+    /// What stands in a configuration for an output that isn't there.
+    pub const NONE: OutputStart = OutputStart {
+        mode: 0,
+        operation: 0,
+        command: 0,
+        max: 0,
+        high: 0,
+        low: 0,
+    };
+
+    /// The start word of a register.
+    pub fn word(&self, register: Reg) -> u16
+        ensures { result ≡ register_start register self.now }
+    {
+        match register {
+            Reg::Operation => self.operation,
+            Reg::VoutCommand => self.command,
+            Reg::VoutMax => self.max,
+            Reg::MarginHigh => self.high,
+            Reg::MarginLow => self.low,
+        }
+    }
 }
 
 /// What a converter is made from.
@@ -66,16 +93,25 @@ impl Config {
 
     /// Whether COEFFICIENTS is answered for a code and a side: the code is that of a voltage, the
     /// side 00h or 01h, and some output is DIRECT.
-    pub(crate) fn answers(&self, code: u8, side: u8) -> bool
+    pub(crate) fn answers_coefficients(&self, code: Code, side: u8) -> bool
         requires { self.now.count ≤ 8 }
-        ensures { result ≡ answers_coefficients self.now code side }
+        ensures { result ≡ answers_coefficients self.now code.0 side }
     {
-        matches!(code, 0x21 | 0x24 | 0x25 | 0x26 | 0x8B) && side <= 1 && self.has_direct()
+        has_coefficients(code) && side <= 1 && self.has_direct()
     }
 }
 
-/// Why no converter is made from a configuration: the first that applies, in the
-/// order of these.
+// Whether the coefficients are for the code: for READ_VOUT and the code of each voltage that is set.
+fn has_coefficients(code: Code) -> bool
+    ensures { result ≡ has_coefficients code.0 }
+{
+    match cell_of(code, 0) {
+        Some(cell) => cell.is_voltage(),
+        None => code == Code::READ_VOUT,
+    }
+}
+
+/// Why no converter is made from a configuration: the first that applies, in the order of these.
 #[derive(Clone, Copy, Debug, PartialEq, Eq, Error)]
 pub enum ConfigFault {
     /// V1: the count of outputs isn't 1 to 8.
@@ -93,4 +129,48 @@ pub enum ConfigFault {
     /// V5: an output is DIRECT, and the coefficients are no format.
     #[error("unsupported coefficients: {0}")]
     BadCoefficients(NumFault),
+}
+
+impl ConfigFault {
+    ghost use Rattle.std.specs.Option.{option_map};
+    ghost use Rattle.pm_device.specs.FaultWords.{config_fault_words, config_fault_output, config_fault_detail};
+
+    /// The letter and the name of the fault, as programs print them: `V2 BadStart`. After them stand
+    /// its output and its detail, where it has them.
+    pub fn words(self) -> &'static str
+        ensures { result.now ≡ config_fault_words self }
+    {
+        match self {
+            ConfigFault::OutputCount => "V1 OutputCount",
+            ConfigFault::BadStart(_) => "V2 BadStart",
+            ConfigFault::Address => "V3 Address",
+            ConfigFault::BadMode(..) => "V4 BadMode",
+            ConfigFault::BadCoefficients(_) => "V5 BadCoefficients",
+        }
+    }
+
+    /// The output of V4, and of V2 where the cell is an output's.
+    pub fn output(self) -> Option<u8>
+        ensures { result ≡ config_fault_output self }
+    {
+        match self {
+            ConfigFault::BadStart(Cell::Out(output, _)) | ConfigFault::BadMode(output, _) => {
+                Some(output)
+            }
+            _ => None,
+        }
+    }
+
+    /// What else the fault names: V2 the cell's code, as `OPERATION`, V4 and V5 why the format is
+    /// none, as `C1 VidMode` and `N1 ZeroSlope`.
+    pub fn detail(self) -> Option<&'static str>
+        ensures { option_map (λ text. text.now) result ≡ config_fault_detail self }
+    {
+        match self {
+            ConfigFault::BadStart(cell) => Some(cell.name()),
+            ConfigFault::BadMode(_, fault) => Some(fault.words()),
+            ConfigFault::BadCoefficients(fault) => Some(fault.words()),
+            ConfigFault::OutputCount | ConfigFault::Address => None,
+        }
+    }
 }

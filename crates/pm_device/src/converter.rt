@@ -1,26 +1,30 @@
-ghost use Rattle.std.specs.Prelude.{◌≡◌, ◌<◌, IfOk, OnOk};
+ghost use Rattle.std.specs.Prelude.{◌≡◌, ◌<◌, true, false, IfOk, OnOk};
 ghost use Rattle.std.specs.Result.{result_err};
-ghost use Rattle.pm_model.specs.Settings.{word_at, IsCell};
-ghost use Rattle.pm_model.specs.Commanded.{commanded};
+ghost use Rattle.pm_table.specs.Cell.{cell_accepts, IsCell};
+ghost use Rattle.pm_model.specs.Settings.{word_at};
+ghost use Rattle.pm_model.specs.Commanded.{commanded, greatest_value, is_above};
 ghost use Rattle.pm_device.specs.Held.{is_reading, value_for};
 ghost use Rattle.pm_device.specs.Start.{IsSound, config_fault as spec_config_fault};
-ghost use Rattle.pm_device.specs.Effect.{Restarted, Reading};
+ghost use Rattle.pm_device.specs.Effect.{Hearing, Restarted, Reading};
 ghost use Rattle.pm_device.specs.Status.{is_on};
 ghost use Rattle.pm_device.specs.History.{next, start_of};
+ghost use Rattle.pm_device.specs.Reply.{reply_of};
 
 use crate::cml_latches::CmlLatches;
 use crate::config::{Config, ConfigFault, config_fault};
-use crate::formats::{formats_of, start_settings};
-use crate::over::each_over;
+use crate::cut::each_cut;
+use crate::formats::formats_of;
+use crate::heard::{Ending, Heard};
 use crate::readings::Readings;
+use crate::starts::start_settings;
 use pm_model::{Formats, Plain};
 use pm_num::Frac;
 use pm_table::{Cell, Code, Reg};
 use std::marker::Model;
 
-mod acts;
+mod effect;
 mod replies;
-mod status_registers;
+mod status;
 
 /// The bit of OPERATION that has an output on.
 const ON: u16 = 0x80;
@@ -37,7 +41,7 @@ pub struct Converter {
     settings: Plain,
     page: u8,
     readings: Readings,
-    over: [bool; 8],
+    cut: [bool; 8],
     faults: CmlLatches,
 }
 
@@ -53,11 +57,11 @@ impl Model for Converter {
       words = c.settings.words;
       page = c.page;
       readings = c.readings;
-      over = c.over;
+      cut = c.cut;
       faults = c.faults;
     } };
 
-    ghost invariant = { λ c. IsKept c.config c.formats.each c.settings.count c.page c.over };
+    ghost invariant = { λ c. IsKept c.config c.formats.each c.settings.count c.page c.cut };
 }
 
 impl Converter {
@@ -67,6 +71,7 @@ impl Converter {
     #[tactic(auto, unfolding(crate::specs::History::start_of))]
     pub fn new(c: Config) -> Result<Converter, ConfigFault>
         ensures made { IfOk result (λ made. made ≡ start_of c) }
+        ensures config { IfOk result (λ made. made.config ≡ c) }
         ensures fault { result_err result ≡ spec_config_fault c }
         ensures sound { OnOk result (IsSound c) }
     {
@@ -75,14 +80,14 @@ impl Converter {
         }
         let formats = formats_of(&c);
         let settings = start_settings(&c);
-        let over = each_over(&c, &formats, &settings);
+        let cut = each_cut(&c, &formats, &settings);
         Ok(Converter {
             config: c,
             formats,
             settings,
             page: 0,
             readings: Readings::new(),
-            over,
+            cut,
             faults: CmlLatches::new(),
         })
     }
@@ -91,11 +96,12 @@ impl Converter {
     /// bit whose cause holds. The readings stay.
     #[tactic(auto, unfolding(crate::specs::History::next, crate::specs::History::after))]
     pub fn restart(&mut self)
-        ensures { self.new ≡ next self.old Restarted }
+        ensures after { self.new ≡ next self.old Restarted }
+        ensures config { self.new.config ≡ self.old.config }
     {
         self.settings = start_settings(&self.config);
         self.page = 0;
-        self.over = each_over(&self.config, &self.formats, &self.settings);
+        self.cut = each_cut(&self.config, &self.formats, &self.settings);
         self.faults = CmlLatches::new();
     }
 
@@ -106,14 +112,40 @@ impl Converter {
     pub fn set_reading(&mut self, output: u8, code: Code, word: u16) -> bool
         ensures answer { result ≡ is_reading self.old.config.count output code.0 }
         ensures after { self.new ≡ next self.old (Reading output code.0 word) }
+        ensures config { self.new.config ≡ self.old.config }
     {
         self.readings.set(self.config.count, output, code, word)
     }
 
-    /// The word of a cell that there is.
+    /// Hears the bytes of one frame, of any number, and answers: [`Heard::Silent`] where the frame is
+    /// for another device, [`Heard::Taken`] for a write, [`Heard::Answer`] for a read, otherwise
+    /// [`Heard::Refused`] with the first of K1, K2, K6, K7, K4, K5 and K3 that applies. A refusal
+    /// changes no setting and no PAGE, and sets one bit of STATUS_CML.
+    #[tactic(auto, unfolding(crate::specs::Reply::reply_of, crate::specs::History::next, crate::specs::History::after))]
+    pub fn hear(&mut self, bytes: &[u8], ending: Ending) -> Heard
+        ensures reply { result ≡ reply_of self.old bytes.now ending }
+        ensures after { self.new ≡ next self.old (Hearing bytes.now ending) }
+        ensures config { self.new.config ≡ self.old.config }
+    {
+        let verdict = self.verdict(bytes, ending);
+        let heard = self.reply_to(verdict);
+        self.settle(verdict);
+        heard
+    }
+
+    /// What [`Converter::hear`] would answer; nothing changes.
+    #[tactic(auto, unfolding(crate::specs::Reply::reply_of))]
+    pub fn reply(&self, bytes: &[u8], ending: Ending) -> Heard
+        ensures { result ≡ reply_of self.now bytes.now ending }
+    {
+        self.reply_to(self.verdict(bytes, ending))
+    }
+
+    /// The word of a cell that there is, one that the cell accepts.
     pub fn word(&self, cell: Cell) -> u16
         requires { IsCell self.now.config.count cell }
-        ensures { result ≡ word_at self.now.words cell }
+        ensures word { result ≡ word_at self.now.words cell }
+        ensures accepted { cell_accepts cell result ≡ true }
     {
         self.settings.get(cell)
     }
@@ -138,7 +170,9 @@ impl Converter {
     /// word that OPERATION selects, or that of VOUT_MAX where that is less.
     pub fn commanded(&self, output: u8) -> Frac
         requires { output < self.now.config.count }
-        ensures { result ≡ commanded (value_for self.now.config output) self.now.words output }
+        ensures value { result ≡ commanded (value_for self.now.config output) self.now.words output }
+        ensures limited { is_above result
+            (greatest_value (value_for self.now.config output) self.now.words output) ≡ false }
     {
         self.settings.commanded(&self.formats, output)
     }

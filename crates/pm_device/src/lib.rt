@@ -1,31 +1,64 @@
 //! The model of a power converter with one to eight outputs, as it is heard over SMBus: it takes
 //! writes, answers reads, and keeps the status of PMBus 1.3 Part II.
 //!
-//! [`Converter::hear`] lets it hear the bytes of one frame, of any number, and answers;
-//! [`Converter::reply`] says what it would answer. What it holds is a function of its configuration
-//! and of what it heard, measured and was restarted since: `pasts_are_followed` is that law.
+//! A [`Converter`] is made of a [`Config`], which says how each output starts. [`Converter::hear`]
+//! lets it hear the bytes of one frame, of any number, with how they ended, and gives a [`Heard`]:
+//! silence, that a write is taken, the bytes that answer a read, or the first [`DeviceFault`] that
+//! applies. [`Converter::reply`] says what it would answer. What it holds is a function of its
+//! configuration and of what it heard, measured and was restarted since: `pasts_are_followed` is
+//! that law.
 //!
-//! It reads no text and knows no host. A real converter's outputs aren't regulated here: what READ
-//! codes answer is told by `set_reading`. It takes no memory.
+//! It reads no text, knows no host and takes no memory. It regulates no output: READ codes answer
+//! what [`Converter::set_reading`] set.
+//!
+//! A converter at address 58h with two outputs in ULINEAR16, N = -12, and two frames of its host:
+//!
+//! ```text
+//! let start = OutputStart {
+//!     mode: 0x14,
+//!     operation: 0x80,
+//!     command: 0x1000,
+//!     max: 0x4000,
+//!     high: 0x1100,
+//!     low: 0x0F00,
+//! };
+//! let mut converter = Converter::new(Config {
+//!     addr: 0x58,
+//!     count: 2,
+//!     starts: [start; 8],
+//!     protect: 0x00,
+//!     coefficients: Coefficients { m: 1, b: 0, r: 0 },
+//! })?;
+//! let write = [0xB0, 0x05, 0x04, 0x00, 0x21, 0xCD, 0x34, 0x5A];
+//! converter.hear(&write, Ending::Stop);          // Heard::Taken
+//! converter.word(Cell::Out(0, Reg::VoutCommand)); // 34CDh
+//! converter.commanded(0);                        // 13517/4096 V
+//! let request = [0xB0, 0x06, 0x02, 0x00, 0x21];
+//! converter.hear(&request, Ending::Restart);     // Heard::Answer, B1 02 CD 34 B9
+//! ```
 #![tactic(auto)]
 
 mod act;
 mod cml_latches;
 mod config;
 mod converter;
+mod cut;
+mod fault;
 mod formats;
 mod heard;
 mod laws;
-mod over;
 mod readings;
-mod status;
+mod starts;
+mod status_bits;
 mod verdict;
 
 pub use config::{Config, ConfigFault, OutputStart};
 pub use converter::Converter;
-pub use heard::{DeviceFault, Ending, Heard};
+pub use fault::DeviceFault;
+pub use heard::{Ending, Heard};
 pub use laws::{
-    pasts_are_followed, reads_are_answered, refusals_set_one_bit, words_have_an_origin,
-    writes_reach_one_cell,
+    device_codes_ignore_pages, pasts_are_followed, reads_are_answered, refusals_set_one_bit,
+    registers_say_what_calls_say, replies_follow_endings, unknown_codes_are_refused,
+    words_have_an_origin, writes_reach_one_cell,
 };
-pub use status::{StatusByte, StatusCml, StatusVout, StatusWord};
+pub use status_bits::{StatusByte, StatusCml, StatusVout, StatusWord};

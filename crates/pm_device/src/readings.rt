@@ -45,15 +45,15 @@ impl Readings {
 
     /// The word that a READ code answers at an output; 0 for every other code, and for an output
     /// from 8 on.
-    pub(crate) fn get(&self, output: u8, code: u8) -> u16
-        ensures { result ≡ reading_at self.now output code }
+    pub(crate) fn get(&self, output: u8, code: Code) -> u16
+        ensures { result ≡ reading_at self.now output code.0 }
     {
         let place = usize::from(output);
         match code {
-            0x88 => self.vin,
-            0x8B => self.vout.get(place).copied().unwrap_or(0),
-            0x8C => self.iout.get(place).copied().unwrap_or(0),
-            0x8D => self.temperature,
+            Code::READ_VIN => self.vin,
+            Code::READ_VOUT => self.vout.get(place).copied().unwrap_or(0),
+            Code::READ_IOUT => self.iout.get(place).copied().unwrap_or(0),
+            Code::READ_TEMPERATURE_1 => self.temperature,
             _ => 0,
         }
     }
@@ -67,11 +67,11 @@ impl Readings {
             then with_reading self.old output code.0 word else self.old) }
     {
         let place = usize::from(output);
-        match code.0 {
-            0x88 => self.vin = word,
-            0x8D => self.temperature = word,
-            0x8B if output < count => set_word(&mut self.vout, place, word),
-            0x8C if output < count => set_word(&mut self.iout, place, word),
+        match code {
+            Code::READ_VIN => self.vin = word,
+            Code::READ_TEMPERATURE_1 => self.temperature = word,
+            Code::READ_VOUT if output < count => set_word(&mut self.vout, place, word),
+            Code::READ_IOUT if output < count => set_word(&mut self.iout, place, word),
             _ => return false,
         }
         true

@@ -7,7 +7,8 @@ ghost use Rattle.pm_device.specs.Verdict as spec;
 
 use crate::act::Act;
 use crate::config::Config;
-use crate::heard::{DeviceFault, Ending};
+use crate::fault::DeviceFault;
+use crate::heard::Ending;
 use pm_frame::{FrameFault, FrameView, Message, Payload, read_request, read_write};
 use pm_model::Plain;
 use pm_table::{Cell, Code, is_allowed};
@@ -82,7 +83,7 @@ impl Verdict {
         let code = view.code();
         let named = view.page();
         let word = written_word(&view.message());
-        match Act::of_code(code, named.unwrap_or(page), word) {
+        match Act::of_code(Code(code), named.unwrap_or(page), word) {
             None => Verdict::Refuses(DeviceFault::UnsupportedCode),
             Some(act) => Verdict::of_act(config.count, settings.get(Cell::Protect), view, act),
         }
@@ -117,7 +118,8 @@ impl Verdict {
     {
         let request = view.message();
         match request {
-            Message::ReadCoefficients { code, side } if !config.answers(code, side) => {
+            Message::ReadCoefficients { code, side }
+                if !config.answers_coefficients(Code(code), side) => {
                 Verdict::Refuses(DeviceFault::UnsupportedData)
             }
             Message::PagePlusRead { page, code: _ } if page >= config.count => {

@@ -15,6 +15,7 @@ pub record IsBetrayedAt (before bytes : List ℕ) : Type 0 where
   pub spelled : bytes ≡ front ++ last ∷ []
   pub wrong : last ≢ pec_of (before ++ front)
 
+-- bytes that the PEC betrays, taken apart so
 pub is_betrayed-at : (before bytes : List ℕ) → is_betrayed before bytes ≡ true → IsBetrayedAt before bytes
 unfolding is_betrayed
 is_betrayed-at before [] h = cc
@@ -23,6 +24,7 @@ is_betrayed-at before (byte ∷ bytes) h = record {
   last = get_or (byte ∷ bytes) (length bytes) 0;
   spelled = last_of byte bytes;
   wrong = λ same.
-      let t : eqb (get_or (byte ∷ bytes) (length bytes) 0) (pec_of (before ++ take (length bytes) (byte ∷ bytes))) ≡ true = eq-eqb _ _ same in
+      let t : eqb (get_or (byte ∷ bytes) (length bytes) 0) (pec_of (before ++ take (length bytes) (byte ∷ bytes))) ≡ true =
+      eq-eqb _ _ same in
       let f : true ≡ false = sym h ∙ ap not t in cc;
 }

@@ -1,5 +1,6 @@
 -- A change within eight neighbouring bits changes the packet error code.
-use Rattle.std.proofs.Common.{◌≡◌, ◌≢◌, inl, inr, ℕ, zero, suc, ◌+◌, ◌-◌, ◌*◌, ◌/◌, ◌%◌, ◌^◌, ◌<◌, ◌≤◌, eqb, List, length, bit_xor, refl, sym, ap, ap₂, ◌∙◌, subst, arith, zero-add, mod-lt}
+use Rattle.std.proofs.Common.{◌≡◌, ◌≢◌, inl, inr, ℕ, zero, suc, ◌+◌, ◌-◌, ◌*◌, ◌/◌, ◌%◌, ◌^◌, ◌<◌, ◌≤◌, eqb, List, length, bit_xor, refl}
+use Rattle.std.proofs.Common.{sym, ap, ap₂, ◌∙◌, subst, arith, zero-add, mod-lt}
 use Rattle.std.proofs.Math.Nat.{mod-add-div', mul-le-mul_right, lt_of_mul-lt-mul_right}
 use Rattle.std.proofs.lemmas.Bool.{cases_lt, eqb-true, eq-eqb, agree_below_at}
 use Rattle.std.proofs.lemmas.Nat.{pow-add, pow_pos, xor_lt}
@@ -10,8 +11,10 @@ use Rattle.pm_frame.specs.Layout.{AreBytes}
 use Rattle.pm_frame.specs.Damage.{message_bit, DifferWithinEight, EndsInPec}
 use Rattle.pm_frame.specs.Pec.{doubled, residues_of, pec_of}
 use Rattle.pm_frame.proofs.Carryless.{bit_at-xor}
-use Rattle.pm_frame.proofs.Residues.{doubled_times, doubled_times-zero, doubled-lt, residues_of-lt, residues_of-after, residues_of-last, pec_of-lt, pec_of-append_byte}
-use Rattle.pm_frame.proofs.Numbers.{number_of, number_of-lt, number_of-one, bit_at-number, residues_of-xor, residues_of-more, residues_of-moved, pec_of-number}
+use Rattle.pm_frame.proofs.Residues.{doubled_times, doubled_times-zero, doubled-lt, residues_of-lt, residues_of-after, residues_of-last}
+use Rattle.pm_frame.proofs.Residues.{pec_of-lt, pec_of-append_byte}
+use Rattle.pm_frame.proofs.Numbers.{number_of, number_of-lt, number_of-one, bit_at-number, residues_of-xor, residues_of-more}
+use Rattle.pm_frame.proofs.Numbers.{residues_of-moved, pec_of-number}
 
 -- what a sum without carry of 0 says
 pub same_from_xor : (a b : ℕ) → bit_xor a b ≡ 0 → a ≡ b
@@ -20,20 +23,24 @@ same_from_xor a b h =
 
 -- ---- doubling loses nothing
 
+-- one step leaves nothing only of nothing,
 doubled-none : (r : ℕ) → r < 2 ^ 8 → doubled r ≡ 0 → r ≡ 0
 unfolding doubled
 doubled-none r h none =
     eqb-true r 0 (sym (agree_below_at (λ n. eqb (doubled n) 0) (λ n. eqb n 0) 256 r refl h) ∙ eq-eqb (doubled r) 0 none)
 
+-- a register stays a byte over any number of steps,
 doubled_times-lt : (count r : ℕ) → r < 2 ^ 8 → doubled_times count r < 2 ^ 8
 unfolding doubled_times
 doubled_times-lt zero r h = h
 doubled_times-lt (suc count) r h = doubled-lt (doubled_times count r)
 
+-- and any number of steps leave nothing only of nothing
 pub doubled_times-none : (count r : ℕ) → r < 2 ^ 8 → doubled_times count r ≡ 0 → r ≡ 0
 unfolding doubled_times
 doubled_times-none zero r h none = none
-doubled_times-none (suc count) r h none = doubled_times-none count r h (doubled-none (doubled_times count r) (doubled_times-lt count r h) none)
+doubled_times-none (suc count) r h none =
+    doubled_times-none count r h (doubled-none (doubled_times count r) (doubled_times-lt count r h) none)
 
 -- ---- a change at one place
 
@@ -49,7 +56,8 @@ window-none c k n small within none =
     let moved : residues_of e 0 (8 + k) ≡ residues_of c k 8 = residues_of-moved c k 0 8 ∙ ap (λ (p : ℕ). residues_of c p 8) (zero-add k) in
     let all : residues_of e 0 (8 + k) ≡ 0 =
     sym (residues_of-more e (8 + k) 0 n above) ∙ ap (residues_of e 0) order ∙ residues_of-more e n 0 (8 + k) within ∙ none in
-    let after : doubled_times k (residues_of c 0 8) ≡ 0 = residues_of-after c k 0 8 ∙ ap (λ (p : ℕ). residues_of c p 8) (omega arith) ∙ sym moved ∙ all in
+    let after : doubled_times k (residues_of c 0 8) ≡ 0 =
+    residues_of-after c k 0 8 ∙ ap (λ (p : ℕ). residues_of c p 8) (omega arith) ∙ sym moved ∙ all in
     let byte : residues_of c 0 8 ≡ 0 = doubled_times-none k (residues_of c 0 8) (residues_of-lt c 0 8) after in
     let low : c % 2 ^ 8 ≡ c = omega arith in
     doubled_times-none 8 c small (ap (doubled_times 8) (sym low) ∙ sym (residues_of-last c 8 (omega arith)) ∙ byte)
@@ -87,12 +95,15 @@ pub change-none : (sent heard : List ℕ) → AreBytes sent → AreBytes heard �
 change-none sent heard h k size same =
     let n : ℕ = 8 * length sent in
     let first = pec_of-number sent h in
-    let second : pec_of heard ≡ residues_of (number_of heard) 0 n = pec_of-number heard k ∙ ap (λ (l : ℕ). residues_of (number_of heard) 0 (8 * l)) (sym size) in
+    let second : pec_of heard ≡ residues_of (number_of heard) 0 n =
+    pec_of-number heard k ∙ ap (λ (l : ℕ). residues_of (number_of heard) 0 (8 * l)) (sym size) in
     residues_of-xor (number_of sent) (number_of heard) 0 n
     ∙ ap₂ bit_xor (sym first ∙ same) (sym second)
     ∙ xor_self (pec_of heard)
 
-pub change-lt : (sent heard : List ℕ) → AreBytes sent → AreBytes heard → length sent ≡ length heard → bit_xor (number_of sent) (number_of heard) < 2 ^ (8 * length sent)
+-- the change of two messages, as a number, has as many bits as they have
+pub change-lt : (sent heard : List ℕ) → AreBytes sent → AreBytes heard → length sent ≡ length heard
+    → bit_xor (number_of sent) (number_of heard) < 2 ^ (8 * length sent)
 change-lt sent heard h k size =
     xor_lt (8 * length sent) (number_of sent) (number_of heard) (number_of-lt sent h)
     (subst (λ (l : ℕ). number_of heard < 2 ^ (8 * l)) (sym size) (number_of-lt heard k))
@@ -109,10 +120,14 @@ change-bit sent heard place h k size below same =
     ∙ ap₂ bit_xor (bit_at-number sent place h below ∙ same) other
     ∙ xor_self (message_bit heard (n - 1 - place))
 
-pub same_from_change : (sent heard : List ℕ) → AreBytes sent → AreBytes heard → length sent ≡ length heard → bit_xor (number_of sent) (number_of heard) ≡ 0 → sent ≡ heard
+-- no change, no other message
+pub same_from_change : (sent heard : List ℕ) → AreBytes sent → AreBytes heard → length sent ≡ length heard
+    → bit_xor (number_of sent) (number_of heard) ≡ 0 → sent ≡ heard
 same_from_change sent heard h k size none = number_of-one sent heard h k size (same_from_xor (number_of sent) (number_of heard) none)
 
-pub burst-betrayed : (sent heard : List ℕ) → AreBytes sent → AreBytes heard → length sent ≡ length heard → sent ≢ heard → DifferWithinEight sent heard → pec_of sent ≢ pec_of heard
+-- what changed within eight neighbouring bits changes the PEC
+pub burst-betrayed : (sent heard : List ℕ) → AreBytes sent → AreBytes heard → length sent ≡ length heard → sent ≢ heard
+    → DifferWithinEight sent heard → pec_of sent ≢ pec_of heard
 burst-betrayed sent heard h k size other within same =
     let n : ℕ = 8 * length sent in
     let e : ℕ = bit_xor (number_of sent) (number_of heard) in
@@ -132,6 +147,7 @@ burst-betrayed sent heard h k size other within same =
 
 -- ---- messages that end in their code
 
+-- the PEC of what ends in its own PEC is 0
 pub ends-none : (bytes : List ℕ) → EndsInPec bytes → pec_of bytes ≡ 0
 ends-none bytes ends =
     ap pec_of ends.is

@@ -19,6 +19,7 @@ xor_of_parts a k r h =
     let right : 0 * 2 ^ k + r ≡ r = omega arith in
     sym (λ i. bit_xor (left i) (right i)) ∙ block ∙ ap (λ (x : ℕ). x * 2 ^ k + r) (xor_zero_r a)
 
+-- doubling goes through the sum without carry
 pub twice-xor : (a b : ℕ) → 2 * bit_xor a b ≡ bit_xor (2 * a) (2 * b)
 twice-xor a b =
     let block : bit_xor (a * 2 + 0) (b * 2 + 0) ≡ bit_xor a b * 2 + 0 = xor_block 1 a b 0 0 (pow_pos 1) (pow_pos 1) in

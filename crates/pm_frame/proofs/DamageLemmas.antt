@@ -1,6 +1,7 @@
 -- Damage of a part of a packet, whatever stood before it: where the part's own code changes, the PEC
 -- betrays it.
-use Rattle.std.proofs.Common.{◌≡◌, ◌≢◌, ℕ, ◌*◌, Bool, true, false, eqb, List, [], ◌∷◌, ◌++◌, length, take, get_or, bit_xor, refl, sym, ◌∙◌, ap, arith, append_assoc}
+use Rattle.std.proofs.Common.{◌≡◌, ◌≢◌, ℕ, ◌*◌, Bool, true, false, eqb, List, [], ◌∷◌, ◌++◌, length, take, get_or, bit_xor, refl, sym, ◌∙◌}
+use Rattle.std.proofs.Common.{ap, arith, append_assoc}
 use Rattle.std.proofs.lemmas.Bool.{eqb-true, not-false}
 use Rattle.std.specs.Int.Bits.{xor_assoc, xor_self, xor_zero_l}
 use Rattle.pm_frame.specs.Betrayal.{is_betrayed}
@@ -12,25 +13,30 @@ use Rattle.pm_frame.proofs.Fold.{pec_of-append}
 use Rattle.pm_frame.proofs.Residues.{doubled_times}
 
 -- bytes that aren't betrayed end a packet in its PEC
-unbetrayed-ends : (before : List ℕ) (byte : ℕ) (bytes : List ℕ) → is_betrayed before (byte ∷ bytes) ≡ false → EndsInPec (before ++ (byte ∷ bytes))
+unbetrayed-ends : (before : List ℕ) (byte : ℕ) (bytes : List ℕ) → is_betrayed before (byte ∷ bytes) ≡ false
+    → EndsInPec (before ++ (byte ∷ bytes))
 unfolding is_betrayed
 unbetrayed-ends before byte bytes h =
     let front : List ℕ = take (length bytes) (byte ∷ bytes) in
     let last : ℕ = get_or (byte ∷ bytes) (length bytes) 0 in
-    let is : last ≡ pec_of (before ++ front) = eqb-true last (pec_of (before ++ front)) (not-false (eqb last (pec_of (before ++ front))) h) in
+    let is : last ≡ pec_of (before ++ front) =
+    eqb-true last (pec_of (before ++ front)) (not-false (eqb last (pec_of (before ++ front))) h) in
     record {
       front = before ++ front;
-      is = ap (λ xs. before ++ xs) (last_of byte bytes) ∙ sym (append_assoc before front (last ∷ [])) ∙ ap (λ x. before ++ front ++ x ∷ []) is;
+      is = ap (λ xs. before ++ xs) (last_of byte bytes) ∙ sym (append_assoc before front (last ∷ []))
+          ∙ ap (λ x. before ++ front ++ x ∷ []) is;
     }
 
 -- a term that stands on both sides of a sum without carry
 same_from_sum : (t a b : ℕ) → bit_xor t a ≡ bit_xor t b → a ≡ b
 same_from_sum t a b h =
-    let back : (x : ℕ) → bit_xor t (bit_xor t x) ≡ x = λ x. sym (xor_assoc t t x) ∙ ap (λ (y : ℕ). bit_xor y x) (xor_self t) ∙ xor_zero_l x in
+    let back : (x : ℕ) → bit_xor t (bit_xor t x) ≡ x =
+    λ x. sym (xor_assoc t t x) ∙ ap (λ (y : ℕ). bit_xor y x) (xor_self t) ∙ xor_zero_l x in
     sym (back a) ∙ ap (bit_xor t) h ∙ back b
 
 -- what came before adds the same to the codes of two parts of one length
-same_from_before : (before sent heard : List ℕ) → length sent ≡ length heard → pec_of (before ++ sent) ≡ pec_of (before ++ heard) → pec_of sent ≡ pec_of heard
+same_from_before : (before sent heard : List ℕ) → length sent ≡ length heard → pec_of (before ++ sent) ≡ pec_of (before ++ heard)
+    → pec_of sent ≡ pec_of heard
 same_from_before before sent heard size same =
     let term : doubled_times (8 * length heard) (pec_of before) ≡ doubled_times (8 * length sent) (pec_of before) =
     ap (λ (n : ℕ). doubled_times (8 * n) (pec_of before)) (sym size) in
@@ -38,7 +44,8 @@ same_from_before before sent heard size same =
     (sym (pec_of-append before sent) ∙ same ∙ pec_of-append before heard ∙ ap (λ (t : ℕ). bit_xor t (pec_of heard)) term)
 
 -- two parts of one length that aren't betrayed have one code
-unbetrayed-same : (before sent heard : List ℕ) → length sent ≡ length heard → is_betrayed before sent ≡ false → is_betrayed before heard ≡ false → pec_of sent ≡ pec_of heard
+unbetrayed-same : (before sent heard : List ℕ) → length sent ≡ length heard → is_betrayed before sent ≡ false
+    → is_betrayed before heard ≡ false → pec_of sent ≡ pec_of heard
 unbetrayed-same before [] [] size h k = refl
 unbetrayed-same before [] (y ∷ ys) size h k = absurd (omega arith)
 unbetrayed-same before (x ∷ xs) [] size h k = absurd (omega arith)
@@ -47,7 +54,8 @@ unbetrayed-same before (x ∷ xs) (y ∷ ys) size h k =
     (ends-none (before ++ (x ∷ xs)) (unbetrayed-ends before x xs h) ∙ sym (ends-none (before ++ (y ∷ ys)) (unbetrayed-ends before y ys k)))
 
 -- a part with another code than the good one of its length is betrayed
-pub betrayed-by_code : (before sent heard : List ℕ) → length sent ≡ length heard → is_betrayed before sent ≡ false → pec_of sent ≢ pec_of heard → is_betrayed before heard ≡ true
+pub betrayed-by_code : (before sent heard : List ℕ) → length sent ≡ length heard → is_betrayed before sent ≡ false
+    → pec_of sent ≢ pec_of heard → is_betrayed before heard ≡ true
 betrayed-by_code before sent heard size good other = go (is_betrayed before heard) refl where
   go : (betrayed : Bool) → is_betrayed before heard ≡ betrayed → is_betrayed before heard ≡ true
   go true is = is

@@ -1,5 +1,6 @@
 -- A change of few bits, or of an odd number of bits, changes the packet error code.
-use Rattle.std.proofs.Common.{◌≡◌, ◌≢◌, ◌⊎◌, inl, inr, ℕ, zero, suc, ◌+◌, ◌-◌, ◌*◌, ◌%◌, ◌^◌, ◌<◌, ◌≤◌, Bool, true, eqb, List, [], ◌∷◌, length, map, get_or, bit_xor, refl, sym, ap, ap₂, ◌∙◌, subst, arith, zero-add}
+use Rattle.std.proofs.Common.{◌≡◌, ◌≢◌, ◌⊎◌, inl, inr, ℕ, zero, suc, ◌+◌, ◌-◌, ◌*◌, ◌%◌, ◌^◌, ◌<◌, ◌≤◌, Bool, true, eqb, List, [], ◌∷◌}
+use Rattle.std.proofs.Common.{length, map, get_or, bit_xor, refl, sym, ap, ap₂, ◌∙◌, subst, arith, zero-add}
 use Rattle.std.specs.Prelude.{count_ones}
 use Rattle.std.specs.List.{range_with_len}
 use Rattle.std.proofs.lemmas.Bool.{cases_lt, eqb-true, eq-eqb, agree_below_at}
@@ -22,11 +23,14 @@ pub ones_below : ℕ → ℕ → ℕ
 ones_below n zero = 0
 ones_below n (suc j) = bit_at n j + ones_below n j
 
+-- numbers with the same bits have as many ones
 ones_below-same_bits : (a b count : ℕ) → ((j : ℕ) → j < count → bit_at a j ≡ bit_at b j) → ones_below a count ≡ ones_below b count
 unfolding ones_below
 ones_below-same_bits a b zero h = refl
-ones_below-same_bits a b (suc j) h = ap₂ (λ (x y : ℕ). x + y) (h j (omega arith)) (ones_below-same_bits a b j (λ k below. h k (omega arith)))
+ones_below-same_bits a b (suc j) h =
+    ap₂ (λ (x y : ℕ). x + y) (h j (omega arith)) (ones_below-same_bits a b j (λ k below. h k (omega arith)))
 
+-- the ones of two numbers, one moved above the other, add up
 ones_below-cat : (a m n count : ℕ) → m < 2 ^ n → ones_below (a * 2 ^ n + m) (count + n) ≡ ones_below a count + ones_below m n
 unfolding ones_below
 ones_below-cat a m n zero h =
@@ -39,16 +43,19 @@ ones_below-cat a m n (suc j) h =
     let bit : bit_at (a * 2 ^ n + m) (j + n) ≡ bit_at a j = bit_at_cat_high a n m (j + n) h (omega arith) ∙ ap (bit_at a) back in
     ap (ones_below (a * 2 ^ n + m)) size ∙ ap₂ (λ (x y : ℕ). x + y) bit (ones_below-cat a m n j h) ∙ omega arith
 
+-- where there are no ones each bit is 0
 bits-none : (e count j : ℕ) → ones_below e count ≡ 0 → j < count → bit_at e j ≡ 0
 unfolding ones_below
 bits-none e zero j h below = absurd (omega arith)
 bits-none e (suc count) j h below =
     let rest : j < count → bit_at e j ≡ 0 = λ less. bits-none e count j (omega arith) less in
-    let last : count ≤ j → bit_at e j ≡ 0 = λ more. let is : j ≡ count = omega arith in let none : bit_at e count ≡ 0 = omega arith in ap (bit_at e) is ∙ none in
+    let last : count ≤ j → bit_at e j ≡ 0 = λ more. let is : j ≡ count = omega arith in let none : bit_at e count ≡ 0 =
+    omega arith in ap (bit_at e) is ∙ none in
     elim (cases_lt j count) [ inl less ↦ rest less | inr more ↦ last more ]
 
 -- ---- how many bits changed
 
+-- a byte's ones, counted by the library or here, are as many
 ones_below-byte : (byte : ℕ) → byte < 2 ^ 8 → count_ones byte ≡ ones_below byte 8
 unfolding ones_below ones ones_in
 ones_below-byte byte h =
@@ -57,6 +64,7 @@ ones_below-byte byte h =
     ∙ ap (λ t. get_or t byte 0) all
     ∙ get_or-map-range_with_len (λ n. ones_below n 8) 0 256 byte byte 0 h (omega arith)
 
+-- the bits that changed in a message are the ones of the change as a number
 pub changed-ones : (sent heard : List ℕ) → AreBytes sent → AreBytes heard → length sent ≡ length heard
     → ones_below (bit_xor (number_of sent) (number_of heard)) (8 * length sent) ≡ changed_bits sent heard
 unfolding number_of ones_below
@@ -68,8 +76,10 @@ changed-ones (x ∷ xs) (y ∷ ys) h k size =
     let sizes : length xs ≡ length ys = omega arith in
     let low = number_of-lt xs (bytes_rest x xs h) in
     let other : number_of ys < 2 ^ n = subst (λ (l : ℕ). number_of ys < 2 ^ (8 * l)) (sym sizes) (number_of-lt ys (bytes_rest y ys k)) in
-    let width : y * 2 ^ (8 * length ys) + number_of ys ≡ y * 2 ^ n + number_of ys = ap (λ (l : ℕ). y * 2 ^ (8 * l) + number_of ys) (sym sizes) in
-    let block : bit_xor (x * 2 ^ n + number_of xs) (y * 2 ^ (8 * length ys) + number_of ys) ≡ bit_xor x y * 2 ^ n + bit_xor (number_of xs) (number_of ys) =
+    let width : y * 2 ^ (8 * length ys) + number_of ys ≡ y * 2 ^ n + number_of ys =
+    ap (λ (l : ℕ). y * 2 ^ (8 * l) + number_of ys) (sym sizes) in
+    let block : bit_xor (x * 2 ^ n + number_of xs) (y * 2 ^ (8 * length ys) + number_of ys) ≡ bit_xor x y * 2 ^ n
+    + bit_xor (number_of xs) (number_of ys) =
     ap (bit_xor (x * 2 ^ n + number_of xs)) width ∙ xor_block n x y (number_of xs) (number_of ys) low other in
     let all : 8 * length (x ∷ xs) ≡ 8 + n = omega arith in
     let rest = changed-ones xs ys (bytes_rest x xs h) (bytes_rest y ys k) sizes in
@@ -79,6 +89,7 @@ changed-ones (x ∷ xs) (y ∷ ys) h k size =
 
 -- ---- an odd number of bits
 
+-- the sum without carry of two bits, and twice their product, is their sum
 bits-sum : (p q : ℕ) → p < 2 → q < 2 → bit_xor p q + 2 * (p * q) ≡ p + q
 bits-sum zero zero h k = refl
 bits-sum zero (suc zero) h k = refl
@@ -99,9 +110,11 @@ ones_below-xor a b (suc j) =
     let pairs : ℕ = bit_at a j * bit_at b j in
     omega arith
 
+-- whether a register has an odd number of ones
 is_odd : ℕ → Bool
 is_odd r = eqb (ones_below r 8 % 2) 1
 
+-- a step keeps whether the ones are odd in number: the polynomial has four terms
 is_odd-doubled : (r : ℕ) → r < 2 ^ 8 → is_odd (doubled r) ≡ is_odd r
 unfolding is_odd ones_below doubled
 is_odd-doubled r h = agree_below_at (λ n. is_odd (doubled n)) is_odd 256 r refl h
@@ -112,16 +125,20 @@ unfolding is_odd ones_below residue
 is_odd-residue zero = refl
 is_odd-residue (suc i) = is_odd-doubled (residue i) (residue-lt i) ∙ is_odd-residue i
 
+-- so each power of x leaves an odd number of ones,
 ones_below-residue : (i : ℕ) → ones_below (residue i) 8 % 2 ≡ 1
 unfolding is_odd
 ones_below-residue i = eqb-true _ _ (is_odd-residue i)
 
+-- a bit times it one that is odd where the bit is set,
 ones_below-bit : (b i : ℕ) → b < 2 → ones_below (b * residue i) 8 % 2 ≡ b
 unfolding ones_below
 ones_below-bit zero i h = let none : 0 * residue i ≡ 0 = omega arith in ap (λ (x : ℕ). ones_below x 8 % 2) none
-ones_below-bit (suc zero) i h = let one : 1 * residue i ≡ residue i = omega arith in ap (λ (x : ℕ). ones_below x 8 % 2) one ∙ ones_below-residue i
+ones_below-bit (suc zero) i h = let one : 1 * residue i ≡ residue i =
+    omega arith in ap (λ (x : ℕ). ones_below x 8 % 2) one ∙ ones_below-residue i
 ones_below-bit (suc (suc b)) i h = absurd (omega arith)
 
+-- and a sum of them as many as bits are set, but for an even number
 ones_below-residues_of : (e after count : ℕ) → ones_below (residues_of e after count) 8 % 2 ≡ ones_below e count % 2
 unfolding ones_below residues_of
 ones_below-residues_of e after zero = refl
@@ -132,7 +149,9 @@ ones_below-residues_of e after (suc j) =
     let rest = ones_below-residues_of e after j in
     omega arith
 
-pub odd-betrayed : (sent heard : List ℕ) → AreBytes sent → AreBytes heard → length sent ≡ length heard → changed_bits sent heard % 2 ≡ 1 → pec_of sent ≢ pec_of heard
+-- so a change of an odd number of bits changes the PEC
+pub odd-betrayed : (sent heard : List ℕ) → AreBytes sent → AreBytes heard → length sent ≡ length heard → changed_bits sent heard % 2 ≡ 1
+    → pec_of sent ≢ pec_of heard
 unfolding ones_below
 odd-betrayed sent heard h k size odd same =
     let e : ℕ = bit_xor (number_of sent) (number_of heard) in
@@ -144,6 +163,7 @@ odd-betrayed sent heard h k size odd same =
 
 -- ---- one bit and two
 
+-- no set bits sum to nothing
 residues-none : (e after count : ℕ) → ones_below e count ≡ 0 → residues_of e after count ≡ 0
 residues-none e after count h =
     residues_of-same_bits e 0 after count (λ j below. bits-none e count j h below ∙ sym (bit_at-zero j)) ∙ residues_of-zero after count
@@ -160,17 +180,22 @@ record Two (sum after count : ℕ) : Type 0 where
   within : high < count
   is : sum ≡ bit_xor (residue (8 + (after + high))) (residue (8 + (after + low)))
 
+-- a bit that is not set adds nothing,
 clear_bit : (b r rest : ℕ) → b ≡ 0 → bit_xor (b * r) rest ≡ rest
-clear_bit b r rest h = let none : 0 * r ≡ 0 = omega arith in ap (λ (x : ℕ). bit_xor (x * r) rest) h ∙ ap (λ (x : ℕ). bit_xor x rest) none ∙ xor_zero_l rest
+clear_bit b r rest h = let none : 0 * r ≡ 0 =
+    omega arith in ap (λ (x : ℕ). bit_xor (x * r) rest) h ∙ ap (λ (x : ℕ). bit_xor x rest) none ∙ xor_zero_l rest
 
+-- and a set one its power of x
 set_bit : (b r rest : ℕ) → b ≡ 1 → bit_xor (b * r) rest ≡ bit_xor r rest
 set_bit b r rest h = let one : 1 * r ≡ r = omega arith in ap (λ (x : ℕ). bit_xor (x * r) rest) h ∙ ap (λ (x : ℕ). bit_xor x rest) one
 
+-- a bit is 0 or 1
 bit_cases : (b : ℕ) → b < 2 → (b ≡ 0) ⊎ (b ≡ 1)
 bit_cases zero h = inl refl
 bit_cases (suc zero) h = inr refl
 bit_cases (suc (suc b)) h = absurd (omega arith)
 
+-- the sum over one set bit is one power of x,
 one_set : (e after count : ℕ) → ones_below e count ≡ 1 → One (residues_of e after count) after count
 unfolding ones_below residues_of
 one_set e after zero h = absurd (omega arith)
@@ -190,6 +215,7 @@ one_set e after (suc j) h =
       }
     ]
 
+-- that over two set bits two of them
 two_set : (e after count : ℕ) → ones_below e count ≡ 2 → Two (residues_of e after count) after count
 unfolding ones_below residues_of
 two_set e after zero h = absurd (omega arith)
@@ -219,6 +245,7 @@ unfolding residue doubled
 residue-order d h one =
     eqb-true d 0 (sym (agree_below_at (λ n. eqb (residue n) 1) (λ n. eqb n 0) 127 d refl h) ∙ eq-eqb (residue d) 1 one)
 
+-- two powers of x fewer than 127 apart leave different remainders
 residues-apart : (p q : ℕ) → p < q → q < p + 127 → bit_xor (residue q) (residue p) ≢ 0
 unfolding residue
 residues-apart p q less near same =
@@ -227,20 +254,28 @@ residues-apart p q less near same =
     let alone : p + 0 ≡ p = omega arith in
     let up : doubled_times p (residue d) ≡ residue q = doubled_times-residue p d ∙ ap residue apart in
     let here : doubled_times p (residue 0) ≡ residue p = doubled_times-residue p 0 ∙ ap residue alone in
-    let none : doubled_times p (bit_xor (residue d) (residue 0)) ≡ 0 = doubled_times-xor p (residue d) (residue 0) ∙ ap₂ bit_xor up here ∙ same in
-    let one : residue d ≡ 1 = same_from_xor (residue d) (residue 0) (doubled_times-none p (bit_xor (residue d) (residue 0)) (xor_lt 8 (residue d) (residue 0) (residue-lt d) (residue-lt 0)) none) in
+    let none : doubled_times p (bit_xor (residue d) (residue 0)) ≡ 0 =
+    doubled_times-xor p (residue d) (residue 0) ∙ ap₂ bit_xor up here ∙ same in
+    let one : residue d ≡ 1 =
+    same_from_xor (residue d) (residue 0)
+    (doubled_times-none p (bit_xor (residue d) (residue 0)) (xor_lt 8 (residue d) (residue 0) (residue-lt d) (residue-lt 0)) none) in
     let zero_distance : d ≡ 0 = residue-order d (omega arith) one in
     omega arith
 
-two-betrayed : (sent heard : List ℕ) → AreBytes sent → AreBytes heard → length sent ≡ length heard → length sent ≤ 15 → changed_bits sent heard ≡ 2 → pec_of sent ≢ pec_of heard
+-- so a change of two bits in at most 15 bytes changes the PEC
+two-betrayed : (sent heard : List ℕ) → AreBytes sent → AreBytes heard → length sent ≡ length heard → length sent ≤ 15
+    → changed_bits sent heard ≡ 2 → pec_of sent ≢ pec_of heard
 two-betrayed sent heard h k size short two same =
     let e : ℕ = bit_xor (number_of sent) (number_of heard) in
     let n : ℕ = 8 * length sent in
     let found = two_set e 0 n (changed-ones sent heard h k size ∙ two) in
-    let none : bit_xor (residue (8 + (0 + found.high))) (residue (8 + (0 + found.low))) ≡ 0 = sym found.is ∙ change-none sent heard h k size same in
+    let none : bit_xor (residue (8 + (0 + found.high))) (residue (8 + (0 + found.low))) ≡ 0 =
+    sym found.is ∙ change-none sent heard h k size same in
     residues-apart (8 + (0 + found.low)) (8 + (0 + found.high)) (omega (arith, found.order)) (omega (arith, found.within)) none
 
-pub few-betrayed : (sent heard : List ℕ) → AreBytes sent → AreBytes heard → length sent ≡ length heard → sent ≢ heard → length sent ≤ 15 → changed_bits sent heard ≤ 3 → pec_of sent ≢ pec_of heard
+-- and so does one of at most three
+pub few-betrayed : (sent heard : List ℕ) → AreBytes sent → AreBytes heard → length sent ≡ length heard → sent ≢ heard → length sent ≤ 15
+    → changed_bits sent heard ≤ 3 → pec_of sent ≢ pec_of heard
 few-betrayed sent heard h k size other short few same = go (changed_bits sent heard) refl few where
   n : ℕ
   n = 8 * length sent
@@ -250,7 +285,8 @@ few-betrayed sent heard h k size other short few same = go (changed_bits sent he
       let e : ℕ = bit_xor (number_of sent) (number_of heard) in
       let ones : ones_below e (8 * length sent) ≡ 0 = changed-ones sent heard h k size ∙ is in
       let none : e ≡ 0 =
-      same_from_bits_below (8 * length sent) e 0 (change-lt sent heard h k size) (pow_pos (8 * length sent)) (λ i below. bits-none e (8 * length sent) i ones below ∙ sym (bit_at-zero i)) in
+      same_from_bits_below (8 * length sent) e 0 (change-lt sent heard h k size) (pow_pos (8 * length sent))
+      (λ i below. bits-none e (8 * length sent) i ones below ∙ sym (bit_at-zero i)) in
       other (same_from_change sent heard h k size none)
   go (suc zero) is le = odd-betrayed sent heard h k size (ap (λ (x : ℕ). x % 2) is) same
   go (suc (suc zero)) is le = two-betrayed sent heard h k size short is same

@@ -1,6 +1,7 @@
 -- Sixteen bytes of a message at a step, and a number narrowed to two bytes: x^127 leaves 1 after
 -- division by the polynomial, and x^64, x^32 and x^16 each leave three low powers.
-use Rattle.std.proofs.Common.{◌≡◌, ℕ, ◌+◌, ◌-◌, ◌*◌, ◌%◌, ◌^◌, ◌<◌, ◌≤◌, List, [], ◌∷◌, ◌++◌, length, map, get_or, bit_xor, refl, sym, ap, ap₂, ◌∙◌, subst, inl, inr, arith}
+use Rattle.std.proofs.Common.{◌≡◌, ℕ, ◌+◌, ◌-◌, ◌*◌, ◌%◌, ◌^◌, ◌<◌, ◌≤◌, List, [], ◌∷◌, ◌++◌, length, map, get_or, bit_xor, refl, sym, ap}
+use Rattle.std.proofs.Common.{ap₂, ◌∙◌, subst, inl, inr, arith}
 use Rattle.std.specs.List.{range_with_len}
 use Rattle.std.proofs.Math.ListN.{get_or-eq_default}
 use Rattle.std.proofs.lemmas.Bool.{cases_lt}
@@ -12,7 +13,8 @@ use Rattle.std.specs.Int.{from_be_bytes, w128}
 use Rattle.std.specs.Int.Bits.{xor_assoc, xor_zero_l, xor_zero_r}
 use Rattle.pm_frame.specs.Layout.{AreBytes}
 use Rattle.pm_frame.specs.Pec.{doubled, residues_of, pec_of}
-use Rattle.pm_frame.proofs.Residues.{doubled_times, doubled_times-zero, doubled_times-xor, residues_of-lt, residues_of-after, residues_of-last, pec_of-next}
+use Rattle.pm_frame.proofs.Residues.{doubled_times, doubled_times-zero, doubled_times-xor, residues_of-lt, residues_of-after}
+use Rattle.pm_frame.proofs.Residues.{residues_of-last, pec_of-next}
 use Rattle.pm_frame.proofs.Numbers.{number_of, pec_of-number, residues_of-xor, residues_of-cat, residues_of-more, residues_of-moved}
 
 -- two functions that are alike in a row of 256 are alike at each of its numbers
@@ -34,24 +36,50 @@ turned_128 : (x : ℕ) → x < 2 ^ 8 → doubled_times 128 x ≡ doubled_times 1
 unfolding doubled_times doubled
 turned_128 = alike (doubled_times 128) (doubled_times 1) refl
 
--- what stands for x^k: three powers of x
-abbrev pub Stands : ℕ → ℕ → ℕ → ℕ → Type 0
-Stands k p q r = (x : ℕ) → x < 2 ^ 8 → doubled_times k x ≡ bit_xor (bit_xor (doubled_times p x) (doubled_times q x)) (doubled_times r x)
+-- what stands for x^k: three powers of x, none of them higher
+pub record Stands (k p q r : ℕ) : Type 0 where
+  pub turned : (x : ℕ) → x < 2 ^ 8 → doubled_times k x ≡ bit_xor (bit_xor (doubled_times p x) (doubled_times q x)) (doubled_times r x)
+  pub within : k ≤ 128
+  pub first : p ≤ k
+  pub second : q ≤ k
+  pub third : r ≤ k
 
+-- of x^64, of x^32 and of x^16
 pub turned_64 : Stands 64 4 1 0
 unfolding doubled_times doubled
-turned_64 = alike (doubled_times 64) (λ n. bit_xor (bit_xor (doubled_times 4 n) (doubled_times 1 n)) (doubled_times 0 n)) refl
+turned_64 = record {
+  turned = alike (doubled_times 64) (λ n. bit_xor (bit_xor (doubled_times 4 n) (doubled_times 1 n)) (doubled_times 0 n)) refl;
+  within = omega arith;
+  first = omega arith;
+  second = omega arith;
+  third = omega arith;
+}
 
+-- x^32 leaves x^4, x^2 and x,
 pub turned_32 : Stands 32 4 2 1
 unfolding doubled_times doubled
-turned_32 = alike (doubled_times 32) (λ n. bit_xor (bit_xor (doubled_times 4 n) (doubled_times 2 n)) (doubled_times 1 n)) refl
+turned_32 = record {
+  turned = alike (doubled_times 32) (λ n. bit_xor (bit_xor (doubled_times 4 n) (doubled_times 2 n)) (doubled_times 1 n)) refl;
+  within = omega arith;
+  first = omega arith;
+  second = omega arith;
+  third = omega arith;
+}
 
+-- and x^16 leaves x^4, x^2 and 1
 pub turned_16 : Stands 16 4 2 0
 unfolding doubled_times doubled
-turned_16 = alike (doubled_times 16) (λ n. bit_xor (bit_xor (doubled_times 4 n) (doubled_times 2 n)) (doubled_times 0 n)) refl
+turned_16 = record {
+  turned = alike (doubled_times 16) (λ n. bit_xor (bit_xor (doubled_times 4 n) (doubled_times 2 n)) (doubled_times 0 n)) refl;
+  within = omega arith;
+  first = omega arith;
+  second = omega arith;
+  third = omega arith;
+}
 
 -- ---- narrower numbers
 
+-- a number moved up is below the bound moved up
 pub scaled-lt : (a count n : ℕ) → a < 2 ^ count → a * 2 ^ n < 2 ^ (count + n)
 scaled-lt a count n h =
     let power : 2 ^ (count + n) ≡ 2 ^ count * 2 ^ n = pow-add 2 count n in
@@ -59,8 +87,16 @@ scaled-lt a count n h =
     let some : 0 < 2 ^ n = pow_pos n in
     omega arith
 
-pub xor_four-lt : (w a b c d : ℕ) → a < 2 ^ w → b < 2 ^ w → c < 2 ^ w → d < 2 ^ w → bit_xor (bit_xor (bit_xor a b) c) d < 2 ^ w
-xor_four-lt w a b c d ha hb hc hd = xor_lt w _ d (xor_lt w _ c (xor_lt w a b ha hb) hc) hd
+-- four numbers below one bound, whose sum without carry is below it too
+pub record AreBelow (bound a b c d : ℕ) : Type 0 where
+  pub first : a < bound
+  pub second : b < bound
+  pub third : c < bound
+  pub fourth : d < bound
+
+-- the sum of four such numbers
+pub xor_four-lt : (w a b c d : ℕ) → AreBelow (2 ^ w) a b c d → bit_xor (bit_xor (bit_xor a b) c) d < 2 ^ w
+xor_four-lt w a b c d h = xor_lt w _ d (xor_lt w _ c (xor_lt w a b h.first h.second) h.third) h.fourth
 
 -- bits that aren't set add nothing, up to 128 of them
 residues_of-wide : (m n : ℕ) → n ≤ 128 → m < 2 ^ n → residues_of m 0 128 ≡ residues_of m 0 n
@@ -69,7 +105,8 @@ residues_of-wide m n short h =
     ap (residues_of m 0) all ∙ residues_of-more m n 0 (128 - n) h
 
 -- the sum of a number, doubled p times, is that of the number p places up
-residues_of-up : (m p count : ℕ) → count + p ≤ 128 → m * 2 ^ p < 2 ^ (count + p) → doubled_times p (residues_of m 0 count) ≡ residues_of (m * 2 ^ p) 0 128
+residues_of-up : (m p count : ℕ) → count + p ≤ 128 → m * 2 ^ p < 2 ^ (count + p)
+    → doubled_times p (residues_of m 0 count) ≡ residues_of (m * 2 ^ p) 0 128
 residues_of-up m p count short h =
     let place : p + 0 ≡ 0 + p = omega arith in
     residues_of-after m p 0 count
@@ -78,31 +115,35 @@ residues_of-up m p count short h =
     ∙ sym (residues_of-wide (m * 2 ^ p) (count + p) short h)
 
 -- the upper bits of a number, brought down to where their powers of x stand
-pub narrowed : (k p q r : ℕ) → Stands k p q r → k ≤ 128 → p ≤ k → q ≤ k → r ≤ k → (upper lower : ℕ) → lower < 2 ^ k
-    → upper < 2 ^ (128 - k)
-    → residues_of (bit_xor (bit_xor (bit_xor (upper * 2 ^ p) (upper * 2 ^ q)) (upper * 2 ^ r)) lower) 0 128 ≡ residues_of (upper * 2 ^ k + lower) 0 128
-narrowed k p q r stands within hp hq hr upper lower small above =
+pub narrowed : {k p q r : ℕ} → Stands k p q r → (upper lower : ℕ) → lower < 2 ^ k → upper < 2 ^ (128 - k)
+    → residues_of (bit_xor (bit_xor (bit_xor (upper * 2 ^ p) (upper * 2 ^ q)) (upper * 2 ^ r)) lower) 0 128
+    ≡ residues_of (upper * 2 ^ k + lower) 0 128
+narrowed {k} {p} {q} {r} stands upper lower small above =
     let count : ℕ = 128 - k in
-    let all : 128 ≡ count + k = omega arith in
+    let all : 128 ≡ count + k = omega (arith, stands.within) in
     let sum : ℕ = residues_of upper 0 count in
     let place : k + 0 ≡ 0 + k = omega arith in
     let down : residues_of (upper * 2 ^ k + lower) 0 128 ≡ bit_xor (residues_of upper (0 + k) count) (residues_of lower 0 k) =
     ap (residues_of (upper * 2 ^ k + lower) 0) all ∙ residues_of-cat upper lower k 0 count small in
     let top : residues_of upper (0 + k) count ≡ doubled_times k sum =
     sym (residues_of-after upper k 0 count ∙ ap (λ (n : ℕ). residues_of upper n count) place) in
-    let up : (n : ℕ) → n ≤ k → doubled_times n sum ≡ residues_of (upper * 2 ^ n) 0 128 = λ n h. residues_of-up upper n count (omega arith) (scaled-lt upper count n above) in
-    let parts : doubled_times k sum ≡ bit_xor (bit_xor (residues_of (upper * 2 ^ p) 0 128) (residues_of (upper * 2 ^ q) 0 128)) (residues_of (upper * 2 ^ r) 0 128) =
-    stands sum (residues_of-lt upper 0 count) ∙ ap₂ bit_xor (ap₂ bit_xor (up p hp) (up q hq)) (up r hr) in
+    let up : (n : ℕ) → n ≤ k → doubled_times n sum ≡ residues_of (upper * 2 ^ n) 0 128 =
+    λ n h. residues_of-up upper n count (omega (arith, stands.within)) (scaled-lt upper count n above) in
+    let parts : doubled_times k sum
+    ≡ bit_xor (bit_xor (residues_of (upper * 2 ^ p) 0 128) (residues_of (upper * 2 ^ q) 0 128)) (residues_of (upper * 2 ^ r) 0 128) =
+    stands.turned sum (residues_of-lt upper 0 count)
+    ∙ ap₂ bit_xor (ap₂ bit_xor (up p stands.first) (up q stands.second)) (up r stands.third) in
     residues_of-xor (bit_xor (bit_xor (upper * 2 ^ p) (upper * 2 ^ q)) (upper * 2 ^ r)) lower 0 128
     ∙ ap₂ bit_xor
     (residues_of-xor (bit_xor (upper * 2 ^ p) (upper * 2 ^ q)) (upper * 2 ^ r) 0 128
     ∙ ap (λ (x : ℕ). bit_xor x (residues_of (upper * 2 ^ r) 0 128)) (residues_of-xor (upper * 2 ^ p) (upper * 2 ^ q) 0 128)
     ∙ sym (top ∙ parts))
-    (residues_of-wide lower k within small)
+    (residues_of-wide lower k stands.within small)
     ∙ sym down
 
 -- two bytes have the code of the message of these two
-pub residues_of-two : (high low : ℕ) → low < 2 ^ 8 → high < 2 ^ 8 → high * 2 ^ 8 + low < 2 ^ 16 → residues_of (high * 2 ^ 8 + low) 0 128 ≡ pec_of (bit_xor (pec_of (high ∷ [])) low ∷ [])
+pub residues_of-two : (high low : ℕ) → low < 2 ^ 8 → high < 2 ^ 8 → high * 2 ^ 8 + low < 2 ^ 16
+    → residues_of (high * 2 ^ 8 + low) 0 128 ≡ pec_of (bit_xor (pec_of (high ∷ [])) low ∷ [])
 unfolding pec_of
 residues_of-two high low h k small =
     let last : residues_of low 0 8 ≡ bit_xor (residues_of low 0 8) 0 = sym (xor_zero_r (residues_of low 0 8)) in
@@ -115,7 +156,8 @@ residues_of-two high low h k small =
 
 -- a block of 128 bits further on, a number's sum is that of the number one place up, where the top
 -- bit comes back as the lowest
-pub residues_of-block : (upper lower : ℕ) → upper < 2 → lower < 2 ^ 127 → residues_of (bit_xor (lower * 2) (upper * 2)) 0 128 ≡ residues_of (upper * 2 ^ 127 + lower) 128 128
+pub residues_of-block : (upper lower : ℕ) → upper < 2 → lower < 2 ^ 127
+    → residues_of (bit_xor (lower * 2) (upper * 2)) 0 128 ≡ residues_of (upper * 2 ^ 127 + lower) 128 128
 residues_of-block upper lower h k =
     let number : ℕ = upper * 2 ^ 127 + lower in
     let turned : residues_of number 128 128 ≡ doubled_times 1 (residues_of number 0 128) =
@@ -123,7 +165,8 @@ residues_of-block upper lower h k =
     let once : doubled_times 1 (residues_of number 0 128) ≡ bit_xor (residues_of upper 128 1) (residues_of lower 1 127) =
     residues_of-after number 1 0 128 ∙ residues_of-cat upper lower 127 1 1 k in
     let top : residues_of upper 128 1 ≡ residues_of (upper * 2 ^ 1) 0 128 =
-    sym (residues_of-after upper 128 0 1) ∙ turned_128 (residues_of upper 0 1) (residues_of-lt upper 0 1) ∙ residues_of-up upper 1 1 (omega arith) (omega arith) in
+    sym (residues_of-after upper 128 0 1) ∙ turned_128 (residues_of upper 0 1) (residues_of-lt upper 0 1)
+    ∙ residues_of-up upper 1 1 (omega arith) (omega arith) in
     let rest : residues_of lower 1 127 ≡ residues_of (lower * 2 ^ 1) 0 128 =
     sym (residues_of-after lower 1 0 127) ∙ residues_of-up lower 1 127 (omega arith) (omega arith) in
     residues_of-xor (lower * 2) (upper * 2) 0 128
@@ -141,7 +184,8 @@ residues_of-register so_far h =
     ∙ whole_turn so_far h
 
 -- the code of a message and of what follows it
-pub pec_of-append : (front bytes : List ℕ) → pec_of (front ++ bytes) ≡ bit_xor (doubled_times (8 * length bytes) (pec_of front)) (pec_of bytes)
+pub pec_of-append : (front bytes : List ℕ)
+    → pec_of (front ++ bytes) ≡ bit_xor (doubled_times (8 * length bytes) (pec_of front)) (pec_of bytes)
 unfolding pec_of
 pec_of-append [] bytes =
     sym (ap (λ (x : ℕ). bit_xor x (pec_of bytes)) (doubled_times-zero (8 * length bytes)) ∙ xor_zero_l (pec_of bytes))
@@ -176,8 +220,10 @@ AreBytes-part front part rest h place =
     elim (cases_lt place (length part)) [ inl within ↦ here within | inr beyond ↦ past beyond ]
 
 -- a block more
-pub pec_of-folded : (before block : List ℕ) (folded moved : ℕ) → AreBytes block → length block ≡ 16 → pec_of before ≡ residues_of folded 0 128
-    → residues_of moved 0 128 ≡ residues_of folded 128 128 → pec_of (before ++ block) ≡ residues_of (bit_xor moved (from_be_bytes w128 block)) 0 128
+pub pec_of-folded : (before block : List ℕ) (folded moved : ℕ) → AreBytes block → length block ≡ 16
+    → pec_of before ≡ residues_of folded 0 128
+    → residues_of moved 0 128 ≡ residues_of folded 128 128
+    → pec_of (before ++ block) ≡ residues_of (bit_xor moved (from_be_bytes w128 block)) 0 128
 pec_of-folded before block folded moved are_bytes size so_far up =
     let bits : 8 * length block ≡ 128 = omega arith in
     let front : doubled_times (8 * length block) (pec_of before) ≡ residues_of moved 0 128 =

@@ -1,5 +1,6 @@
 -- A message as one number, and the sum of residues at the number's set bits.
-use Rattle.std.proofs.Common.{◌≡◌, inl, inr, ℕ, zero, suc, ◌+◌, ◌-◌, ◌*◌, ◌/◌, ◌%◌, ◌^◌, ◌<◌, ◌≤◌, List, [], ◌∷◌, length, get_or, bit_xor, refl, sym, ap, ap₂, ◌∙◌, arith, zero-add}
+use Rattle.std.proofs.Common.{◌≡◌, inl, inr, ℕ, zero, suc, ◌+◌, ◌-◌, ◌*◌, ◌/◌, ◌%◌, ◌^◌, ◌<◌, ◌≤◌, List, [], ◌∷◌, length, get_or, bit_xor}
+use Rattle.std.proofs.Common.{refl, sym, ap, ap₂, ◌∙◌, arith, zero-add}
 use Rattle.std.proofs.Math.Nat.{mul-le-mul_right}
 use Rattle.std.proofs.lemmas.Bool.{cases_lt}
 use Rattle.std.proofs.lemmas.Nat.{pow-add, pow_pos, same_from_place}
@@ -16,9 +17,11 @@ unfoldable pub number_of : List ℕ → ℕ
 number_of [] = 0
 number_of (byte ∷ bytes) = byte * 2 ^ (8 * length bytes) + number_of bytes
 
+-- all but the first of some bytes are bytes
 pub bytes_rest : (byte : ℕ) (bytes : List ℕ) → AreBytes (byte ∷ bytes) → AreBytes bytes
 bytes_rest byte bytes h = λ place. h (suc place)
 
+-- the number of a message has as many bits as the message
 pub number_of-lt : (bytes : List ℕ) → AreBytes bytes → number_of bytes < 2 ^ (8 * length bytes)
 unfolding number_of
 number_of-lt [] h = omega arith
@@ -34,7 +37,8 @@ number_of-lt (byte ∷ bytes) h =
 -- ---- sums of residues
 
 -- they are linear
-pub residues_of-xor : (a b after count : ℕ) → residues_of (bit_xor a b) after count ≡ bit_xor (residues_of a after count) (residues_of b after count)
+pub residues_of-xor : (a b after count : ℕ)
+    → residues_of (bit_xor a b) after count ≡ bit_xor (residues_of a after count) (residues_of b after count)
 unfolding residues_of
 residues_of-xor a b after zero = refl
 residues_of-xor a b after (suc j) =
@@ -45,13 +49,15 @@ residues_of-xor a b after (suc j) =
     ∙ xor_exchange (bit_at a j * r) (bit_at b j * r) (residues_of a after j) (residues_of b after j)
 
 -- they depend on the counted bits alone
-pub residues_of-same_bits : (a b after count : ℕ) → ((j : ℕ) → j < count → bit_at a j ≡ bit_at b j) → residues_of a after count ≡ residues_of b after count
+pub residues_of-same_bits : (a b after count : ℕ) → ((j : ℕ) → j < count → bit_at a j ≡ bit_at b j)
+    → residues_of a after count ≡ residues_of b after count
 unfolding residues_of
 residues_of-same_bits a b after zero h = refl
 residues_of-same_bits a b after (suc j) h =
     let top = ap (λ (x : ℕ). x * residue (8 + (after + j))) (h j (omega arith)) in
     (λ i. bit_xor (top i) (residues_of-same_bits a b after j (λ k below. h k (omega arith)) i))
 
+-- 0 has no set bit
 pub residues_of-zero : (after count : ℕ) → residues_of 0 after count ≡ 0
 unfolding residues_of
 residues_of-zero after zero = refl
@@ -60,7 +66,8 @@ residues_of-zero after (suc j) =
     (λ i. bit_xor (top i) (residues_of-zero after j i))
 
 -- the upper bits and the lower ones
-pub residues_of-cat : (a m n after count : ℕ) → m < 2 ^ n → residues_of (a * 2 ^ n + m) after (count + n) ≡ bit_xor (residues_of a (after + n) count) (residues_of m after n)
+pub residues_of-cat : (a m n after count : ℕ) → m < 2 ^ n
+    → residues_of (a * 2 ^ n + m) after (count + n) ≡ bit_xor (residues_of a (after + n) count) (residues_of m after n)
 unfolding residues_of
 residues_of-cat a m n after zero h =
     ap (residues_of (a * 2 ^ n + m) after) (zero-add n)
@@ -110,14 +117,16 @@ pec_of-number (byte ∷ bytes) h =
 -- ---- bits and numbers
 
 -- each bit of the number is a bit of the message
-pub bit_at-number : (bytes : List ℕ) (place : ℕ) → AreBytes bytes → place < 8 * length bytes → bit_at (number_of bytes) place ≡ message_bit bytes (8 * length bytes - 1 - place)
+pub bit_at-number : (bytes : List ℕ) (place : ℕ) → AreBytes bytes → place < 8 * length bytes
+    → bit_at (number_of bytes) place ≡ message_bit bytes (8 * length bytes - 1 - place)
 unfolding number_of
 bit_at-number [] place h below = absurd (omega arith)
 bit_at-number (byte ∷ bytes) place h below =
     let n : ℕ = 8 * length bytes in
     let m : ℕ = number_of bytes in
     let here : ℕ = 8 * length (byte ∷ bytes) - 1 - place in
-    let rest : place < n → bit_at m place ≡ message_bit bytes (n - 1 - place) = λ low. bit_at-number bytes place (bytes_rest byte bytes h) low in
+    let rest : place < n → bit_at m place ≡ message_bit bytes (n - 1 - place) =
+    λ low. bit_at-number bytes place (bytes_rest byte bytes h) low in
     let lower : place < n → bit_at (byte * 2 ^ n + m) place ≡ message_bit (byte ∷ bytes) here =
     λ low.
     let row : here / 8 ≡ suc ((n - 1 - place) / 8) = omega arith in
@@ -127,11 +136,13 @@ bit_at-number (byte ∷ bytes) place h below =
     λ high.
     let row : here / 8 ≡ 0 = omega arith in
     let column : 7 - here % 8 ≡ place - n = omega arith in
-    bit_at_cat_high byte n m place (number_of-lt bytes (bytes_rest byte bytes h)) high ∙ sym (ap₂ (λ r c. bit_at (get_or (byte ∷ bytes) r 0) c) row column) in
+    bit_at_cat_high byte n m place (number_of-lt bytes (bytes_rest byte bytes h)) high
+    ∙ sym (ap₂ (λ r c. bit_at (get_or (byte ∷ bytes) r 0) c) row column) in
     elim (cases_lt place n) [ inl low ↦ lower low | inr high ↦ upper high ]
 
 -- one number, one message
-pub number_of-one : (first second : List ℕ) → AreBytes first → AreBytes second → length first ≡ length second → number_of first ≡ number_of second → first ≡ second
+pub number_of-one : (first second : List ℕ) → AreBytes first → AreBytes second → length first ≡ length second
+    → number_of first ≡ number_of second → first ≡ second
 unfolding number_of
 number_of-one [] [] h k size same = refl
 number_of-one [] (y ∷ ys) h k size same = absurd (omega arith)
@@ -141,6 +152,7 @@ number_of-one (x ∷ xs) (y ∷ ys) h k size same =
     let width : 2 ^ (8 * length ys) ≡ 2 ^ (8 * length xs) = ap (λ (n : ℕ). 2 ^ (8 * n)) (sym sizes) in
     let low = number_of-lt xs (bytes_rest x xs h) in
     let other : number_of ys < 2 ^ (8 * length xs) = omega (arith, number_of-lt ys (bytes_rest y ys k), width) in
-    let whole : x * 2 ^ (8 * length xs) + number_of xs ≡ y * 2 ^ (8 * length xs) + number_of ys = same ∙ ap (λ (w : ℕ). y * w + number_of ys) width in
+    let whole : x * 2 ^ (8 * length xs) + number_of xs ≡ y * 2 ^ (8 * length xs) + number_of ys =
+    same ∙ ap (λ (w : ℕ). y * w + number_of ys) width in
     let parts = same_from_place x (number_of xs) y (number_of ys) (2 ^ (8 * length xs)) low other whole in
     ap₂ (λ a b. a ∷ b) parts.0 (number_of-one xs ys (bytes_rest x xs h) (bytes_rest y ys k) sizes parts.1)

@@ -1,5 +1,6 @@
 -- The packet error code of a message with one byte more, from the code of the message.
-use Rattle.std.proofs.Common.{◌≡◌, ℕ, zero, suc, ◌+◌, ◌*◌, ◌%◌, ◌^◌, ◌<◌, ◌≤◌, List, [], ◌∷◌, ◌++◌, length, take, get_or, bit_xor, refl, sym, ap, ◌∙◌, arith, mod-lt, zero-add, append_assoc}
+use Rattle.std.proofs.Common.{◌≡◌, ℕ, zero, suc, ◌+◌, ◌*◌, ◌%◌, ◌^◌, ◌<◌, ◌≤◌, List, [], ◌∷◌, ◌++◌, length, take, get_or, bit_xor, refl}
+use Rattle.std.proofs.Common.{sym, ap, ◌∙◌, arith, mod-lt, zero-add, append_assoc}
 use Rattle.std.proofs.Math.Nat.{mod-eq_of_lt}
 use Rattle.std.proofs.Math.Numerals.{one-add}
 use Rattle.std.proofs.lemmas.List.{length-append, take_more}
@@ -12,6 +13,7 @@ use Rattle.pm_frame.proofs.Carryless.{xor_exchange, xor_of_parts, twice-xor, bit
 
 -- ---- one step
 
+-- a register stays a byte
 pub doubled-lt : (r : ℕ) → doubled r < 2 ^ 8
 unfolding doubled
 doubled-lt r =
@@ -36,6 +38,7 @@ unfoldable pub doubled_times : ℕ → ℕ → ℕ
 doubled_times zero r = r
 doubled_times (suc count) r = doubled (doubled_times count r)
 
+-- an empty register stays empty
 pub doubled_times-zero : (count : ℕ) → doubled_times count 0 ≡ 0
 unfolding doubled_times doubled
 doubled_times-zero zero = refl
@@ -47,6 +50,7 @@ unfolding doubled_times
 doubled_times-xor zero a b = refl
 doubled_times-xor (suc count) a b = ap doubled (doubled_times-xor count a b) ∙ doubled-xor (doubled_times count a) (doubled_times count b)
 
+-- steps go through a product with a bit
 pub doubled_times-bit : (count p r : ℕ) → p < 2 → doubled_times count (p * r) ≡ p * doubled_times count r
 doubled_times-bit count zero r h =
     let none : 0 * r ≡ 0 = omega arith in
@@ -58,6 +62,7 @@ doubled_times-bit count (suc zero) r h =
     ap (doubled_times count) one ∙ one_after
 doubled_times-bit count (suc (suc p)) r h = absurd (omega arith)
 
+-- steps lead from one power of x to a higher one
 pub doubled_times-residue : (count i : ℕ) → doubled_times count (residue i) ≡ residue (count + i)
 unfolding doubled_times residue
 doubled_times-residue zero i = ap residue (sym (zero-add i))
@@ -67,6 +72,7 @@ doubled_times-residue (suc count) i =
 
 -- ---- the residues of a byte
 
+-- a remainder is a byte,
 pub residue-lt : (i : ℕ) → residue i < 2 ^ 8
 unfolding residue
 residue-lt zero = omega arith
@@ -85,10 +91,13 @@ residue-low (suc (suc (suc (suc (suc (suc zero)))))) h = refl
 residue-low (suc (suc (suc (suc (suc (suc (suc zero))))))) h = refl
 residue-low (suc (suc (suc (suc (suc (suc (suc (suc i)))))))) h = absurd (omega arith)
 
+-- a sum of remainders too,
 pub residues_of-lt : (byte after count : ℕ) → residues_of byte after count < 2 ^ 8
 unfolding residues_of
 residues_of-lt byte after zero = omega arith
-residues_of-lt byte after (suc j) = xor_lt 8 _ _ (bit_lt (bit_at byte j) (residue (8 + (after + j))) (bit_at-lt byte j) (residue-lt (8 + (after + j)))) (residues_of-lt byte after j)
+residues_of-lt byte after (suc j) =
+    xor_lt 8 _ _ (bit_lt (bit_at byte j) (residue (8 + (after + j))) (bit_at-lt byte j) (residue-lt (8 + (after + j))))
+    (residues_of-lt byte after j)
   where
     bit_lt : (p r : ℕ) → p < 2 → r < 2 ^ 8 → p * r < 2 ^ 8
     bit_lt zero r hp hr = omega arith
@@ -96,7 +105,8 @@ residues_of-lt byte after (suc j) = xor_lt 8 _ _ (bit_lt (bit_at byte j) (residu
     bit_lt (suc (suc p)) r hp hr = absurd (omega arith)
 
 -- more bits after a byte double its residues as often
-pub residues_of-after : (byte more after count : ℕ) → doubled_times more (residues_of byte after count) ≡ residues_of byte (more + after) count
+pub residues_of-after : (byte more after count : ℕ)
+    → doubled_times more (residues_of byte after count) ≡ residues_of byte (more + after) count
 unfolding residues_of
 residues_of-after byte more after zero = doubled_times-zero more
 residues_of-after byte more after (suc j) =
@@ -130,6 +140,7 @@ residues_of-last byte (suc j) h =
 
 -- ---- the packet error code
 
+-- and the PEC is a byte
 pub pec_of-lt : (bytes : List ℕ) → pec_of bytes < 2 ^ 8
 unfolding pec_of
 pec_of-lt [] = omega arith
@@ -142,7 +153,8 @@ pec_of-byte byte h =
     xor_zero_r (residues_of byte 0 8) ∙ residues_of-last byte 8 (omega arith) ∙ ap (doubled_times 8) (mod-eq_of_lt h)
 
 -- one byte more
-pub pec_of-append_byte : (front : List ℕ) (byte : ℕ) → byte < 2 ^ 8 → pec_of (front ++ byte ∷ []) ≡ doubled_times 8 (bit_xor (pec_of front) byte)
+pub pec_of-append_byte : (front : List ℕ) (byte : ℕ) → byte < 2 ^ 8
+    → pec_of (front ++ byte ∷ []) ≡ doubled_times 8 (bit_xor (pec_of front) byte)
 unfolding pec_of
 pec_of-append_byte [] byte h = pec_of-byte byte h
 pec_of-append_byte (x ∷ xs) byte h =

@@ -4,9 +4,10 @@
 -- one applies before the rules on the length.
 use Rattle.std.specs.Prelude.{ℕ, ◌+◌, ◌-◌, Bool, not, ◌&&◌, ◌||◌, ◌==◌, nat_lt, if◌then◌else◌, List, [], ◌∷◌, ◌++◌, length, take, slice_index, Option, Some, None}
 use Rattle.std.specs.Option.{option_or}
+use Rattle.pm_table.specs.Codes as command
 use Rattle.pm_table.specs.Commands.{is_known, is_read, is_written, payload_length}
-use Rattle.pm_frame.specs.declared.direction.Direction.{Direction}
-use Rattle.pm_frame.specs.declared.direction.Direction.TheVariants.{Write, Read}
+use Rattle.pm_frame.specs.declared.row.Direction.{Direction}
+use Rattle.pm_frame.specs.declared.row.Direction.TheVariants.{Write, Read}
 use Rattle.pm_frame.specs.declared.fault.FrameFault.{FrameFault}
 use Rattle.pm_frame.specs.declared.fault.FrameFault.TheVariants.{NotOurs, Short, Long, WrongCount, WrongPec, UnknownCode, WrongDirection, Nested}
 use Rattle.pm_frame.specs.declared.message.Message.{Message}
@@ -57,7 +58,7 @@ size_fault bytes =
     let code = slice_index bytes 1 in
     if is_plain_write code then length_fault (payload_length code + 3) bytes
     else (if length bytes == 2 then Some (Short 2)
-    else (if code == 0x05
+    else (if code == command.page_plus_write
     then option_or (length_fault (slice_index bytes 2 + 4) bytes) (carried_count_fault bytes)
     else None))
 
@@ -74,20 +75,16 @@ codes_of Read = is_read
 
 -- F8 for a carried code that PAGE_PLUS doesn't carry, F6 for one that isn't in the table, F7 for
 -- one of the other direction
-unfoldable pub carried_fault : Direction → List ℕ → Option FrameFault
-carried_fault direction bytes =
-    let code = slice_index bytes 4 in
-    first (
+unfoldable pub carried_fault : Direction → ℕ → Option FrameFault
+carried_fault direction code = first (
     rule (not (is_carried code)) (Nested 4) ∷
     rule (not (is_known code)) (UnknownCode 4) ∷
     rule (not (codes_of direction code)) (WrongDirection 4) ∷
     [])
 
 -- F6 for a plain code that isn't in the table, F7 for one of the other direction
-unfoldable pub plain_fault : Direction → List ℕ → Option FrameFault
-plain_fault direction bytes =
-    let code = slice_index bytes 1 in
-    first (
+unfoldable pub plain_fault : Direction → ℕ → Option FrameFault
+plain_fault direction code = first (
     rule (not (is_known code)) (UnknownCode 1) ∷
     rule (not (codes_of direction code)) (WrongDirection 1) ∷
     [])
@@ -98,8 +95,9 @@ write_fault addr bytes = first (
     opening_fault (write_address addr) bytes ∷
     size_fault bytes ∷
     pec_fault [] bytes ∷
-    (if slice_index bytes 1 == 0x05 then carried_fault Write bytes
-    else plain_fault Write bytes) ∷
+    (let code = slice_index bytes 1 in
+    if code == command.page_plus_write then carried_fault Write (slice_index bytes 4)
+    else plain_fault Write code) ∷
     [])
 
 -- what is wrong with the five bytes of a read whose request has a count
@@ -107,7 +105,8 @@ unfoldable pub block_request_fault : List ℕ → Option FrameFault
 block_request_fault bytes = first (
     length_fault 5 bytes ∷
     rule (not (slice_index bytes 2 == 2)) (WrongCount 2) ∷
-    (if slice_index bytes 1 == 0x06 then carried_fault Read bytes else None) ∷
+    (if slice_index bytes 1 == command.page_plus_read
+    then carried_fault Read (slice_index bytes 4) else None) ∷
     [])
 
 -- what is wrong with bytes that a repeated start ended
@@ -115,8 +114,9 @@ unfoldable pub request_fault : ℕ → List ℕ → Option FrameFault
 request_fault addr bytes =
     let code = slice_index bytes 1 in
     option_or (opening_fault (write_address addr) bytes)
-    (if code == 0x06 || code == 0x30 then block_request_fault bytes
-    else option_or (plain_fault Read bytes) (rule (nat_lt 2 (length bytes)) (Long 2)))
+    (if code == command.page_plus_read || code == command.coefficients
+    then block_request_fault bytes
+    else option_or (plain_fault Read code) (rule (nat_lt 2 (length bytes)) (Long 2)))
 
 -- how many bytes a whole answer has: the address, a count where there is one, the payload and the
 -- PEC

@@ -4,6 +4,7 @@
 -- error code stands at the end of the answer and covers both. That each packet has a PEC and an exact
 -- length is this project's own choice, and so are the four codes that PAGE_PLUS doesn't carry.
 use Rattle.std.specs.Prelude.{◌≡◌, ℕ, ◌+◌, ◌*◌, ◌/◌, ◌%◌, Bool, true, false, not, ◌&&◌, ◌||◌, ◌==◌, if◌then◌else◌, List, [], ◌∷◌, ◌++◌, length, slice_index, ◌<◌, ◌^◌}
+use Rattle.pm_table.specs.Codes as command
 use Rattle.pm_table.specs.Commands.{is_read, is_written, payload_length}
 use Rattle.pm_frame.specs.declared.message.Message.{Message}
 use Rattle.pm_frame.specs.declared.message.Message.TheVariants.{SendByte, WriteByte, WriteWord, PagePlusWrite, ReadCommand, PagePlusRead, ReadCoefficients}
@@ -31,11 +32,13 @@ sent addr (SendByte code) = write_address addr ∷ code ∷ []
 sent addr (WriteByte code byte) = write_address addr ∷ code ∷ payload_bytes (Byte byte)
 sent addr (WriteWord code word) = write_address addr ∷ code ∷ payload_bytes (Word word)
 sent addr (PagePlusWrite page code payload) =
-    write_address addr ∷ 0x05 ∷ (2 + length (payload_bytes payload)) ∷ page ∷ code
-    ∷ payload_bytes payload
+    write_address addr ∷ command.page_plus_write ∷ (2 + length (payload_bytes payload))
+    ∷ page ∷ code ∷ payload_bytes payload
 sent addr (ReadCommand code) = write_address addr ∷ code ∷ []
-sent addr (PagePlusRead page code) = write_address addr ∷ 0x06 ∷ 0x02 ∷ page ∷ code ∷ []
-sent addr (ReadCoefficients code side) = write_address addr ∷ 0x30 ∷ 0x02 ∷ code ∷ side ∷ []
+sent addr (PagePlusRead page code) =
+    write_address addr ∷ command.page_plus_read ∷ 0x02 ∷ page ∷ code ∷ []
+sent addr (ReadCoefficients code side) =
+    write_address addr ∷ command.coefficients ∷ 0x02 ∷ code ∷ side ∷ []
 
 -- a read, and not a write
 abbrev pub is_read_message : Message → Bool
@@ -74,14 +77,17 @@ answered addr request payload =
 
 -- PAGE_PLUS carries every code but PAGE, PAGE_PLUS_WRITE, PAGE_PLUS_READ and COEFFICIENTS
 abbrev pub is_carried : ℕ → Bool
-is_carried code = not (code == 0x00 || code == 0x05 || code == 0x06 || code == 0x30)
+is_carried code = not (
+    code == command.page || code == command.page_plus_write || code == command.page_plus_read
+    || code == command.coefficients)
 
 -- a code that a plain packet writes, and one that a plain packet reads
 abbrev pub is_plain_write : ℕ → Bool
-is_plain_write code = is_written code && not (code == 0x05)
+is_plain_write code = is_written code && not (code == command.page_plus_write)
 
 abbrev pub is_plain_read : ℕ → Bool
-is_plain_read code = is_read code && not (code == 0x06 || code == 0x30)
+is_plain_read code =
+    is_read code && not (code == command.page_plus_read || code == command.coefficients)
 
 -- the code has the layout
 abbrev pub fits_layout : Message → Bool

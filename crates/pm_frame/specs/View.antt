@@ -1,11 +1,12 @@
 -- What a whole packet says, read from its bytes by their places, and what a message has: its page,
 -- its code, its payload.
-use Rattle.std.specs.Prelude.{◌≡◌, ◌≢◌, ◌≤◌, ℕ, ◌+◌, ◌*◌, ◌-◌, ◌==◌, if◌then◌else◌, List, [], ◌∷◌, length, slice_index, slice_range, Option, Some, None}
+use Rattle.std.specs.Prelude.{ℕ, ◌+◌, ◌*◌, ◌-◌, ◌==◌, if◌then◌else◌, List, [], ◌∷◌, length, slice_index, slice_range, Option, Some, None}
+use Rattle.pm_table.specs.Codes as command
 use Rattle.pm_frame.specs.declared.message.Message.{Message}
 use Rattle.pm_frame.specs.declared.message.Message.TheVariants.{SendByte, WriteByte, WriteWord, PagePlusWrite, ReadCommand, PagePlusRead, ReadCoefficients}
 use Rattle.pm_frame.specs.declared.message.Payload.{Payload}
 use Rattle.pm_frame.specs.declared.message.Payload.TheVariants.{Empty, Byte, Word}
-use Rattle.pm_frame.specs.Layout.{AreBytes, payload_bytes, has_count}
+use Rattle.pm_frame.specs.Layout.{payload_bytes, has_count}
 
 -- the payload that bytes are, at most two
 abbrev pub payload_in : List ℕ → Payload
@@ -33,22 +34,12 @@ message_in bytes =
     let third = slice_index bytes 3 in
     let fourth = slice_index bytes 4 in
     let last = length bytes - 1 in
-    if code == 0x05 then PagePlusWrite third fourth (payload_in (slice_range bytes 5 last))
-    else (if code == 0x06 then PagePlusRead third fourth
-    else (if code == 0x30 then ReadCoefficients third fourth
+    if code == command.page_plus_write
+    then PagePlusWrite third fourth (payload_in (slice_range bytes 5 last))
+    else (if code == command.page_plus_read then PagePlusRead third fourth
+    else (if code == command.coefficients then ReadCoefficients third fourth
     else (if length bytes == 2 then ReadCommand code
     else plain_write code (payload_in (slice_range bytes 2 last)))))
-
--- These are bytes, as many as such a packet has. No public clause speaks of this: it is what a view
--- of the bytes keeps.
-pub record IsWhole (bytes : List ℕ) : Type 0 where
-  pub are_bytes : AreBytes bytes
-  pub two : 2 ≤ length bytes
-  pub carries : slice_index bytes 1 ≡ 0x05 → 6 ≤ length bytes
-  pub carries_word : slice_index bytes 1 ≡ 0x05 → length bytes ≤ 8
-  pub reads_page : slice_index bytes 1 ≡ 0x06 → length bytes ≡ 5
-  pub reads_coefficients : slice_index bytes 1 ≡ 0x30 → length bytes ≡ 5
-  pub plain : slice_index bytes 1 ≢ 0x05 → length bytes ≤ 5
 
 -- the page that a message names
 abbrev pub message_page : Message → Option ℕ
@@ -69,7 +60,7 @@ message_code (WriteWord code word) = code
 message_code (PagePlusWrite page code payload) = code
 message_code (ReadCommand code) = code
 message_code (PagePlusRead page code) = code
-message_code (ReadCoefficients code side) = 0x30
+message_code (ReadCoefficients code side) = command.coefficients
 
 -- the payload of a write; none of a request, but the code and the side where coefficients are read
 abbrev pub message_payload : Message → List ℕ

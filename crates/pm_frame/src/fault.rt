@@ -1,3 +1,5 @@
+ghost use Rattle.std.specs.Prelude.{◌≡◌};
+
 use thiserror::Error;
 
 /// What is wrong with a frame, and where: a place is the number of a byte, the first being 0, or
@@ -32,6 +34,43 @@ pub enum FrameFault {
     /// F8: the code at this place is one that PAGE_PLUS doesn't carry: 00h, 05h, 06h or 30h.
     #[error("a code at place {0} that isn't carried")]
     Nested(usize),
+}
+
+impl FrameFault {
+    ghost use Rattle.pm_frame.specs.FaultWords.{frame_fault_words, frame_fault_place};
+
+    /// The letter and the name of the fault, as programs print them: `F5 WrongPec`. Behind them
+    /// stands its place, where it has one.
+    pub fn words(self) -> &'static str
+        ensures { result.now ≡ frame_fault_words self }
+    {
+        match self {
+            FrameFault::NotOurs => "F1 NotOurs",
+            FrameFault::Short(_) => "F2 Short",
+            FrameFault::Long(_) => "F3 Long",
+            FrameFault::WrongCount(_) => "F4 WrongCount",
+            FrameFault::WrongPec(_) => "F5 WrongPec",
+            FrameFault::UnknownCode(_) => "F6 UnknownCode",
+            FrameFault::WrongDirection(_) => "F7 WrongDirection",
+            FrameFault::Nested(_) => "F8 Nested",
+        }
+    }
+
+    /// The place of the fault; F1 has none.
+    pub fn place(self) -> Option<usize>
+        ensures { result ≡ frame_fault_place self }
+    {
+        match self {
+            FrameFault::NotOurs => None,
+            FrameFault::Short(place)
+            | FrameFault::Long(place)
+            | FrameFault::WrongCount(place)
+            | FrameFault::WrongPec(place)
+            | FrameFault::UnknownCode(place)
+            | FrameFault::WrongDirection(place)
+            | FrameFault::Nested(place) => Some(place),
+        }
+    }
 }
 
 #[cfg(test)]

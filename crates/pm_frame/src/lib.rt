@@ -6,36 +6,38 @@
 //! bytes of any number, and take exactly the layouts: what they refuse has the fault that comes
 //! first, with its place. A `FrameView` borrows the bytes that were read.
 //!
+//! The PEC betrays damage where the last byte of what was heard isn't the PEC of what stands before
+//! it: `is_betrayed` says so of bytes, and the laws say which damage it always betrays.
+//!
 //! It keeps no state, knows no setting and takes no memory. What a write does is the converter's
 //! affair.
 #![tactic(auto)]
 
 mod betrayal;
-mod code;
-mod direction;
 mod fault;
 mod laws;
-mod layout;
 mod message;
 mod packet_error_code;
 mod places;
 mod received;
+mod row;
 mod rules;
+mod sent;
 #[cfg(test)]
 mod tests;
 mod view;
 
 use arrayvec::ArrayVec;
-pub use betrayal::{betrayal_is_refused, damage_is_betrayed, is_betrayed};
+pub use betrayal::is_betrayed;
 pub use fault::FrameFault;
 pub use laws::{
-    answers_are_exact, bursts_are_betrayed, damage_is_refused, few_changes_are_betrayed,
-    requests_are_exact, writes_are_exact,
+    answers_are_exact, betrayal_is_refused, bursts_are_betrayed, damage_is_betrayed,
+    damage_is_refused, few_changes_are_betrayed, requests_are_exact, writes_are_exact,
 };
-pub use layout::{answer, fits, write_part};
-pub use message::{Message, Payload};
+pub use message::{Message, Payload, fits};
 pub use packet_error_code::pec;
 pub use received::{read_answer, read_request, read_write};
+pub use sent::{answer, write_part};
 pub use view::FrameView;
 
 /// The bytes of a frame that is sent, at most 16.

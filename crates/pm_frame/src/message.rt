@@ -1,5 +1,8 @@
-ghost use Rattle.std.specs.Prelude.{◌≡◌, ◌≤◌, if◌then◌else◌, length};
+ghost use Rattle.std.specs.Prelude.{◌≡◌, ◌≤◌, ◌&&◌, ◌==◌, if◌then◌else◌, length};
+ghost use Rattle.pm_table.specs.Commands.{payload_length};
+ghost use Rattle.pm_frame.specs.Layout.{fits_layout, is_plain_write};
 
+use crate::row::{Direction, Row};
 use pm_table::Code;
 
 /// What a write carries beside its code.
@@ -157,4 +160,39 @@ impl Message {
     {
         self.payload_place() + self.answer_length() + 1
     }
+}
+
+/// Whether the code of the message has this layout: it is written, or read, in a packet of this
+/// kind, and has a payload of this length. PAGE_PLUS doesn't carry 00h, 05h, 06h and 30h.
+/// COEFFICIENTS may be asked of any code and side.
+pub fn fits(m: &Message) -> bool
+    ensures { result ≡ fits_layout m.now }
+{
+    match *m {
+        Message::SendByte { code } => is_plain(code, 0),
+        Message::WriteByte { code, byte: _ } => is_plain(code, 1),
+        Message::WriteWord { code, word: _ } => is_plain(code, 2),
+        Message::PagePlusWrite {
+            page: _,
+            code,
+            payload,
+        } => {
+            let row = Row::of(Code(code));
+            row.is_carried() && row.goes(Direction::Write) && row.payload_length() == payload.len()
+        }
+        Message::ReadCommand { code } => Row::of(Code(code)).is_plain_read(),
+        Message::PagePlusRead { page: _, code } => {
+            let row = Row::of(Code(code));
+            row.is_carried() && row.goes(Direction::Read)
+        }
+        Message::ReadCoefficients { code: _, side: _ } => true,
+    }
+}
+
+// A plain packet writes the code, with this many bytes of payload.
+fn is_plain(code: u8, length: usize) -> bool
+    ensures { result ≡ (is_plain_write code && payload_length code == length) }
+{
+    let row = Row::of(Code(code));
+    row.is_plain_write() && row.payload_length() == length
 }

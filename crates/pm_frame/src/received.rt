@@ -8,16 +8,15 @@ ghost use Rattle.pm_frame.specs.Layout.{IsWrite, IsRequest, IsAnswer, fits_layou
 ghost use Rattle.pm_frame.specs.View.{message_in, answer_payload};
 ghost use Rattle.pm_frame.specs.Fault.{write_fault, request_fault, block_request_fault, answer_fault, whole_answer};
 
-use crate::code::{COEFFICIENTS, PAGE_PLUS_READ, PAGE_PLUS_WRITE};
-use crate::direction::Direction;
 use crate::fault::FrameFault;
-use crate::layout::{read_address, sent, write_address};
 use crate::message::Message;
 use crate::packet_error_code::pec;
-use crate::places::{ANSWER_COUNT, COUNT};
+use crate::places::{ANSWER_COUNT, CARRIED, COUNT};
+use crate::row::{Direction, Row};
 use crate::rules;
+use crate::sent::{read_address, sent, write_address};
 use crate::view::FrameView;
-use pm_table::payloads_are_short;
+use pm_table::{Code, payloads_are_short};
 
 /// Reads bytes that a stop ended as a packet that writes to the device of this address. Takes
 /// exactly the layouts of writes, for bytes of any number; `Err` is the first fault:
@@ -37,6 +36,7 @@ pub fn read_write(addr: u8, bytes: &[u8]) -> Result<FrameView<'_>, FrameFault>
     ensures accepts { (message : Message) → IsWrite addr message bytes.now →
         IsOkAnd result (λ found. found ≡ message) }
 {
+    // A law for the prover: it does nothing.
     payloads_are_short();
     written(addr, bytes)?;
     Ok(FrameView::new(bytes))
@@ -49,12 +49,15 @@ fn written(addr: u8, bytes: &[u8]) -> Result<(), FrameFault>
     ensures { result_err result ≡ write_fault addr bytes.now }
 {
     let code = rules::opening(write_address(addr), bytes)?;
-    rules::write_size(code, bytes)?;
-    rules::error_code(pec(&[]), bytes)?;
-    if code == PAGE_PLUS_WRITE {
-        return rules::carried_code(Direction::Write, bytes);
+    if code == Code::PAGE_PLUS_WRITE {
+        let carried = rules::carried_size(bytes)?;
+        rules::error_code(pec(&[]), bytes)?;
+        return rules::carried_code(carried, Direction::Write);
     }
-    rules::plain_code(Direction::Write, bytes)
+    let row = Row::of(code);
+    rules::plain_size(row, bytes)?;
+    rules::error_code(pec(&[]), bytes)?;
+    rules::plain_code(row, Direction::Write)
 }
 
 /// Reads bytes that a repeated start ended as the request of a packet that reads from the device of
@@ -86,10 +89,10 @@ fn requested(addr: u8, bytes: &[u8]) -> Result<(), FrameFault>
     ensures { result_err result ≡ request_fault addr bytes.now }
 {
     let code = rules::opening(write_address(addr), bytes)?;
-    if code == PAGE_PLUS_READ || code == COEFFICIENTS {
+    if matches!(code, Code::PAGE_PLUS_READ | Code::COEFFICIENTS) {
         return block_requested(code, bytes);
     }
-    rules::plain_code(Direction::Read, bytes)?;
+    rules::plain_code(Row::of(code), Direction::Read)?;
     if bytes.len() > 2 {
         return Err(FrameFault::Long(2));
     }
@@ -98,16 +101,17 @@ fn requested(addr: u8, bytes: &[u8]) -> Result<(), FrameFault>
 
 // The faults of a request that has a count, in their order.
 #[tactic(auto, unfolding(crate::specs::Fault::block_request_fault))]
-fn block_requested(code: u8, bytes: &[u8]) -> Result<(), FrameFault>
-    requires { code ≡ slice_index bytes.now 1 }
+fn block_requested(code: Code, bytes: &[u8]) -> Result<(), FrameFault>
+    requires { code.0 ≡ slice_index bytes.now 1 }
     ensures { result_err result ≡ block_request_fault bytes.now }
 {
     rules::length(5, bytes)?;
     if bytes[COUNT] != 2 {
         return Err(FrameFault::WrongCount(COUNT));
     }
-    if code == PAGE_PLUS_READ {
-        rules::carried_code(Direction::Read, bytes)?;
+    if code == Code::PAGE_PLUS_READ {
+        let carried = Row::of(Code(bytes[CARRIED]));
+        rules::carried_code(carried, Direction::Read)?;
     }
     Ok(())
 }

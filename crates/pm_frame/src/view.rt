@@ -1,9 +1,10 @@
 ghost use Rattle.std.specs.Prelude.{◌≡◌};
-ghost use Rattle.pm_frame.specs.View.{message_in, IsWhole, message_page, message_code, message_payload, payload_in, plain_write as spec_plain_write};
+ghost use Rattle.pm_frame.specs.Whole.{IsWhole};
+ghost use Rattle.pm_frame.specs.View.{message_in, message_page, message_code, message_payload, payload_in, plain_write as spec_plain_write};
 
-use crate::code::{COEFFICIENTS, PAGE_PLUS_READ, PAGE_PLUS_WRITE};
 use crate::message::{Message, Payload};
 use crate::places::{CARRIED, CARRIED_PAYLOAD, CODE, PAGE, PAYLOAD};
+use pm_table::Code;
 use std::marker::Model;
 
 /// The bytes of a packet that was read without a fault, borrowed from the caller: a write, or the
@@ -15,7 +16,8 @@ pub struct FrameView<'a> {
 
 impl<'a> Model for FrameView<'a> {
     ghost use Rattle.pm_frame.specs.declared.message.Message.{Message};
-    ghost use Rattle.pm_frame.specs.View.{message_in, IsWhole};
+    ghost use Rattle.pm_frame.specs.View.{message_in};
+    ghost use Rattle.pm_frame.specs.Whole.{IsWhole};
 
     ghost Value = { Message };
 
@@ -40,8 +42,8 @@ impl FrameView<'_> {
     pub fn page(&self) -> Option<u8>
         ensures { result ≡ message_page self.now }
     {
-        match self.bytes[CODE] {
-            PAGE_PLUS_WRITE | PAGE_PLUS_READ => Some(self.bytes[PAGE]),
+        match Code(self.bytes[CODE]) {
+            Code::PAGE_PLUS_WRITE | Code::PAGE_PLUS_READ => Some(self.bytes[PAGE]),
             _ => None,
         }
     }
@@ -52,9 +54,9 @@ impl FrameView<'_> {
     pub fn code(&self) -> u8
         ensures { result ≡ message_code self.now }
     {
-        match self.bytes[CODE] {
-            PAGE_PLUS_WRITE | PAGE_PLUS_READ => self.bytes[CARRIED],
-            code => code,
+        match Code(self.bytes[CODE]) {
+            Code::PAGE_PLUS_WRITE | Code::PAGE_PLUS_READ => self.bytes[CARRIED],
+            Code(code) => code,
         }
     }
 
@@ -65,10 +67,10 @@ impl FrameView<'_> {
         ensures { result.now ≡ message_payload self.now }
     {
         let length = self.bytes.len();
-        match self.bytes[CODE] {
-            PAGE_PLUS_WRITE => &self.bytes[CARRIED_PAYLOAD..length - 1],
-            PAGE_PLUS_READ => &[],
-            COEFFICIENTS => &self.bytes[PAGE..],
+        match Code(self.bytes[CODE]) {
+            Code::PAGE_PLUS_WRITE => &self.bytes[CARRIED_PAYLOAD..length - 1],
+            Code::PAGE_PLUS_READ => &[],
+            Code::COEFFICIENTS => &self.bytes[PAGE..],
             _ if length == 2 => &[],
             _ => &self.bytes[PAYLOAD..length - 1],
         }
@@ -79,22 +81,22 @@ impl FrameView<'_> {
     pub fn message(&self) -> Message
         ensures { result ≡ self.now }
     {
-        match self.bytes[CODE] {
-            PAGE_PLUS_WRITE => Message::PagePlusWrite {
+        match Code(self.bytes[CODE]) {
+            Code::PAGE_PLUS_WRITE => Message::PagePlusWrite {
                 page: self.bytes[PAGE],
                 code: self.bytes[CARRIED],
                 payload: payload_of(&self.bytes[CARRIED_PAYLOAD..self.bytes.len() - 1]),
             },
-            PAGE_PLUS_READ => Message::PagePlusRead {
+            Code::PAGE_PLUS_READ => Message::PagePlusRead {
                 page: self.bytes[PAGE],
                 code: self.bytes[CARRIED],
             },
-            COEFFICIENTS => Message::ReadCoefficients {
+            Code::COEFFICIENTS => Message::ReadCoefficients {
                 code: self.bytes[PAGE],
                 side: self.bytes[CARRIED],
             },
-            code if self.bytes.len() == 2 => Message::ReadCommand { code },
-            code => plain_write(code, &self.bytes[PAYLOAD..self.bytes.len() - 1]),
+            Code(code) if self.bytes.len() == 2 => Message::ReadCommand { code },
+            Code(code) => plain_write(code, &self.bytes[PAYLOAD..self.bytes.len() - 1]),
         }
     }
 }

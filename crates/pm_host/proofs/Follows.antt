@@ -14,14 +14,14 @@ use Rattle.pm_host.specs.declared.stage.Stage.{Stage}
 use Rattle.pm_host.specs.declared.step.Step.{Step}
 use Rattle.pm_host.specs.declared.step.Step.TheVariants.{Next}
 use Rattle.pm_host.specs.Answers.{good_word}
-use Rattle.pm_host.specs.Cells.{is_cell}
+use Rattle.pm_host.specs.Cells.{is_cell, is_command}
 use Rattle.pm_host.specs.Known.{Known, known_after, known_now}
 use Rattle.pm_host.specs.Marks.{Mark, Put, Good, Restart, marks, puts, goods, put_by, read_by}
 use Rattle.pm_host.specs.Now.{now, stage_of, AreTold}
 use Rattle.pm_host.specs.Possible.{has_room}
 use Rattle.pm_host.specs.Refusals.{IsSetup, may_come, is_busy, rule, first}
-use Rattle.pm_host.specs.Summary.{Summary, Turn, turn, idle, start, step_by, no_formats, possible_at, format_at}
-use Rattle.pm_host.specs.Transcript.{Setup, Job, Order, Check, Learn, Clear, Entry, Accepted, Finished, Got, Restarted, last_job, told_since, end_of, open_job, found, found_for, format_of_output}
+use Rattle.pm_host.specs.Summary.{Summary, Change, change, idle, start, step_by, no_formats, possible_at, format_at}
+use Rattle.pm_host.specs.Transcript.{Setup, Job, Order, Check, Learn, Send, Entry, Accepted, Finished, Got, Restarted, last_job, told_since, end_of, open_job, found, found_for, format_of_output}
 use Rattle.pm_host.proofs.KnownLaws.{IsMark, known_now-nil, known_now-next}
 use Rattle.pm_host.proofs.Turns.{end_by, puts_by, goods_by, known_more, formats_set, formats_more, WritesBy, WritesBy-from, ReadsBy-from, accepted_follows, finished_follows, got_follows}
 
@@ -31,7 +31,7 @@ IsJob setup None = Unit {0}
 IsJob setup (Some (Order cell word)) = IsCell setup.outputs cell × (cell_accepts cell word ≡ true)
 IsJob setup (Some (Check cell)) = IsCell setup.outputs cell
 IsJob setup (Some (Learn output)) = output < setup.outputs
-IsJob setup (Some (Clear output)) = output < setup.outputs
+IsJob setup (Some (Send sent)) = is_command setup.outputs sent ≡ true
 
 IsCell-from : (outputs : ℕ) (c : Cell) → is_cell outputs c ≡ true → IsCell outputs c
 IsCell-from outputs (Out o r) h = ltb-true o outputs h
@@ -62,7 +62,7 @@ put_by-marks setup None told few h true = tt
 put_by-marks setup (Some (Order c w)) told few h true = put_step c w (IsCell-eight setup.outputs c few h.0) (eqb (length told % 2) 0) true told
 put_by-marks setup (Some (Check c)) told few h true = tt
 put_by-marks setup (Some (Learn o)) told few h true = tt
-put_by-marks setup (Some (Clear o)) told few h true = tt
+put_by-marks setup (Some (Send sent)) told few h true = tt
 
 good_step : (c : Cell) (r : Option ℕ) → IsCell 8 c → AreMarks (option_to_list (option_map (λ word. Good c word) r))
 good_step c None there = tt
@@ -81,7 +81,7 @@ goods_by-marks setup (Some (Order c w)) told bytes few h true =
     good_turn setup.addr c bytes (eqb (length told % 2) 0) (IsCell-eight setup.outputs c few h.0)
 goods_by-marks setup (Some (Check c)) told bytes few h true = good_step c (good_word setup.addr c bytes) (IsCell-eight setup.outputs c few h)
 goods_by-marks setup (Some (Learn o)) told bytes few h true = tt
-goods_by-marks setup (Some (Clear o)) told bytes few h true = tt
+goods_by-marks setup (Some (Send sent)) told bytes few h true = tt
 
 -- formats, one more entry
 map_agree : {X Y : Type 0} (f g : X → Y) (xs : List X) → ((x : X) → f x ≡ g x) → map f xs ≡ map g xs
@@ -121,7 +121,7 @@ formats_found setup None told f few h = refl
 formats_found setup (Some (Order c w)) told f few h = refl
 formats_found setup (Some (Check c)) told f few h = refl
 formats_found setup (Some (Learn l)) told f few h = format_found l f (option_and_then (λ shape. shape) (found setup l told)) (omega arith)
-formats_found setup (Some (Clear o)) told f few h = refl
+formats_found setup (Some (Send sent)) told f few h = refl
 
 found_nothing : (b : Bool) → option_and_then (λ (shape : Option Shape). shape) (cond b (Some None) None) ≡ None
 found_nothing true = refl
@@ -131,7 +131,7 @@ formats_accepted : (setup : Setup) (job : Job) (formats : List (Option Shape)) �
 formats_accepted setup (Order c w) formats = refl
 formats_accepted setup (Check c) formats = refl
 formats_accepted setup (Learn l) formats = rw (found_nothing (eqb 0 setup.passes)) refl
-formats_accepted setup (Clear o) formats = refl
+formats_accepted setup (Send sent) formats = refl
 
 formats_finished : (setup : Setup) (job : Option Job) (told : List Entry) (entry : Entry) (formats : List (Option Shape)) → WritesBy setup job told
     → formats_more setup formats job (entry ∷ told) ≡ formats
@@ -139,7 +139,7 @@ formats_finished setup None told entry formats h = absurd h
 formats_finished setup (Some (Order c w)) told entry formats h = refl
 formats_finished setup (Some (Check c)) told entry formats h = absurd h
 formats_finished setup (Some (Learn l)) told entry formats h = absurd h
-formats_finished setup (Some (Clear o)) told entry formats h = refl
+formats_finished setup (Some (Send sent)) told entry formats h = refl
 
 -- what lets a job come
 pub order_parts : (busy there accepts room : Bool)
@@ -162,11 +162,7 @@ IsJob-from s (Order c w) h =
     (IsCell-from s.setup.outputs c parts.0, parts.1.0)
 IsJob-from s (Check c) h = IsCell-from s.setup.outputs c (there_part (is_busy s) (is_cell s.setup.outputs c) h)
 IsJob-from s (Learn o) h = ltb-true o s.setup.outputs (there_part (is_busy s) (ltb o s.setup.outputs) h)
-IsJob-from s (Clear o) h = ltb-true o s.setup.outputs (there_part (is_busy s) (ltb o s.setup.outputs) h)
-
-now-setup : (setup : Setup) (es : List Entry) → (now setup es).setup ≡ setup
-unfolding now
-now-setup setup es = refl
+IsJob-from s (Send sent) h = there_part (is_busy s) (is_command s.setup.outputs sent) h
 
 pub IsJob-told : (setup : Setup) (es : List Entry) → AreTold setup es → IsJob setup (last_job es)
 unfolding now
@@ -178,13 +174,13 @@ IsJob-told setup (Restarted ∷ es) h = tt
 
 -- one more entry
 same_turn : (setup : Setup) (stage : Option Stage) (f g : List (Option Shape)) (k l : Known) (step : Step) → f ≡ g → k ≡ l
-    → ◌≡◌ {A = Turn} (record { after = record { setup = setup; stage = stage; formats = f; known = k }; step = step })
+    → ◌≡◌ {A = Change} (record { after = record { setup = setup; stage = stage; formats = f; known = k }; step = step })
     (record { after = record { setup = setup; stage = stage; formats = g; known = l }; step = step })
 same_turn setup stage f g k l step e h = rw (e, h) refl
 
 -- what the call that brings an entry does, and what the look back says after it
 pub turn-now : (setup : Setup) (es : List Entry) (e : Entry) → IsSetup setup → IsJob setup (last_job es) → may_come (now setup es) e ≡ true
-    → turn (now setup es) e ≡ record { after = now setup (e ∷ es); step = step_by (end_of setup (e ∷ es)) }
+    → change (now setup es) e ≡ record { after = now setup (e ∷ es); step = step_by (end_of setup (e ∷ es)) }
 unfolding now stage_of end_of open_job puts goods no_formats
 turn-now setup es (Accepted job) made there h =
     let job_there = IsJob-from (now setup es) job h in

@@ -1,36 +1,28 @@
 -- The frames that a host can send fit their layouts.
-use Rattle.std.proofs.Common.{◌≡◌, ℕ, true, false, refl}
+use Rattle.std.proofs.Common.{◌≡◌, ◌≢◌, ℕ, true, false, refl, rules}
 use Rattle.pm_table.specs.declared.cell.Reg.{Reg}
-use Rattle.pm_table.specs.declared.cell.Reg.TheVariants.{Operation, VoutCommand, VoutMax, MarginHigh, MarginLow}
 use Rattle.pm_table.specs.declared.cell.Cell.{Cell}
 use Rattle.pm_table.specs.declared.cell.Cell.TheVariants.{Out, Protect}
 use Rattle.pm_table.specs.Cell.{register_code}
+use Rattle.pm_table.specs.Codes as command
 use Rattle.pm_table.specs.Commands.{line_of}
 use Rattle.pm_frame.specs.declared.message.Message.{Message}
 use Rattle.pm_frame.specs.declared.message.Message.TheVariants.{PagePlusWrite, PagePlusRead}
-use Rattle.pm_frame.specs.Layout.{answer_length, fits_layout, is_read_message}
-use Rattle.pm_host.specs.declared.stage.Stage.{Stage}
-use Rattle.pm_host.specs.declared.stage.Stage.TheVariants.{Writes, Reads, Checks, AsksMode, AsksCoefficients, Clears}
-use Rattle.pm_host.specs.Messages.{register_payload, cell_write, cell_read, mode_read, faults_clear}
-use Rattle.pm_host.specs.Summary.{stage_message}
-use Rattle.pm_host.specs.Frames.{CanSend, writes_output, writes_protect, reads_output, reads_protect, reads_mode, reads_coefficients, clears_faults}
+use Rattle.pm_frame.specs.Layout.{fits_layout, is_read_message}
+use Rattle.pm_frame.specs.View.{message_code}
+use Rattle.pm_host.specs.declared.command.Command.{Command}
+use Rattle.pm_host.specs.Messages.{register_payload, cell_write, cell_read, mode_read, command_message}
+use Rattle.pm_host.specs.Frames.{CanSend, writes_output, writes_protect, reads_output, reads_protect, reads_mode, reads_coefficients, sends_command}
 use Rattle.pm_host.specs.Transcript.{Setup}
 
-write_output-fits : (output : ℕ) (r : Reg) (word : ℕ) → fits_layout (PagePlusWrite output (register_code r) (register_payload r word)) ≡ true
+-- each register is written and read by PAGE_PLUS, whichever it is
+write_output-fits : (output : ℕ) (register : Reg) (word : ℕ) → fits_layout (PagePlusWrite output (register_code register) (register_payload register word)) ≡ true
 unfolding line_of
-write_output-fits output Operation word = refl
-write_output-fits output VoutCommand word = refl
-write_output-fits output VoutMax word = refl
-write_output-fits output MarginHigh word = refl
-write_output-fits output MarginLow word = refl
+write_output-fits = search rules
 
-read_output-fits : (output : ℕ) (r : Reg) → fits_layout (PagePlusRead output (register_code r)) ≡ true
+read_output-fits : (output : ℕ) (register : Reg) → fits_layout (PagePlusRead output (register_code register)) ≡ true
 unfolding line_of
-read_output-fits output Operation = refl
-read_output-fits output VoutCommand = refl
-read_output-fits output VoutMax = refl
-read_output-fits output MarginHigh = refl
-read_output-fits output MarginLow = refl
+read_output-fits = search rules
 
 pub cell_write-fits : (c : Cell) (word : ℕ) → fits_layout (cell_write c word) ≡ true
 unfolding line_of
@@ -54,21 +46,13 @@ pub mode_read-fits : (output : ℕ) → fits_layout (mode_read output) ≡ true
 unfolding line_of
 mode_read-fits output = refl
 
-pub mode_read-one : (output : ℕ) → answer_length (mode_read output) ≡ 1
+-- what a command sends is a write that fits
+pub command_message-fits : (command : Command) → fits_layout (command_message command) ≡ true
 unfolding line_of
-mode_read-one output = refl
+command_message-fits = search rules
 
-pub faults_clear-fits : (output : ℕ) → fits_layout (faults_clear output) ≡ true
-unfolding line_of
-faults_clear-fits output = refl
-
-pub stage_message-fits : (stage : Stage) → fits_layout (stage_message stage) ≡ true
-stage_message-fits (Writes c word pass) = cell_write-fits c word
-stage_message-fits (Reads c word pass) = cell_read-fits c
-stage_message-fits (Checks c tries) = cell_read-fits c
-stage_message-fits (AsksMode output tries) = mode_read-fits output
-stage_message-fits (AsksCoefficients output tries) = refl
-stage_message-fits (Clears output tries) = faults_clear-fits output
+pub command_message-writes : (command : Command) → is_read_message (command_message command) ≡ false
+command_message-writes = search rules
 
 pub CanSend-fits : (setup : Setup) (message : Message) → CanSend setup message → fits_layout message ≡ true
 unfolding line_of
@@ -78,4 +62,8 @@ CanSend-fits setup _ (reads_output output r there) = read_output-fits output r
 CanSend-fits setup _ reads_protect = refl
 CanSend-fits setup _ (reads_mode output there) = mode_read-fits output
 CanSend-fits setup _ reads_coefficients = refl
-CanSend-fits setup _ (clears_faults output there) = faults_clear-fits output
+CanSend-fits setup _ (sends_command sent there) = command_message-fits sent
+
+-- none of them means PAGE
+pub CanSend-page : (setup : Setup) (message : Message) → CanSend setup message → message_code message ≢ command.page
+CanSend-page = search rules

@@ -11,20 +11,20 @@ use Rattle.pm_table.specs.declared.vout_mode.VoutMode.TheVariants.{Linear, Direc
 use Rattle.pm_table.specs.VoutMode.{mode_of}
 use Rattle.pm_table.specs.Format.{shape_in}
 use Rattle.pm_host.specs.declared.stage.Stage.{Stage}
-use Rattle.pm_host.specs.declared.stage.Stage.TheVariants.{Writes, Reads, Checks, AsksMode, AsksCoefficients, Clears}
-use Rattle.pm_host.specs.declared.step.JobEnd.TheVariants.{Done, Differs, Unknown}
+use Rattle.pm_host.specs.declared.stage.Stage.TheVariants.{Writes, Reads, Checks, AsksMode, AsksCoefficients, Sends}
+use Rattle.pm_host.specs.declared.job_end.JobEnd.TheVariants.{Done, Differs, Unknown}
 use Rattle.pm_host.specs.Answers.{good_word, good_mode, good_coefficients}
 use Rattle.pm_host.specs.Marks.{Good}
-use Rattle.pm_host.specs.Summary.{Summary, Turn, next, idle, marked, goes_on, ends, writes, another, read_back, checked, learned, mode_taken, mode_answered, coefficients_answered, finished, answered}
-use Rattle.pm_host.specs.Transcript.{Setup, Order, Check, Learn, Clear, Entry, Accepted, Finished, Got, Restarted}
+use Rattle.pm_host.specs.Summary.{Summary, Change, next, idle, marked, goes_on, ends, writes, another, read_back, checked, learned, mode_taken, mode_answered, coefficients_answered, finished, answered}
+use Rattle.pm_host.specs.Transcript.{Setup, Order, Check, Learn, Send, Entry, Accepted, Finished, Got, Restarted}
 
-abbrev Keeps : Setup → Turn → Type 0
+abbrev Keeps : Setup → Change → Type 0
 Keeps setup t = t.after.setup ≡ setup
 
 another-keeps : (s : Summary) (tries : ℕ) (stage : Stage) → Keeps s.setup (another s tries stage)
 another-keeps s tries stage = cond_both (eqb (tries + 1) s.setup.passes) (ends s Unknown) (goes_on s stage) (Keeps s.setup) (λ _. refl) (λ _. refl)
 
-more-keeps : (s : Summary) (c : Cell) (w pass : ℕ) (end : Turn) → Keeps s.setup end → (last : Bool) → Keeps s.setup (cond last end (writes s c w (pass + 1)))
+more-keeps : (s : Summary) (c : Cell) (w pass : ℕ) (end : Change) → Keeps s.setup end → (last : Bool) → Keeps s.setup (cond last end (writes s c w (pass + 1)))
 more-keeps s c w pass end kept last = cond_both last end (writes s c w (pass + 1)) (Keeps s.setup) (λ _. kept) (λ _. refl)
 
 read-keeps : (s : Summary) (c : Cell) (w pass : ℕ) (r : Option ℕ) → Keeps s.setup (read_back s c w pass r)
@@ -62,7 +62,7 @@ answered-keeps s (Some (Reads c w pass)) bytes = read-keeps s c w pass (good_wor
 answered-keeps s (Some (Checks c tries)) bytes = check-keeps s c tries (good_word s.setup.addr c bytes)
 answered-keeps s (Some (AsksMode o tries)) bytes = mode-keeps s o tries (good_mode s.setup.addr o bytes)
 answered-keeps s (Some (AsksCoefficients o tries)) bytes = coefficients-keeps s o tries (good_coefficients s.setup.addr bytes)
-answered-keeps s (Some (Clears o tries)) bytes = refl
+answered-keeps s (Some (Sends sent tries)) bytes = refl
 
 finished-keeps : (s : Summary) (stage : Option Stage) (acked : Bool) → Keeps s.setup (finished s stage acked)
 finished-keeps s None acked = refl
@@ -71,15 +71,15 @@ finished-keeps s (Some (Reads c w pass)) acked = refl
 finished-keeps s (Some (Checks c tries)) acked = refl
 finished-keeps s (Some (AsksMode o tries)) acked = refl
 finished-keeps s (Some (AsksCoefficients o tries)) acked = refl
-finished-keeps s (Some (Clears o tries)) true = refl
-finished-keeps s (Some (Clears o tries)) false = another-keeps s tries (Clears o (tries + 1))
+finished-keeps s (Some (Sends sent tries)) true = refl
+finished-keeps s (Some (Sends sent tries)) false = another-keeps s tries (Sends sent (tries + 1))
 
 pub next-keeps : (s : Summary) (e : Entry) → (next s e).setup ≡ s.setup
 unfolding next
 next-keeps s (Accepted (Order c w)) = refl
 next-keeps s (Accepted (Check c)) = refl
 next-keeps s (Accepted (Learn o)) = refl
-next-keeps s (Accepted (Clear o)) = refl
+next-keeps s (Accepted (Send sent)) = refl
 next-keeps s (Finished acked) = finished-keeps (idle s) s.stage acked
 next-keeps s (Got bytes) = answered-keeps (idle s) s.stage bytes
 next-keeps s Restarted = refl

@@ -8,14 +8,14 @@ use Rattle.pm_host.specs.declared.possible.Possible.{Possible}
 use Rattle.pm_host.specs.declared.possible.Possible.TheVariants.{Any, Words}
 use Rattle.pm_host.specs.declared.standing.Standing.{Standing}
 use Rattle.pm_host.specs.declared.standing.Standing.TheVariants.{Confirmed, Unknown}
-use Rattle.pm_table.specs.Cell.{IsCell, same_cell}
-use Rattle.pm_host.specs.Cells.{place_of, places, table}
+use Rattle.pm_table.specs.Cell.{IsCell, place_of, places, same_cell}
+use Rattle.pm_host.specs.Cells.{table}
 use Rattle.pm_host.specs.Marks.{Mark, Put, Good, Restart}
 use Rattle.pm_host.specs.Standing.{standing_of}
 use Rattle.pm_host.specs.Possible.{is_listed, is_possible, once, possible_from, words_since, possible_of, restart_seen_of, only, joined}
 use Rattle.pm_host.specs.Known.{Known, known_possible, known_standing, all_any, all_unknown, nothing_known, known_after, known_now}
 use Rattle.pm_host.proofs.Once.{once-push, is_listed-once}
-use Rattle.pm_host.proofs.CellLemmas.{same_cell_itself, place_below, table-at, table-set, table-same, table-agree}
+use Rattle.pm_host.proofs.CellLemmas.{same_cell_itself, table-at, table-set, table-same, table-agree}
 
 -- a mark that names a cell of eight outputs
 abbrev pub IsMark : Mark → Type 0
@@ -65,11 +65,11 @@ standing_of-other ms c d w other = (rw other refl, rw other refl)
 -- what is held of a cell
 pub known_now-possible : (ms : List Mark) (c : Cell) → IsCell 8 c → known_possible (known_now ms) c ≡ possible_of ms c
 unfolding known_now
-known_now-possible ms c there = table-at places (possible_of ms) c Any there (place_below c there)
+known_now-possible ms c there = table-at (possible_of ms) c Any there
 
 pub known_now-standing : (ms : List Mark) (c : Cell) → IsCell 8 c → known_standing (known_now ms) c ≡ standing_of ms c
 unfolding known_now
-known_now-standing ms c there = table-at places (standing_of ms) c Unknown there (place_below c there)
+known_now-standing ms c there = table-at (standing_of ms) c Unknown there
 
 pub known_now-seen : (ms : List Mark) → (known_now ms).seen ≡ restart_seen_of ms
 unfolding known_now
@@ -96,17 +96,17 @@ known_now-nil =
 put_possible : (ms : List Mark) (c : Cell) (w : ℕ) → IsCell 8 c
     → table places (possible_of (Put c w ∷ ms)) ≡ set (table places (possible_of ms)) (place_of c) (joined (possible_of ms c) w)
 put_possible ms c w there =
-    table-set places (possible_of ms) (possible_of (Put c w ∷ ms)) c (joined (possible_of ms c) w) there (place_below c there)
+    table-set (possible_of ms) (possible_of (Put c w ∷ ms)) c (joined (possible_of ms c) w) there
     (possible_of-put_same ms c w) (λ d other. possible_of-put_other ms c d w other)
 
 good_possible : (ms : List Mark) (c : Cell) (w : ℕ) → IsCell 8 c → (expected : Bool) → is_possible w (possible_of ms c) ≡ expected
     → table places (possible_of (Good c w ∷ ms)) ≡ set (cond expected (table places (possible_of ms)) all_any) (place_of c) (only w)
 good_possible ms c w there true e =
-    table-set places (possible_of ms) (possible_of (Good c w ∷ ms)) c (only w) there (place_below c there)
+    table-set (possible_of ms) (possible_of (Good c w ∷ ms)) c (only w) there
     (possible_of-good_same ms c w)
     (λ d other. possible_of-good_other ms c d w other ∙ ap (λ b. cond b (possible_of ms d) Any) e)
 good_possible ms c w there false e =
-    table-set places (λ _. Any) (possible_of (Good c w ∷ ms)) c (only w) there (place_below c there)
+    table-set (λ _. Any) (possible_of (Good c w ∷ ms)) c (only w) there
     (possible_of-good_same ms c w)
     (λ d other. possible_of-good_other ms c d w other ∙ ap (λ b. cond b (possible_of ms d) Any) e)
     ∙ ap (λ xs. set xs (place_of c) (only w)) any_table
@@ -114,13 +114,13 @@ good_possible ms c w there false e =
 put_standing : (ms : List Mark) (c : Cell) (w : ℕ) → IsCell 8 c
     → table places (standing_of (Put c w ∷ ms)) ≡ set (table places (standing_of ms)) (place_of c) Unknown
 put_standing ms c w there =
-    table-set places (standing_of ms) (standing_of (Put c w ∷ ms)) c Unknown there (place_below c there)
+    table-set (standing_of ms) (standing_of (Put c w ∷ ms)) c Unknown there
     (rw (same_cell_itself c) refl) (λ d other. (standing_of-other ms c d w other).0)
 
 good_standing : (ms : List Mark) (c : Cell) (w : ℕ) → IsCell 8 c
     → table places (standing_of (Good c w ∷ ms)) ≡ set (table places (standing_of ms)) (place_of c) (Confirmed w)
 good_standing ms c w there =
-    table-set places (standing_of ms) (standing_of (Good c w ∷ ms)) c (Confirmed w) there (place_below c there)
+    table-set (standing_of ms) (standing_of (Good c w ∷ ms)) c (Confirmed w) there
     (rw (same_cell_itself c) refl) (λ d other. (standing_of-other ms c d w other).1)
 
 restart_possible : (ms : List Mark) (c : Cell) → possible_of (Restart ∷ ms) c ≡ possible_of [] c

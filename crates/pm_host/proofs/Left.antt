@@ -11,13 +11,13 @@ use Rattle.pm_table.specs.declared.vout_mode.VoutMode.TheVariants.{Linear, Direc
 use Rattle.pm_table.specs.VoutMode.{mode_of}
 use Rattle.pm_table.specs.Format.{shape_in}
 use Rattle.pm_host.specs.declared.stage.Stage.{Stage}
-use Rattle.pm_host.specs.declared.stage.Stage.TheVariants.{Writes, Reads, Checks, AsksMode, AsksCoefficients, Clears}
+use Rattle.pm_host.specs.declared.stage.Stage.TheVariants.{Writes, Reads, Checks, AsksMode, AsksCoefficients, Sends}
 use Rattle.pm_host.specs.Answers.{good_word, good_mode, good_coefficients}
 use Rattle.pm_host.specs.Marks.{Good}
 use Rattle.pm_host.specs.Now.{now, stage_of, AreTold}
 use Rattle.pm_host.specs.Refusals.{IsSetup}
-use Rattle.pm_host.specs.Summary.{Summary, Turn, turn, idle, marked, another, read_back, read_another, checked, learned, mode_taken, mode_answered, coefficients_answered, finished, answered}
-use Rattle.pm_host.specs.Transcript.{Setup, Job, Order, Check, Learn, Clear, Entry, Accepted, Finished, Got, Restarted, end_of, open_job}
+use Rattle.pm_host.specs.Summary.{Summary, Change, change, idle, marked, another, read_back, read_another, checked, learned, mode_taken, mode_answered, coefficients_answered, finished, answered}
+use Rattle.pm_host.specs.Transcript.{Setup, Job, Order, Check, Learn, Send, Entry, Accepted, Finished, Got, Restarted, end_of, open_job}
 use Rattle.pm_host.proofs.Follows.{turn-now, IsJob-told}
 
 abbrev pub IsLeft : ℕ → Option Stage → Type 0
@@ -27,7 +27,7 @@ IsLeft passes (Some (Reads cell word pass)) = pass < passes
 IsLeft passes (Some (Checks cell tries)) = tries < passes
 IsLeft passes (Some (AsksMode output tries)) = tries < passes
 IsLeft passes (Some (AsksCoefficients output tries)) = tries < passes
-IsLeft passes (Some (Clears output tries)) = tries < passes
+IsLeft passes (Some (Sends sent tries)) = tries < passes
 
 another-left : (s : Summary) (tries : ℕ) (stage : Stage) (last : Bool) → eqb (tries + 1) s.setup.passes ≡ last → tries < s.setup.passes
     → (tries + 1 < s.setup.passes → IsLeft s.setup.passes (Some stage)) → IsLeft s.setup.passes (another s tries stage).after.stage
@@ -80,7 +80,7 @@ answered-left s (Some (Reads c w pass)) bytes left = read-left s c w pass (good_
 answered-left s (Some (Checks c tries)) bytes left = check-left s c tries (good_word s.setup.addr c bytes) left
 answered-left s (Some (AsksMode o tries)) bytes left = mode-left s o tries (good_mode s.setup.addr o bytes) left
 answered-left s (Some (AsksCoefficients o tries)) bytes left = coefficients-left s o tries (good_coefficients s.setup.addr bytes) left
-answered-left s (Some (Clears o tries)) bytes left = left
+answered-left s (Some (Sends sent tries)) bytes left = left
 
 finished-left : (s : Summary) (stage : Option Stage) (acked : Bool) → IsLeft s.setup.passes stage → IsLeft s.setup.passes (finished s stage acked).after.stage
 finished-left s None acked left = tt
@@ -89,16 +89,16 @@ finished-left s (Some (Reads c w pass)) acked left = left
 finished-left s (Some (Checks c tries)) acked left = left
 finished-left s (Some (AsksMode o tries)) acked left = left
 finished-left s (Some (AsksCoefficients o tries)) acked left = left
-finished-left s (Some (Clears o tries)) true left = tt
-finished-left s (Some (Clears o tries)) false left = another-left s tries (Clears o (tries + 1)) (eqb (tries + 1) s.setup.passes) refl left (λ h. h)
+finished-left s (Some (Sends sent tries)) true left = tt
+finished-left s (Some (Sends sent tries)) false left = another-left s tries (Sends sent (tries + 1)) (eqb (tries + 1) s.setup.passes) refl left (λ h. h)
 
-begins-left : (s : Summary) (job : Job) → 1 ≤ s.setup.passes → IsLeft s.setup.passes (turn s (Accepted job)).after.stage
+begins-left : (s : Summary) (job : Job) → 1 ≤ s.setup.passes → IsLeft s.setup.passes (change s (Accepted job)).after.stage
 begins-left s (Order c w) some = omega arith
 begins-left s (Check c) some = omega arith
 begins-left s (Learn o) some = omega arith
-begins-left s (Clear o) some = omega arith
+begins-left s (Send sent) some = omega arith
 
-turn-left : (s : Summary) (e : Entry) → 1 ≤ s.setup.passes → IsLeft s.setup.passes s.stage → IsLeft s.setup.passes (turn s e).after.stage
+turn-left : (s : Summary) (e : Entry) → 1 ≤ s.setup.passes → IsLeft s.setup.passes s.stage → IsLeft s.setup.passes (change s e).after.stage
 turn-left s (Accepted job) some left = begins-left s job some
 turn-left s (Finished acked) some left = finished-left (idle s) s.stage acked left
 turn-left s (Got bytes) some left = answered-left (idle s) s.stage bytes left
@@ -108,5 +108,5 @@ pub told-left : (setup : Setup) (es : List Entry) → IsSetup setup → AreTold 
 unfolding now
 told-left setup [] made told = unfold stage_of in unfold open_job in unfold end_of in tt
 told-left setup (e ∷ es) made told =
-    subst (λ (t : Turn). IsLeft setup.passes t.after.stage) (turn-now setup es e made (IsJob-told setup es told.1) told.0)
+    subst (λ (t : Change). IsLeft setup.passes t.after.stage) (turn-now setup es e made (IsJob-told setup es told.1) told.0)
     (turn-left (now setup es) e made.one_pass (told-left setup es made told.1))

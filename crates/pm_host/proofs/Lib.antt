@@ -1,4 +1,3 @@
-pub mod AnswerLemmas
 pub mod CellLemmas
 pub mod Follows
 pub mod FrameLemmas

@@ -11,7 +11,7 @@ use Rattle.pm_host.specs.declared.possible.Possible.{Possible}
 use Rattle.pm_host.specs.declared.possible.Possible.TheVariants.{Any, Words}
 use Rattle.pm_host.specs.declared.stage.Stage.TheVariants.{Writes, Reads, AsksMode, AsksCoefficients}
 use Rattle.pm_host.specs.declared.standing.Standing.TheVariants as standing
-use Rattle.pm_host.specs.Frames.{CanSend, writes_output, writes_protect, reads_output, reads_protect, reads_mode, reads_coefficients, clears_faults, frames_of}
+use Rattle.pm_host.specs.Frames.{CanSend, writes_output, writes_protect, reads_output, reads_protect, reads_mode, reads_coefficients, sends_command, frames_of}
 use Rattle.pm_host.specs.Marks.{Mark, Put, marks, puts, goods, put_by}
 use Rattle.pm_host.specs.Messages.{cell_write, cell_read, mode_read, coefficients_read}
 use Rattle.pm_host.specs.Now.{now, stage_of, job_stage, AreTold}
@@ -20,7 +20,7 @@ use Rattle.pm_host.specs.Refusals.{IsSetup, is_busy}
 use Rattle.pm_host.specs.Sound.{IsOrdering, IsStage, IsSound}
 use Rattle.pm_host.specs.Standing.{standing_of}
 use Rattle.pm_host.specs.Summary.{sending_in, stage_message}
-use Rattle.pm_host.specs.Transcript.{Setup, Job, Order, Check, Learn, Clear, Entry, Accepted, Finished, Got, Restarted, last_job, told_since, end_of, open_job, sending_of, job_message, is_write_turn, order_end, learn_end, mode_told, coefficients_tries, format_of_output}
+use Rattle.pm_host.specs.Transcript.{Setup, Job, Order, Check, Learn, Send, Entry, Accepted, Finished, Got, Restarted, last_job, told_since, end_of, open_job, sending_of, job_message, is_write_turn, order_end, learn_end, mode_told, coefficients_tries, format_of_output}
 use Rattle.pm_host.proofs.CellLemmas.{same_cell_itself}
 use Rattle.pm_host.proofs.KnownLaws.{possible_of-put_same, known_now-possible, known_now-standing}
 use Rattle.pm_host.proofs.Turns.{end_by, open_by, WritesBy, ReadsBy, WritesBy-from, ReadsBy-from, turn_after_read}
@@ -139,8 +139,8 @@ stage_sound setup es (Some (Check c)) made told is left =
 stage_sound setup es (Some (Learn o)) made told is left =
     learning setup es o (coefficients_tries setup o (told_since es)) (length (told_since es)) (is_some (mode_told setup o (told_since es)))
     (job_there setup (last_job es) (Learn o) (open_is_last setup es (Learn o) is).0 (IsJob-told setup es told)) left
-stage_sound setup es (Some (Clear o)) made told is left =
-    record { there = job_there setup (last_job es) (Clear o) (open_is_last setup es (Clear o) is).0 (IsJob-told setup es told); left = left }
+stage_sound setup es (Some (Send sent)) made told is left =
+    record { there = job_there setup (last_job es) (Send sent) (open_is_last setup es (Send sent) is).0 (IsJob-told setup es told); left = left }
 
 pub now-sound : (setup : Setup) (es : List Entry) → IsSetup setup → AreTold setup es → IsSound (now setup es)
 unfolding now stage_of
@@ -159,14 +159,14 @@ writes_are_open setup None told h = absurd h
 writes_are_open setup (Some (Order c w)) told h = (Order c w, rw h.0 refl)
 writes_are_open setup (Some (Check c)) told h = absurd h
 writes_are_open setup (Some (Learn o)) told h = absurd h
-writes_are_open setup (Some (Clear o)) told h = (Clear o, rw h refl)
+writes_are_open setup (Some (Send sent)) told h = (Send sent, rw h refl)
 
 reads_are_open : (setup : Setup) (job : Option Job) (told : List Entry) → ReadsBy setup job told → (j : Job) × (open_by setup job told ≡ Some j)
 reads_are_open setup None told h = absurd h
 reads_are_open setup (Some (Order c w)) told h = (Order c w, rw h.0 refl)
 reads_are_open setup (Some (Check c)) told h = (Check c, rw h refl)
 reads_are_open setup (Some (Learn o)) told h = (Learn o, rw h refl)
-reads_are_open setup (Some (Clear o)) told h = absurd h
+reads_are_open setup (Some (Send sent)) told h = absurd h
 
 learn_is_open : (setup : Setup) (job : Option Job) (told : List Entry) (o : ℕ) → job ≡ Some (Learn o) → ReadsBy setup job told → open_by setup job told ≡ Some (Learn o)
 learn_is_open setup job told o is h = let open' : is_none (learn_end setup o told) ≡ true = rw is at h in rw (is, open') refl
@@ -223,7 +223,7 @@ open_bound setup es (Check c) made told is left = omega arith
 open_bound setup es (Learn o) made told is left =
     asking_bound setup o (length (told_since es)) (coefficients_tries setup o (told_since es)) (is_some (mode_told setup o (told_since es)))
     (learn_bound setup es o made told (open_is_last setup es (Learn o) is).0) left
-open_bound setup es (Clear o) made told is left = omega arith
+open_bound setup es (Send sent) made told is left = omega arith
 
 stage_left : (setup : Setup) (es : List Entry) (j : Job) → open_job setup es ≡ Some j → IsLeft setup.passes (stage_of setup es)
     → IsLeft setup.passes (Some (job_stage setup j (told_since es)))
@@ -276,7 +276,7 @@ job_sent : (setup : Setup) (j : Job) (told : List Entry) → IsJob setup (Some j
 job_sent setup (Order c w) told there = order_sent setup c w (is_write_turn told) there.0 there.1
 job_sent setup (Check c) told there = read_sent setup c there
 job_sent setup (Learn o) told there = learn_sent setup o (is_some (mode_told setup o told)) there
-job_sent setup (Clear o) told there = clears_faults o there
+job_sent setup (Send sent) told there = sends_command sent there
 
 sent_step : (setup : Setup) (es : List Entry) (job : Option Job) (m : Message) → AreTold setup es → open_job setup es ≡ job
     → option_map (λ j. job_message setup j (told_since es)) job ≡ Some m → CanSend setup m
@@ -300,7 +300,7 @@ stage_message_step setup (Learn o) told = learn_message (is_some (mode_told setu
   learn_message : (known : Bool) → stage_message (cond known (AsksCoefficients o (coefficients_tries setup o told)) (AsksMode o (length told))) ≡ cond known coefficients_read (mode_read o)
   learn_message true = refl
   learn_message false = refl
-stage_message_step setup (Clear o) told = refl
+stage_message_step setup (Send sent) told = refl
 
 sending_step : (setup : Setup) (told : List Entry) (job : Option Job)
     → option_map stage_message (option_map (λ j. job_stage setup j told) job) ≡ option_map (λ j. job_message setup j told) job

@@ -1,8 +1,8 @@
 -- Whether a number lies in a format's range, as a test and as a fact.
-use Rattle.std.proofs.Common.{◌≡◌, ℕ, ◌+◌, ◌*◌, ◌^◌, ◌<◌, ◌≤◌, ℤ, pos, ◌*ℤ◌, ◌+ℤ◌, ◌≤ℤ◌, ◌<ℤ◌, T, ltb, Bool, true, false, Some, None, refl, sym, ap, subst, arith, unsigned_abs}
+use Rattle.std.proofs.Common.{◌≡◌, ℕ, ◌+◌, ◌*◌, ◌<◌, ◌≤◌, ℤ, pos, ◌*ℤ◌, ◌+ℤ◌, ◌≤ℤ◌, ◌<ℤ◌, T, Bool, true, false, Some, None, refl, sym, ap, subst, arith}
 use Rattle.std.proofs.Math.Nat.{mul-le-mul_right}
 use Rattle.std.proofs.lemmas.Int.{ints, by_lt_z}
-use Rattle.std.proofs.lemmas.Bool.{lt-ltb, le-ltb, false_from_ne_true}
+use Rattle.std.proofs.lemmas.Bool.{false_from_ne_true}
 use borrow.Author.Differences.{up, down, product_is, le_out, lt_out}
 use Rattle.pm_num.specs.declared.fault.NumFault.{NumFault}
 use Rattle.pm_num.specs.declared.fault.NumFault.TheVariants.{ZeroSlope, ExponentRange, BelowLeast, AboveGreatest, TooLarge}
@@ -56,12 +56,6 @@ is_at_most-true p q h = from_T _ h.le
 pub is_at_most-false : (p q : Ratio) → LessThan q p → is_at_most p q ≡ false
 is_at_most-false p q less = false_from_ne_true (is_at_most p q) (λ e.
     let h : AtMost p q = record { le = subst T (sym e) tt } in absurd (omega (arith, ints)))
-
-pub too_large : (x : ℤ) → (unsigned_abs x ≤ 10 ^ 15 → ⊥) → ltb (10 ^ 15) (unsigned_abs x) ≡ true
-too_large x h = lt-ltb (10 ^ 15) (unsigned_abs x) (omega arith)
-
-pub not_too_large : (x : ℤ) → unsigned_abs x ≤ 10 ^ 15 → ltb (10 ^ 15) (unsigned_abs x) ≡ false
-not_too_large x h = le-ltb (10 ^ 15) (unsigned_abs x) h
 
 -- the refusal of a number outside a format, and of none inside
 pub outside_fault-none : (l h x : Ratio) → IsBetween l h x → outside_fault l h x ≡ None

@@ -13,17 +13,18 @@ use Rattle.pm_table.specs.declared.vout_mode.VoutMode.TheVariants.{Linear, Direc
 use Rattle.pm_table.specs.VoutMode.{mode_of}
 use Rattle.pm_table.specs.Format.{shape_in}
 use Rattle.pm_frame.specs.Layout.{is_read_message}
+use Rattle.pm_host.specs.declared.command.Command.{Command}
 use Rattle.pm_host.specs.declared.stage.Stage.{Stage}
 use Rattle.pm_host.specs.declared.stage.Stage.TheVariants.{Writes, Reads, AsksMode, AsksCoefficients}
-use Rattle.pm_host.specs.declared.step.JobEnd.{JobEnd}
-use Rattle.pm_host.specs.declared.step.JobEnd.TheVariants.{Unknown, Learned}
+use Rattle.pm_host.specs.declared.job_end.JobEnd.{JobEnd}
+use Rattle.pm_host.specs.declared.job_end.JobEnd.TheVariants.{Unknown, Learned}
 use Rattle.pm_host.specs.Answers.{good_word, good_mode, good_coefficients}
 use Rattle.pm_host.specs.Known.{Known, known_after}
 use Rattle.pm_host.specs.Marks.{Mark, Good, put_by, read_by}
 use Rattle.pm_host.specs.Now.{job_stage}
-use Rattle.pm_host.specs.Summary.{Summary, Turn, stage_message, step_by, begins, finished, answered}
-use Rattle.pm_host.specs.Transcript.{Setup, Job, Order, Check, Learn, Clear, Entry, Accepted, Finished, Got, Restarted, is_write_turn, order_end, check_end, clear_end, learn_end, job_end, mode_told, coefficients_told, coefficients_tries, found, found_by}
-use Rattle.pm_host.proofs.FrameLemmas.{cell_write-writes, cell_read-reads}
+use Rattle.pm_host.specs.Summary.{Summary, Change, stage_message, step_by, begins, finished, answered}
+use Rattle.pm_host.specs.Transcript.{Setup, Job, Order, Check, Learn, Send, Entry, Accepted, Finished, Got, Restarted, is_write_turn, order_end, check_end, send_end, learn_end, job_end, mode_told, coefficients_told, coefficients_tries, found, found_by}
+use Rattle.pm_host.proofs.FrameLemmas.{cell_write-writes, cell_read-reads, command_message-writes}
 
 -- the end of a job, the open job, its stage and its marks, by the last job and what was told since
 abbrev pub end_by : Setup → Option Job → List Entry → Option JobEnd
@@ -58,10 +59,10 @@ formats_more setup formats None told = formats
 formats_more setup formats (Some (Order cell word)) told = formats
 formats_more setup formats (Some (Check cell)) told = formats
 formats_more setup formats (Some (Learn output)) told = formats_set formats output (option_and_then (λ shape. shape) (found setup output told))
-formats_more setup formats (Some (Clear output)) told = formats
+formats_more setup formats (Some (Send sent)) told = formats
 
 -- what the look back says of one more answer
-abbrev pub got_turn : Summary → Option Job → List Entry → List ℕ → Turn
+abbrev pub got_turn : Summary → Option Job → List Entry → List ℕ → Change
 got_turn s job told bytes = record {
   after = record {
     setup = s.setup;
@@ -72,7 +73,7 @@ got_turn s job told bytes = record {
   step = step_by (end_by s.setup job (Got bytes ∷ told));
 }
 
-abbrev pub finished_turn : Summary → Option Job → List Entry → Bool → Turn
+abbrev pub finished_turn : Summary → Option Job → List Entry → Bool → Change
 finished_turn s job told acked = record {
   after = record {
     setup = s.setup;
@@ -83,7 +84,7 @@ finished_turn s job told acked = record {
   step = step_by (end_by s.setup job (Finished acked ∷ told));
 }
 
-abbrev pub accepted_turn : Summary → Job → Turn
+abbrev pub accepted_turn : Summary → Job → Change
 accepted_turn s job = record {
   after = record {
     setup = s.setup;
@@ -107,14 +108,14 @@ WritesBy setup None told = ⊥
 WritesBy setup (Some (Order cell word)) told = (is_none (order_end setup cell word told) ≡ true) × (is_write_turn told ≡ true)
 WritesBy setup (Some (Check cell)) told = ⊥
 WritesBy setup (Some (Learn output)) told = ⊥
-WritesBy setup (Some (Clear output)) told = is_none (clear_end setup told) ≡ true
+WritesBy setup (Some (Send sent)) told = is_none (send_end setup told) ≡ true
 
 abbrev pub ReadsBy : Setup → Option Job → List Entry → Type 0
 ReadsBy setup None told = ⊥
 ReadsBy setup (Some (Order cell word)) told = (is_none (order_end setup cell word told) ≡ true) × (is_write_turn told ≡ false)
 ReadsBy setup (Some (Check cell)) told = is_none (check_end setup cell told) ≡ true
 ReadsBy setup (Some (Learn output)) told = is_none (learn_end setup output told) ≡ true
-ReadsBy setup (Some (Clear output)) told = ⊥
+ReadsBy setup (Some (Send sent)) told = ⊥
 
 writes_open : (j : Job) (stage : Job → Stage) (open' : Bool) → writes_at (option_map (λ x. stage x) (cond open' (Some j) None)) ≡ true
     → (open' ≡ true) × (not (is_read_message (stage_message (stage j))) ≡ true)
@@ -149,7 +150,7 @@ WritesBy-from setup (Some (Check c)) told h =
 WritesBy-from setup (Some (Learn o)) told h =
     let parts = writes_open (Learn o) (λ j. job_stage setup j told) (is_none (learn_end setup o told)) h in
     absurd (false≢true (ap not (sym (learn_reads o (coefficients_tries setup o told) (length told) (is_some (mode_told setup o told)))) ∙ parts.1))
-WritesBy-from setup (Some (Clear o)) told h = (writes_open (Clear o) (λ j. job_stage setup j told) (is_none (clear_end setup told)) h).0
+WritesBy-from setup (Some (Send sent)) told h = (writes_open (Send sent) (λ j. job_stage setup j told) (is_none (send_end setup told)) h).0
 
 pub ReadsBy-from : (setup : Setup) (job : Option Job) (told : List Entry) → reads_at (stage_by setup job told) ≡ true → ReadsBy setup job told
 ReadsBy-from setup None told h = absurd (false≢true h)
@@ -158,8 +159,8 @@ ReadsBy-from setup (Some (Order c w)) told h =
     (parts.0, order_reads c w (length told / 2) (is_write_turn told) parts.1)
 ReadsBy-from setup (Some (Check c)) told h = (reads_open (Check c) (λ j. job_stage setup j told) (is_none (check_end setup c told)) h).0
 ReadsBy-from setup (Some (Learn o)) told h = (reads_open (Learn o) (λ j. job_stage setup j told) (is_none (learn_end setup o told)) h).0
-ReadsBy-from setup (Some (Clear o)) told h =
-    absurd (false≢true (reads_open (Clear o) (λ j. job_stage setup j told) (is_none (clear_end setup told)) h).1)
+ReadsBy-from setup (Some (Send sent)) told h =
+    absurd (false≢true (sym (command_message-writes sent) ∙ (reads_open (Send sent) (λ j. job_stage setup j told) (is_none (send_end setup told)) h).1))
 
 -- turns of writes and reads
 pub turn_after_write : (n : ℕ) → eqb (n % 2) 0 ≡ true → (eqb (suc n % 2) 0 ≡ false) × (suc n / 2 ≡ n / 2)
@@ -189,13 +190,13 @@ order_finished s c w told acked h =
     let after = turn_after_write (length told) h.1 in
     rw (h.0, h.1, after.0, after.0, after.1) refl
 
--- a clear was sent
-clear_step : (s : Summary) (o : ℕ) (told : List Entry) (acked last : Bool) → eqb (suc (length told)) s.setup.passes ≡ last
-    → is_none (clear_end s.setup told) ≡ true
-    → finished s (stage_by s.setup (Some (Clear o)) told) acked ≡ finished_turn s (Some (Clear o)) told acked
-clear_step s o told true last e h = rw h refl
-clear_step s o told false true e h = rw (h, add-one (length told), e) refl
-clear_step s o told false false e h = rw (h, add-one (length told), e) refl
+-- a command was sent
+send_step : (s : Summary) (sent : Command) (told : List Entry) (acked last : Bool) → eqb (suc (length told)) s.setup.passes ≡ last
+    → is_none (send_end s.setup told) ≡ true
+    → finished s (stage_by s.setup (Some (Send sent)) told) acked ≡ finished_turn s (Some (Send sent)) told acked
+send_step s sent told true last e h = rw h refl
+send_step s sent told false true e h = rw (h, add-one (length told), e) refl
+send_step s sent told false false e h = rw (h, add-one (length told), e) refl
 
 pub finished_follows : (s : Summary) (job : Option Job) (told : List Entry) (acked : Bool) → WritesBy s.setup job told
     → finished s (stage_by s.setup job told) acked ≡ finished_turn s job told acked
@@ -203,7 +204,7 @@ finished_follows s None told acked h = absurd h
 finished_follows s (Some (Order c w)) told acked h = order_finished s c w told acked h
 finished_follows s (Some (Check c)) told acked h = absurd h
 finished_follows s (Some (Learn o)) told acked h = absurd h
-finished_follows s (Some (Clear o)) told acked h = clear_step s o told acked (eqb (suc (length told)) s.setup.passes) refl h
+finished_follows s (Some (Send sent)) told acked h = send_step s sent told acked (eqb (suc (length told)) s.setup.passes) refl h
 
 -- a job is accepted
 none_of : (n p : ℕ) → 1 ≤ p → eqb 0 p ≡ false
@@ -213,7 +214,7 @@ pub accepted_follows : (s : Summary) (job : Job) → 1 ≤ s.setup.passes → be
 accepted_follows s (Order c w) some = refl
 accepted_follows s (Check c) some = rw (none_of 0 s.setup.passes some) refl
 accepted_follows s (Learn o) some = rw (none_of 0 s.setup.passes some) refl
-accepted_follows s (Clear o) some = rw (none_of 0 s.setup.passes some) refl
+accepted_follows s (Send sent) some = rw (none_of 0 s.setup.passes some) refl
 
 -- an order's cell was read
 order_read : (s : Summary) (c : Cell) (w : ℕ) (told : List Entry) (bytes : List ℕ) (r : Option ℕ) (done last : Bool)
@@ -316,4 +317,4 @@ got_follows s (Some (Order c w)) told bytes some h =
 got_follows s (Some (Check c)) told bytes some h =
     check_read s c told bytes (good_word s.setup.addr c bytes) (eqb (suc (length told)) s.setup.passes) refl refl h
 got_follows s (Some (Learn o)) told bytes some h = learn_follows s o told bytes (mode_told s.setup o told) refl some h
-got_follows s (Some (Clear o)) told bytes some h = absurd h
+got_follows s (Some (Send sent)) told bytes some h = absurd h

@@ -1,11 +1,12 @@
 -- What the host holds of its marks, and what one more mark makes of it.
 use Rattle.std.specs.Prelude.{Bool, false, not, ◌||◌, if◌then◌else◌, List, replicate, slice_index_or, slice_set}
 use Rattle.pm_table.specs.declared.cell.Cell.{Cell}
+use Rattle.pm_table.specs.Cell.{place_of, places}
 use Rattle.pm_host.specs.declared.possible.Possible.{Possible}
 use Rattle.pm_host.specs.declared.possible.Possible.TheVariants.{Any}
 use Rattle.pm_host.specs.declared.standing.Standing.{Standing}
 use Rattle.pm_host.specs.declared.standing.Standing.TheVariants.{Confirmed, Unknown}
-use Rattle.pm_host.specs.Cells.{place_of, places, table}
+use Rattle.pm_host.specs.Cells.{table}
 use Rattle.pm_host.specs.Marks.{Mark, Put, Good, Restart}
 use Rattle.pm_host.specs.Possible.{is_possible, joined, only, possible_of, restart_seen_of}
 use Rattle.pm_host.specs.Standing.{standing_of}

@@ -1,14 +1,19 @@
+-- What the crate promises.
 pub mod Answers
 pub mod Cells
+pub mod FaultWords
 pub mod Frames
-pub mod Known
+pub mod Laws
 pub mod Marks
 pub mod Messages
 pub mod Now
 pub mod Possible
 pub mod Refusals
-pub mod Sound
 pub mod Standing
 pub mod Summary
 pub mod Told
 pub mod Transcript
+pub mod Turn
+-- How it is kept.
+pub mod Known
+pub mod Sound

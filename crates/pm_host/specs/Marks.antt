@@ -3,7 +3,7 @@
 use Rattle.std.specs.Prelude.{ℕ, if◌then◌else◌, List, [], ◌∷◌, ◌++◌, Option, Some, None, option_map, option_and_then, option_to_list}
 use Rattle.pm_table.specs.declared.cell.Cell.{Cell}
 use Rattle.pm_host.specs.Answers.{good_word}
-use Rattle.pm_host.specs.Transcript.{Setup, Job, Order, Check, Learn, Clear, Entry, Accepted, Finished, Got, Restarted, open_job, told_since, is_write_turn}
+use Rattle.pm_host.specs.Transcript.{Setup, Job, Order, Check, Learn, Send, Entry, Accepted, Finished, Got, Restarted, open_job, told_since, is_write_turn}
 
 pub data Mark : Type 0 where
   -- a write of the cell began to be sent
@@ -19,14 +19,14 @@ put_by None told = []
 put_by (Some (Order cell word)) told = if is_write_turn told then Put cell word ∷ [] else []
 put_by (Some (Check cell)) told = []
 put_by (Some (Learn output)) told = []
-put_by (Some (Clear output)) told = []
+put_by (Some (Send command)) told = []
 
 abbrev pub read_by : Option Job → List Entry → Option Cell
 read_by None told = None
 read_by (Some (Order cell word)) told = if is_write_turn told then None else Some cell
 read_by (Some (Check cell)) told = Some cell
 read_by (Some (Learn output)) told = None
-read_by (Some (Clear output)) told = None
+read_by (Some (Send command)) told = None
 
 -- the write of a cell that begins to be sent with the newest entry
 unfoldable pub puts : Setup → List Entry → List Mark

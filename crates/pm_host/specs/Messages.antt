@@ -1,25 +1,23 @@
 -- The messages that a host sends, of PMBus 1.3 Part II. An output's settings go by PAGE_PLUS_WRITE
 -- and PAGE_PLUS_READ, WRITE_PROTECT, which is the device's, by a plain write byte and a plain read:
 -- this project's own choice. PAGE is never sent.
-use Rattle.std.specs.Prelude.{◌≡◌, ℕ, true, false, List}
+use Rattle.std.specs.Prelude.{◌≡◌, ℕ, true, false, List, if◌then◌else◌}
 use Rattle.pm_table.specs.declared.cell.Reg.{Reg}
-use Rattle.pm_table.specs.declared.cell.Reg.TheVariants.{Operation, VoutCommand, VoutMax, MarginHigh, MarginLow}
 use Rattle.pm_table.specs.declared.cell.Cell.{Cell}
 use Rattle.pm_table.specs.declared.cell.Cell.TheVariants.{Out, Protect}
-use Rattle.pm_table.specs.Cell.{cell_code, register_code}
+use Rattle.pm_table.specs.Cell.{cell_code, is_voltage, register_code}
+use Rattle.pm_table.specs.Codes as command
 use Rattle.pm_frame.specs.declared.message.Message.{Message}
 use Rattle.pm_frame.specs.declared.message.Message.TheVariants.{WriteByte, PagePlusWrite, ReadCommand, PagePlusRead, ReadCoefficients}
 use Rattle.pm_frame.specs.declared.message.Payload.{Payload}
 use Rattle.pm_frame.specs.declared.message.Payload.TheVariants.{Empty, Byte, Word}
 use Rattle.pm_frame.specs.Layout.{IsWrite, IsRequest, is_read_message}
+use Rattle.pm_host.specs.declared.command.Command.{Command}
+use Rattle.pm_host.specs.declared.command.Command.TheVariants.{ClearFaults}
 
 -- the word of a register on the wire: OPERATION has one byte, a voltage two
 abbrev pub register_payload : Reg → ℕ → Payload
-register_payload Operation word = Byte word
-register_payload VoutCommand word = Word word
-register_payload VoutMax word = Word word
-register_payload MarginHigh word = Word word
-register_payload MarginLow word = Word word
+register_payload register word = if is_voltage register then Word word else Byte word
 
 -- the write of a word to a cell
 abbrev pub cell_write : Cell → ℕ → Message
@@ -34,15 +32,19 @@ cell_read Protect = ReadCommand (cell_code Protect)
 
 -- the read of an output's VOUT_MODE
 abbrev pub mode_read : ℕ → Message
-mode_read output = PagePlusRead output 0x20
+mode_read output = PagePlusRead output command.vout_mode
+
+-- the side of COEFFICIENTS for values written
+abbrev pub values_written : ℕ
+values_written = 0x00
 
 -- the read of the coefficients of VOUT_COMMAND for values written, which all voltages share
 abbrev pub coefficients_read : Message
-coefficients_read = ReadCoefficients 0x21 0x00
+coefficients_read = ReadCoefficients command.vout_command values_written
 
--- CLEAR_FAULTS of an output
-abbrev pub faults_clear : ℕ → Message
-faults_clear output = PagePlusWrite output 0x03 Empty
+-- what a command sends: CLEAR_FAULTS of an output goes by PAGE_PLUS_WRITE
+abbrev pub command_message : Command → Message
+command_message (ClearFaults output) = PagePlusWrite output command.clear_faults Empty
 
 -- these are the bytes that a host puts on the wire for a message
 pub record IsFrameOf (addr : ℕ) (message : Message) (bytes : List ℕ) : Type 0 where

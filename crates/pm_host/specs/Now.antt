@@ -2,12 +2,12 @@
 use Rattle.std.specs.Prelude.{◌≡◌, ◌/◌, true, is_some, if◌then◌else◌, List, [], ◌∷◌, length, map, Option, option_map}
 use Rattle.std.specs.List.{range_with_len}
 use Rattle.pm_host.specs.declared.stage.Stage.{Stage}
-use Rattle.pm_host.specs.declared.stage.Stage.TheVariants.{Writes, Reads, Checks, AsksMode, AsksCoefficients, Clears}
+use Rattle.pm_host.specs.declared.stage.Stage.TheVariants.{Writes, Reads, Checks, AsksMode, AsksCoefficients, Sends}
 use Rattle.pm_host.specs.Known.{known_now}
 use Rattle.pm_host.specs.Marks.{marks}
 use Rattle.pm_host.specs.Refusals.{may_come}
 use Rattle.pm_host.specs.Summary.{Summary}
-use Rattle.pm_host.specs.Transcript.{Setup, Job, Order, Check, Learn, Clear, Entry, open_job, told_since, is_write_turn, mode_told, coefficients_tries, format_of_output}
+use Rattle.pm_host.specs.Transcript.{Setup, Job, Order, Check, Learn, Send, Entry, open_job, told_since, is_write_turn, mode_told, coefficients_tries, format_of_output}
 
 -- where an open job stands, by what was told since it was accepted
 abbrev pub job_stage : Setup → Job → List Entry → Stage
@@ -19,7 +19,7 @@ job_stage setup (Learn output) told =
     if is_some (mode_told setup output told)
     then AsksCoefficients output (coefficients_tries setup output told)
     else AsksMode output (length told)
-job_stage setup (Clear output) told = Clears output (length told)
+job_stage setup (Send command) told = Sends command (length told)
 
 unfoldable pub stage_of : Setup → List Entry → Option Stage
 stage_of setup entries =

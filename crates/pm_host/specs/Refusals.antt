@@ -8,17 +8,15 @@ use Rattle.pm_num.specs.NearestWord.{is_at_most, nearest_word}
 use Rattle.pm_num.specs.Ratio.{Ratio, micros}
 use Rattle.pm_table.specs.Address.{IsAddress}
 use Rattle.pm_table.specs.declared.cell.Cell.{Cell}
-use Rattle.pm_table.specs.declared.cell.Cell.TheVariants.{Out, Protect}
-use Rattle.pm_table.specs.declared.cell.Reg.{Reg}
-use Rattle.pm_table.specs.declared.cell.Reg.TheVariants.{Operation, VoutCommand, VoutMax, MarginHigh, MarginLow}
-use Rattle.pm_table.specs.Cell.{cell_accepts, output_of}
+use Rattle.pm_table.specs.Cell.{cell_accepts, is_voltage_cell, output_of}
 use Rattle.pm_frame.specs.Layout.{is_read_message}
+use Rattle.pm_host.specs.declared.command.Command.{Command}
 use Rattle.pm_host.specs.declared.fault.HostFault.{HostFault}
 use Rattle.pm_host.specs.declared.fault.HostFault.TheVariants.{OutputCount, Passes, Busy, UnknownOutput, BadWord, TooUncertain, FormatUnknown, Num}
-use Rattle.pm_host.specs.Cells.{is_cell}
+use Rattle.pm_host.specs.Cells.{is_cell, is_command}
 use Rattle.pm_host.specs.Possible.{has_room}
 use Rattle.pm_host.specs.Summary.{Summary, possible_at, format_at, sending_in}
-use Rattle.pm_host.specs.Transcript.{Setup, Job, Order, Check, Learn, Clear, Entry, Accepted, Finished, Got, Restarted}
+use Rattle.pm_host.specs.Transcript.{Setup, Job, Order, Check, Learn, Send, Entry, Accepted, Finished, Got, Restarted}
 
 -- a rule names its fault where it applies, and the first of several counts
 abbrev pub rule : Bool → HostFault → Option HostFault
@@ -43,19 +41,22 @@ setup_fault outputs passes = first (
 abbrev pub is_busy : Summary → Bool
 is_busy s = is_some s.stage
 
--- H3, then H4 for an output that isn't there
-abbrev pub output_fault : Summary → ℕ → Option HostFault
-output_fault s output = first (
+-- H3, then H4 where what is asked for isn't there
+abbrev pub asking_fault : Summary → Bool → Option HostFault
+asking_fault s there = first (
     rule (is_busy s) Busy ∷
-    rule (not (nat_lt output s.setup.outputs)) UnknownOutput ∷
+    rule (not there) UnknownOutput ∷
     [])
 
--- H3, then H4 for a cell of an output that isn't there
+-- the same for an output, for a cell, and for a command that names an output
+abbrev pub output_fault : Summary → ℕ → Option HostFault
+output_fault s output = asking_fault s (nat_lt output s.setup.outputs)
+
 abbrev pub cell_fault : Summary → Cell → Option HostFault
-cell_fault s cell = first (
-    rule (is_busy s) Busy ∷
-    rule (not (is_cell s.setup.outputs cell)) UnknownOutput ∷
-    [])
+cell_fault s cell = asking_fault s (is_cell s.setup.outputs cell)
+
+abbrev pub command_fault : Summary → Command → Option HostFault
+command_fault s command = asking_fault s (is_command s.setup.outputs command)
 
 -- H3, H4, then H5 for a word that the cell doesn't accept, then H6 for one that has no room beside
 -- those that the cell may hold
@@ -66,28 +67,16 @@ order_fault s cell word = first (
     rule (not (has_room word (possible_at s cell))) TooUncertain ∷
     [])
 
--- the cell holds a voltage
-abbrev pub is_voltage_register : Reg → Bool
-is_voltage_register Operation = false
-is_voltage_register VoutCommand = true
-is_voltage_register VoutMax = true
-is_voltage_register MarginHigh = true
-is_voltage_register MarginLow = true
-
-abbrev pub is_voltage : Cell → Bool
-is_voltage (Out output register) = is_voltage_register register
-is_voltage Protect = false
-
 -- For an order in microvolts, before the number is looked at: H3, H4, then H5 for a cell that isn't a
 -- voltage, then H7 where the output's format isn't known.
 abbrev pub voltage_fault : Summary → Cell → Option HostFault
 voltage_fault s cell = first (
     cell_fault s cell ∷
-    rule (not (is_voltage cell)) BadWord ∷
+    rule (not (is_voltage_cell cell)) BadWord ∷
     rule (is_none (format_at s (output_of cell))) FormatUnknown ∷
     [])
 
--- the word for so many microvolts, in the format of the cell's output
+-- the word for a number of microvolts, in the format of the cell's output
 abbrev pub micro_word : Summary → Cell → ℤ → Option ℕ
 micro_word s cell x = option_and_then
     (λ shape. nearest_word (shape_value shape) (shape_rank shape) (micros x))
@@ -121,13 +110,17 @@ sends_write s = option_map_or (λ message. not (is_read_message message)) (sendi
 abbrev pub sends_read : Summary → Bool
 sends_read s = option_map_or is_read_message (sending_in s) false
 
+-- why a job is refused; None where it is accepted
+abbrev pub job_fault : Summary → Job → Option HostFault
+job_fault s (Order cell word) = order_fault s cell word
+job_fault s (Check cell) = cell_fault s cell
+job_fault s (Learn output) = output_fault s output
+job_fault s (Send command) = command_fault s command
+
 -- what may come next: a job that isn't refused, the end of a write or an answer where such a frame is
 -- being sent, a restart
 abbrev pub job_may_come : Summary → Job → Bool
-job_may_come s (Order cell word) = is_none (order_fault s cell word)
-job_may_come s (Check cell) = is_none (cell_fault s cell)
-job_may_come s (Learn output) = is_none (output_fault s output)
-job_may_come s (Clear output) = is_none (output_fault s output)
+job_may_come s job = is_none (job_fault s job)
 
 abbrev pub may_come : Summary → Entry → Bool
 may_come s (Accepted job) = job_may_come s job

@@ -1,5 +1,5 @@
 -- What a host holds of its transcript, and what one more entry makes of it: this project's own choice
--- of how an order, a check, a learn and a clear go.
+-- of how an order, a check, a learn and a command that is sent go.
 use Rattle.std.specs.Prelude.{ℕ, ◌+◌, Bool, if◌then◌else◌, ◌==◌, List, replicate, slice_index_or, slice_set, Option, Some, None, Result, Ok, Err, option_map}
 use Rattle.std.specs.Result.{result_ok}
 use Rattle.pm_num.specs.AnyFormat.{Shape, InUlinear16}
@@ -14,16 +14,16 @@ use Rattle.pm_frame.specs.declared.message.Message.{Message}
 use Rattle.pm_host.specs.declared.possible.Possible.{Possible}
 use Rattle.pm_host.specs.declared.standing.Standing.{Standing}
 use Rattle.pm_host.specs.declared.stage.Stage.{Stage}
-use Rattle.pm_host.specs.declared.stage.Stage.TheVariants.{Writes, Reads, Checks, AsksMode, AsksCoefficients, Clears}
-use Rattle.pm_host.specs.declared.step.JobEnd.{JobEnd}
-use Rattle.pm_host.specs.declared.step.JobEnd.TheVariants.{Done, Differs, Unknown, Learned}
+use Rattle.pm_host.specs.declared.stage.Stage.TheVariants.{Writes, Reads, Checks, AsksMode, AsksCoefficients, Sends}
+use Rattle.pm_host.specs.declared.job_end.JobEnd.{JobEnd}
+use Rattle.pm_host.specs.declared.job_end.JobEnd.TheVariants.{Done, Differs, Unknown, Learned}
 use Rattle.pm_host.specs.declared.step.Step.{Step}
 use Rattle.pm_host.specs.declared.step.Step.TheVariants.{Next, Ended}
 use Rattle.pm_host.specs.Answers.{good_word, good_mode, good_coefficients}
 use Rattle.pm_host.specs.Known.{Known, known_possible, known_standing, known_after, nothing_known}
 use Rattle.pm_host.specs.Marks.{Mark, Put, Good}
-use Rattle.pm_host.specs.Messages.{cell_write, cell_read, mode_read, coefficients_read, faults_clear}
-use Rattle.pm_host.specs.Transcript.{Setup, Job, Order, Check, Learn, Clear, Entry, Accepted, Finished, Got, Restarted}
+use Rattle.pm_host.specs.Messages.{cell_write, cell_read, mode_read, coefficients_read, command_message}
+use Rattle.pm_host.specs.Transcript.{Setup, Job, Order, Check, Learn, Send, Entry, Accepted, Finished, Got, Restarted}
 
 pub record Summary : Type 0 where
   -- what the host was made with
@@ -61,7 +61,7 @@ stage_message (Reads cell word pass) = cell_read cell
 stage_message (Checks cell tries) = cell_read cell
 stage_message (AsksMode output tries) = mode_read output
 stage_message (AsksCoefficients output tries) = coefficients_read
-stage_message (Clears output tries) = faults_clear output
+stage_message (Sends command tries) = command_message command
 
 -- the message whose frame is being sent; None where no job is open
 abbrev pub sending_in : Summary → Option Message
@@ -76,20 +76,20 @@ abbrev pub start : Setup → Summary
 start setup = record { setup = setup; stage = None; formats = no_formats; known = nothing_known }
 
 -- what one entry makes of the summary, and what the call that brings it answers
-pub record Turn : Type 0 where
+pub record Change : Type 0 where
   pub after : Summary
   pub step : Step
 
 -- the job goes on at this stage
-abbrev pub goes_on : Summary → Stage → Turn
+abbrev pub goes_on : Summary → Stage → Change
 goes_on s stage = record { after = record s { stage = Some stage }; step = Next }
 
 -- the job has ended
-abbrev pub ends : Summary → JobEnd → Turn
+abbrev pub ends : Summary → JobEnd → Change
 ends s end = record { after = record s { stage = None }; step = Ended end }
 
 -- nothing happens to the job at this stage, or to none
-abbrev pub stays : Summary → Option Stage → Turn
+abbrev pub stays : Summary → Option Stage → Change
 stays s stage = record { after = record s { stage = stage }; step = Next }
 
 -- the stage is over: the job goes on at another, or ends
@@ -101,69 +101,69 @@ abbrev pub marked : Summary → Mark → Summary
 marked s mark = record s { known = known_after s.known mark }
 
 -- the write of an order begins to be sent
-abbrev pub writes : Summary → Cell → ℕ → ℕ → Turn
+abbrev pub writes : Summary → Cell → ℕ → ℕ → Change
 writes s cell word pass = goes_on (marked s (Put cell word)) (Writes cell word pass)
 
--- the stage, which is one more try, where so many are left after these
-abbrev pub another : Summary → ℕ → Stage → Turn
+-- the stage, which is one more try, where one is left after these
+abbrev pub another : Summary → ℕ → Stage → Change
 another s tries stage = if tries + 1 == s.setup.passes then ends s Unknown else goes_on s stage
 
 -- a job is accepted
-abbrev pub begins : Summary → Job → Turn
+abbrev pub begins : Summary → Job → Change
 begins s (Order cell word) = writes s cell word 0
 begins s (Check cell) = goes_on s (Checks cell 0)
 begins s (Learn output) = goes_on s (AsksMode output 0)
-begins s (Clear output) = goes_on s (Clears output 0)
+begins s (Send command) = goes_on s (Sends command 0)
 
 -- an order read its cell back, in this pass
-abbrev pub read_another : Summary → Cell → ℕ → ℕ → ℕ → Turn
+abbrev pub read_another : Summary → Cell → ℕ → ℕ → ℕ → Change
 read_another s cell word pass read =
     if read == word then ends s Done
     else (if pass + 1 == s.setup.passes then ends s (Differs read)
     else writes s cell word (pass + 1))
 
-abbrev pub read_back : Summary → Cell → ℕ → ℕ → Option ℕ → Turn
+abbrev pub read_back : Summary → Cell → ℕ → ℕ → Option ℕ → Change
 read_back s cell word pass None =
     if pass + 1 == s.setup.passes then ends s Unknown else writes s cell word (pass + 1)
 read_back s cell word pass (Some read) =
     read_another (marked s (Good cell read)) cell word pass read
 
 -- a check read its cell
-abbrev pub checked : Summary → Cell → ℕ → Option ℕ → Turn
+abbrev pub checked : Summary → Cell → ℕ → Option ℕ → Change
 checked s cell tries None = another s tries (Checks cell (tries + 1))
 checked s cell tries (Some read) = ends (marked s (Good cell read)) Done
 
 -- a learn ends with a format, or with none
-abbrev pub learned : Summary → ℕ → Option Shape → Turn
+abbrev pub learned : Summary → ℕ → Option Shape → Change
 learned s output None = ends s Unknown
 learned s output (Some shape) =
     ends (record s { formats = slice_set s.formats output (Some shape) }) Learned
 
 -- a learn read VOUT_MODE
-abbrev pub mode_taken : Summary → ℕ → Result VoutMode TableFault → Turn
+abbrev pub mode_taken : Summary → ℕ → Result VoutMode TableFault → Change
 mode_taken s output (Err fault) = learned s output None
 mode_taken s output (Ok (Linear exponent)) = learned s output (Some (InUlinear16 exponent))
 mode_taken s output (Ok Direct) = goes_on s (AsksCoefficients output 0)
 
-abbrev pub mode_answered : Summary → ℕ → ℕ → Option ℕ → Turn
+abbrev pub mode_answered : Summary → ℕ → ℕ → Option ℕ → Change
 mode_answered s output tries None = another s tries (AsksMode output (tries + 1))
 mode_answered s output tries (Some byte) = mode_taken s output (mode_of byte)
 
 -- a learn read COEFFICIENTS
-abbrev pub coefficients_answered : Summary → ℕ → ℕ → Option Coefficients → Turn
+abbrev pub coefficients_answered : Summary → ℕ → ℕ → Option Coefficients → Change
 coefficients_answered s output tries None = another s tries (AsksCoefficients output (tries + 1))
 coefficients_answered s output tries (Some coefficients) =
     learned s output (result_ok (shape_in Direct coefficients))
 
 -- the frame of a write was sent, and acknowledged or not
-abbrev pub finished : Summary → Option Stage → Bool → Turn
+abbrev pub finished : Summary → Option Stage → Bool → Change
 finished s (Some (Writes cell word pass)) acked = goes_on s (Reads cell word pass)
-finished s (Some (Clears output tries)) acked =
-    if acked then ends s Done else another s tries (Clears output (tries + 1))
+finished s (Some (Sends command tries)) acked =
+    if acked then ends s Done else another s tries (Sends command (tries + 1))
 finished s stage acked = stays s stage
 
 -- bytes came back for a request
-abbrev pub answered : Summary → Option Stage → List ℕ → Turn
+abbrev pub answered : Summary → Option Stage → List ℕ → Change
 answered s (Some (Reads cell word pass)) bytes =
     read_back s cell word pass (good_word s.setup.addr cell bytes)
 answered s (Some (Checks cell tries)) bytes =
@@ -174,18 +174,18 @@ answered s (Some (AsksCoefficients output tries)) bytes =
     coefficients_answered s output tries (good_coefficients s.setup.addr bytes)
 answered s stage bytes = stays s stage
 
-abbrev pub turn : Summary → Entry → Turn
-turn s (Accepted job) = begins s job
-turn s (Finished acked) = finished (idle s) s.stage acked
-turn s (Got bytes) = answered (idle s) s.stage bytes
-turn s Restarted = record { after = start s.setup; step = Next }
+abbrev pub change : Summary → Entry → Change
+change s (Accepted job) = begins s job
+change s (Finished acked) = finished (idle s) s.stage acked
+change s (Got bytes) = answered (idle s) s.stage bytes
+change s Restarted = record { after = start s.setup; step = Next }
 
 -- the summary after one more entry, and what the call that brings it answers
 unfoldable pub next : Summary → Entry → Summary
-next s entry = (turn s entry).after
+next s entry = (change s entry).after
 
 unfoldable pub step_of : Summary → Entry → Step
-step_of s entry = (turn s entry).step
+step_of s entry = (change s entry).step
 
 -- what a call answers, by the end of the job
 abbrev pub step_by : Option JobEnd → Step

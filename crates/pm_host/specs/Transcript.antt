@@ -13,9 +13,10 @@ use Rattle.pm_table.specs.declared.vout_mode.VoutMode.TheVariants.{Linear, Direc
 use Rattle.pm_table.specs.VoutMode.{mode_of}
 use Rattle.pm_table.specs.Format.{shape_in}
 use Rattle.pm_frame.specs.declared.message.Message.{Message}
-use Rattle.pm_host.specs.declared.step.JobEnd.{JobEnd}
-use Rattle.pm_host.specs.declared.step.JobEnd.TheVariants.{Done, Differs, Unknown, Learned}
-use Rattle.pm_host.specs.Messages.{cell_write, cell_read, mode_read, coefficients_read, faults_clear}
+use Rattle.pm_host.specs.declared.command.Command.{Command}
+use Rattle.pm_host.specs.declared.job_end.JobEnd.{JobEnd}
+use Rattle.pm_host.specs.declared.job_end.JobEnd.TheVariants.{Done, Differs, Unknown, Learned}
+use Rattle.pm_host.specs.Messages.{cell_write, cell_read, mode_read, coefficients_read, command_message}
 use Rattle.pm_host.specs.Answers.{good_word, good_mode, good_coefficients}
 
 -- what a host was made with: the address of its device, how many outputs that has, and how many
@@ -32,8 +33,8 @@ pub data Job : Type 0 where
   Check : (cell : Cell) → Job
   -- to read the format of an output's voltages
   Learn : (output : ℕ) → Job
-  -- to clear the latched status of an output
-  Clear : (output : ℕ) → Job
+  -- to send a command until it is acknowledged
+  Send : (command : Command) → Job
 
 pub data Entry : Type 0 where
   -- a job was accepted
@@ -100,9 +101,9 @@ check_end setup cell told =
     if is_some (newest_word setup cell told) then Some Done
     else (if length told == setup.passes then Some Unknown else None)
 
--- A clear: the first acknowledgement ends it.
-abbrev pub clear_end : Setup → List Entry → Option JobEnd
-clear_end setup told =
+-- A command that is sent: the first acknowledgement ends it.
+abbrev pub send_end : Setup → List Entry → Option JobEnd
+send_end setup told =
     if is_acked told then Some Done
     else (if length told == setup.passes then Some Unknown else None)
 
@@ -121,7 +122,7 @@ coefficients_told setup output (Got bytes ∷ before) =
     (if is_some (mode_told setup output before) then good_coefficients setup.addr bytes else None)
 coefficients_told setup output (_ ∷ before) = coefficients_told setup output before
 
--- so many times.
+-- of which this many were asked.
 abbrev pub coefficients_tries : Setup → ℕ → List Entry → ℕ
 coefficients_tries setup output [] = 0
 coefficients_tries setup output (entry ∷ before) =
@@ -153,7 +154,7 @@ abbrev pub job_end : Setup → Job → List Entry → Option JobEnd
 job_end setup (Order cell word) told = order_end setup cell word told
 job_end setup (Check cell) told = check_end setup cell told
 job_end setup (Learn output) told = learn_end setup output told
-job_end setup (Clear output) told = clear_end setup told
+job_end setup (Send command) told = send_end setup told
 
 -- the frame that an open job sends next
 abbrev pub job_message : Setup → Job → List Entry → Message
@@ -162,7 +163,7 @@ job_message setup (Order cell word) told =
 job_message setup (Check cell) told = cell_read cell
 job_message setup (Learn output) told =
     if is_some (mode_told setup output told) then coefficients_read else mode_read output
-job_message setup (Clear output) told = faults_clear output
+job_message setup (Send command) told = command_message command
 
 -- the end of the last job since the last restart; None while it is open, and where there is none
 unfoldable pub end_of : Setup → List Entry → Option JobEnd

@@ -5,28 +5,14 @@ ghost use Rattle.pm_table.specs.Address.{IsAddress};
 ghost use Rattle.pm_table.specs.Coefficients.{coefficients_of};
 ghost use Rattle.pm_frame.specs.Layout.{answer_length, fits_layout, is_read_message};
 ghost use Rattle.pm_host.specs.Answers.{word_in as spec_word_in, good_payload};
-ghost use Rattle.pm_host.specs.Messages.{coefficients_read};
+ghost use Rattle.pm_host.specs.Messages as messages;
 
+use crate::messages::coefficients_read;
 use pm_frame::{Message, read_answer};
 use pm_table::Coefficients;
 
-/// The command code whose coefficients are read: VOUT_COMMAND. All voltages share them.
-const VOUT_COMMAND: u8 = 0x21;
-
-/// The side of the coefficients for values written.
-const WRITTEN: u8 = 0x00;
-
-/// The read of the coefficients.
-pub(crate) fn coefficients_request() -> Message
-    ensures { result ≡ coefficients_read }
-{
-    Message::ReadCoefficients {
-        code: VOUT_COMMAND,
-        side: WRITTEN,
-    }
-}
-
 /// The word of a good answer of one byte or two; `None` for every other answer.
+#[tactic(auto, unfolding(crate::specs::Answers::good_payload))]
 pub(crate) fn good_word(addr: u8, request: &Message, got: &[u8]) -> Option<u16>
     requires address { IsAddress addr }
     requires read { is_read_message request.now ≡ true }
@@ -40,6 +26,7 @@ pub(crate) fn good_word(addr: u8, request: &Message, got: &[u8]) -> Option<u16>
 }
 
 /// The byte of a good answer of one byte; `None` for every other answer.
+#[tactic(auto, unfolding(crate::specs::Answers::good_payload))]
 pub(crate) fn good_byte(addr: u8, request: &Message, got: &[u8]) -> Option<u8>
     requires address { IsAddress addr }
     requires read { is_read_message request.now ≡ true }
@@ -54,11 +41,12 @@ pub(crate) fn good_byte(addr: u8, request: &Message, got: &[u8]) -> Option<u8>
 }
 
 /// The coefficients of a good answer; `None` for every other answer.
+#[tactic(auto, unfolding(crate::specs::Answers::good_payload))]
 pub(crate) fn good_coefficients(addr: u8, got: &[u8]) -> Option<Coefficients>
     requires { IsAddress addr }
-    ensures { result ≡ option_map coefficients_of (good_payload addr coefficients_read got.now) }
+    ensures { result ≡ option_map coefficients_of (good_payload addr messages.coefficients_read got.now) }
 {
-    match read_answer(addr, &coefficients_request(), got) {
+    match read_answer(addr, &coefficients_read(), got) {
         Ok(payload) => Some(coefficients_in(payload)),
         Err(_) => None,
     }

@@ -1,3 +1,5 @@
+ghost use Rattle.std.specs.Prelude.{◌≡◌};
+
 use pm_num::NumFault;
 use thiserror::Error;
 
@@ -19,7 +21,7 @@ pub enum HostFault {
     /// H5: the cell doesn't accept the word, or isn't a voltage.
     #[error("a word that the cell doesn't accept")]
     BadWord,
-    /// H6: the cell may hold any of 16 words, and this is another.
+    /// H6: 16 words are already possible for the cell, and this isn't one of them.
     #[error("too many possible words")]
     TooUncertain,
     /// H7: the format of the output's voltages wasn't learned since the host started.
@@ -28,4 +30,25 @@ pub enum HostFault {
     /// N3, N4 or N5: the voltage has no word in the output's format.
     #[error("{0}")]
     Num(NumFault),
+}
+
+impl HostFault {
+    ghost use Rattle.pm_host.specs.FaultWords.{host_fault_words};
+
+    /// The letter and the name of the fault, as programs print them: `H6 TooUncertain`. The fault of a
+    /// number is told as that: `N3 BelowLeast`.
+    pub fn words(self) -> &'static str
+        ensures { result.now ≡ host_fault_words self }
+    {
+        match self {
+            HostFault::OutputCount => "H1 OutputCount",
+            HostFault::Passes => "H2 Passes",
+            HostFault::Busy => "H3 Busy",
+            HostFault::UnknownOutput => "H4 UnknownOutput",
+            HostFault::BadWord => "H5 BadWord",
+            HostFault::TooUncertain => "H6 TooUncertain",
+            HostFault::FormatUnknown => "H7 FormatUnknown",
+            HostFault::Num(fault) => fault.words(),
+        }
+    }
 }

@@ -1,30 +1,37 @@
+mod asking;
+mod microvolts;
 mod turns;
 
-ghost use Rattle.std.specs.Prelude.{◌≡◌, ◌<◌, ◌≤◌, true, false, Some, None, IfOk, OnOk, OnErr, MatchOption, IsNone, IsSomeAnd};
+ghost use Rattle.std.specs.Prelude.{◌≡◌, ◌*◌, ◌<◌, ◌≤◌, true, None, IfOk, OnOk, OnErr, MatchOption, IsNone, IsSomeAnd};
 ghost use Rattle.std.specs.Result.{result_err};
 ghost use Rattle.pm_table.specs.Address.{IsAddress};
 ghost use Rattle.pm_table.specs.Cell.{output_of, IsCell};
-ghost use Rattle.pm_num.specs.AnyFormat.{shape_of, shape_value, shape_rank};
+ghost use Rattle.pm_num.specs.AnyFormat.{shape_value, shape_rank};
 ghost use Rattle.pm_num.specs.Nearest.{IsNearest};
 ghost use Rattle.pm_num.specs.Ratio.{micros};
+ghost use Rattle.pm_host.specs.Frames.{frames_left};
 ghost use Rattle.pm_host.specs.Messages.{IsFrameOf};
-ghost use Rattle.pm_host.specs.Possible.{has_room};
-ghost use Rattle.pm_host.specs.Refusals.{IsSetup, setup_fault, output_fault, cell_fault, order_fault, voltage_fault, micro_fault, micro_word, may_come, sends_read};
-ghost use Rattle.pm_host.specs.Summary.{start, next, step_of, possible_at, standing_at, format_at, sending_in, stage_message};
-ghost use Rattle.pm_host.specs.Told.{entry_told};
-ghost use Rattle.pm_host.specs.Transcript.{Setup, Accepted, Restarted, Order, Check, Learn, Clear};
+ghost use Rattle.pm_host.specs.Refusals.{IsSetup, setup_fault, output_fault, cell_fault, order_fault, micro_fault, micro_word, may_come, sends_read};
+ghost use Rattle.pm_host.specs.Summary.{start, next, step_of, possible_at, standing_at, format_at, sending_in};
+ghost use Rattle.pm_host.specs.Told.{entry_told, OnEnded};
+ghost use Rattle.pm_host.specs.Transcript.{Setup, Accepted, Restarted, Order, Check, Learn, Send};
+ghost use Rattle.pm_host.specs.Turn.{Shows};
 
+use crate::answers::{good_byte, good_coefficients, good_word};
+use crate::command::Command;
 use crate::fault::HostFault;
-use crate::formats::{Formats, nearest_word};
+use crate::host::microvolts::nearest_word;
 use crate::knowledge::Knowledge;
+use crate::learned::Learned;
+use crate::messages::{cell_read, mode_read};
 use crate::possible::Possible;
-use crate::stage::Stage;
+use crate::stage::{Sending, Stage};
 use crate::standing::Standing;
 use crate::step::Step;
 use crate::told::Told;
+use crate::turn::Turn;
 use pm_frame::Frame;
-use pm_num::AnyFormat;
-use pm_table::{Cell, Reg};
+use pm_table::Cell;
 use std::marker::Model;
 
 /// The host: it says which frame to send next, and is told what came of it. It believes a setting only
@@ -32,18 +39,18 @@ use std::marker::Model;
 /// error code covers too.
 ///
 /// At most one job is open. `order`, `order_micro`, `check`, `learn` and `clear` begin one and are
-/// refused (H3) until it has ended; from then on `sending` shows its frame, and each frame that was
-/// sent is followed by one call of `told`, until that answers `Step::Ended`. `restart`, `standing`,
-/// `possible` and `restart_seen` may come at any time. A refused call changes nothing. No call takes
-/// memory.
+/// refused (H3) until it has ended. Until then `turn` shows what to send now, and each frame that was
+/// sent is followed by one call of `told`, which has to be of the kind that `turn` showed: ask `turn`
+/// before each `told`. A job has ended once `told` answers `Step::Ended`, after at most twice `passes`
+/// frames. `restart`, `standing`, `possible` and `restart_seen` may come at any time. A refused call
+/// changes nothing. No call takes memory.
 #[derive(Drop)]
 pub struct Host {
     addr: u8,
     outputs: u8,
     passes: u8,
-    stage: Option<Stage>,
-    frame: Frame,
-    formats: Formats,
+    sending: Option<Sending>,
+    learned: Learned,
     knowledge: Knowledge,
 }
 
@@ -52,21 +59,24 @@ impl Model for Host {
 
     ghost Value = { Summary };
 
-    ghost use Rattle.std.specs.Prelude.{IfSome};
+    ghost use Rattle.std.specs.Prelude.{IfSome, option_map};
     ghost use Rattle.pm_host.specs.Messages.{IsFrameOf};
     ghost use Rattle.pm_host.specs.Sound.{IsSound};
     ghost use Rattle.pm_host.specs.Summary.{summary, stage_message};
 
-    ghost view = { λ h. summary h.addr h.outputs h.passes h.stage h.formats h.knowledge };
+    ghost view = { λ h. summary h.addr h.outputs h.passes
+        (option_map (λ sending. sending.stage) h.sending) h.learned h.knowledge };
 
     ghost invariant = { λ h.
-        IsSound (summary h.addr h.outputs h.passes h.stage h.formats h.knowledge)
-        × IfSome h.stage (λ stage. IsFrameOf h.addr (stage_message stage) h.frame.items) };
+        IsSound (summary h.addr h.outputs h.passes
+        (option_map (λ sending. sending.stage) h.sending) h.learned h.knowledge)
+        × IfSome h.sending
+        (λ sending. IsFrameOf h.addr (stage_message sending.stage) sending.frame.items) };
 }
 
 impl Host {
-    /// A host for the device at this address, 08h to 77h, which has so many outputs, 1 to 8; a job
-    /// has so many passes or tries, 1 to 15. Nothing is known and no job is open. H1 where the
+    /// A host for the device at this address, 08h to 77h, which has this many outputs, 1 to 8; a job
+    /// has at most this many passes or tries, 1 to 15. Nothing is known and no job is open. H1 where the
     /// outputs aren't 1 to 8, otherwise H2 where the passes aren't 1 to 15.
     pub fn new(addr: u8, outputs: u8, passes: u8) -> Result<Host, HostFault>
         requires { IsAddress addr }
@@ -85,9 +95,8 @@ impl Host {
             addr,
             outputs,
             passes,
-            stage: None,
-            frame: Frame::new(),
-            formats: Formats::new(),
+            sending: None,
+            learned: Learned::new(),
             knowledge: Knowledge::new(),
         })
     }
@@ -107,19 +116,21 @@ impl Host {
         ensures fault { result_err result ≡ order_fault self.old cell word }
         ensures ok { OnOk result (self.new ≡ next self.old (Accepted (Order cell word))) }
         ensures err { OnErr result (self.new ≡ self.old) }
+        ensures kept { self.new.setup ≡ self.old.setup }
+        ensures left { OnOk result (frames_left self.new ≤ 2 * self.new.setup.passes) }
     {
         self.cell_is_free(cell)?;
         if !cell.accepts(word) {
             return Err(HostFault::BadWord);
         }
-        if !self.knowledge.has_room(self.outputs, cell, word) {
+        if !self.knowledge.has_room(cell, word) {
             return Err(HostFault::TooUncertain);
         }
         self.begin_write(cell, word, 0);
         Ok(())
     }
 
-    /// Begins an order for the word that is nearest to so many microvolts, in the format that the last
+    /// Begins an order for the word that is nearest to a number of microvolts, in the format that the last
     /// learn of the cell's output found.
     ///
     /// The first that applies refuses: H3 and H4 as in `order`, H5 where the cell isn't a voltage, H7
@@ -133,6 +144,8 @@ impl Host {
             (λ shape. IsSomeAnd (micro_word self.old cell x)
             (IsNearest (shape_value shape) (shape_rank shape) (micros x)))) }
         ensures err { OnErr result (self.new ≡ self.old) }
+        ensures kept { self.new.setup ≡ self.old.setup }
+        ensures left { OnOk result (frames_left self.new ≤ 2 * self.new.setup.passes) }
     {
         let format = self.voltage_format(cell)?;
         let word = nearest_word(&format, x)?;
@@ -147,6 +160,8 @@ impl Host {
         ensures fault { result_err result ≡ cell_fault self.old cell }
         ensures ok { OnOk result (self.new ≡ next self.old (Accepted (Check cell))) }
         ensures err { OnErr result (self.new ≡ self.old) }
+        ensures kept { self.new.setup ≡ self.old.setup }
+        ensures left { OnOk result (frames_left self.new ≤ 2 * self.new.setup.passes) }
     {
         self.cell_is_free(cell)?;
         self.go_on(Stage::Checks { cell, tries: 0 });
@@ -162,8 +177,10 @@ impl Host {
         ensures fault { result_err result ≡ output_fault self.old output }
         ensures ok { OnOk result (self.new ≡ next self.old (Accepted (Learn output))) }
         ensures err { OnErr result (self.new ≡ self.old) }
+        ensures kept { self.new.setup ≡ self.old.setup }
+        ensures left { OnOk result (frames_left self.new ≤ 2 * self.new.setup.passes) }
     {
-        self.output_is_free(output)?;
+        self.is_free(output < self.outputs)?;
         self.go_on(Stage::AsksMode { output, tries: 0 });
         Ok(())
     }
@@ -174,12 +191,35 @@ impl Host {
     #[tactic(auto, unfolding(crate::specs::Summary::next))]
     pub fn clear(&mut self, output: u8) -> Result<(), HostFault>
         ensures fault { result_err result ≡ output_fault self.old output }
-        ensures ok { OnOk result (self.new ≡ next self.old (Accepted (Clear output))) }
+        ensures ok { OnOk result (self.new ≡ next self.old (Accepted (Send (Command.ClearFaults output)))) }
         ensures err { OnErr result (self.new ≡ self.old) }
+        ensures kept { self.new.setup ≡ self.old.setup }
+        ensures left { OnOk result (frames_left self.new ≤ 2 * self.new.setup.passes) }
     {
-        self.output_is_free(output)?;
-        self.go_on(Stage::Clears { output, tries: 0 });
-        Ok(())
+        self.send(Command::ClearFaults { output })
+    }
+
+    /// What to do now: nothing, to send a write, or to send a request and read its answer. It stays the
+    /// same until `told` or `restart` is called.
+    pub fn turn(&self) -> Turn<'_>
+        ensures { Shows self.now result }
+    {
+        match &self.sending {
+            None => Turn::Idle,
+            Some(Sending { stage, frame }) => {
+                let message = stage.message();
+                // Hands the prover that an answer has at most five bytes of payload.
+                let _ = message.answer_length();
+                if message.is_read() {
+                    Turn::Request {
+                        frame,
+                        bytes: message.whole_answer(),
+                    }
+                } else {
+                    Turn::Write(frame)
+                }
+            }
+        }
     }
 
     /// The frame to put on the wire, address first: a whole packet for a write, the request before the
@@ -190,8 +230,8 @@ impl Host {
             (λ message. IsSomeAnd result
             (λ frame. IsFrameOf self.now.setup.addr message frame.now.items)) }
     {
-        match self.stage {
-            Some(_) => Some(&self.frame),
+        match &self.sending {
+            Some(sending) => Some(&sending.frame),
             None => None,
         }
     }
@@ -201,39 +241,89 @@ impl Host {
     pub fn sending_reads(&self) -> bool
         ensures { result ≡ sends_read self.now }
     {
-        match &self.stage {
-            Some(stage) => stage.message().is_read(),
+        match &self.sending {
+            Some(sending) => sending.stage.message().is_read(),
             None => false,
         }
     }
 
-    /// What became of the frame that `sending` showed: `Finished` for a write, `Got` for a request,
-    /// with whatever came back. `Step::Next` asks to send what `sending` shows now; `Step::Ended` says
-    /// how the job ended, and that nothing is being sent.
+    /// What became of the frame that `turn` showed: `Finished` for a write, `Got` for a request, with
+    /// whatever came back. Ask `turn` first, or `sending` and `sending_reads`: it may be called only
+    /// where a frame of that kind is being sent. `Step::Next` asks to send what `turn` shows now;
+    /// `Step::Ended` says how the job ended, and that nothing is being sent. With each call the job
+    /// has fewer frames left to send, so that a loop of these two calls ends.
     #[tactic(auto, unfolding(crate::specs::Summary::next, crate::specs::Summary::step_of))]
     pub fn told(&mut self, told: Told<'_>) -> Step
         requires { may_come self.old (entry_told told) ≡ true }
         ensures after { self.new ≡ next self.old (entry_told told.entry) }
         ensures step { result ≡ step_of self.old (entry_told told.entry) }
+        ensures kept { self.new.setup ≡ self.old.setup }
+        ensures left { frames_left self.new < frames_left self.old }
+        ensures over { OnEnded result (frames_left self.new ≡ 0) }
     {
-        let Some(stage) = self.stage else {
-            unreachable!()
+        let stage = match &self.sending {
+            Some(sending) => sending.stage,
+            None => unreachable!(),
         };
-        self.stage = None;
-        match told {
-            Told::Finished { acked } => self.finished(stage, acked),
-            Told::Got(bytes) => self.answered(stage, bytes),
+        self.sending = None;
+        match (stage, told) {
+            (Stage::Writes { cell, word, pass }, Told::Finished { .. }) => {
+                self.go_on(Stage::Reads { cell, word, pass })
+            }
+            (Stage::Sends { command, tries }, Told::Finished { acked }) => {
+                self.sent(command, tries, acked)
+            }
+            (Stage::Reads { cell, word, pass }, Told::Got(bytes)) => {
+                let read = good_word(self.addr, &cell_read(cell), bytes);
+                self.read_back(cell, word, pass, read)
+            }
+            (Stage::Checks { cell, tries }, Told::Got(bytes)) => {
+                let read = good_word(self.addr, &cell_read(cell), bytes);
+                self.checked(cell, tries, read)
+            }
+            (Stage::AsksMode { output, tries }, Told::Got(bytes)) => {
+                let byte = good_byte(self.addr, &mode_read(output), bytes);
+                self.mode_told(output, tries, byte)
+            }
+            (Stage::AsksCoefficients { output, tries }, Told::Got(bytes)) => {
+                let told = good_coefficients(self.addr, bytes);
+                self.coefficients_told(output, tries, told)
+            }
+            _ => unreachable!(),
         }
     }
 
     /// Drops the open job and all that is known of cells and formats, as after `new`.
     #[tactic(auto, unfolding(crate::specs::Summary::next))]
     pub fn restart(&mut self)
-        ensures { self.new ≡ next self.old Restarted }
+        ensures after { self.new ≡ next self.old Restarted }
+        ensures kept { self.new.setup ≡ self.old.setup }
+        ensures left { frames_left self.new ≡ 0 }
     {
-        self.stage = None;
-        self.formats = Formats::new();
+        self.sending = None;
+        self.learned = Learned::new();
         self.knowledge = Knowledge::new();
+    }
+
+    /// The address of its device.
+    pub fn address(&self) -> u8
+        ensures { result ≡ self.now.setup.addr }
+    {
+        self.addr
+    }
+
+    /// How many outputs its device has, 1 to 8.
+    pub fn outputs(&self) -> u8
+        ensures { result ≡ self.now.setup.outputs }
+    {
+        self.outputs
+    }
+
+    /// How many passes or tries a job has at most, 1 to 15.
+    pub fn passes(&self) -> u8
+        ensures { result ≡ self.now.setup.passes }
+    {
+        self.passes
     }
 
     /// What is known of a cell's word: confirmed where a good answer for the cell came after every write
@@ -242,7 +332,7 @@ impl Host {
         requires { IsCell self.now.setup.outputs cell }
         ensures { result ≡ standing_at self.now cell }
     {
-        self.knowledge.standing(self.outputs, cell)
+        self.knowledge.standing(cell)
     }
 
     /// The words that a cell may hold: the word of its last good answer, and those that were put on the
@@ -252,7 +342,7 @@ impl Host {
         requires { IsCell self.now.setup.outputs cell }
         ensures { result ≡ possible_at self.now cell }
     {
-        self.knowledge.possible(self.outputs, cell)
+        self.knowledge.possible(cell)
     }
 
     /// Whether a restart of the device was seen since the host started: a good answer came whose word
@@ -262,48 +352,5 @@ impl Host {
         ensures { result ≡ self.now.known.seen }
     {
         self.knowledge.restart_seen()
-    }
-
-    // Refuses where a job is open, or the output isn't there.
-    fn output_is_free(&self, output: u8) -> Result<(), HostFault>
-        ensures fault { result_err result ≡ output_fault self.now output }
-        ensures idle { OnOk result (self.now.stage ≡ None) }
-        ensures there { OnOk result (output < self.now.setup.outputs) }
-        ensures some { 1 ≤ self.now.setup.passes }
-    {
-        if self.stage.is_some() {
-            return Err(HostFault::Busy);
-        }
-        if output >= self.outputs {
-            return Err(HostFault::UnknownOutput);
-        }
-        Ok(())
-    }
-
-    // Refuses where a job is open, or the cell isn't there.
-    fn cell_is_free(&self, cell: Cell) -> Result<(), HostFault>
-        ensures fault { result_err result ≡ cell_fault self.now cell }
-        ensures idle { OnOk result (self.now.stage ≡ None) }
-        ensures there { OnOk result (IsCell self.now.setup.outputs cell) }
-        ensures some { 1 ≤ self.now.setup.passes }
-    {
-        match cell {
-            Cell::Out(output, _) => self.output_is_free(output),
-            Cell::Protect if self.stage.is_some() => Err(HostFault::Busy),
-            Cell::Protect => Ok(()),
-        }
-    }
-
-    // The format of the cell's output, where the cell is a voltage that may be ordered now.
-    fn voltage_format(&self, cell: Cell) -> Result<AnyFormat, HostFault>
-        ensures fault { result_err result ≡ voltage_fault self.now cell }
-        ensures format { IfOk result (λ format.
-            format_at self.now (output_of cell) ≡ Some (shape_of format)) }
-    {
-        self.cell_is_free(cell)?;
-        match cell {
-            Cell::Protect | Cell::Out(_, Reg::Operation) => Err(HostFault::BadWord),
-            Cell::Out(output, _) => self.formats.get(output).ok_or(HostFault::FormatUnknown),
-        }
     }
 }

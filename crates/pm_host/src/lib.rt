@@ -10,39 +10,52 @@
 //! to wait for an answer. It reads no telemetry and no status, and selects no output by PAGE.
 //!
 //! An order, at a device with address 58h, two outputs and at most two passes, and the bytes that go
-//! over the wire:
+//! over the wire. The write isn't acknowledged, and the answer shows that the device has the word:
 //!
-//! ```text
-//! let mut host = Host::new(0x58, 2, 2)?;
-//! host.order(Cell::Out(0, Reg::VoutCommand), 0x34CD)?;
-//! host.sending();                                // B0 05 04 00 21 CD 34 5A, a write
-//! host.told(Told::Finished { acked: false });    // Step::Next
-//! host.sending();                                // B0 06 02 00 21, a request
-//! host.told(Told::Got(&[0xB1, 0x02, 0xCD, 0x34, 0xB9])); // Step::Ended(JobEnd::Done)
-//! host.standing(Cell::Out(0, Reg::VoutCommand)); // Standing::Confirmed(0x34CD)
 //! ```
+//! fn ordered() -> Result<Standing, HostFault> {
+//!     let mut host = Host::new(0x58, 2, 2)?;
+//!     host.order(Cell::Out(0, Reg::VoutCommand), 0x34CD)?;
+//!     if let Turn::Write(_) = host.turn() {
+//!         // B0 05 04 00 21 CD 34 5A, and then a stop
+//!         host.told(Told::Finished { acked: false });
+//!     }
+//!     if let Turn::Request { .. } = host.turn() {
+//!         // B0 06 02 00 21, then a repeated start, and what came back
+//!         host.told(Told::Got(&[0xB1, 0x02, 0xCD, 0x34, 0xB9]));
+//!     }
+//!     Ok(host.standing(Cell::Out(0, Reg::VoutCommand))) // Standing::Confirmed(0x34CD)
+//! }
+//! ```
+//!
+//! A loop of `turn` and `told` carries any job out. It ends by proof: with each call of `told` the job
+//! has fewer frames left to send.
 #![tactic(auto)]
 
 mod answers;
+mod command;
 mod fault;
-mod formats;
 mod host;
+mod job_end;
 mod knowledge;
 mod laws;
+mod learned;
 mod messages;
-mod places;
 mod possible;
 mod stage;
 mod standing;
 mod step;
 mod told;
+mod turn;
 
 pub use fault::HostFault;
 pub use host::Host;
+pub use job_end::JobEnd;
 pub use laws::{
     frames_are_named, jobs_are_bounded, open_orders_are_uncertain, transcripts_are_followed,
 };
 pub use possible::Possible;
 pub use standing::Standing;
-pub use step::{JobEnd, Step};
+pub use step::Step;
 pub use told::Told;
+pub use turn::Turn;

@@ -1,42 +1,89 @@
-//! The messages that a host sends about a cell.
+//! The messages that a host sends.
 
-ghost use Rattle.std.specs.Prelude.{◌≡◌, true, false};
+ghost use Rattle.std.specs.Prelude.{◌≡◌, true};
 ghost use Rattle.pm_table.specs.Cell.{cell_accepts};
-ghost use Rattle.pm_frame.specs.Layout.{fits_layout, is_read_message};
-ghost use Rattle.pm_host.specs.Messages.{cell_write as spec_cell_write, cell_read as spec_cell_read};
+ghost use Rattle.pm_frame.specs.Layout.{answer_length, fits_layout};
+ghost use Rattle.pm_host.specs.Messages as messages;
 
+use crate::command::Command;
 use pm_frame::{Message, Payload};
-use pm_table::{Cell, Reg};
+use pm_table::{Cell, Code};
+
+/// The side of the coefficients for values written.
+const VALUES_WRITTEN: u8 = 0x00;
 
 /// The write of a word that the cell accepts.
+#[tactic(auto, unfolding(pm_table::specs::Commands::line_of))]
 pub(crate) fn cell_write(cell: Cell, word: u16) -> Message
     requires { cell_accepts cell word ≡ true }
-    ensures { result ≡ spec_cell_write cell word }
+    ensures message { result ≡ messages.cell_write cell word }
+    ensures fits { fits_layout result ≡ true }
 {
     let code = cell.code().0;
     let [low, _] = word.to_le_bytes();
     match cell {
-        Cell::Out(page, Reg::Operation) => Message::PagePlusWrite {
+        Cell::Out(page, register) => Message::PagePlusWrite {
             page,
             code,
-            payload: Payload::Byte(low),
-        },
-        Cell::Out(page, _) => Message::PagePlusWrite {
-            page,
-            code,
-            payload: Payload::Word(word),
+            payload: if register.is_voltage() {
+                Payload::Word(word)
+            } else {
+                Payload::Byte(low)
+            },
         },
         Cell::Protect => Message::WriteByte { code, byte: low },
     }
 }
 
 /// The read of a cell.
+#[tactic(auto, unfolding(pm_table::specs::Commands::line_of))]
 pub(crate) fn cell_read(cell: Cell) -> Message
-    ensures { result ≡ spec_cell_read cell }
+    ensures message { result ≡ messages.cell_read cell }
+    ensures fits { fits_layout result ≡ true }
 {
     let code = cell.code().0;
     match cell {
         Cell::Out(page, _) => Message::PagePlusRead { page, code },
         Cell::Protect => Message::ReadCommand { code },
+    }
+}
+
+/// The read of an output's VOUT_MODE, which has one byte.
+#[tactic(auto, unfolding(pm_table::specs::Commands::line_of))]
+pub(crate) fn mode_read(page: u8) -> Message
+    ensures message { result ≡ messages.mode_read page }
+    ensures fits { fits_layout result ≡ true }
+    ensures single { answer_length result ≡ 1 }
+{
+    Message::PagePlusRead {
+        page,
+        code: Code::VOUT_MODE.0,
+    }
+}
+
+/// The read of the coefficients of VOUT_COMMAND, which all voltages share.
+#[tactic(auto, unfolding(pm_table::specs::Commands::line_of))]
+pub(crate) fn coefficients_read() -> Message
+    ensures message { result ≡ messages.coefficients_read }
+    ensures fits { fits_layout result ≡ true }
+{
+    Message::ReadCoefficients {
+        code: Code::VOUT_COMMAND.0,
+        side: VALUES_WRITTEN,
+    }
+}
+
+/// What a command sends.
+#[tactic(auto, unfolding(pm_table::specs::Commands::line_of))]
+pub(crate) fn command_message(command: Command) -> Message
+    ensures message { result ≡ messages.command_message command }
+    ensures fits { fits_layout result ≡ true }
+{
+    match command {
+        Command::ClearFaults { output } => Message::PagePlusWrite {
+            page: output,
+            code: Code::CLEAR_FAULTS.0,
+            payload: Payload::Empty,
+        },
     }
 }

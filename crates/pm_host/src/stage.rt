@@ -1,17 +1,18 @@
-ghost use Rattle.std.specs.Prelude.{◌≡◌};
-ghost use Rattle.pm_host.specs.Messages.{mode_read as spec_mode_read};
+ghost use Rattle.std.specs.Prelude.{◌≡◌, true};
+ghost use Rattle.pm_frame.specs.Layout.{fits_layout};
 ghost use Rattle.pm_host.specs.Summary.{stage_message};
 
-use crate::answers::coefficients_request;
-use crate::messages::{cell_read, cell_write};
-use pm_frame::{Message, Payload};
+use crate::command::Command;
+use crate::messages::{cell_read, cell_write, coefficients_read, command_message, mode_read};
+use pm_frame::{Frame, Message};
 use pm_table::Cell;
 
-/// The code of CLEAR_FAULTS.
-const CLEAR_FAULTS: u8 = 0x03;
-
-/// The code of VOUT_MODE.
-const VOUT_MODE: u8 = 0x20;
+/// An open job: where it stands, and the frame that it sends there.
+#[derive(Drop)]
+pub(crate) struct Sending {
+    pub(crate) stage: Stage,
+    pub(crate) frame: Frame,
+}
 
 /// Where an open job stands: the frame that it sends, and how many passes or tries came before.
 #[derive(Clone, Copy, Debug)]
@@ -20,14 +21,14 @@ pub(crate) enum Stage {
     Writes { cell: Cell, word: u16, pass: u8 },
     /// An order reads its cell back, in this pass.
     Reads { cell: Cell, word: u16, pass: u8 },
-    /// A check reads its cell, after so many tries.
+    /// A check reads its cell, after this many tries.
     Checks { cell: Cell, tries: u8 },
-    /// A learn reads VOUT_MODE, after so many tries.
+    /// A learn reads VOUT_MODE, after this many tries.
     AsksMode { output: u8, tries: u8 },
-    /// A learn reads COEFFICIENTS, after so many tries.
+    /// A learn reads COEFFICIENTS, after this many tries.
     AsksCoefficients { output: u8, tries: u8 },
-    /// A clear sends CLEAR_FAULTS, after so many tries.
-    Clears { output: u8, tries: u8 },
+    /// A command is sent, after this many tries.
+    Sends { command: Command, tries: u8 },
 }
 
 impl Stage {
@@ -36,28 +37,15 @@ impl Stage {
     /// The message whose frame is sent.
     pub(crate) fn message(&self) -> Message
         requires { HasWord self.now }
-        ensures { result ≡ stage_message self.now }
+        ensures message { result ≡ stage_message self.now }
+        ensures fits { fits_layout result ≡ true }
     {
         match *self {
             Stage::Writes { cell, word, .. } => cell_write(cell, word),
             Stage::Reads { cell, .. } | Stage::Checks { cell, .. } => cell_read(cell),
             Stage::AsksMode { output, .. } => mode_read(output),
-            Stage::AsksCoefficients { .. } => coefficients_request(),
-            Stage::Clears { output, .. } => Message::PagePlusWrite {
-                page: output,
-                code: CLEAR_FAULTS,
-                payload: Payload::Empty,
-            },
+            Stage::AsksCoefficients { .. } => coefficients_read(),
+            Stage::Sends { command, .. } => command_message(command),
         }
-    }
-}
-
-/// The read of an output's VOUT_MODE.
-pub(crate) fn mode_read(page: u8) -> Message
-    ensures { result ≡ spec_mode_read page }
-{
-    Message::PagePlusRead {
-        page,
-        code: VOUT_MODE,
     }
 }

@@ -10,6 +10,7 @@ failed : (b : Bool) → ¬ (b ≡ true) → b ≡ false
 failed true not = absurd (not refl)
 failed false not = refl
 
+-- what `memchr` finds is the first place
 pub first_is : (p : ℕ → Bool) (xs : List ℕ) (found : Option ℕ) → IsFirstByte p xs found → found ≡ position p xs
 first_is p xs None none =
     let end : position_or_len p xs ≡ length xs =

@@ -1,86 +1,19 @@
--- The bytes of a line's words, and the pairs of digits that stand one behind another in it.
-use Rattle.std.proofs.Common.{◌≡◌, ◌∙◌, ◌+◌, ◌-◌, ◌%◌, ◌<◌, ◌≤◌, ◌++◌, ◌&&◌, ℕ, Bool, true, false, cond, eqb, List, [], ◌∷◌, length, take, drop, get_or, Option, Some, None, Result, Ok, Err, option_map, refl, sym, ap, arith}
+-- The bytes of a line's words, and the pairs of digits that stand one after another in it.
+use Rattle.std.proofs.Common.{◌≡◌, ◌∙◌, ◌+◌, ◌-◌, ◌%◌, ◌<◌, ◌≤◌, ◌++◌, ◌&&◌, ℕ, Bool, true, false, cond, eqb, List, [], ◌∷◌, length, take}
+use Rattle.std.proofs.Common.{drop, get_or, Option, Some, None, option_map, refl, sym, ap, arith}
 use Rattle.std.specs.Prelude.{filter}
 use Rattle.std.specs.List.{onto_first, slice_split}
-use Rattle.std.specs.Result.{result_ok}
 use Rattle.std.proofs.lemmas.Bool.Decides.{nat_tests}
 use Rattle.std.proofs.lemmas.List.{nil_from_length, take_rest}
 use Rattle.std.proofs.lemmas.List.Splits.{length-slice_split}
-use Rattle.hex.specs.Hex.{◌>>=◌, decode_of, decode_pairs, hex_digit_value, is_hex_digit, pair_value}
-use Rattle.hex.specs.declared.error.FromHexError.{FromHexError}
-use Rattle.pm_lines.specs.Bytes.{bytes_of, joined_bytes}
+use Rattle.hex.specs.Hex.{is_hex_digit}
+use Rattle.pm_lines.specs.Bytes.{byte_before, bytes_before, bytes_of, word_bytes}
 use Rattle.pm_lines.specs.Lines.{has_bytes, is_space, words_of}
 use Rattle.pm_lines.specs.Pairs.{behind_pairs, byte_of, pair_of, paired_bytes}
 
--- a byte before the bytes that follow it
-abbrev pub byte_before : Option ℕ → Option (List ℕ) → Option (List ℕ)
-byte_before (Some byte) (Some bytes) = Some (byte ∷ bytes)
-byte_before (Some byte) None = None
-byte_before None bytes = None
-
--- the bytes of a word, pair by pair
-abbrev pub word_pairs : List ℕ → Option (List ℕ)
-word_pairs [] = Some []
-word_pairs (x ∷ []) = None
-word_pairs (x ∷ y ∷ rest) = byte_before (pair_of x y) (word_pairs rest)
-
--- `hex` reads a pair as it is read here
-pair_read : (i x y : ℕ) → result_ok (pair_value x y i) ≡ pair_of x y
-pair_read i x y = by (hex_digit_value x) (hex_digit_value y) refl refl
-  where
-    by : (a b : Option ℕ) → hex_digit_value x ≡ a → hex_digit_value y ≡ b → result_ok (pair_value x y i) ≡ pair_of x y
-    by (Some high) (Some low) first second = rw (first, second) refl
-    by (Some high) None first second = rw (first, second) refl
-    by None low first second = rw first refl
-
--- a pair before other pairs, as `hex` reads both
-joined_read : (byte : Result ℕ FromHexError) (bytes : Result (List ℕ) FromHexError)
-    → result_ok (byte >>= (λ b. bytes >>= (λ bs. Ok (b ∷ bs)))) ≡ byte_before (result_ok byte) (result_ok bytes)
-joined_read (Ok byte) (Ok bytes) = refl
-joined_read (Ok byte) (Err fault) = refl
-joined_read (Err fault) bytes = refl
-
--- what `hex` reads of a word, wherever the word begins
-pairs_read : (i : ℕ) (word : List ℕ) → result_ok (decode_pairs i word) ≡ word_pairs word
-unfolding decode_pairs
-pairs_read i [] = refl
-pairs_read i (x ∷ []) = refl
-pairs_read i (x ∷ y ∷ rest) =
-    joined_read (pair_value x y i) (decode_pairs (i + 2) rest) ∙ rw (pair_read i x y, pairs_read (i + 2) rest) refl
-
--- a word of an odd number of digits has no pairs
-odd_none : (word : List ℕ) → length word % 2 ≡ 1 → word_pairs word ≡ None
-odd_none [] odd = absurd (omega arith)
-odd_none (x ∷ []) odd = refl
-odd_none (x ∷ y ∷ rest) odd = rw (odd_none rest (omega (arith, odd))) (by (pair_of x y))
-  where
-    by : (byte : Option ℕ) → byte_before byte None ≡ None
-    by (Some byte) = refl
-    by None = refl
-
-pub word_read : (word : List ℕ) → result_ok (decode_of word) ≡ word_pairs word
-word_read word = by (eqb (length word % 2) 1) refl
-  where
-    by : (odd : Bool) → eqb (length word % 2) 1 ≡ odd → result_ok (decode_of word) ≡ word_pairs word
-    by true odd = let one : length word % 2 ≡ 1 = grind (arith, nat_tests) in rw odd (sym (odd_none word one))
-    by false odd = rw odd (pairs_read 0 word)
-
--- the bytes of a word and of the words that follow it
-abbrev bytes_before : Option (List ℕ) → Option (List ℕ) → Option (List ℕ)
-bytes_before (Some front) (Some rest) = Some (front ++ rest)
-bytes_before (Some front) None = None
-bytes_before None rest = None
-
-joined_is : (front : Result (List ℕ) FromHexError) (rest : Option (List ℕ)) → joined_bytes front rest ≡ bytes_before (result_ok front) rest
-joined_is (Ok front) (Some rest) = refl
-joined_is (Ok front) None = refl
-joined_is (Err fault) rest = refl
-
-pub word_first : (word : List ℕ) (words : List (List ℕ)) → bytes_of (word ∷ words) ≡ bytes_before (word_pairs word) (bytes_of words)
-word_first word words = joined_is (decode_of word) (bytes_of words) ∙ ap (λ w. bytes_before w (bytes_of words)) (word_read word)
-
+-- a word of no bytes adds nothing
 no_word : (words : List (List ℕ)) → bytes_of ([] ∷ words) ≡ bytes_of words
-no_word words = word_first [] words ∙ by (bytes_of words)
+no_word words = by (bytes_of words)
   where
     by : (rest : Option (List ℕ)) → bytes_before (Some []) rest ≡ rest
     by (Some rest) = refl
@@ -90,17 +23,13 @@ no_word words = word_first [] words ∙ by (bytes_of words)
 unfiltered : (words : List (List ℕ)) → bytes_of (filter has_bytes words) ≡ bytes_of words
 unfiltered [] = refl
 unfiltered ([] ∷ words) = unfiltered words ∙ sym (no_word words)
-unfiltered ((x ∷ xs) ∷ words) =
-    word_first (x ∷ xs) (filter has_bytes words) ∙ ap (bytes_before (word_pairs (x ∷ xs))) (unfiltered words)
-    ∙ sym (word_first (x ∷ xs) words)
+unfiltered ((x ∷ xs) ∷ words) = ap (bytes_before (word_bytes (x ∷ xs))) (unfiltered words)
 
 -- a pair at the beginning of the first piece
 pair_onto : (x y : ℕ) (pieces : List (List ℕ)) → 0 < length pieces
     → bytes_of (onto_first x (onto_first y pieces)) ≡ byte_before (pair_of x y) (bytes_of pieces)
 pair_onto x y [] some = absurd (omega arith)
-pair_onto x y (piece ∷ pieces) some =
-    word_first (x ∷ y ∷ piece) pieces ∙ by (pair_of x y) (word_pairs piece) (bytes_of pieces)
-    ∙ sym (ap (byte_before (pair_of x y)) (word_first piece pieces))
+pair_onto x y (piece ∷ pieces) some = by (pair_of x y) (word_bytes piece) (bytes_of pieces)
   where
     by : (byte : Option ℕ) (front rest : Option (List ℕ))
         → bytes_before (byte_before byte front) rest ≡ byte_before byte (bytes_before front rest)
@@ -114,6 +43,7 @@ abbrev pub nothing_behind : List ℕ → List ℕ → Option (List ℕ)
 nothing_behind [] bytes = Some bytes
 nothing_behind (x ∷ rest) bytes = None
 
+-- a byte more
 front_kept : (byte : ℕ) (rest bytes : List ℕ) → byte_before (Some byte) (nothing_behind rest bytes) ≡ nothing_behind rest (byte ∷ bytes)
 front_kept byte [] bytes = refl
 front_kept byte (x ∷ rest) bytes = refl
@@ -128,29 +58,33 @@ module _ (x y : ℕ) (rest : List ℕ)
     (last : bytes_of (slice_split is_space rest) ≡ nothing_behind (behind_pairs rest) (paired_bytes rest)) where
   abbrev Reads : Bool → Bool → Bool → Type 0
   Reads first second pair =
-      bytes_of (cond first ([] ∷ slice_split is_space (y ∷ rest)) (onto_first x (cond second ([] ∷ slice_split is_space rest) (onto_first y (slice_split is_space rest)))))
+      bytes_of (cond first ([] ∷ slice_split is_space (y ∷ rest))
+          (onto_first x (cond second ([] ∷ slice_split is_space rest) (onto_first y (slice_split is_space rest)))))
       ≡ nothing_behind (cond first (behind_pairs (y ∷ rest)) (cond pair (behind_pairs rest) (x ∷ y ∷ rest)))
       (cond first (paired_bytes (y ∷ rest)) (cond pair (byte_of x y ∷ paired_bytes rest) []))
 
-  two_read : (first second digit other : Bool) → is_space y ≡ second → is_hex_digit x ≡ digit → is_hex_digit y ≡ other → Reads first second (digit && other)
+  two_read : (first second digit other : Bool) → is_space y ≡ second → is_hex_digit x ≡ digit → is_hex_digit y ≡ other
+      → Reads first second (digit && other)
   two_read true second digit other space hex too = no_word (slice_split is_space (y ∷ rest)) ∙ later
   two_read false true true true space hex too = let wrong : true ≡ false = sym too ∙ space_no_digit y space in absurd (cc)
-  two_read false true true false space hex too = word_first (x ∷ []) (slice_split is_space rest)
-  two_read false true false other space hex too = word_first (x ∷ []) (slice_split is_space rest)
+  two_read false true true false space hex too = refl
+  two_read false true false other space hex too = refl
   two_read false false true true space hex too =
-      pair_onto x y (slice_split is_space rest) (omega (arith, length-slice_split is_space rest)) ∙ rw (hex, too, last) (front_kept (byte_of x y) (behind_pairs rest) (paired_bytes rest))
+      pair_onto x y (slice_split is_space rest) (omega (arith, length-slice_split is_space rest))
+          ∙ rw (hex, too, last) (front_kept (byte_of x y) (behind_pairs rest) (paired_bytes rest))
   two_read false false true false space hex too =
       pair_onto x y (slice_split is_space rest) (omega (arith, length-slice_split is_space rest)) ∙ rw (hex, too) refl
   two_read false false false other space hex too =
       pair_onto x y (slice_split is_space rest) (omega (arith, length-slice_split is_space rest)) ∙ rw hex refl
 
+-- the bytes of the pieces between a line's spaces are those of its pairs
 split_read : (line : List ℕ) → bytes_of (slice_split is_space line) ≡ nothing_behind (behind_pairs line) (paired_bytes line)
 split_read [] = no_word []
 split_read (x ∷ []) = by (is_space x)
   where
     by : (space : Bool) → bytes_of (cond space ([] ∷ [] ∷ []) (onto_first x ([] ∷ []))) ≡ nothing_behind (cond space [] (x ∷ [])) []
     by true = no_word ([] ∷ []) ∙ no_word []
-    by false = word_first (x ∷ []) []
+    by false = refl
 split_read (x ∷ y ∷ rest) =
     two_read x y rest (split_read (y ∷ rest)) (split_read rest) (is_space x) (is_space y) (is_hex_digit x) (is_hex_digit y) refl refl refl
 
@@ -185,10 +119,12 @@ not_paired line rest behind some = line_read line ∙ by (behind_pairs line) (om
     by (x ∷ left) some = refl
 
 -- two digits write a byte, and the first is no space
-pair_is : (x y byte : ℕ) → pair_of x y ≡ Some byte → (is_space x ≡ false) × ((is_hex_digit x && is_hex_digit y) ≡ true) × (byte_of x y ≡ byte)
+pair_is : (x y byte : ℕ) → pair_of x y ≡ Some byte
+    → (is_space x ≡ false) × ((is_hex_digit x && is_hex_digit y) ≡ true) × (byte_of x y ≡ byte)
 pair_is x y byte is = by (is_space x) (is_hex_digit x) (is_hex_digit y) refl refl is
   where
-    by : (space first second : Bool) → is_space x ≡ space → is_hex_digit x ≡ first → cond (first && second) (Some (byte_of x y)) None ≡ Some byte
+    by : (space first second : Bool) → is_space x ≡ space → is_hex_digit x ≡ first
+        → cond (first && second) (Some (byte_of x y)) None ≡ Some byte
         → (space ≡ false) × ((first && second) ≡ true) × (byte_of x y ≡ byte)
     by true true true at hex is = let wrong : true ≡ false = sym hex ∙ space_no_digit x at in absurd (cc)
     by false true true at hex is = (refl, refl, cc)

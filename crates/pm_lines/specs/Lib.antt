@@ -2,7 +2,6 @@
 pub mod Bytes
 pub mod Digits
 pub mod Faults
-pub mod FaultWords
 pub mod Lines
 pub mod Numbers
 pub mod Pairs

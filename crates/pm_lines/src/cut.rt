@@ -15,14 +15,9 @@ pub fn cut_at(bytes: &[u8], mark: u8) -> (&[u8], &[u8])
     }
 }
 
-// The place of the first byte that is the mark. Few bytes, as those of a line, are searched faster
-// one by one.
+// The place of the first byte that is the mark.
 fn first_place(bytes: &[u8], mark: u8) -> Option<usize>
     ensures { result ≡ position (λ byte. byte == mark) bytes.now }
 {
-    if bytes.len() < 64 {
-        bytes.iter().position(|byte| *byte == mark)
-    } else {
-        memchr(mark, bytes)
-    }
+    memchr(mark, bytes)
 }

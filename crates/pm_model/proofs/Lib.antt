@@ -1,3 +1,2 @@
-pub mod CellPlaces
 pub mod MapLaws
 pub mod OrderLemmas

@@ -1,5 +1,5 @@
 -- What an output commands by its settings: OPERATION of PMBus 1.3 Part II names the word that is
--- selected, and VOUT_MAX cuts its value. Values are compared as fractions and never as words. That
+-- selected, and VOUT_MAX limits its value. Values are compared as fractions and never as words. That
 -- VOUT_COMMAND is selected while an output is off is this project's own choice.
 use Rattle.std.specs.Prelude.{ℕ, ◌/◌, ◌*ℤ◌, Bool, ◌||◌, if◌then◌else◌, ◌==◌, pos, int_lt, List, slice_index_or}
 use Rattle.pm_num.specs.Ratio.{Ratio}
@@ -28,20 +28,30 @@ selected words output =
 abbrev pub is_above : Ratio → Ratio → Bool
 is_above p q = int_lt (q.num *ℤ pos p.den) (p.num *ℤ pos q.den)
 
+-- a selected value cut to its limit, the greatest value
+abbrev pub limited : Ratio → Ratio → Ratio
+limited selected greatest = if is_above selected greatest then greatest else selected
+
 -- what an output's words stand for
 abbrev pub Scale : Type 0
 Scale = ℕ → Ratio
 
--- the selected value is greater than that of VOUT_MAX
+-- the selected value of an output, and that of its VOUT_MAX
+abbrev pub selected_value : Scale → Words → ℕ → Ratio
+selected_value value words output = value (selected words output)
+
+abbrev pub greatest_value : Scale → Words → ℕ → Ratio
+greatest_value value words output = value (word_at words (Out output VoutMax))
+
+-- the selected value is outside its limit
 unfoldable pub is_cut : Scale → Words → ℕ → Bool
 is_cut value words output =
-    is_above (value (selected words output)) (value (word_at words (Out output VoutMax)))
+    is_above (selected_value value words output) (greatest_value value words output)
 
--- the voltage that an output commands: the selected value, or that of VOUT_MAX where it is cut
+-- the voltage that an output commands: the selected value, cut to that of VOUT_MAX
 unfoldable pub commanded : Scale → Words → ℕ → Ratio
 commanded value words output =
-    if is_cut value words output then value (word_at words (Out output VoutMax))
-    else value (selected words output)
+    limited (selected_value value words output) (greatest_value value words output)
 
 -- what the words of an output stand for by a list of formats
 abbrev pub scale_at : List AnyFormat → ℕ → Scale

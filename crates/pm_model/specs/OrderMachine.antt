@@ -15,7 +15,7 @@ pub data Step : Type 0 where
   Take : Step
   -- no order is pending any more
   End : Step
-  -- each cell gets its start word
+  -- each cell gets the word that a restart gives
   Back : Step
 
 -- the settings at the start, the words of the cells now, and the order that is pending
@@ -23,6 +23,10 @@ pub record Machine : Type 0 where
   pub start : Settings
   pub words : Words
   pub pending : Option PendingOrder
+
+-- the words that a restart gives: those of the start
+abbrev pub restart_words : Machine → Words
+restart_words m = m.start.words
 
 abbrev pub ordered : Cell → ℕ → PendingOrder
 ordered cell word = record { cell = cell; word = word }
@@ -40,7 +44,7 @@ abbrev pub stepped : Machine → Step → Machine
 stepped m (Accept cell word) = record m { pending = Some (ordered cell word) }
 stepped m Take = record m { words = with_order m.words m.pending }
 stepped m End = record m { pending = None }
-stepped m Back = record m { words = m.start.words }
+stepped m Back = record m { words = restart_words m }
 
 -- the machine after some steps
 unfoldable pub machine_of : Settings → List Step → Machine
@@ -70,15 +74,14 @@ abbrev pub IsOwnWord : Settings → List Step → Cell → ℕ → Type 0
 IsOwnWord start steps cell word =
     (word ≡ word_at start.words cell) ⊎ Contains steps (Accept cell word)
 
--- the pending order is one that was accepted: its cell is there, and accepts its word
-abbrev pub IsAccepted : Settings → List Step → Option PendingOrder → Type 0
-IsAccepted start steps None = Unit {0}
-IsAccepted start steps (Some order) =
-    IsCell start.count order.cell × (cell_accepts order.cell order.word ≡ true)
-    × Contains steps (Accept order.cell order.word)
-
 -- an order that can take: its cell is there, and accepts its word
 abbrev pub CanTake : ℕ → Option PendingOrder → Type 0
 CanTake count None = Unit {0}
 CanTake count (Some order) =
     IsCell count order.cell × (cell_accepts order.cell order.word ≡ true)
+
+-- the pending order is one that was accepted: it can take
+abbrev pub IsAccepted : Settings → List Step → Option PendingOrder → Type 0
+IsAccepted start steps None = Unit {0}
+IsAccepted start steps (Some order) =
+    CanTake start.count (Some order) × Contains steps (Accept order.cell order.word)

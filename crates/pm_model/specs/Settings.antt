@@ -1,15 +1,14 @@
--- The settings of a converter as a map from its cells to words. A crate above speaks of them by
--- `word_at` and `with_word` alone. Which cells there are is this project's own choice.
-use Rattle.std.specs.Prelude.{◌≡◌, ℕ, ◌+◌, ◌*◌, ◌/◌, ◌%◌, if◌then◌else◌, ◌==◌, List, length, map, slice_index, slice_set}
+-- The settings of a converter as a map from its cells to words. Which cells there are is this
+-- project's own choice.
+use Rattle.std.specs.Prelude.{◌≡◌, ℕ, ◌≤◌, true, List, length, map, slice_index, slice_set}
 use Rattle.std.specs.List.{range_with_len}
 use Rattle.pm_table.specs.declared.cell.Reg.{Reg}
-use Rattle.pm_table.specs.declared.cell.Reg.TheVariants.{Operation, VoutCommand, VoutMax, MarginHigh, MarginLow}
 use Rattle.pm_table.specs.declared.cell.Cell.{Cell}
-use Rattle.pm_table.specs.declared.cell.Cell.TheVariants.{Out, Protect}
-pub use Rattle.pm_table.specs.Cell.{IsCell, same_cell, register_number}
+use Rattle.pm_table.specs.declared.cell.Cell.TheVariants.{Out}
+use Rattle.pm_table.specs.Cell.{cell_accepts, cell_in, place_of, places}
+pub use Rattle.pm_table.specs.Cell.{IsCell, same_cell}
 
--- the words of the cells of eight outputs and of the device, in an order of this file's own, which
--- no clause above it knows
+-- the words of the cells of eight outputs and of the device, each at the place of its cell
 abbrev pub Words : Type 0
 Words = List ℕ
 
@@ -18,39 +17,35 @@ pub record Settings : Type 0 where
   pub count : ℕ
   pub words : Words
 
--- the place of a cell: five registers for each output, and WRITE_PROTECT behind them
-unfoldable pub place : Cell → ℕ
-place (Out output register) = 5 * output + register_number register
-place Protect = 40
-
--- the register, and the cell, at a place
-abbrev pub register_at : ℕ → Reg
-register_at k =
-    if k == 0 then Operation
-    else (if k == 1 then VoutCommand
-    else (if k == 2 then VoutMax
-    else (if k == 3 then MarginHigh else MarginLow)))
-
-abbrev pub cell_in : ℕ → Cell
-cell_in k = if k == 40 then Protect else Out (k / 5) (register_at (k % 5))
-
 -- the words that a function gives the cells
 unfoldable pub words_of : (Cell → ℕ) → Words
-words_of word = map (λ k. word (cell_in k)) (range_with_len 0 41)
+words_of word = map (λ place. word (cell_in place)) (range_with_len 0 places)
 
 -- there is a word for each cell
 unfoldable pub AreWords : Words → Type 0
-AreWords words = length words ≡ 41
+AreWords words = length words ≡ places
 
 -- the word of a cell
 unfoldable pub word_at : Words → Cell → ℕ
-word_at words cell = slice_index words (place cell)
+word_at words cell = slice_index words (place_of cell)
 
 -- the words with another one for a cell
 unfoldable pub with_word : Words → Cell → ℕ → Words
-with_word words cell word = slice_set words (place cell) word
+with_word words cell word = slice_set words (place_of cell) word
 
 -- an output's registers have the same words in both
 abbrev pub HaveSameRegisters : Words → Words → ℕ → Type 0
 HaveSameRegisters words others output =
     (register : Reg) → word_at words (Out output register) ≡ word_at others (Out output register)
+
+-- each cell that there is has a word that it accepts
+abbrev pub AreAccepted : Settings → Type 0
+AreAccepted settings = (cell : Cell) → IsCell settings.count cell →
+    cell_accepts cell (word_at settings.words cell) ≡ true
+
+-- the settings of a converter: one to eight outputs, and for each cell a word that it accepts
+pub record AreSettings (settings : Settings) : Type 0 where
+  pub some : 1 ≤ settings.count
+  pub few : settings.count ≤ 8
+  pub words : AreWords settings.words
+  pub accepted : AreAccepted settings

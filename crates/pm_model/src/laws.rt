@@ -1,46 +1,43 @@
-//! The laws of the map of cells, over the definitions alone: the contract of a function with an
-//! empty body.
+//! The laws of the map of cells and of the order machine, over the definitions alone: each is the
+//! contract of a function that does nothing, or calls other laws.
 
-ghost use Rattle.std.specs.Prelude.{◌≡◌, ℕ, if◌then◌else◌};
-ghost use Rattle.pm_table.specs.declared.cell.Cell.{Cell};
-ghost use Rattle.pm_model.specs.Settings.{Words, AreWords, IsCell, same_cell, word_at, with_word, words_of, HaveSameRegisters};
-ghost use Rattle.pm_model.specs.Commanded.{Scale, commanded, is_cut};
+ghost use Rattle.pm_model.specs.Laws.{CommandsAreLimited, OrdersStayInTheirCells, OutputsStandAlone, SettingsAreAMap};
 
-use pm_table::cells_are_told_apart;
+use pm_table::{cells_are_told_apart, cells_have_places};
 
 /// The words of the cells are a map, for cells of a converter with eight outputs at most:
 ///
 /// - `read`: a cell that was written has the new word, and every other cell its old one;
 /// - `kept`, `again`, `unchanged`: a write leaves a word for each cell; the same write a second
-///   time changes nothing, and neither does that of the word that is there;
+///   time changes nothing, and neither does that of the existing word;
 /// - `made`, `one`: any words can be given to the cells, and no two maps give each cell the same one.
 pub fn settings_are_a_map()
-    ensures read { (words : Words) (cell other : Cell) (word : ℕ) →
-        AreWords words → IsCell 8 cell → IsCell 8 other →
-        word_at (with_word words cell word) other
-        ≡ (if same_cell cell other then word else word_at words other) }
-    ensures kept { (words : Words) (cell : Cell) (word : ℕ) →
-        AreWords words → AreWords (with_word words cell word) }
-    ensures again { (words : Words) (cell : Cell) (word : ℕ) →
-        with_word (with_word words cell word) cell word ≡ with_word words cell word }
-    ensures unchanged { (words : Words) (cell : Cell) →
-        AreWords words → IsCell 8 cell →
-        with_word words cell (word_at words cell) ≡ words }
-    ensures made { (word : Cell → ℕ) → AreWords (words_of word)
-        × ((cell : Cell) → IsCell 8 cell → word_at (words_of word) cell ≡ word cell) }
-    ensures one { (words : Words) (word : Cell → ℕ) → AreWords words →
-        ((cell : Cell) → IsCell 8 cell → word_at words cell ≡ word cell) →
-        words ≡ words_of word }
+    ensures { SettingsAreAMap }
 {
+    // Where the cells stand among the words.
+    cells_have_places();
     cells_are_told_apart();
 }
 
 /// What an output commands, and whether it is cut, depends on that output's own registers alone.
+#[tactic(auto, unfolding(crate::specs::Commanded::commanded, crate::specs::Commanded::is_cut, crate::specs::Commanded::selected))]
 pub fn outputs_stand_alone()
-    ensures commanded { (value : Scale) (words others : Words) (output : ℕ) →
-        HaveSameRegisters words others output →
-        commanded value words output ≡ commanded value others output }
-    ensures cut { (value : Scale) (words others : Words) (output : ℕ) →
-        HaveSameRegisters words others output →
-        is_cut value words output ≡ is_cut value others output }
+    ensures { OutputsStandAlone }
 {}
+
+/// No output commands a value above that of its VOUT_MAX.
+#[tactic(auto, unfolding(crate::specs::Commanded::commanded))]
+pub fn commands_are_limited()
+    ensures { CommandsAreLimited }
+{}
+
+/// In each run of the order machine, which starts with a word for each cell of at most eight outputs,
+/// each cell that there is has its start word or one that was accepted for that very cell (`own`),
+/// and a pending order is one that was accepted (`pending`); the start stays what it was (`start`).
+pub fn orders_stay_in_their_cells()
+    ensures { OrdersStayInTheirCells }
+{
+    // A write reaches the cell that the order names, and no other.
+    settings_are_a_map();
+    cells_are_told_apart();
+}

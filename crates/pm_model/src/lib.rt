@@ -2,9 +2,8 @@
 //! command by it.
 //!
 //! [`Plain`] is the map of a converter with one to eight outputs, [`OrderMachine`] is such a map under
-//! orders alone, and [`Formats`] says what the words of
-//! each output's voltages stand for. [`Plain::commanded`] is the voltage that an output asks for,
-//! cut to its VOUT_MAX.
+//! orders alone, and [`Formats`] says what the words of each output's voltages stand for.
+//! [`Plain::commanded`] is the voltage that an output asks for, cut to that of its VOUT_MAX.
 //!
 //! It hears no frame and keeps no page, no reading and no status: `pm_device` does. It takes no
 //! memory.
@@ -14,11 +13,12 @@ mod formats;
 mod laws;
 mod order_machine;
 mod pending_order;
-mod places;
 mod plain;
 
 pub use formats::Formats;
-pub use laws::{outputs_stand_alone, settings_are_a_map};
-pub use order_machine::{OrderMachine, orders_stay_in_their_cells};
+pub use laws::{
+    commands_are_limited, orders_stay_in_their_cells, outputs_stand_alone, settings_are_a_map,
+};
+pub use order_machine::OrderMachine;
 pub use pending_order::PendingOrder;
 pub use plain::Plain;

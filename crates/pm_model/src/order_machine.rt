@@ -1,15 +1,13 @@
-//! The order machine, and what holds of each of its runs.
+//! The order machine.
 
-ghost use Rattle.std.specs.Prelude.{◌≡◌, ◌≤◌, ◌↔◌, ℕ, List, None, IsTrue, is_some};
-ghost use Rattle.pm_table.specs.declared.cell.Cell.{Cell as AnyCell};
-ghost use Rattle.pm_table.specs.Cell.{cell_accepts};
-ghost use Rattle.pm_model.specs.Settings.{Settings, AreWords, IsCell, word_at};
-ghost use Rattle.pm_model.specs.OrderMachine.{Step, Accept, Take, End, Back, IsRun, IsOwnWord, IsAccepted, begun, stepped, machine_of};
+ghost use Rattle.std.specs.Prelude.{◌≡◌, ◌↔◌, None, true, IsTrue};
+ghost use Rattle.pm_table.specs.Cell.{cell_accepts, IsCell};
+ghost use Rattle.pm_model.specs.Settings.{word_at};
+ghost use Rattle.pm_model.specs.OrderMachine.{Accept, Take, End, Back, begun, stepped};
 
-use crate::laws::settings_are_a_map;
 use crate::pending_order::PendingOrder;
 use crate::plain::Plain;
-use pm_table::{Cell, cells_are_told_apart};
+use pm_table::Cell;
 use std::marker::Model;
 
 /// The settings of a converter under orders alone: one order at a time is pending, takes any number
@@ -77,7 +75,7 @@ impl OrderMachine {
         self.pending = None;
     }
 
-    /// Each cell gets its start word. A pending order stays pending.
+    /// Each cell gets the word that a restart gives. A pending order stays pending.
     pub fn back(&mut self)
         ensures { self.new ≡ stepped self.old Back }
     {
@@ -91,10 +89,11 @@ impl OrderMachine {
         self.start.has(cell)
     }
 
-    /// The word of a cell that is there.
+    /// The word of a cell that is there, one that the cell accepts.
     pub fn word(&self, cell: Cell) -> u16
         requires { IsCell self.now.start.count cell }
-        ensures { result ≡ word_at self.now.words cell }
+        ensures word { result ≡ word_at self.now.words cell }
+        ensures accepted { cell_accepts cell result ≡ true }
     {
         self.settings.get(cell)
     }
@@ -105,20 +104,4 @@ impl OrderMachine {
     {
         self.pending
     }
-}
-
-/// In each run of the order machine, which starts with a word for each cell of at most eight outputs,
-/// each cell that is there has its start word or one that was accepted for that very cell (`own`),
-/// and a pending order is one that was accepted (`pending`); the start stays what it was (`start`).
-pub fn orders_stay_in_their_cells()
-    ensures own { (start : Settings) (steps : List Step) (cell : AnyCell) →
-        start.count ≤ 8 → AreWords start.words → IsRun start steps → IsCell start.count cell →
-        IsOwnWord start steps cell (word_at (machine_of start steps).words cell) }
-    ensures pending { (start : Settings) (steps : List Step) → IsRun start steps →
-        IsAccepted start steps (machine_of start steps).pending }
-    ensures start { (start : Settings) (steps : List Step) →
-        (machine_of start steps).start ≡ start }
-{
-    settings_are_a_map();
-    cells_are_told_apart();
 }

@@ -1,13 +1,13 @@
-ghost use Rattle.std.specs.Prelude.{◌≡◌, ◌↔◌, ◌≤◌, ◌<◌, ◌/◌, ◌%◌, ℕ, [], IsTrue, slice_index, slice_index_or};
-ghost use Rattle.pm_table.specs.Cell.{cell_accepts, register_accepts};
+ghost use Rattle.std.specs.Prelude.{◌≡◌, ◌↔◌, ◌≤◌, ◌<◌, ◌/◌, ◌%◌, ℕ, [], true, false, IsTrue, slice_index, slice_index_or};
+ghost use Rattle.pm_table.specs.Cell.{cell_accepts, protect_place, register_accepts, register_count, register_number, IsCell};
 ghost use Rattle.pm_table.specs.declared.cell.Reg.{Reg as Register};
-ghost use Rattle.pm_model.specs.Settings.{word_at, with_word, register_number, AreWords, IsCell};
-ghost use Rattle.pm_model.specs.Commanded.{selected, selected_register as spec_selected_register, is_above as spec_is_above, is_cut, commanded, scale_at};
+ghost use Rattle.pm_model.specs.Settings.{word_at, with_word, AreSettings, AreWords};
+ghost use Rattle.pm_model.specs.Commanded.{commanded, greatest_value, is_above as spec_is_above, is_cut, scale_at, selected_register as spec_selected_register, selected_value};
 
 use crate::formats::Formats;
-use crate::places::{OF_OUTPUTS, PLACES, REGISTERS, place_of};
+use crate::laws::{commands_are_limited, settings_are_a_map};
 use pm_num::{Frac, NumFormat};
-use pm_table::{Cell, Reg};
+use pm_table::{Cell, Reg, cells_are_told_apart};
 use std::cmp::Ordering;
 use std::marker::Model;
 
@@ -15,32 +15,33 @@ use std::marker::Model;
 #[derive(Clone, Debug, Drop)]
 pub struct Plain {
     count: u8,
-    // Five words for each of eight outputs, and that of WRITE_PROTECT.
-    words: [u16; PLACES],
+    // The word of each cell at its place: for eight outputs, and for WRITE_PROTECT.
+    words: [u16; Cell::PLACES],
 }
 
 impl Model for Plain {
-    ghost use Rattle.std.specs.Prelude.{◌≡◌, ◌≤◌};
-    ghost use Rattle.pm_model.specs.Settings.{Settings, AreWords};
+    ghost use Rattle.pm_model.specs.Settings.{Settings, AreSettings};
 
     ghost Value = { Settings };
 
     ghost view = { λ p. record { count = p.count; words = p.words } };
 
-    ghost invariant = { λ p. AreWords p.words × (1 ≤ p.count) × (p.count ≤ 8) };
+    ghost invariant = { λ p. AreSettings (record { count = p.count; words = p.words }) };
 }
 
-// The words of eight outputs, one output after another, and that of WRITE_PROTECT behind them.
+// The words in the order of the cells' places: row by row those of the outputs, and that of
+// WRITE_PROTECT last.
 #[tactic(auto, unfolding(crate::specs::Settings::AreWords))]
-fn in_places(words: [[u16; 5]; 8], protect: u16) -> [u16; PLACES]
+fn in_places(words: [[u16; Reg::COUNT]; 8], protect: u16) -> [u16; Cell::PLACES]
     ensures whole { AreWords result }
-    ensures registers { (k : ℕ) → k < 40 →
-        slice_index result k ≡ slice_index (slice_index_or words (k / 5) []) (k % 5) }
-    ensures protection { slice_index result 40 ≡ protect }
+    ensures registers { (place : ℕ) → place < protect_place →
+        slice_index result place
+        ≡ slice_index (slice_index_or words (place / register_count) []) (place % register_count) }
+    ensures protection { slice_index result protect_place ≡ protect }
 {
-    let mut all = [protect; PLACES];
-    for place in 0..OF_OUTPUTS {
-        all[place] = words[place / REGISTERS][place % REGISTERS];
+    let mut all = [protect; Cell::PLACES];
+    for place in 0..Cell::PLACES - 1 {
+        all[place] = words[place / Reg::COUNT][place % Reg::COUNT];
     }
     all
 }
@@ -49,7 +50,8 @@ impl Plain {
     /// The settings with these words: for each output its registers in the order of `Reg`, and
     /// WRITE_PROTECT. Asks a count of 1 to 8 and that each cell accepts its word. What stands for
     /// outputs from `count` on means nothing.
-    pub fn new(count: u8, words: [[u16; 5]; 8], protect: u16) -> Plain
+    #[tactic(auto, unfolding(crate::specs::Settings::word_at))]
+    pub fn new(count: u8, words: [[u16; Reg::COUNT]; 8], protect: u16) -> Plain
         requires some { 1 ≤ count }
         requires few { count ≤ 8 }
         requires registers { (output : ℕ) (register : Register) → output < count →
@@ -82,6 +84,7 @@ impl Plain {
         ensures some { 1 ≤ result }
         ensures few { result ≤ 8 }
         ensures words { AreWords self.now.words }
+        ensures settings { AreSettings self.now }
     {
         self.count
     }
@@ -96,14 +99,15 @@ impl Plain {
         }
     }
 
-    /// The word of a cell that there is.
+    /// The word of a cell that there is, one that the cell accepts.
     #[tactic(auto, unfolding(crate::specs::Settings::word_at, crate::specs::Settings::AreWords))]
     pub fn get(&self, cell: Cell) -> u16
         requires { IsCell self.now.count cell }
-        ensures { result ≡ word_at self.now.words cell }
+        ensures word { result ≡ word_at self.now.words cell }
+        ensures accepted { cell_accepts cell result ≡ true }
     {
         let words = &self.words;
-        words[place_of(cell)]
+        words[cell.place()]
     }
 
     /// The settings with another word for a cell that there is. Asks that the cell accepts it.
@@ -114,19 +118,27 @@ impl Plain {
         ensures { result
             ≡ record { count = self.now.count; words = with_word self.now.words cell word } }
     {
+        // Every other cell keeps its word.
+        settings_are_a_map();
+        cells_are_told_apart();
         let mut changed = self.copied();
-        changed.words[place_of(cell)] = word;
+        changed.words[cell.place()] = word;
         changed
     }
 
     /// The voltage that an output which is there commands: the value of the word that OPERATION
     /// selects, VOUT_COMMAND or a margin, or the value of VOUT_MAX where that is less. Volts; an
     /// output that is off keeps it.
-    #[tactic(auto, unfolding(crate::specs::Commanded::commanded))]
+    #[tactic(auto, unfolding(crate::specs::Commanded::commanded, crate::specs::Commanded::is_cut))]
     pub fn commanded(&self, formats: &Formats, output: u8) -> Frac
         requires { output < self.now.count }
-        ensures { result ≡ commanded (scale_at formats.now.each output) self.now.words output }
+        ensures value { result
+            ≡ commanded (scale_at formats.now.each output) self.now.words output }
+        ensures limited { spec_is_above result
+            (greatest_value (scale_at formats.now.each output) self.now.words output) ≡ false }
     {
+        // For the clause `limited`.
+        commands_are_limited();
         if self.is_cut(formats, output) {
             self.greatest(formats, output)
         } else {
@@ -151,7 +163,7 @@ impl Plain {
     fn selected(&self, formats: &Formats, output: u8) -> Frac
         requires { output < self.now.count }
         ensures { result
-            ≡ scale_at formats.now.each output (selected self.now.words output) }
+            ≡ selected_value (scale_at formats.now.each output) self.now.words output }
     {
         let operation = self.get(Cell::Out(output, Reg::Operation));
         self.value(formats, output, selected_register(operation))
@@ -161,8 +173,7 @@ impl Plain {
     fn greatest(&self, formats: &Formats, output: u8) -> Frac
         requires { output < self.now.count }
         ensures { result
-            ≡ scale_at formats.now.each output
-            (word_at self.now.words (Cell.Out output Register.VoutMax)) }
+            ≡ greatest_value (scale_at formats.now.each output) self.now.words output }
     {
         self.value(formats, output, Reg::VoutMax)
     }
@@ -174,6 +185,7 @@ impl Plain {
             ≡ scale_at formats.now.each output
             (word_at self.now.words (Cell.Out output register)) }
     {
+        // There is a format for each of eight outputs at most.
         let _count = self.count();
         formats.each[usize::from(output)].value_of(self.get(Cell::Out(output, register)))
     }

@@ -5,7 +5,7 @@ use Rattle.std.proofs.lemmas.Int.{ints, by_lt_z, to_z-of_z}
 use mir.Syntax.{w128}
 use mir.Val.{SFits, to_z, of_z}
 use Rattle.pm_num.specs.Steps.{IsFloor, IsRounded}
-use Rattle.pm_num.specs.Laws.Integers.{lt-times}
+use Rattle.pm_num.specs.Lemmas.Integers.{lt-times}
 
 -- The quotient whose remainder is not negative is the floor, for a positive divisor.
 pub floor-int_div_euclid : (a d : ℤ) → pos 0 <ℤ d → IsFloor a d (int_div_euclid a d)
@@ -18,49 +18,58 @@ floor-int_div_euclid (negsuc a) (pos d) h =
     record { reached = omega (arith, ints); next_above = omega (arith, ints) }
 
 -- No whole multiple of the divisor is nearer than the rounded one,
-pub nearest_from_rounded : (a q : ℤ) (d : ℕ) → IsRounded a (pos d) q → (j : ℤ) → unsigned_abs (a -ℤ q *ℤ pos d) ≤ unsigned_abs (a -ℤ j *ℤ pos d)
+pub nearest_from_rounded : (a q : ℤ) (d : ℕ) → IsRounded a (pos d) q → (j : ℤ)
+    → unsigned_abs (a -ℤ q *ℤ pos d) ≤ unsigned_abs (a -ℤ j *ℤ pos d)
 nearest_from_rounded a q d h j =
     by_lt_z j q
     (λ less. let k = lt-times j q d less in omega (arith, ints))
-    (λ at_most. by_lt_z q j (λ less. let k = lt-times q j d less in omega (arith, ints)) (λ p. let same : q ≡ j = omega (arith, ints) in let e = ap (λ (z : ℤ). unsigned_abs (a -ℤ z *ℤ pos d)) same in omega arith))
+    (λ at_most. by_lt_z q j (λ less. let k = lt-times q j d less in omega (arith, ints))
+    (λ p. let same : q ≡ j = omega (arith, ints) in let e = ap (λ (z : ℤ). unsigned_abs (a -ℤ z *ℤ pos d)) same in omega arith))
 
 -- and none that is as near is lower.
-pub lower_from_rounded : (a q : ℤ) (d : ℕ) → IsRounded a (pos d) q → (j : ℤ) → unsigned_abs (a -ℤ j *ℤ pos d) ≤ unsigned_abs (a -ℤ q *ℤ pos d) → q ≤ℤ j
+pub lower_from_rounded : (a q : ℤ) (d : ℕ) → IsRounded a (pos d) q → (j : ℤ)
+    → unsigned_abs (a -ℤ j *ℤ pos d) ≤ unsigned_abs (a -ℤ q *ℤ pos d) → q ≤ℤ j
 lower_from_rounded a q d h j near =
     by_lt_z j q (λ less. let k = lt-times j q d less in absurd (omega (arith, ints))) (λ p. p)
 
--- A whole bound of the quotient bounds the rounded one.
+-- A whole bound of the quotient bounds the rounded one, from below,
 pub above_from_rounded : (a q : ℤ) (d : ℕ) → 0 < d → IsRounded a (pos d) q → (l : ℤ) → (l *ℤ pos d) ≤ℤ a → l ≤ℤ q
 above_from_rounded a q d positive h l le =
     by_lt_z q l (λ less. let k = lt-times q l d less in absurd (omega (arith, ints))) (λ p. p)
 
+-- and so from above.
 pub below_from_rounded : (a q : ℤ) (d : ℕ) → 0 < d → IsRounded a (pos d) q → (g : ℤ) → a ≤ℤ (g *ℤ pos d) → q ≤ℤ g
 below_from_rounded a q d positive h g le =
     by_lt_z g q (λ less. let k = lt-times g q d less in absurd (omega (arith, ints))) (λ p. p)
 
 -- The rounded quotient is a floor; b, e and r are what the code computes.
-pub rounded-floor : (a d q b e r : ℤ) → pos 0 <ℤ d → IsFloor b e q → b ≡ pos 2 *ℤ a +ℤ d -ℤ pos 1 → e ≡ pos 2 *ℤ d → r ≡ q → IsRounded a d r
-rounded-floor a (pos d) q b e r positive h is_b is_e is_r =
+pub rounded-floor : {b e q r : ℤ} (a d : ℤ) → pos 0 <ℤ d → IsFloor b e q → b ≡ pos 2 *ℤ a +ℤ d -ℤ pos 1 → e ≡ pos 2 *ℤ d → r ≡ q
+    → IsRounded a d r
+rounded-floor {b = b} {q = q} a (pos d) positive h is_b is_e is_r =
     let f = subst (λ (z : ℤ). IsFloor b z q) is_e h in
     let g = subst (λ (z : ℤ). IsRounded a (pos d) z) (sym is_r) in
     g (record { below = omega (arith, ints); above = omega (arith, ints) })
-rounded-floor a (negsuc d) q b e r positive h is_b is_e is_r = absurd (omega (arith, ints))
+rounded-floor a (negsuc d) positive h is_b is_e is_r = absurd (omega (arith, ints))
 
+-- What the code's division gives is the floor.
 pub floor_from : (a d q : ℤ) → pos 0 <ℤ d → q ≡ int_div_euclid a d → IsFloor a d q
 floor_from a d q positive e = subst (λ (z : ℤ). IsFloor a d z) (sym e) (floor-int_div_euclid a d positive)
 
 -- No greater whole number than the floor is at most the quotient; b, e and r are what the code computes.
-pub greatest_from_floor : (a q k b e r : ℤ) (d : ℕ) → IsFloor b e q → b ≡ a → e ≡ pos d → r ≡ q → (k *ℤ pos d) ≤ℤ a → k ≤ℤ r
-greatest_from_floor a q k b e r d h is_b is_e is_r le =
+pub greatest_from_floor : {b e q r : ℤ} (a k : ℤ) (d : ℕ) → IsFloor b e q → b ≡ a → e ≡ pos d → r ≡ q → (k *ℤ pos d) ≤ℤ a → k ≤ℤ r
+greatest_from_floor {b = b} {q = q} a k d h is_b is_e is_r le =
     let f = subst (λ (z : ℤ). IsFloor b z q) is_e h in
     by_lt_z q k (λ less. let i = lt-times q k d less in absurd (omega (arith, ints))) (λ p. omega (arith, ints))
 
 -- What the code passed and returned, at the numbers that are meant.
-pub same_product : (a b p q r : ℤ) → SFits w128 p → SFits w128 q → r ≡ to_z w128 (of_z w128 p) *ℤ to_z w128 (of_z w128 q) → p ≡ a → q ≡ b → r ≡ a *ℤ b
-same_product a b p q r fits_p fits_q e is_p is_q = let f = simp to_z-of_z at e in cc
+pub same_product : {p q r : ℤ} (a b : ℤ) → SFits w128 p → SFits w128 q → r ≡ to_z w128 (of_z w128 p) *ℤ to_z w128 (of_z w128 q) → p ≡ a
+    → q ≡ b
+    → r ≡ a *ℤ b
+same_product a b fits_p fits_q e is_p is_q = let f = simp to_z-of_z at e in cc
 
-pub rounded_at : (a d q b e r : ℤ) → IsRounded b e q → b ≡ a → e ≡ d → r ≡ q → IsRounded a d r
-rounded_at a d q b e r h is_b is_e is_r =
+-- The rounded quotient of the numbers that are meant; b, e and r are what the code computes.
+pub rounded_at : {b e q r : ℤ} (a d : ℤ) → IsRounded b e q → b ≡ a → e ≡ d → r ≡ q → IsRounded a d r
+rounded_at {e = e} {q = q} a d h is_b is_e is_r =
     let f = subst (λ (z : ℤ). IsRounded z e q) is_b h in
     let g = subst (λ (z : ℤ). IsRounded a z q) is_e f in
     subst (λ (z : ℤ). IsRounded a d z) (sym is_r) g

@@ -1,5 +1,6 @@
 -- DIRECT's words on their grid.
-use Rattle.std.proofs.Common.{◌≡◌, ℕ, ◌+◌, ◌*◌, ◌^◌, ◌<◌, ◌≤◌, suc, ℤ, pos, negsuc, neg_ℤ, ◌-ℤ◌, ◌*ℤ◌, ◌≤ℤ◌, unsigned_abs, ap, ◌∙◌, subst, arith}
+use Rattle.std.proofs.Common.{◌≡◌, ℕ, ◌+◌, ◌*◌, ◌^◌, ◌<◌, ◌≤◌, suc, ℤ, pos, negsuc, neg_ℤ, ◌-ℤ◌, ◌*ℤ◌, ◌≤ℤ◌, unsigned_abs, ap, ◌∙◌, subst}
+use Rattle.std.proofs.Common.{arith}
 use Rattle.std.proofs.lemmas.Int.{ints}
 use Rattle.std.proofs.Math.Nat.{pow-le-pow_right}
 use borrow.Author.Differences.{product_is}
@@ -20,10 +21,12 @@ sign-times (negsuc k) a n =
     let g = ap (λ (k : ℕ). k * n) (product_is (negsuc 0) a).1 in
     omega (arith, ints)
 
+-- A sign goes through a difference.
 sign-sub : (m a b : ℤ) → sign m *ℤ (a -ℤ b) ≡ sign m *ℤ a -ℤ sign m *ℤ b
 sign-sub (pos n) a b = omega (arith, ints)
 sign-sub (negsuc n) a b = omega (arith, ints)
 
+-- The value of a word stands at the word's place of the grid, turned by the sign of the slope.
 pub direct-at_place : (m b r : ℤ) (w : ℕ) → direct_value m b r w ≡ at_place (direct_spacing m b r) (sign m *ℤ signed 16 w)
 direct-at_place m b r w =
     let y = signed 16 w *ℤ pos (lower 10 r) in
@@ -33,11 +36,15 @@ direct-at_place m b r w =
     let g : sign m *ℤ (y -ℤ c) ≡ (sign m *ℤ signed 16 w) *ℤ pos (lower 10 r) -ℤ sign m *ℤ c = omega (arith, ints) in
     ap (λ (z : ℤ). let v : Ratio = record { num = z; den = unsigned_abs m * upper 10 r } in v) g
 
-from_least : (m b r : ℤ) (x : Ratio) (q : ℤ) → IsPlace (direct_spacing m b r) x q → (w : ℕ) → AtMost (direct_value m b r w) x → (sign m *ℤ signed 16 w) ≤ℤ q
+-- A place of the grid is at least that of a word whose value is at most x,
+from_least : (m b r : ℤ) (x : Ratio) (q : ℤ) → IsPlace (direct_spacing m b r) x q → (w : ℕ) → AtMost (direct_value m b r w) x
+    → (sign m *ℤ signed 16 w) ≤ℤ q
 from_least m b r x q h w le =
     h.above (sign m *ℤ signed 16 w) (subst (λ (v : Ratio). AtMost v x) (direct-at_place m b r w) le)
 
-to_greatest : (m b r : ℤ) (x : Ratio) (q : ℤ) → IsPlace (direct_spacing m b r) x q → (w : ℕ) → AtMost x (direct_value m b r w) → q ≤ℤ (sign m *ℤ signed 16 w)
+-- and at most that of a word whose value is at least x;
+to_greatest : (m b r : ℤ) (x : Ratio) (q : ℤ) → IsPlace (direct_spacing m b r) x q → (w : ℕ) → AtMost x (direct_value m b r w)
+    → q ≤ℤ (sign m *ℤ signed 16 w)
 to_greatest m b r x q h w le =
     h.below (sign m *ℤ signed 16 w) (subst (λ (v : Ratio). AtMost x v) (direct-at_place m b r w) le)
 
@@ -47,7 +54,9 @@ pub record FitsWord (m q : ℤ) : Type 0 where
   pub above : neg_ℤ (pos 32768) ≤ℤ (sign m *ℤ q)
   pub below : (sign m *ℤ q) ≤ℤ pos 32767
 
-direct-fits : (m b r : ℤ) (x : Ratio) (q : ℤ) → IsPlace (direct_spacing m b r) x q → IsBetween (direct_value m b r (direct_least m)) (direct_value m b r (direct_greatest m)) x → FitsWord m q
+-- so a number in the range has a place that a word has.
+direct-fits : (m b r : ℤ) (x : Ratio) (q : ℤ) → IsPlace (direct_spacing m b r) x q
+    → IsBetween (direct_value m b r (direct_least m)) (direct_value m b r (direct_greatest m)) x → FitsWord m q
 direct-fits (pos n) b r x q h between =
     let l = from_least (pos n) b r x q h 0x8000 between.from_least in
     let g = to_greatest (pos n) b r x q h 0x7FFF between.to_greatest in
@@ -58,22 +67,27 @@ direct-fits (negsuc n) b r x q h between =
     record { size = omega (arith, ints); above = omega (arith, ints); below = omega (arith, ints) }
 
 -- The same at the range l to g and the grid s that the code passed.
-pub found_fits : (m b r : ℤ) (x : Ratio) (q : ℤ) (l g : Ratio) (s : Spacing) → l ≡ direct_value m b r (direct_least m) → g ≡ direct_value m b r (direct_greatest m) → IsBetween l g x → s ≡ direct_spacing m b r → IsPlace s x q → FitsWord m q
-found_fits m b r x q l g s e f between is h =
+pub found_fits : {x : Ratio} {q : ℤ} {l g : Ratio} {s : Spacing} (m b r : ℤ) → l ≡ direct_value m b r (direct_least m)
+    → g ≡ direct_value m b r (direct_greatest m) → IsBetween l g x → s ≡ direct_spacing m b r → IsPlace s x q → FitsWord m q
+found_fits {x} {q} {l} {g} m b r e f between is h =
     direct-fits m b r x q (subst (λ (t : Spacing). IsPlace t x q) is h) (between_along l _ g _ x e f between)
 
 -- A product with the sign of m, at the number that the code passed.
 pub signed_at : (m q p s : ℤ) → s ≡ sign m *ℤ p → p ≡ q → s ≡ sign m *ℤ q
 signed_at m q p s e is = e ∙ ap (λ (z : ℤ). sign m *ℤ z) is
 
+-- A sign is taken back by itself.
 sign_back : (m y q : ℤ) → y ≡ sign m *ℤ q → q ≡ sign m *ℤ y
 sign_back (pos n) y q e = omega (arith, ints)
 sign_back (negsuc n) y q e = omega (arith, ints)
 
-pub direct-nearest : (m b r : ℤ) (x : Ratio) (q : ℤ) (w : ℕ) (s : Spacing) → 0 < unsigned_abs m * upper 10 r → s ≡ direct_spacing m b r → IsPlace s x q → w < 2 ^ 16 → signed 16 w ≡ sign m *ℤ q → IsNearest (direct_value m b r) one_rank x w
-direct-nearest m b r x q w s den is_s place word is =
+-- The word at the place that the grid gave is the nearest one.
+pub direct-nearest : {x : Ratio} {q : ℤ} {w : ℕ} {s : Spacing} (m b r : ℤ) → 0 < unsigned_abs m * upper 10 r → s ≡ direct_spacing m b r
+    → IsPlace s x q → w < 2 ^ 16 → signed 16 w ≡ sign m *ℤ q → IsNearest (direct_value m b r) one_rank x w
+direct-nearest {x} {q} {w} m b r den is_s place word is =
     let h = subst (λ (t : Spacing). IsPlace t x q) is_s place in
-    nearest_word (direct_value m b r) (λ u. sign m *ℤ signed 16 u) (direct_spacing m b r) x w q (λ u _. direct-at_place m b r u) den word (sign_back m (signed 16 w) q is) h.nearest h.lowest
+    nearest_word (λ u. sign m *ℤ signed 16 u) (direct_spacing m b r) (λ u _. direct-at_place m b r u) den word
+    (sign_back m (signed 16 w) q is) h.nearest h.lowest
 
 -- The two parts of a numerator are not both large.
 pub parts_small : (r : ℤ) → IsDecimal r → 2 ^ 15 * lower 10 r + 2 ^ 15 * upper 10 r ≤ 2 ^ 55

@@ -4,8 +4,8 @@ use Rattle.std.proofs.lemmas.Int.{ints}
 use Rattle.pm_num.specs.Ratio.{Ratio, AtMost, IsBetween}
 use Rattle.pm_num.specs.Nearest.{Near, IsNearest, one_rank}
 use Rattle.pm_num.specs.Steps.{IsRounded, Spacing, at_place}
-use Rattle.pm_num.specs.Laws.Integers.{sub-times, times-times, le-times}
-use Rattle.pm_num.specs.Laws.Over.{Over, apart, near_over, near_over_back}
+use Rattle.pm_num.specs.Lemmas.Integers.{sub-times, times-times, le-times}
+use Rattle.pm_num.specs.Lemmas.Over.{Over, apart, near_over, near_over_back}
 use Rattle.pm_num.proofs.Rounding.{nearest_from_rounded, lower_from_rounded, above_from_rounded, below_from_rounded}
 
 -- The numerator of the number at k, over the grid's denominator.
@@ -16,53 +16,66 @@ place_num g k = k *ℤ pos g.step -ℤ g.offset
 abbrev pub moved_num : Spacing → Ratio → ℤ
 moved_num g x = x.num *ℤ pos g.den +ℤ g.offset *ℤ pos x.den
 
+-- A place's number is over the grid's denominator.
 Over-at_place : (g : Spacing) (k : ℤ) → 0 < g.den → Over g.den (place_num g k) (at_place g k)
 Over-at_place g k h = record { common = h; den = h; is = refl }
 
+-- How far x is from a place, over both denominators,
 distance : (g : Spacing) (x : Ratio) (k : ℤ) → x.num *ℤ pos g.den -ℤ place_num g k *ℤ pos x.den ≡ moved_num g x -ℤ k *ℤ pos (g.step * x.den)
 distance g x k =
     let e = sub-times (k *ℤ pos g.step) g.offset x.den in
     let f = times-times k g.step x.den in
     omega (arith, ints)
 
-apart-at_place : (g : Spacing) (x : Ratio) (k : ℤ) → apart g.den x (place_num g k) ≡ unsigned_abs (moved_num g x -ℤ k *ℤ pos (g.step * x.den))
+-- and the size of that.
+apart-at_place : (g : Spacing) (x : Ratio) (k : ℤ)
+    → apart g.den x (place_num g k) ≡ unsigned_abs (moved_num g x -ℤ k *ℤ pos (g.step * x.den))
 apart-at_place g x k = ap unsigned_abs (distance g x k)
 
-pub nearest_on_grid : (g : Spacing) (x : Ratio) (q : ℤ) → 0 < g.den → IsRounded (moved_num g x) (pos (g.step * x.den)) q → (j : ℤ) → Near x (at_place g q) (at_place g j)
+-- The rounded place is the nearest,
+pub nearest_on_grid : (g : Spacing) (x : Ratio) (q : ℤ) → 0 < g.den → IsRounded (moved_num g x) (pos (g.step * x.den)) q → (j : ℤ)
+    → Near x (at_place g q) (at_place g j)
 nearest_on_grid g x q h r j =
     let e = apart-at_place g x q in
     let f = apart-at_place g x j in
     let n = nearest_from_rounded (moved_num g x) q (g.step * x.den) r j in
-    near_over x (at_place g q) (at_place g j) g.den (place_num g q) (place_num g j) (Over-at_place g q h) (Over-at_place g j h) (omega arith)
+    near_over x (Over-at_place g q h) (Over-at_place g j h) (omega arith)
 
-pub lowest_on_grid : (g : Spacing) (x : Ratio) (q : ℤ) → 0 < g.den → IsRounded (moved_num g x) (pos (g.step * x.den)) q → (j : ℤ) → Near x (at_place g j) (at_place g q) → q ≤ℤ j
+-- the lowest of those,
+pub lowest_on_grid : (g : Spacing) (x : Ratio) (q : ℤ) → 0 < g.den → IsRounded (moved_num g x) (pos (g.step * x.den)) q → (j : ℤ)
+    → Near x (at_place g j) (at_place g q) → q ≤ℤ j
 lowest_on_grid g x q h r j near =
     let e = apart-at_place g x q in
     let f = apart-at_place g x j in
-    let n = near_over_back x (at_place g j) (at_place g q) g.den (place_num g j) (place_num g q) (Over-at_place g j h) (Over-at_place g q h) near in
+    let n = near_over_back x (Over-at_place g j h) (Over-at_place g q h) near in
     lower_from_rounded (moved_num g x) q (g.step * x.den) r j (omega arith)
 
-pub above_on_grid : (g : Spacing) (x : Ratio) (q : ℤ) → 0 < g.step * x.den → IsRounded (moved_num g x) (pos (g.step * x.den)) q → (j : ℤ) → AtMost (at_place g j) x → j ≤ℤ q
+-- at least each place below x,
+pub above_on_grid : (g : Spacing) (x : Ratio) (q : ℤ) → 0 < g.step * x.den → IsRounded (moved_num g x) (pos (g.step * x.den)) q → (j : ℤ)
+    → AtMost (at_place g j) x → j ≤ℤ q
 above_on_grid g x q h r j le =
     let e = distance g x j in
     above_from_rounded (moved_num g x) q (g.step * x.den) h r j (omega (arith, ints))
 
-pub below_on_grid : (g : Spacing) (x : Ratio) (q : ℤ) → 0 < g.step * x.den → IsRounded (moved_num g x) (pos (g.step * x.den)) q → (j : ℤ) → AtMost x (at_place g j) → q ≤ℤ j
+-- and at most each above it.
+pub below_on_grid : (g : Spacing) (x : Ratio) (q : ℤ) → 0 < g.step * x.den → IsRounded (moved_num g x) (pos (g.step * x.den)) q → (j : ℤ)
+    → AtMost x (at_place g j) → q ≤ℤ j
 below_on_grid g x q h r j le =
     let e = distance g x j in
     below_from_rounded (moved_num g x) q (g.step * x.den) h r j (omega (arith, ints))
 
+-- A higher place has a greater number.
 ordered_on_grid : (g : Spacing) (q j : ℤ) → q ≤ℤ j → AtMost (at_place g q) (at_place g j)
 ordered_on_grid g q j h =
     let e = le-times q j g.step h in
     le-times (place_num g q) (place_num g j) g.den (omega (arith, ints))
 
 -- A format whose word u has the number at `place u` of a grid: the word of the nearest number is the nearest word.
-pub nearest_word : (value : ℕ → Ratio) (place : ℕ → ℤ) (g : Spacing) (x : Ratio) (w : ℕ) (q : ℤ)
+pub nearest_word : {value : ℕ → Ratio} {x : Ratio} {w : ℕ} {q : ℤ} (place : ℕ → ℤ) (g : Spacing)
     → ((u : ℕ) → u < 2 ^ 16 → value u ≡ at_place g (place u)) → 0 < g.den → w < 2 ^ 16 → q ≡ place w
     → ((j : ℤ) → Near x (at_place g q) (at_place g j)) → ((j : ℤ) → Near x (at_place g j) (at_place g q) → q ≤ℤ j)
     → IsNearest value one_rank x w
-nearest_word value place g x w q values den word is nearest lowest =
+nearest_word {value = value} {w = w} {q = q} place g values den word is nearest lowest =
     let value_w : value w ≡ at_place g q = values w word ∙ ap (at_place g) (sym is) in
     record {
       word = word;

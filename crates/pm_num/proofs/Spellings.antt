@@ -1,5 +1,6 @@
 -- The nearest LINEAR11 word.
-use Rattle.std.proofs.Common.{◌≡◌, ◌≢◌, ℕ, ◌+◌, ◌-◌, ◌*◌, ◌^◌, ◌<◌, ◌≤◌, ℤ, pos, negsuc, neg_ℤ, ◌-ℤ◌, ◌*ℤ◌, ◌≤ℤ◌, unsigned_abs, ap, sym, ◌∙◌, subst, inl, inr, ⊎_elim, arith}
+use Rattle.std.proofs.Common.{◌≡◌, ◌≢◌, ℕ, ◌+◌, ◌-◌, ◌*◌, ◌^◌, ◌<◌, ◌≤◌, ℤ, pos, negsuc, neg_ℤ, ◌-ℤ◌, ◌*ℤ◌, ◌≤ℤ◌, unsigned_abs, ap, sym}
+use Rattle.std.proofs.Common.{◌∙◌, subst, inl, inr, ⊎_elim, arith}
 use Rattle.std.specs.Prelude.{int_rem}
 use Rattle.std.proofs.lemmas.Int.{ints, by_lt_z}
 use Rattle.std.proofs.lemmas.Nat.{pow-add, pow_pos}
@@ -10,9 +11,9 @@ use Rattle.pm_num.specs.Value.{exponent, mantissa, linear11_value}
 use Rattle.pm_num.specs.Nearest.{preference, linear11_rank, IsNearest}
 use Rattle.pm_num.specs.Formats.{IsExponent}
 use Rattle.pm_num.specs.Steps.{IsRounded, place_of, IsSpelling, IsFar, IsLarge, IsPreferred, IsPlaceFor}
-use Rattle.pm_num.specs.Laws.Integers.{times-times, times-swap, le-times, le_from_times, same_from_times}
-use Rattle.pm_num.specs.Laws.Over.{apart, near_over, near_over_back, at_most_over, same_over_back}
-use Rattle.pm_num.specs.Laws.Spelling.{IsExponent-exponent, IsSpelling-word, Over-linear11}
+use Rattle.pm_num.specs.Lemmas.Integers.{times-times, times-swap, le-times, le_from_times, same_from_times}
+use Rattle.pm_num.specs.Lemmas.Over.{apart, near_over, near_over_back, at_most_over, same_over_back}
+use Rattle.pm_num.specs.Lemmas.Spelling.{IsExponent-exponent, IsSpelling-word, Over-linear11}
 use Rattle.pm_num.proofs.Rounding.{nearest_from_rounded, lower_from_rounded, above_from_rounded, below_from_rounded}
 
 -- The power at a greater place, in two parts.
@@ -54,6 +55,7 @@ Covers-below a d p j t positive le above =
       no_lower = λ h. le_from_times (j *ℤ pos (2 ^ p)) t d positive (omega (arith, ints));
     }
 
+-- And so does one between the number and t.
 Covers-above : (a : ℤ) (d p : ℕ) (j t : ℤ) → (j *ℤ pos (2 ^ p)) ≤ℤ t → a ≤ℤ (j *ℤ pos (d * 2 ^ p)) → Covers a d p t
 Covers-above a d p j t le below =
     let e = unit_times j d p in
@@ -62,7 +64,8 @@ Covers-above a d p j t le below =
 
 -- The number of every word is covered: at the place or above it is a multiple; below it, it lies on this side of
 -- 512 units, and x beyond them.
-Covers-word : (x : Ratio) (p : ℕ) → 0 < x.den → IsPlaceFor x p → (y : ℤ) (i : ℕ) → IsSpelling y i → Covers (x.num *ℤ pos (2 ^ 16)) x.den p (y *ℤ pos (2 ^ i))
+Covers-word : (x : Ratio) (p : ℕ) → 0 < x.den → IsPlaceFor x p → (y : ℤ) (i : ℕ) → IsSpelling y i
+    → Covers (x.num *ℤ pos (2 ^ 16)) x.den p (y *ℤ pos (2 ^ i))
 Covers-word x p den h y i s =
     ⊎_elim
     (λ less.
@@ -75,19 +78,24 @@ Covers-word x p den h y i s =
     let f = ap (λ (n : ℕ). x.den * n) e in
     let far = h.least q (omega arith) in
     by_lt_z x.num (pos 0)
-    (λ negative. Covers-above (x.num *ℤ pos (2 ^ 16)) x.den p (neg_ℤ (pos 512)) (y *ℤ pos (2 ^ i)) (omega (arith, ints)) (omega (arith, ints)))
+    (λ negative. Covers-above (x.num *ℤ pos (2 ^ 16)) x.den p (neg_ℤ (pos 512)) (y *ℤ pos (2 ^ i)) (omega (arith, ints))
+    (omega (arith, ints)))
     (λ positive. Covers-below (x.num *ℤ pos (2 ^ 16)) x.den p (pos 512) (y *ℤ pos (2 ^ i)) den (omega (arith, ints)) (omega (arith, ints))))
     (λ at_least. Covers-multiple (x.num *ℤ pos (2 ^ 16)) x.den p (y *ℤ pos (2 ^ (i - p))) (y *ℤ pos (2 ^ i)) (lowered y p i at_least))
     (cases_lt i p)
 
-nearest_by_cover : (a : ℤ) (d p : ℕ) (k t : ℤ) → IsRounded a (pos (d * 2 ^ p)) k → Covers a d p t → unsigned_abs (a -ℤ (k *ℤ pos (2 ^ p)) *ℤ pos d) ≤ unsigned_abs (a -ℤ t *ℤ pos d)
+-- The rounded multiple is as near as each number that is covered,
+nearest_by_cover : (a : ℤ) (d p : ℕ) (k t : ℤ) → IsRounded a (pos (d * 2 ^ p)) k → Covers a d p t
+    → unsigned_abs (a -ℤ (k *ℤ pos (2 ^ p)) *ℤ pos d) ≤ unsigned_abs (a -ℤ t *ℤ pos d)
 nearest_by_cover a d p k t r c =
     let n = nearest_from_rounded a k (d * 2 ^ p) r c.multiple in
     let e = ap (λ (z : ℤ). unsigned_abs (a -ℤ z)) (unit_times k d p) in
     let h = c.no_nearer in
     omega arith
 
-lowest_by_cover : (a : ℤ) (d p : ℕ) (k t : ℤ) → IsRounded a (pos (d * 2 ^ p)) k → Covers a d p t → unsigned_abs (a -ℤ t *ℤ pos d) ≤ unsigned_abs (a -ℤ (k *ℤ pos (2 ^ p)) *ℤ pos d) → (k *ℤ pos (2 ^ p)) ≤ℤ t
+-- and the lowest of those.
+lowest_by_cover : (a : ℤ) (d p : ℕ) (k t : ℤ) → IsRounded a (pos (d * 2 ^ p)) k → Covers a d p t
+    → unsigned_abs (a -ℤ t *ℤ pos d) ≤ unsigned_abs (a -ℤ (k *ℤ pos (2 ^ p)) *ℤ pos d) → (k *ℤ pos (2 ^ p)) ≤ℤ t
 lowest_by_cover a d p k t r c near =
     let n = nearest_from_rounded a k (d * 2 ^ p) r c.multiple in
     let e = ap (λ (z : ℤ). unsigned_abs (a -ℤ z)) (unit_times k d p) in
@@ -125,7 +133,9 @@ large_lowest y z i j large s same =
     (λ p. p)
     (cases_lt j i)
 
-rank_by_place : (e f : ℤ) → IsExponent e → IsExponent f → (place_of e < 16 → place_of f ≤ place_of e) → (16 < place_of e → place_of e ≤ place_of f) → preference e ≤ preference f
+-- An exponent whose place is nearer to 0 ranks first.
+rank_by_place : (e f : ℤ) → IsExponent e → IsExponent f → (place_of e < 16 → place_of f ≤ place_of e)
+    → (16 < place_of e → place_of e ≤ place_of f) → preference e ≤ preference f
 rank_by_place (pos m) (pos n) h k low high =
     ⊎_elim (λ (less : 0 < m). let l = high (omega arith) in omega arith) (λ (none : m ≤ 0). omega arith) (cases_lt 0 m)
 rank_by_place (pos m) (negsuc n) h k low high =
@@ -138,8 +148,9 @@ rank_by_place (negsuc m) (negsuc n) h k low high =
     omega arith
 
 -- The preferred spelling of a number ranks first among its spellings.
-preferred_first : (y z e f : ℤ) → IsExponent e → IsExponent f → IsPreferred y (place_of e) → IsSpelling z (place_of f) → z *ℤ pos (2 ^ place_of f) ≡ y *ℤ pos (2 ^ place_of e) → preference e ≤ preference f
-preferred_first y z e f he hf p s same =
+preferred_first : {e f : ℤ} (y z : ℤ) → IsExponent e → IsExponent f → IsPreferred y (place_of e) → IsSpelling z (place_of f)
+    → z *ℤ pos (2 ^ place_of f) ≡ y *ℤ pos (2 ^ place_of e) → preference e ≤ preference f
+preferred_first {e} {f} y z he hf p s same =
     rank_by_place e f he hf
     (λ low. odd_highest y z (place_of e) (place_of f) (p.odd low) same)
     (λ high. large_lowest y z (place_of e) (place_of f) (p.large high) s same)
@@ -148,8 +159,11 @@ preferred_first y z e f he hf p s same =
 abbrev spelled : ℕ → ℤ
 spelled w = mantissa w *ℤ pos (2 ^ place_of (exponent w))
 
-pub linear11-nearest : (x : Ratio) (p : ℕ) (k : ℤ) (w : ℕ) → 0 < x.den → IsPlaceFor x p → IsRounded (x.num *ℤ pos (2 ^ 16)) (pos (x.den * 2 ^ p)) k → w < 2 ^ 16 → spelled w ≡ k *ℤ pos (2 ^ p) → IsPreferred (mantissa w) (place_of (exponent w)) → IsNearest linear11_value linear11_rank x w
-linear11-nearest x p k w den place rounded word is preferred =
+-- A word that spells the rounded number, and prefers its spelling, is the nearest one.
+pub linear11-nearest : {k : ℤ} {w : ℕ} (x : Ratio) (p : ℕ) → 0 < x.den → IsPlaceFor x p
+    → IsRounded (x.num *ℤ pos (2 ^ 16)) (pos (x.den * 2 ^ p)) k → w < 2 ^ 16 → spelled w ≡ k *ℤ pos (2 ^ p)
+    → IsPreferred (mantissa w) (place_of (exponent w)) → IsNearest linear11_value linear11_rank x w
+linear11-nearest {k} {w} x p den place rounded word is preferred =
     let a = x.num *ℤ pos (2 ^ 16) in
     let cover = λ (u : ℕ) (h : u < 2 ^ 16). Covers-word x p den place (mantissa u) (place_of (exponent u)) (IsSpelling-word u h) in
     let e = ap (λ (z : ℤ). apart (2 ^ 16) x z) is in
@@ -157,14 +171,14 @@ linear11-nearest x p k w den place rounded word is preferred =
       word = word;
       nearest = λ u h.
           let n = nearest_by_cover a x.den p k (spelled u) rounded (cover u h) in
-          near_over x (linear11_value w) (linear11_value u) (2 ^ 16) (spelled w) (spelled u) (Over-linear11 w word) (Over-linear11 u h) (omega arith);
+          near_over x (Over-linear11 w word) (Over-linear11 u h) (omega arith);
       lowest = λ u h near.
-          let b = near_over_back x (linear11_value u) (linear11_value w) (2 ^ 16) (spelled u) (spelled w) (Over-linear11 u h) (Over-linear11 w word) near in
+          let b = near_over_back x (Over-linear11 u h) (Over-linear11 w word) near in
           let l = lowest_by_cover a x.den p k (spelled u) rounded (cover u h) (omega arith) in
-          at_most_over (linear11_value w) (linear11_value u) (2 ^ 16) (spelled w) (spelled u) (Over-linear11 w word) (Over-linear11 u h) (omega (arith, ints));
+          at_most_over (Over-linear11 w word) (Over-linear11 u h) (omega (arith, ints));
       spelling = λ u h same.
-          preferred_first (mantissa w) (mantissa u) (exponent w) (exponent u) (IsExponent-exponent w word) (IsExponent-exponent u h) preferred (IsSpelling-word u h)
-          (same_over_back (linear11_value u) (linear11_value w) (2 ^ 16) (spelled u) (spelled w) (Over-linear11 u h) (Over-linear11 w word) same);
+          preferred_first (mantissa w) (mantissa u) (IsExponent-exponent w word) (IsExponent-exponent u h) preferred (IsSpelling-word u h)
+          (same_over_back (Over-linear11 u h) (Over-linear11 w word) same);
     }
 
 -- A mantissa as it is rounded, before it is settled.
@@ -173,7 +187,9 @@ pub record IsUnsettled (p : ℕ) (k : ℤ) : Type 0 where
   pub below : k ≤ℤ pos 1024
   pub far : 16 < p → IsFar k
 
-rounded_far : (x : Ratio) (p : ℕ) (k : ℤ) → IsPlaceFor x p → IsRounded (x.num *ℤ pos (2 ^ 16)) (pos (x.den * 2 ^ p)) k → 0 < x.den * 2 ^ p → 0 < p → IsFar k
+-- Above the lowest place the rounded mantissa is a large one,
+rounded_far : (x : Ratio) (p : ℕ) (k : ℤ) → IsPlaceFor x p → IsRounded (x.num *ℤ pos (2 ^ 16)) (pos (x.den * 2 ^ p)) k → 0 < x.den * 2 ^ p
+    → 0 < p → IsFar k
 rounded_far x p k h r unit positive =
     let a = x.num *ℤ pos (2 ^ 16) in
     let e = ap (λ (n : ℕ). x.den * n) (split_power 1 p (omega arith)) in
@@ -182,7 +198,9 @@ rounded_far x p k h r unit positive =
     (λ negative. inl (below_from_rounded a k (x.den * 2 ^ p) unit r (neg_ℤ (pos 512)) (omega (arith, ints))))
     (λ at_least. inr (above_from_rounded a k (x.den * 2 ^ p) unit r (pos 512) (omega (arith, ints))))
 
-pub IsUnsettled-rounded : (x : Ratio) (p : ℕ) (k : ℤ) → IsPlaceFor x p → IsRounded (x.num *ℤ pos (2 ^ 16)) (pos (x.den * 2 ^ p)) k → IsUnsettled p k
+-- and within its bounds at any.
+pub IsUnsettled-rounded : (x : Ratio) (p : ℕ) (k : ℤ) → IsPlaceFor x p → IsRounded (x.num *ℤ pos (2 ^ 16)) (pos (x.den * 2 ^ p)) k
+    → IsUnsettled p k
 IsUnsettled-rounded x p k h r =
     let a = x.num *ℤ pos (2 ^ 16) in
     let unit : 0 < x.den * 2 ^ p = mul-pos h.den (pow_pos p) in
@@ -206,9 +224,12 @@ place_of-exponent (pos n) p h = omega (arith, ints)
 place_of-exponent (negsuc n) p h = omega (arith, ints)
 
 -- The word that was put together from the preferred spelling.
-pub linear11-found : (x : Ratio) (p : ℕ) (k : ℤ) (y : ℤ) (i w : ℕ) → IsPlaceFor x p → IsRounded (x.num *ℤ pos (2 ^ 16)) (pos (x.den * 2 ^ p)) k → w < 2 ^ 16 → mantissa w ≡ y → place_of (exponent w) ≡ i → y *ℤ pos (2 ^ i) ≡ k *ℤ pos (2 ^ p) → IsPreferred y i → IsNearest linear11_value linear11_rank x w
-linear11-found x p k y i w place rounded word is_y is_i same preferred =
-    let spelled_is : spelled w ≡ y *ℤ pos (2 ^ i) = ap (λ (z : ℤ). z *ℤ pos (2 ^ place_of (exponent w))) is_y ∙ ap (λ (n : ℕ). y *ℤ pos (2 ^ n)) is_i in
+pub linear11-found : {x : Ratio} {p : ℕ} {k y : ℤ} {i w : ℕ} → IsPlaceFor x p
+    → IsRounded (x.num *ℤ pos (2 ^ 16)) (pos (x.den * 2 ^ p)) k → w < 2 ^ 16 → mantissa w ≡ y → place_of (exponent w) ≡ i
+    → y *ℤ pos (2 ^ i) ≡ k *ℤ pos (2 ^ p) → IsPreferred y i → IsNearest linear11_value linear11_rank x w
+linear11-found {x} {p} {k} {y} {i} {w} place rounded word is_y is_i same preferred =
+    let spelled_is : spelled w ≡ y *ℤ pos (2 ^ i) =
+    ap (λ (z : ℤ). z *ℤ pos (2 ^ place_of (exponent w))) is_y ∙ ap (λ (n : ℕ). y *ℤ pos (2 ^ n)) is_i in
     let q = subst (λ (n : ℕ). IsPreferred y n) (sym is_i) preferred in
     let r = subst (λ (z : ℤ). IsPreferred z (place_of (exponent w))) (sym is_y) q in
-    linear11-nearest x p k w place.den place rounded word (spelled_is ∙ same) r
+    linear11-nearest x p place.den place rounded word (spelled_is ∙ same) r

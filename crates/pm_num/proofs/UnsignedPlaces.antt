@@ -5,25 +5,33 @@ use Rattle.pm_num.specs.Ratio.{Ratio, AtMost, IsBetween}
 use Rattle.pm_num.specs.Value.{upper, lower, ulinear16_value}
 use Rattle.pm_num.specs.Nearest.{IsNearest, one_rank}
 use Rattle.pm_num.specs.Steps.{Spacing, IsPlace, at_place}
-use Rattle.pm_num.specs.Laws.Unsigned.{lower-positive}
+use Rattle.pm_num.specs.Lemmas.Unsigned.{lower-positive}
 use Rattle.pm_num.proofs.Spaced.{nearest_word}
 
+-- The grid of ULINEAR16.
 abbrev pub unsigned_spacing : ℤ → Spacing
 unsigned_spacing n = record { den = lower 2 n; step = upper 2 n; offset = pos 0 }
 
+-- A word has its own place on it.
 pub ulinear16-at_place : (n : ℤ) (w : ℕ) → ulinear16_value n w ≡ at_place (unsigned_spacing n) (pos w)
 ulinear16-at_place n w =
     let e : pos w *ℤ pos (upper 2 n) ≡ pos w *ℤ pos (upper 2 n) -ℤ pos 0 = omega (arith, ints) in
     ap (λ (z : ℤ). let r : Ratio = record { num = z; den = lower 2 n } in r) e
 
-pub ulinear16-above : (n : ℤ) (x : Ratio) (q : ℤ) → IsPlace (unsigned_spacing n) x q → IsBetween (ulinear16_value n 0) (ulinear16_value n 65535) x → pos 0 ≤ℤ q
+-- A number in the range has a place at or above word 0's,
+pub ulinear16-above : (n : ℤ) (x : Ratio) (q : ℤ) → IsPlace (unsigned_spacing n) x q
+    → IsBetween (ulinear16_value n 0) (ulinear16_value n 65535) x → pos 0 ≤ℤ q
 ulinear16-above n x q h between =
     h.above (pos 0) (subst (λ (v : Ratio). AtMost v x) (ulinear16-at_place n 0) between.from_least)
 
-pub ulinear16-below : (n : ℤ) (x : Ratio) (q : ℤ) → IsPlace (unsigned_spacing n) x q → IsBetween (ulinear16_value n 0) (ulinear16_value n 65535) x → q ≤ℤ pos 65535
+-- and at or below word FFFFh's;
+pub ulinear16-below : (n : ℤ) (x : Ratio) (q : ℤ) → IsPlace (unsigned_spacing n) x q
+    → IsBetween (ulinear16_value n 0) (ulinear16_value n 65535) x → q ≤ℤ pos 65535
 ulinear16-below n x q h between =
     h.below (pos 65535) (subst (λ (v : Ratio). AtMost x v) (ulinear16-at_place n 65535) between.to_greatest)
 
-pub ulinear16-nearest : (n : ℤ) (x : Ratio) (q : ℤ) (w : ℕ) → IsPlace (unsigned_spacing n) x q → w < 2 ^ 16 → q ≡ pos w → IsNearest (ulinear16_value n) one_rank x w
+-- the word of the nearest place is the nearest.
+pub ulinear16-nearest : (n : ℤ) (x : Ratio) (q : ℤ) (w : ℕ) → IsPlace (unsigned_spacing n) x q → w < 2 ^ 16 → q ≡ pos w
+    → IsNearest (ulinear16_value n) one_rank x w
 ulinear16-nearest n x q w h word is =
-    nearest_word (ulinear16_value n) pos (unsigned_spacing n) x w q (λ u _. ulinear16-at_place n u) (lower-positive n) word is h.nearest h.lowest
+    nearest_word pos (unsigned_spacing n) (λ u _. ulinear16-at_place n u) (lower-positive n) word is h.nearest h.lowest

@@ -1,9 +1,13 @@
-pub mod Ratio
-pub mod Value
+-- What the crate promises.
+pub mod AnyFormat
+pub mod FaultWords
+pub mod Formats
+pub mod Laws
 pub mod Nearest
 pub mod NearestWord
-pub mod Formats
 pub mod Parameters
-pub mod AnyFormat
+pub mod Ratio
+pub mod Value
+-- How it is kept.
+pub mod Lemmas
 pub mod Steps
-pub mod Laws

@@ -20,9 +20,9 @@ pub enum AnyFormat {
 
 impl NumFormat for AnyFormat {
     ghost use Rattle.pm_num.specs.AnyFormat.{any_value, any_rank, any_lowest, any_highest};
-    ghost use Rattle.pm_num.specs.Laws.OneWord.{same_from_nearest, one_from_nearest};
-    ghost use Rattle.pm_num.specs.Laws.Found.{nearest_word-found};
-    ghost use Rattle.pm_num.specs.Laws.Any.{any-has_den, any-within, any-least_met, any-greatest_met, any-one_word};
+    ghost use Rattle.pm_num.specs.Lemmas.OneWord.{same_from_nearest, one_from_nearest};
+    ghost use Rattle.pm_num.specs.Lemmas.Found.{nearest_word-found};
+    ghost use Rattle.pm_num.specs.Lemmas.Any.{any-has_den, any-within, any-least_met, any-greatest_met, any-one_word};
 
     ghost value = { any_value };
 

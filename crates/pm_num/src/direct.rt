@@ -6,9 +6,9 @@ ghost use Rattle.pm_num.specs.Nearest.{one_rank};
 ghost use Rattle.pm_num.specs.Steps.{direct_spacing};
 ghost use Rattle.pm_num.specs.Formats.{IsDecimal};
 ghost use Rattle.pm_num.specs.declared.fault.NumFault.TheVariants.{ZeroSlope, ExponentRange};
-ghost use Rattle.pm_num.specs.Laws.Found.{nearest_word-found};
-ghost use Rattle.pm_num.specs.Laws.OneWord.{same_from_nearest, one_from_nearest};
-ghost use Rattle.pm_num.specs.Laws.Slope.{direct-has_den, direct-within, direct-one_word, direct-least_met, direct-greatest_met};
+ghost use Rattle.pm_num.specs.Lemmas.Found.{nearest_word-found};
+ghost use Rattle.pm_num.specs.Lemmas.OneWord.{same_from_nearest, one_from_nearest};
+ghost use Rattle.pm_num.specs.Lemmas.Slope.{direct-has_den, direct-within, direct-one_word, direct-least_met, direct-greatest_met};
 
 use crate::fault::NumFault;
 use crate::format::{NumFormat, in_range};

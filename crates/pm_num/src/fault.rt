@@ -1,5 +1,7 @@
 //! The refusals of this crate.
 
+ghost use Rattle.std.specs.Prelude.{◌≡◌};
+
 use thiserror::Error;
 
 /// Why a format or a number is refused. The faults N1 to N5 are this project's own.
@@ -20,4 +22,21 @@ pub enum NumFault {
     /// N5: the number of millionths is beyond 10^15 in size.
     #[error("number too large")]
     TooLarge,
+}
+
+impl NumFault {
+    ghost use Rattle.pm_num.specs.FaultWords.{num_fault_words};
+
+    /// The letter and the name of the fault, as programs print them: `N1 ZeroSlope`.
+    pub fn words(self) -> &'static str
+        ensures { result.now ≡ num_fault_words self }
+    {
+        match self {
+            NumFault::ZeroSlope => "N1 ZeroSlope",
+            NumFault::ExponentRange => "N2 ExponentRange",
+            NumFault::BelowLeast => "N3 BelowLeast",
+            NumFault::AboveGreatest => "N4 AboveGreatest",
+            NumFault::TooLarge => "N5 TooLarge",
+        }
+    }
 }

@@ -34,7 +34,7 @@ pub struct Frac {
 impl Model for Frac {
     ghost use Rattle.std.specs.Prelude.{pos, unsigned_abs};
     ghost use Rattle.pm_num.specs.Ratio.{Ratio, InBounds};
-    ghost use Rattle.pm_num.specs.Laws.Integers.{back_from_size};
+    ghost use Rattle.pm_num.specs.Lemmas.Integers.{back_from_size};
 
     ghost Value = { Ratio };
 

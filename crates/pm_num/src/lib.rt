@@ -18,8 +18,6 @@ mod laws;
 mod linear11;
 mod power;
 #[cfg(test)]
-mod search;
-#[cfg(test)]
 mod tests;
 mod ulinear16;
 mod whole;

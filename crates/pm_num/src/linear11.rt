@@ -6,10 +6,10 @@ ghost use Rattle.pm_num.specs.Value.{upper, exponent, mantissa, linear11_value, 
 ghost use Rattle.pm_num.specs.Nearest.{linear11_rank};
 ghost use Rattle.pm_num.specs.Formats.{IsExponent};
 ghost use Rattle.pm_num.specs.Steps.{IsRounded, IsSpelling, IsFar, IsLarge, IsPreferred, IsPlaceFor};
-ghost use Rattle.pm_num.specs.Laws.Found.{nearest_word-found};
-ghost use Rattle.pm_num.specs.Laws.OneWord.{same_from_nearest, one_from_nearest};
-ghost use Rattle.pm_num.specs.Laws.Unsigned.{lower-positive};
-ghost use Rattle.pm_num.specs.Laws.Spelling.{linear11-within, linear11-one_word};
+ghost use Rattle.pm_num.specs.Lemmas.Found.{nearest_word-found};
+ghost use Rattle.pm_num.specs.Lemmas.OneWord.{same_from_nearest, one_from_nearest};
+ghost use Rattle.pm_num.specs.Lemmas.Unsigned.{lower-positive};
+ghost use Rattle.pm_num.specs.Lemmas.Spelling.{linear11-within, linear11-one_word};
 ghost use Rattle.std.proofs.Common.{refl, lit<};
 
 use crate::fault::NumFault;

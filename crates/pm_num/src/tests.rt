@@ -1,5 +1,7 @@
 //! The formats at known words and numbers.
 
+mod search;
+
 use super::*;
 use std::cmp::Ordering;
 use std::process::Abort;

@@ -4,9 +4,9 @@ ghost use Rattle.std.specs.Prelude.{◌≡◌, ◌^◌, ◌≤◌, ◌↔◌, po
 ghost use Rattle.pm_num.specs.Value.{upper, lower, ulinear16_value};
 ghost use Rattle.pm_num.specs.Nearest.{one_rank};
 ghost use Rattle.pm_num.specs.Formats.{IsExponent};
-ghost use Rattle.pm_num.specs.Laws.Found.{nearest_word-found};
-ghost use Rattle.pm_num.specs.Laws.OneWord.{same_from_nearest, one_from_nearest};
-ghost use Rattle.pm_num.specs.Laws.Unsigned.{lower-positive, ulinear16-within, ulinear16-one_word};
+ghost use Rattle.pm_num.specs.Lemmas.Found.{nearest_word-found};
+ghost use Rattle.pm_num.specs.Lemmas.OneWord.{same_from_nearest, one_from_nearest};
+ghost use Rattle.pm_num.specs.Lemmas.Unsigned.{lower-positive, ulinear16-within, ulinear16-one_word};
 ghost use Rattle.std.proofs.Common.{refl, lit<};
 
 use crate::fault::NumFault;

@@ -1,2 +1,1 @@
-mod CellLaws
 mod TableLaws

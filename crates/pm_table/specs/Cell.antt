@@ -1,44 +1,82 @@
--- The cells: the settings of a power converter that hold a word. An output has five, and
--- WRITE_PROTECT is the device's.
-use Rattle.std.specs.Prelude.{ℕ, ◌/◌, ◌<◌, Bool, true, false, ◌&&◌, ◌||◌, Option, Some, None, if◌then◌else◌, ◌==◌}
-use Rattle.std.specs.Option.{option_map}
+-- The cells: the settings of a power converter that hold a word. An output has one for each of its
+-- registers, and WRITE_PROTECT is the device's. The list of registers stands here alone: every other
+-- question on them asks it, or their line of the command table.
+use Rattle.std.specs.Prelude.{◌≡◌, ℕ, ◌+◌, ◌*◌, ◌/◌, ◌%◌, ◌<◌, ◌≤◌, ◌↔◌, Bool, true, false, IsTrue, ◌&&◌, ◌||◌, List, [], ◌∷◌, length, find, position, slice_index_or, unwrap_or, Option, Some, None, if◌then◌else◌, ◌==◌}
+use Rattle.std.specs.Option.{option_map, option_map_or}
 use Rattle.pm_table.specs.declared.cell.Reg.{Reg}
 use Rattle.pm_table.specs.declared.cell.Reg.TheVariants.{Operation, VoutCommand, VoutMax, MarginHigh, MarginLow}
 use Rattle.pm_table.specs.declared.cell.Cell.{Cell}
 use Rattle.pm_table.specs.declared.cell.Cell.TheVariants.{Out, Protect}
+use Rattle.pm_table.specs.Codes as command
+use Rattle.pm_table.specs.Commands.{name_of}
+
+-- the registers of an output, in their order
+abbrev pub registers : List Reg
+registers = Operation ∷ VoutCommand ∷ VoutMax ∷ MarginHigh ∷ MarginLow ∷ []
+
+-- how many registers an output has
+abbrev pub register_count : ℕ
+register_count = length registers
 
 -- the command code of an output's register
 abbrev pub register_code : Reg → ℕ
-register_code Operation = 0x01
-register_code VoutCommand = 0x21
-register_code VoutMax = 0x24
-register_code MarginHigh = 0x25
-register_code MarginLow = 0x26
+register_code Operation = command.operation
+register_code VoutCommand = command.vout_command
+register_code VoutMax = command.vout_max
+register_code MarginHigh = command.vout_margin_high
+register_code MarginLow = command.vout_margin_low
+
+-- OPERATION is a byte, every other register a voltage of two bytes
+abbrev pub is_voltage : Reg → Bool
+is_voltage Operation = false
+is_voltage _ = true
+
+-- two registers are one
+abbrev pub same_register : Reg → Reg → Bool
+same_register register other = register_code register == register_code other
+
+-- the number of a register among its output's, and the register of a number
+abbrev pub register_number : Reg → ℕ
+register_number register = unwrap_or (position (same_register register) registers) 0
+
+abbrev pub register_at : ℕ → Reg
+register_at number = slice_index_or registers number Operation
 
 -- the command code that reads and writes a cell
 abbrev pub cell_code : Cell → ℕ
 cell_code (Out output register) = register_code register
-cell_code Protect = 0x10
+cell_code Protect = command.write_protect
 
 -- the output of a cell; the device's own cell has none, and 0 stands for it
 abbrev pub output_of : Cell → ℕ
 output_of (Out output register) = output
 output_of Protect = 0
 
--- the register that a command code reads and writes, where it is one of an output's five
+-- the register that a command code reads and writes, where it is one of an output's
 abbrev pub register_of : ℕ → Option Reg
-register_of code =
-    if code == 0x01 then Some Operation
-    else (if code == 0x21 then Some VoutCommand
-    else (if code == 0x24 then Some VoutMax
-    else (if code == 0x25 then Some MarginHigh
-    else (if code == 0x26 then Some MarginLow
-    else None))))
+register_of code = find (λ register. register_code register == code) registers
 
 -- the cell that a command code means at an output
 abbrev pub cell_at : ℕ → ℕ → Option Cell
-cell_at code output = if code == 0x10 then Some Protect
+cell_at code output = if code == command.write_protect then Some Protect
     else option_map (λ register. Out output register) (register_of code)
+
+-- the cell is a voltage
+abbrev pub is_voltage_cell : Cell → Bool
+is_voltage_cell (Out output register) = is_voltage register
+is_voltage_cell Protect = false
+
+-- the command code reads and writes a voltage
+abbrev pub is_voltage_code : ℕ → Bool
+is_voltage_code code = option_map_or is_voltage (register_of code) false
+
+-- the name of a cell's code in the command table
+abbrev pub cell_name : Cell → List ℕ
+cell_name cell = name_of (cell_code cell)
+
+-- how many bytes the word of a cell has on the wire
+abbrev pub cell_bytes : Cell → ℕ
+cell_bytes cell = if is_voltage_cell cell then 2 else 1
 
 -- The bytes of OPERATION (PMBus 1.3 Part II) that this project takes: immediate off 00......, soft
 -- off 01......, on 1000....; on with margin low 100101.. or 100110.., with margin high 101001.. or
@@ -54,32 +92,12 @@ is_protection byte = byte == 0x00 || byte == 0x20 || byte == 0x40 || byte == 0x8
 
 -- the words that a register may hold: OPERATION its bytes, a voltage every word
 abbrev pub register_accepts : Reg → ℕ → Bool
-register_accepts Operation word = is_operation word
-register_accepts VoutCommand word = true
-register_accepts VoutMax word = true
-register_accepts MarginHigh word = true
-register_accepts MarginLow word = true
+register_accepts register word = is_voltage register || is_operation word
 
 -- the words that a cell may hold
 abbrev pub cell_accepts : Cell → ℕ → Bool
 cell_accepts (Out output register) word = register_accepts register word
 cell_accepts Protect word = is_protection word
-
--- the number of a register among its output's
-abbrev pub register_number : Reg → ℕ
-register_number Operation = 0
-register_number VoutCommand = 1
-register_number VoutMax = 2
-register_number MarginHigh = 3
-register_number MarginLow = 4
-
--- how many registers an output has
-abbrev pub register_count : ℕ
-register_count = 5
-
--- two registers are one
-abbrev pub same_register : Reg → Reg → Bool
-same_register register other = register_number register == register_number other
 
 -- two cells are one
 abbrev pub same_cell : Cell → Cell → Bool
@@ -93,3 +111,20 @@ same_cell Protect Protect = true
 abbrev pub IsCell : ℕ → Cell → Type 0
 IsCell count (Out output register) = output < count
 IsCell count Protect = Unit {0}
+
+-- The place of a cell among those of eight outputs: output by output, each with its registers in
+-- their order, and WRITE_PROTECT last. This project's own choice.
+abbrev pub protect_place : ℕ
+protect_place = 8 * register_count
+
+abbrev pub place_of : Cell → ℕ
+place_of (Out output register) = output * register_count + register_number register
+place_of Protect = protect_place
+
+-- how many places there are, and the cell of a place
+abbrev pub places : ℕ
+places = protect_place + 1
+
+abbrev pub cell_in : ℕ → Cell
+cell_in place = if place == protect_place then Protect
+    else Out (place / register_count) (register_at (place % register_count))

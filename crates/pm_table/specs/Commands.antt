@@ -2,8 +2,10 @@
 -- lengths are the standard's; read, write and scope are this project's own choice. Every other
 -- question on a code asks `line_of`.
 use Rattle.std.specs.Prelude.{ℕ, Bool, true, false, List, [], ◌∷◌, Option, Some, None, if◌then◌else◌, ◌==◌, is_some, codes}
-use Rattle.std.specs.Option.{option_map_or}
+use Rattle.std.specs.Option.{option_map, option_map_or}
+use Rattle.pm_table.specs.declared.commands.Attributes.{Attributes}
 use Rattle.pm_table.specs.declared.commands.Info.{Info}
+use Rattle.pm_table.specs.Codes as command
 
 -- what the table says of a code
 pub record Line : Type 0 where
@@ -61,28 +63,28 @@ row code line = record { code = code; line = line }
 -- The table, a row for each code. `false` is the scope of the device, `true` that of an output.
 abbrev pub rows : List Row
 rows =
-    row 0x00 (setting (codes "PAGE") 1 false) ∷
-    row 0x01 (setting (codes "OPERATION") 1 true) ∷
-    row 0x03 (action (codes "CLEAR_FAULTS") 0 true) ∷
-    row 0x05 (action (codes "PAGE_PLUS_WRITE") 0 false) ∷
-    row 0x06 (reading (codes "PAGE_PLUS_READ") 0 false) ∷
-    row 0x10 (setting (codes "WRITE_PROTECT") 1 false) ∷
-    row 0x19 (reading (codes "CAPABILITY") 1 false) ∷
-    row 0x20 (reading (codes "VOUT_MODE") 1 true) ∷
-    row 0x21 (setting (codes "VOUT_COMMAND") 2 true) ∷
-    row 0x24 (setting (codes "VOUT_MAX") 2 true) ∷
-    row 0x25 (setting (codes "VOUT_MARGIN_HIGH") 2 true) ∷
-    row 0x26 (setting (codes "VOUT_MARGIN_LOW") 2 true) ∷
-    row 0x30 (reading (codes "COEFFICIENTS") 0 false) ∷
-    row 0x78 (reading (codes "STATUS_BYTE") 1 true) ∷
-    row 0x79 (reading (codes "STATUS_WORD") 2 true) ∷
-    row 0x7A (setting (codes "STATUS_VOUT") 1 true) ∷
-    row 0x7E (setting (codes "STATUS_CML") 1 false) ∷
-    row 0x88 (reading (codes "READ_VIN") 2 false) ∷
-    row 0x8B (reading (codes "READ_VOUT") 2 true) ∷
-    row 0x8C (reading (codes "READ_IOUT") 2 true) ∷
-    row 0x8D (reading (codes "READ_TEMPERATURE_1") 2 false) ∷
-    row 0x98 (reading (codes "PMBUS_REVISION") 1 false) ∷
+    row command.page (setting (codes "PAGE") 1 false) ∷
+    row command.operation (setting (codes "OPERATION") 1 true) ∷
+    row command.clear_faults (action (codes "CLEAR_FAULTS") 0 true) ∷
+    row command.page_plus_write (action (codes "PAGE_PLUS_WRITE") 0 false) ∷
+    row command.page_plus_read (reading (codes "PAGE_PLUS_READ") 0 false) ∷
+    row command.write_protect (setting (codes "WRITE_PROTECT") 1 false) ∷
+    row command.capability (reading (codes "CAPABILITY") 1 false) ∷
+    row command.vout_mode (reading (codes "VOUT_MODE") 1 true) ∷
+    row command.vout_command (setting (codes "VOUT_COMMAND") 2 true) ∷
+    row command.vout_max (setting (codes "VOUT_MAX") 2 true) ∷
+    row command.vout_margin_high (setting (codes "VOUT_MARGIN_HIGH") 2 true) ∷
+    row command.vout_margin_low (setting (codes "VOUT_MARGIN_LOW") 2 true) ∷
+    row command.coefficients (reading (codes "COEFFICIENTS") 0 false) ∷
+    row command.status_byte (reading (codes "STATUS_BYTE") 1 true) ∷
+    row command.status_word (reading (codes "STATUS_WORD") 2 true) ∷
+    row command.status_vout (setting (codes "STATUS_VOUT") 1 true) ∷
+    row command.status_cml (setting (codes "STATUS_CML") 1 false) ∷
+    row command.read_vin (reading (codes "READ_VIN") 2 false) ∷
+    row command.read_vout (reading (codes "READ_VOUT") 2 true) ∷
+    row command.read_iout (reading (codes "READ_IOUT") 2 true) ∷
+    row command.read_temperature_1 (reading (codes "READ_TEMPERATURE_1") 2 false) ∷
+    row command.pmbus_revision (reading (codes "PMBUS_REVISION") 1 false) ∷
     []
 
 -- the line of the first row with this code
@@ -93,6 +95,19 @@ line_among (row ∷ rows) code = if code == row.code then Some row.line else lin
 -- what the table says of a code; nothing of a code that has no row
 unfoldable pub line_of : ℕ → Option Line
 line_of code = line_among rows code
+
+-- what it says of a code beside its name
+abbrev pub attributes : ℕ → Bool → Bool → Bool → Attributes
+attributes length paged reads writes =
+    record { length = length; paged = paged; reads = reads; writes = writes }
+
+abbrev pub attributes_of : ℕ → Option Attributes
+attributes_of code =
+    option_map (λ l. attributes l.length l.paged l.reads l.writes) (line_of code)
+
+-- the name of a code as the standard prints it; no text for a code that isn't in the table
+abbrev pub name_of : ℕ → List ℕ
+name_of code = option_map_or (λ l. l.name) (line_of code) []
 
 -- the code stands in the table
 abbrev pub is_known : ℕ → Bool

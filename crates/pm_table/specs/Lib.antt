@@ -1,7 +1,11 @@
+-- What the crate promises.
 pub mod Address
 pub mod Cell
+pub mod Codes
 pub mod Coefficients
 pub mod Commands
+pub mod FaultWords
 pub mod Format
+pub mod Laws
 pub mod Protection
 pub mod VoutMode

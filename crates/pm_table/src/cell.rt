@@ -1,6 +1,7 @@
-ghost use Rattle.std.specs.Prelude.{◌≡◌, ◌↔◌, Some, IsTrue};
+ghost use Rattle.std.specs.Prelude.{◌≡◌, ◌<◌, ◌≤◌, ◌↔◌, Some, IsTrue};
 ghost use Rattle.pm_table.specs.declared.cell.Cell.{Cell};
-ghost use Rattle.pm_table.specs.Cell.{cell_at, same_cell};
+ghost use Rattle.pm_table.specs.Cell.{cell_at};
+ghost use Rattle.pm_table.specs.Laws.{CellsAreToldApart, CellsHavePlaces, RegistersAreInTheTable};
 
 use crate::commands::Code;
 
@@ -20,6 +21,60 @@ pub enum Reg {
     MarginLow,
 }
 
+impl Reg {
+    ghost use Rattle.pm_table.specs.Cell.{is_voltage, register_code, register_count, register_number, register_of};
+
+    /// How many registers an output has.
+    pub const COUNT: usize = 5;
+
+    /// The registers of an output, in their order.
+    pub const ALL: [Reg; Reg::COUNT] = [
+        Reg::Operation,
+        Reg::VoutCommand,
+        Reg::VoutMax,
+        Reg::MarginHigh,
+        Reg::MarginLow,
+    ];
+
+    /// The command code that reads and writes the register.
+    pub fn code(self) -> Code
+        ensures { result.0 ≡ register_code self }
+    {
+        match self {
+            Reg::Operation => Code::OPERATION,
+            Reg::VoutCommand => Code::VOUT_COMMAND,
+            Reg::VoutMax => Code::VOUT_MAX,
+            Reg::MarginHigh => Code::VOUT_MARGIN_HIGH,
+            Reg::MarginLow => Code::VOUT_MARGIN_LOW,
+        }
+    }
+
+    /// Whether it holds a voltage, a word of two bytes; OPERATION, which is a byte, doesn't.
+    pub fn is_voltage(self) -> bool
+        ensures { result ≡ is_voltage self }
+    {
+        !matches!(self, Reg::Operation)
+    }
+
+    // The register that the code reads and writes.
+    fn with_code(code: Code) -> Option<Reg>
+        ensures { result ≡ register_of code.0 }
+    {
+        Reg::ALL
+            .iter()
+            .copied()
+            .find(|register| register.code() == code)
+    }
+
+    // Where it stands among the registers of its output.
+    fn number(self) -> usize
+        ensures number { result ≡ register_number self }
+        ensures below { result < register_count }
+    {
+        self as usize
+    }
+}
+
 /// A setting of the converter that holds a word: a register of an output, or WRITE_PROTECT, which
 /// is the device's.
 #[derive(Clone, Copy, Debug, PartialEq, Eq)]
@@ -31,7 +86,10 @@ pub enum Cell {
 }
 
 impl Cell {
-    ghost use Rattle.pm_table.specs.Cell.{cell_code, cell_accepts, output_of};
+    ghost use Rattle.pm_table.specs.Cell.{cell_accepts, cell_bytes, cell_code, cell_name, is_voltage_cell, output_of, place_of, places, IsCell};
+
+    /// How many cells a device with eight outputs has.
+    pub const PLACES: usize = 8 * Reg::COUNT + 1;
 
     /// The command code that reads and writes the cell. `cell_of` leads back from it and the cell's
     /// output.
@@ -40,13 +98,33 @@ impl Cell {
         ensures back { cell_at result.0 (output_of self.now) ≡ Some self.now }
     {
         match self {
-            Cell::Out(_, Reg::Operation) => Code(0x01),
-            Cell::Out(_, Reg::VoutCommand) => Code(0x21),
-            Cell::Out(_, Reg::VoutMax) => Code(0x24),
-            Cell::Out(_, Reg::MarginHigh) => Code(0x25),
-            Cell::Out(_, Reg::MarginLow) => Code(0x26),
-            Cell::Protect => Code(0x10),
+            Cell::Out(_, register) => register.code(),
+            Cell::Protect => Code::WRITE_PROTECT,
         }
+    }
+
+    /// The name of that code as the standard prints it, as `VOUT_COMMAND`.
+    pub fn name(&self) -> &'static str
+        ensures { result.now ≡ cell_name self.now }
+    {
+        self.code().name()
+    }
+
+    /// Whether the cell is a voltage, in its output's format.
+    pub fn is_voltage(&self) -> bool
+        ensures { result ≡ is_voltage_cell self.now }
+    {
+        match self {
+            Cell::Out(_, register) => register.is_voltage(),
+            Cell::Protect => false,
+        }
+    }
+
+    /// How many bytes its word has on the wire: 2 for a voltage, 1 for OPERATION and WRITE_PROTECT.
+    pub fn bytes(&self) -> usize
+        ensures { result ≡ cell_bytes self.now }
+    {
+        if self.is_voltage() { 2 } else { 1 }
     }
 
     /// Whether the cell may hold the word. A voltage may be any word. OPERATION is a byte of PMBus
@@ -64,6 +142,20 @@ impl Cell {
             Cell::Protect => matches!(word, 0x00 | 0x20 | 0x40 | 0x80),
         }
     }
+
+    /// The place of the cell among those of eight outputs, for a list with something for each: output
+    /// by output, each with its registers in their order, and WRITE_PROTECT last. Its output is below
+    /// 8.
+    pub fn place(&self) -> usize
+        requires { IsCell 8 self.now }
+        ensures place { result ≡ place_of self.now }
+        ensures within { result < places }
+    {
+        match self {
+            Cell::Out(output, register) => usize::from(*output) * Reg::COUNT + register.number(),
+            Cell::Protect => Cell::PLACES - 1,
+        }
+    }
 }
 
 /// The cell that a command code reads and writes: OPERATION and the codes of the voltages mean a
@@ -72,21 +164,30 @@ impl Cell {
 pub fn cell_of(code: Code, output: u8) -> Option<Cell>
     ensures { result ≡ cell_at code.0 output }
 {
-    let register = match code.0 {
-        0x01 => Reg::Operation,
-        0x10 => return Some(Cell::Protect),
-        0x21 => Reg::VoutCommand,
-        0x24 => Reg::VoutMax,
-        0x25 => Reg::MarginHigh,
-        0x26 => Reg::MarginLow,
-        _ => return None,
-    };
-    Some(Cell::Out(output, register))
+    if code == Code::WRITE_PROTECT {
+        return Some(Cell::Protect);
+    }
+    match Reg::with_code(code) {
+        Some(register) => Some(Cell::Out(output, register)),
+        None => None,
+    }
 }
 
 /// Two cells are one exactly where `same_cell` says so: a law of the definitions.
 pub fn cells_are_told_apart()
-    ensures { (cell other : Cell) → IsTrue (same_cell cell other) ↔ (cell ≡ other) }
+    ensures { CellsAreToldApart }
+{}
+
+/// Each cell of at most eight outputs has a place of its own, and each place a cell: a law of the
+/// definitions.
+pub fn cells_have_places()
+    ensures { CellsHavePlaces }
+{}
+
+/// What the command table says of the codes of the registers: a law of the definitions.
+#[tactic(auto, unfolding(crate::specs::Commands::line_of))]
+pub fn registers_are_in_the_table()
+    ensures { RegistersAreInTheTable }
 {}
 
 #[cfg(test)]

@@ -1,27 +1,107 @@
-ghost use Rattle.std.specs.Prelude.{◌≡◌, ◌≤◌, ℕ, IfSome};
+ghost use Rattle.std.specs.Prelude.{◌≡◌, ◌≤◌, IfSome, true, false};
 ghost use Rattle.std.specs.Option.{option_map};
-ghost use Rattle.pm_table.specs.Commands.{line_of, payload_length, line_seen, setting as spec_setting, reading as spec_reading, action as spec_action};
+ghost use Rattle.pm_table.specs.Laws.{PayloadsAreShort};
+ghost use Rattle.pm_table.specs.Commands.{line_of, line_seen, attributes};
 
 /// A command code of PMBus, any of the 256 bytes.
 #[derive(Clone, Copy, Debug, PartialEq, Eq)]
 pub struct Code(pub u8);
 
 impl Code {
-    ghost use Rattle.pm_table.specs.Commands.{is_known, is_read, is_written, payload_length};
+    ghost use Rattle.pm_table.specs.Commands.{attributes_of, is_known, is_read, is_written, name_of, payload_length};
+
+    /// PAGE.
+    pub const PAGE: Code = Code(0x00);
+    /// OPERATION.
+    pub const OPERATION: Code = Code(0x01);
+    /// CLEAR_FAULTS.
+    pub const CLEAR_FAULTS: Code = Code(0x03);
+    /// PAGE_PLUS_WRITE.
+    pub const PAGE_PLUS_WRITE: Code = Code(0x05);
+    /// PAGE_PLUS_READ.
+    pub const PAGE_PLUS_READ: Code = Code(0x06);
+    /// WRITE_PROTECT.
+    pub const WRITE_PROTECT: Code = Code(0x10);
+    /// CAPABILITY.
+    pub const CAPABILITY: Code = Code(0x19);
+    /// VOUT_MODE.
+    pub const VOUT_MODE: Code = Code(0x20);
+    /// VOUT_COMMAND.
+    pub const VOUT_COMMAND: Code = Code(0x21);
+    /// VOUT_MAX.
+    pub const VOUT_MAX: Code = Code(0x24);
+    /// VOUT_MARGIN_HIGH.
+    pub const VOUT_MARGIN_HIGH: Code = Code(0x25);
+    /// VOUT_MARGIN_LOW.
+    pub const VOUT_MARGIN_LOW: Code = Code(0x26);
+    /// COEFFICIENTS.
+    pub const COEFFICIENTS: Code = Code(0x30);
+    /// STATUS_BYTE.
+    pub const STATUS_BYTE: Code = Code(0x78);
+    /// STATUS_WORD.
+    pub const STATUS_WORD: Code = Code(0x79);
+    /// STATUS_VOUT.
+    pub const STATUS_VOUT: Code = Code(0x7A);
+    /// STATUS_CML.
+    pub const STATUS_CML: Code = Code(0x7E);
+    /// READ_VIN.
+    pub const READ_VIN: Code = Code(0x88);
+    /// READ_VOUT.
+    pub const READ_VOUT: Code = Code(0x8B);
+    /// READ_IOUT.
+    pub const READ_IOUT: Code = Code(0x8C);
+    /// READ_TEMPERATURE_1.
+    pub const READ_TEMPERATURE_1: Code = Code(0x8D);
+    /// PMBUS_REVISION.
+    pub const PMBUS_REVISION: Code = Code(0x98);
+
+    /// What the command table says of the code beside its name; `None` where it isn't in the table.
+    /// Whoever asks several things of one code asks this once.
+    #[tactic(auto, unfolding(crate::specs::Commands::line_of))]
+    pub fn attributes(self) -> Option<Attributes>
+        ensures attributes { result ≡ attributes_of self.0 }
+        ensures short { IfSome result (λ a. a.length ≤ 2) }
+    {
+        match self {
+            Code::PAGE => Some(setting(1, false)),
+            Code::OPERATION => Some(setting(1, true)),
+            Code::CLEAR_FAULTS => Some(action(0, true)),
+            Code::PAGE_PLUS_WRITE => Some(action(0, false)),
+            Code::PAGE_PLUS_READ => Some(reading(0, false)),
+            Code::WRITE_PROTECT => Some(setting(1, false)),
+            Code::CAPABILITY => Some(reading(1, false)),
+            Code::VOUT_MODE => Some(reading(1, true)),
+            Code::VOUT_COMMAND => Some(setting(2, true)),
+            Code::VOUT_MAX => Some(setting(2, true)),
+            Code::VOUT_MARGIN_HIGH => Some(setting(2, true)),
+            Code::VOUT_MARGIN_LOW => Some(setting(2, true)),
+            Code::COEFFICIENTS => Some(reading(0, false)),
+            Code::STATUS_BYTE => Some(reading(1, true)),
+            Code::STATUS_WORD => Some(reading(2, true)),
+            Code::STATUS_VOUT => Some(setting(1, true)),
+            Code::STATUS_CML => Some(setting(1, false)),
+            Code::READ_VIN => Some(reading(2, false)),
+            Code::READ_VOUT => Some(reading(2, true)),
+            Code::READ_IOUT => Some(reading(2, true)),
+            Code::READ_TEMPERATURE_1 => Some(reading(2, false)),
+            Code::PMBUS_REVISION => Some(reading(1, false)),
+            _ => None,
+        }
+    }
 
     /// Whether the code stands in the command table.
     pub fn is_known(self) -> bool
         ensures { result ≡ is_known self.0 }
     {
-        known(self).is_some()
+        self.attributes().is_some()
     }
 
     /// Whether the converter answers a read of the code.
     pub fn is_read(self) -> bool
         ensures { result ≡ is_read self.0 }
     {
-        match known(self) {
-            Some(line) => line.reads,
+        match self.attributes() {
+            Some(attributes) => attributes.reads,
             None => false,
         }
     }
@@ -30,8 +110,8 @@ impl Code {
     pub fn is_written(self) -> bool
         ensures { result ≡ is_written self.0 }
     {
-        match known(self) {
-            Some(line) => line.writes,
+        match self.attributes() {
+            Some(attributes) => attributes.writes,
             None => false,
         }
     }
@@ -42,9 +122,42 @@ impl Code {
         ensures length { result ≡ payload_length self.0 }
         ensures short { result ≤ 2 }
     {
-        match known(self) {
-            Some(line) => usize::from(line.length),
+        match self.attributes() {
+            Some(attributes) => usize::from(attributes.length),
             None => 0,
+        }
+    }
+
+    /// The name of the code as the standard prints it, as `VOUT_COMMAND`; no text where it isn't in
+    /// the command table.
+    #[tactic(auto, unfolding(crate::specs::Commands::line_of))]
+    pub fn name(self) -> &'static str
+        ensures { result.now ≡ name_of self.0 }
+    {
+        match self {
+            Code::PAGE => "PAGE",
+            Code::OPERATION => "OPERATION",
+            Code::CLEAR_FAULTS => "CLEAR_FAULTS",
+            Code::PAGE_PLUS_WRITE => "PAGE_PLUS_WRITE",
+            Code::PAGE_PLUS_READ => "PAGE_PLUS_READ",
+            Code::WRITE_PROTECT => "WRITE_PROTECT",
+            Code::CAPABILITY => "CAPABILITY",
+            Code::VOUT_MODE => "VOUT_MODE",
+            Code::VOUT_COMMAND => "VOUT_COMMAND",
+            Code::VOUT_MAX => "VOUT_MAX",
+            Code::VOUT_MARGIN_HIGH => "VOUT_MARGIN_HIGH",
+            Code::VOUT_MARGIN_LOW => "VOUT_MARGIN_LOW",
+            Code::COEFFICIENTS => "COEFFICIENTS",
+            Code::STATUS_BYTE => "STATUS_BYTE",
+            Code::STATUS_WORD => "STATUS_WORD",
+            Code::STATUS_VOUT => "STATUS_VOUT",
+            Code::STATUS_CML => "STATUS_CML",
+            Code::READ_VIN => "READ_VIN",
+            Code::READ_VOUT => "READ_VOUT",
+            Code::READ_IOUT => "READ_IOUT",
+            Code::READ_TEMPERATURE_1 => "READ_TEMPERATURE_1",
+            Code::PMBUS_REVISION => "PMBUS_REVISION",
+            _ => "",
         }
     }
 }
@@ -69,44 +182,40 @@ pub struct Info {
 /// The line of a code that stands in the command table of PMBus 1.3 Part II, as far as this
 /// converter has it; `None` for every other code. Codes and lengths are the standard's; read, write
 /// and scope are this converter's own choice.
-#[tactic(auto, unfolding(crate::specs::Commands::line_of))]
 pub fn known(code: Code) -> Option<Info>
     ensures line { option_map line_seen result ≡ line_of code.0 }
     ensures short { IfSome result (λ line. line.length ≤ 2) }
 {
-    match code.0 {
-        0x00 => Some(setting("PAGE", 1, false)),
-        0x01 => Some(setting("OPERATION", 1, true)),
-        0x03 => Some(action("CLEAR_FAULTS", 0, true)),
-        0x05 => Some(action("PAGE_PLUS_WRITE", 0, false)),
-        0x06 => Some(reading("PAGE_PLUS_READ", 0, false)),
-        0x10 => Some(setting("WRITE_PROTECT", 1, false)),
-        0x19 => Some(reading("CAPABILITY", 1, false)),
-        0x20 => Some(reading("VOUT_MODE", 1, true)),
-        0x21 => Some(setting("VOUT_COMMAND", 2, true)),
-        0x24 => Some(setting("VOUT_MAX", 2, true)),
-        0x25 => Some(setting("VOUT_MARGIN_HIGH", 2, true)),
-        0x26 => Some(setting("VOUT_MARGIN_LOW", 2, true)),
-        0x30 => Some(reading("COEFFICIENTS", 0, false)),
-        0x78 => Some(reading("STATUS_BYTE", 1, true)),
-        0x79 => Some(reading("STATUS_WORD", 2, true)),
-        0x7A => Some(setting("STATUS_VOUT", 1, true)),
-        0x7E => Some(setting("STATUS_CML", 1, false)),
-        0x88 => Some(reading("READ_VIN", 2, false)),
-        0x8B => Some(reading("READ_VOUT", 2, true)),
-        0x8C => Some(reading("READ_IOUT", 2, true)),
-        0x8D => Some(reading("READ_TEMPERATURE_1", 2, false)),
-        0x98 => Some(reading("PMBUS_REVISION", 1, false)),
-        _ => None,
+    match code.attributes() {
+        Some(attributes) => Some(Info {
+            name: code.name(),
+            length: attributes.length,
+            paged: attributes.paged,
+            reads: attributes.reads,
+            writes: attributes.writes,
+        }),
+        None => None,
     }
 }
 
+/// What the command table says of a code beside its name.
+#[derive(Clone, Copy, Debug, PartialEq, Eq)]
+pub struct Attributes {
+    /// The bytes of its payload, 0 to 2; 0 for a block code too.
+    pub length: u8,
+    /// Whether it acts on one output, and not on the whole device.
+    pub paged: bool,
+    /// Whether the converter answers a read of it.
+    pub reads: bool,
+    /// Whether the converter takes a write of it.
+    pub writes: bool,
+}
+
 // A code that is read and written.
-fn setting(name: &'static str, length: u8, paged: bool) -> Info
-    ensures { line_seen result ≡ spec_setting name.entry.now length paged }
+fn setting(length: u8, paged: bool) -> Attributes
+    ensures { result ≡ (attributes length paged true true) }
 {
-    Info {
-        name,
+    Attributes {
         length,
         paged,
         reads: true,
@@ -115,29 +224,29 @@ fn setting(name: &'static str, length: u8, paged: bool) -> Info
 }
 
 // A code that is only read.
-fn reading(name: &'static str, length: u8, paged: bool) -> Info
-    ensures { line_seen result ≡ spec_reading name.entry.now length paged }
+fn reading(length: u8, paged: bool) -> Attributes
+    ensures { result ≡ (attributes length paged true false) }
 {
-    Info {
+    Attributes {
         writes: false,
-        ..setting(name, length, paged)
+        ..setting(length, paged)
     }
 }
 
 // A code that is only written.
-fn action(name: &'static str, length: u8, paged: bool) -> Info
-    ensures { line_seen result ≡ spec_action name.entry.now length paged }
+fn action(length: u8, paged: bool) -> Attributes
+    ensures { result ≡ (attributes length paged false true) }
 {
-    Info {
+    Attributes {
         reads: false,
-        ..setting(name, length, paged)
+        ..setting(length, paged)
     }
 }
 
 /// No payload in the command table is longer than two bytes: a law of the definitions, of codes of
 /// any size.
 pub fn payloads_are_short()
-    ensures { (code : ℕ) → payload_length code ≤ 2 }
+    ensures { PayloadsAreShort }
 {}
 
 #[cfg(test)]

@@ -1,3 +1,5 @@
+ghost use Rattle.std.specs.Prelude.{◌≡◌};
+
 use thiserror::Error;
 
 /// Why a VOUT_MODE byte isn't one of this project's profile. The first that applies, in the order
@@ -16,6 +18,22 @@ pub enum TableFault {
     /// C4: bits 6:5 are 10, the DIRECT format, and bits 4:0 aren't 0.
     #[error("a parameter other than 0 of the direct mode")]
     BadParameter,
+}
+
+impl TableFault {
+    ghost use Rattle.pm_table.specs.FaultWords.{table_fault_words};
+
+    /// The letter and the name of the fault, as programs print them: `C1 VidMode`.
+    pub fn words(self) -> &'static str
+        ensures { result.now ≡ table_fault_words self }
+    {
+        match self {
+            TableFault::VidMode => "C1 VidMode",
+            TableFault::HalfMode => "C2 HalfMode",
+            TableFault::RelativeMode => "C3 RelativeMode",
+            TableFault::BadParameter => "C4 BadParameter",
+        }
+    }
 }
 
 #[cfg(test)]

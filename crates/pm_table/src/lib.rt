@@ -17,9 +17,11 @@ mod protection;
 mod vout_mode;
 
 pub use address::address_ok;
-pub use cell::{Cell, Reg, cell_of, cells_are_told_apart};
+pub use cell::{
+    Cell, Reg, cell_of, cells_are_told_apart, cells_have_places, registers_are_in_the_table,
+};
 pub use coefficients::Coefficients;
-pub use commands::{Code, Info, known, payloads_are_short};
+pub use commands::{Attributes, Code, Info, known, payloads_are_short};
 pub use fault::TableFault;
 pub use format::format_of;
 pub use protection::is_allowed;

@@ -10,11 +10,11 @@ use crate::commands::Code;
 pub fn is_allowed(protect: u16, code: Code) -> bool
     ensures { result ≡ spec_is_allowed protect code.0 }
 {
-    match (protect, code.0) {
-        (_, 0x03) => true,
-        (0x80 | 0x40 | 0x20, 0x10) => true,
-        (0x40 | 0x20, 0x00 | 0x01) => true,
-        (0x20, 0x21) => true,
+    match (protect, code) {
+        (_, Code::CLEAR_FAULTS) => true,
+        (0x80 | 0x40 | 0x20, Code::WRITE_PROTECT) => true,
+        (0x40 | 0x20, Code::PAGE | Code::OPERATION) => true,
+        (0x20, Code::VOUT_COMMAND) => true,
         (0x00, _) => code.is_written(),
         _ => false,
     }

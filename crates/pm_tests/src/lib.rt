@@ -3,9 +3,19 @@
 #![tactic(auto)]
 
 #[cfg(test)]
+mod causes;
+#[cfg(test)]
 mod confirmed;
 #[cfg(test)]
+mod damage;
+#[cfg(test)]
 mod device;
+#[cfg(test)]
+mod driver;
+#[cfg(test)]
+mod faults;
+#[cfg(test)]
+mod fixtures;
 #[cfg(test)]
 mod host;
 #[cfg(test)]
@@ -13,4 +23,10 @@ mod model;
 #[cfg(test)]
 mod orders;
 #[cfg(test)]
+mod refusals;
+#[cfg(test)]
+mod restarts;
+#[cfg(test)]
 mod runs;
+#[cfg(test)]
+mod turns;

@@ -1,5 +1,6 @@
 -- What the replay of an input comes to, by what its reader gave.
-use Rattle.std.proofs.Common.{◌≡◌, ℕ, ◌<◌, ◌≤◌, true, false, List, ◌++◌, length, length-append, append-nil, Option, Some, None, IfSome, Result, Ok, Err, refl, sym, ap, ◌∙◌, arith, ltb, subst, IfErr, ◌⊎◌, inl, inr}
+use Rattle.std.proofs.Common.{◌≡◌, ℕ, ◌<◌, ◌≤◌, true, false, List, ◌++◌, length, length-append, append-nil, Option, Some, None, IfSome}
+use Rattle.std.proofs.Common.{Result, Ok, Err, refl, sym, ap, ◌∙◌, arith, ltb, subst, IfErr, ◌⊎◌, inl, inr}
 use Rattle.std.proofs.lemmas.Bool.Decides.{nat_tests}
 use Rattle.std.specs.Io.KnownBytes.{Consumes}
 use Rattle.pm_lines.specs.declared.fault.TextFault.{TextFault}
@@ -73,13 +74,11 @@ same-refused old new text handed fault whole same (inr wrong) =
     let right : replay_of text ≡ Err fault = ap replay_of (sym same) ∙ wrong in
     same-by old (Err fault) (end_alone (replay_of text)) (λ settled. sym (ap end_alone right)) (same-whole old new text whole)
 
--- what a text that was read whole, as it was handed on, and then reported comes to
-pub same-reported : (old new : Option (List ℕ)) (text handed out : List ℕ) (end : ReplayEnd) → IsWholeText old new text
-    → handed ≡ text → replay_of handed ≡ Ok (out, end)
+-- what a text that was read whole, and then reported, comes to
+pub same-reported : (old new : Option (List ℕ)) (text out : List ℕ) (end : ReplayEnd) → IsWholeText old new text → replay_of text ≡ Ok (out, end)
     → IfSome old (λ input. IsSettled (Ok end) → Ok end ≡ outcome_of input)
-same-reported old new text handed out end whole same told =
-    let right : replay_of text ≡ Ok (out, end) = ap replay_of (sym same) ∙ told in
-    same-by old (Ok end) (end_alone (replay_of text)) (λ settled. sym (ap end_alone right)) (same-whole old new text whole)
+same-reported old new text out end whole told =
+    same-by old (Ok end) (end_alone (replay_of text)) (λ settled. sym (ap end_alone told)) (same-whole old new text whole)
 
 -- what a failed write comes to
 pub same-failed : (old : Option (List ℕ)) (fault : TextFault) → fault ≡ Write

@@ -1,11 +1,13 @@
 -- The outputs of a scenario, one after another.
-use Rattle.std.proofs.Common.{◌≡◌, ℕ, zero, suc, ◌+◌, ◌≤◌, List, [], ◌∷◌, ◌++◌, length, Some, None, Result, Ok, Err, refl, ap, sym, ◌∙◌, arith, add-one, append_assoc, append-nil, length-append, length-take-le}
+use Rattle.std.proofs.Common.{◌≡◌, ℕ, zero, suc, ◌+◌, ◌≤◌, List, [], ◌∷◌, ◌++◌, length, Some, None, Result, Ok, Err, refl, ap, sym, ◌∙◌}
+use Rattle.std.proofs.Common.{arith, add-one, append_assoc, append-nil, length-append, length-take-le}
 use Rattle.std.specs.Prelude.{replicate, slice_set, take}
 use Rattle.std.proofs.lemmas.List.{take-replicate}
 use Rattle.pm_device.specs.declared.config.OutputStart.{OutputStart}
+use Rattle.pm_device.specs.Start.{no_start}
 use Rattle.pm_lines.specs.Lines.{Numbered}
 use Rattle.pm_text.specs.Readers.{Rest, line_as}
-use Rattle.pm_text.specs.ScenarioText.{counted, first_eight, no_start, output_line, outputs_in, start_before, starts_of}
+use Rattle.pm_text.specs.ScenarioText.{counted, first_eight, output_line, outputs_in, start_before, starts_of}
 use Rattle.pm_text.specs.declared.form.Form.{Form}
 use Rattle.pm_text.specs.declared.scenario.fault.ScenarioFault.{ScenarioFault}
 use Rattle.pm_text.specs.declared.scenario.fault.ScenarioFault.TheVariants.{Syntax}
@@ -20,10 +22,12 @@ kept-push (suc k) (suc m) [] x y room =
     ap (λ ys. x ∷ ys) (take-replicate k m y (omega arith) ∙ sym (take-replicate k (suc m) y (omega arith)))
 kept-push (suc k) m (z ∷ xs) x y room = ap (λ ys. z ∷ ys) (kept-push k m xs x y (omega arith))
 
+-- one output more, of which the first eight are kept
 pub first_eight-push : (given : List OutputStart) (start : OutputStart)
     → slice_set (first_eight given) (length given) start ≡ first_eight (given ++ start ∷ [])
 first_eight-push given start = kept-push 8 8 given start no_start (omega arith)
 
+-- eight are kept
 pub length-first_eight : (given : List OutputStart) → length (first_eight given) ≡ 8
 length-first_eight given = length-take-le 8 (given ++ replicate 8 no_start) (omega (arith, length-append given (replicate 8 no_start)))
 
@@ -37,6 +41,7 @@ abbrev pub behind : List OutputStart → Result (List OutputStart × Rest) Scena
 behind given (Err first) = Err first
 behind given (Ok got) = Ok (given ++ got.0, got.1)
 
+-- before any output was read
 pub behind-nil : (more : Result (List OutputStart × Rest) ScenarioFault) → more ≡ behind [] more
 behind-nil (Err first) = refl
 behind-nil (Ok got) = refl
@@ -46,12 +51,14 @@ pub behind-end : (form : Form) (given : List OutputStart) (count : ℕ) (lines :
     → lines ≡ [] → fault ≡ Syntax (count + 1) → behind given (outputs_in form count lines) ≡ Err fault
 behind-end form given count lines fault empty is = rw (empty, is, add-one) refl
 
+-- one output more
 behind-push : (given : List OutputStart) (start : OutputStart) (more : Result (List OutputStart × Rest) ScenarioFault) (rest : Rest)
     → behind given (start_before (Ok (Some start)) more rest) ≡ behind (given ++ start ∷ []) more
 behind-push given start (Err first) rest = refl
 behind-push given start (Ok got) rest = ap (λ starts. Ok (starts, got.1)) (sym (append_assoc given (start ∷ []) got.0))
 
-module _ (form : Form) (given : List OutputStart) (rest next : Rest) (line : Numbered) (split : rest.lines ≡ line ∷ next.lines) (same : next.count ≡ rest.count) where
+module _ (form : Form) (given : List OutputStart) (rest next : Rest) (line : Numbered) (split : rest.lines ≡ line ∷ next.lines)
+    (same : next.count ≡ rest.count) where
   -- a line that is an output
   pub behind-output : (start : OutputStart) → line_as (output_line form) line ≡ Ok (Some start)
       → behind given (outputs_in form rest.count rest.lines) ≡ behind (given ++ start ∷ []) (outputs_in form next.count next.lines)
@@ -63,5 +70,6 @@ module _ (form : Form) (given : List OutputStart) (rest next : Rest) (line : Num
   behind-begin read = rw (← same, split, read) (ap (λ starts. Ok (starts, next)) (append-nil given))
 
   -- a faulty line
-  pub behind-fault : (fault : ScenarioFault) → line_as (output_line form) line ≡ Err fault → behind given (outputs_in form rest.count rest.lines) ≡ Err fault
+  pub behind-fault : (fault : ScenarioFault) → line_as (output_line form) line ≡ Err fault
+      → behind given (outputs_in form rest.count rest.lines) ≡ Err fault
   behind-fault fault read = rw (split, read) refl

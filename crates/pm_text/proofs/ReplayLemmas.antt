@@ -1,5 +1,6 @@
 -- What a scenario that was read, and the run of its events, come to.
-use Rattle.std.proofs.Common.{◌≡◌, ◌∙◌, ◌+◌, ◌<◌, ◌≤◌, ℕ, zero, suc, List, [], ◌∷◌, ◌++◌, length, take, Option, Some, None, Result, Ok, Err, refl, sym, ap, inl, inr, arith, subst, append_assoc, append-nil}
+use Rattle.std.proofs.Common.{◌≡◌, ◌∙◌, ◌+◌, ◌<◌, ◌≤◌, ℕ, zero, suc, List, [], ◌∷◌, ◌++◌, length, take, Option, Some, None, Result, Ok, Err}
+use Rattle.std.proofs.Common.{refl, sym, ap, inl, inr, arith, subst, append_assoc, append-nil}
 use Rattle.std.specs.Prelude.{IsSomeAnd, reverse, slice_get}
 use mathlib.Core.List.{reverse-cons}
 use Rattle.std.proofs.lemmas.List.{length-reverse, length-take-le}
@@ -47,7 +48,8 @@ module _ (config : Config) (passes : ℕ) where
   stop-none : (events taken : List Event) → AreTaken config passes (reverse events ++ taken) → stop_after config passes taken events ≡ None
   stop-none [] taken are = refl
   stop-none (event ∷ events) taken are =
-      let more : AreTaken config passes (reverse events ++ event ∷ taken) = subst (AreTaken config passes) (reversed event events taken) are in
+      let more : AreTaken config passes (reverse events ++ event ∷ taken) =
+          subst (AreTaken config passes) (reversed event events taken) are in
       rw (taken-free (reverse events) event taken more) (stop-none events (event ∷ taken) more)
 
   -- the events before a place were taken, and the one there has a cause against it
@@ -117,33 +119,43 @@ pub replay-unmade : (input : List ℕ) (scenario : Scenario) (fault : SetupFault
 unfolding replay_of
 replay-unmade input scenario fault is refused = ap replay_by is ∙ ap (λ o. told_or o scenario) (sym refused)
 
--- a scenario that was run
-pub replay-told : (input text : List ℕ) (end : ReplayEnd) (scenario : Scenario) (ran : Ran) → scenario_of input ≡ Ok scenario
-    → None ≡ setup_fault scenario.config scenario.passes → ran ≡ run_of scenario
-    → text ≡ report_text First ran.world ran.taken ran.stop → end ≡ end_by ran.stop → replay_of input ≡ Ok (text, end)
+-- a scenario that was read and run, and the report of its run
+pub record IsTold (input text : List ℕ) (end : ReplayEnd) (scenario : Scenario) (ran : Ran) : Type 0 where
+  pub reads : scenario_of input ≡ Ok scenario
+  pub made : None ≡ setup_fault scenario.config scenario.passes
+  pub runs : ran ≡ run_of scenario
+  pub text_is : text ≡ report_text First ran.world ran.taken ran.stop
+  pub end_is : end ≡ end_by ran.stop
+
+-- which is the input's replay
+pub replay-told : (input text : List ℕ) (end : ReplayEnd) (scenario : Scenario) (ran : Ran) → IsTold input text end scenario ran
+    → replay_of input ≡ Ok (text, end)
 unfolding replay_of
-replay-told input text end scenario ran is made runs text_is end_is =
-    let all : Ok (told ran) ≡ Ok (text, end) = λ i. Ok (sym text_is i, sym end_is i) in
-    ap replay_by is ∙ ap (λ o. told_or o scenario) (sym made) ∙ ap (λ r. Ok (told r)) (sym runs) ∙ all
+replay-told input text end scenario ran is =
+    let all : Ok (told ran) ≡ Ok (text, end) = λ i. Ok (sym is.text_is i, sym is.end_is i) in
+    ap replay_by is.reads ∙ ap (λ o. told_or o scenario) (sym is.made) ∙ ap (λ r. Ok (told r)) (sym is.runs) ∙ all
 
 -- ---- texts and faults
 
--- a text with a scenario, or with an event, isn't empty
+-- no fault is a scenario
 no_error : (scenario : Scenario) → ◌≡◌ {A = Result Scenario TextFault} (Err (Syntax 1)) (Ok scenario) → ⊥
 no_error scenario is = cc
 
+-- a text with a scenario isn't empty
 pub read-some : (text : List ℕ) (scenario : Scenario) → scenario_of text ≡ Ok scenario → 0 < length text
 unfolding scenario_of row unskipped_from lines_of
 read-some [] scenario is = absurd (no_error scenario is)
 read-some (byte ∷ text) scenario is = omega arith
 
+-- nor is one with an event
 pub event-some : (text : List ℕ) → HasEvent text → 0 < length text
 unfolding row unskipped_from lines_of
 event-some [] has = absurd has
 event-some (byte ∷ text) has = omega arith
 
 -- the faults of a text that isn't too long
-pub replay-faults : (text : List ℕ) (fault : TextFault) → length text ≤ max_text → IsOfScenario fault → (fault ≡ TooLong → max_text < length text) → IsOfReplay fault
+pub replay-faults : (text : List ℕ) (fault : TextFault) → length text ≤ max_text → IsOfScenario fault
+    → (fault ≡ TooLong → max_text < length text) → IsOfReplay fault
 replay-faults text (Syntax line) short of long = tt
 replay-faults text (BadHex line) short of long = tt
 replay-faults text TooLong short of long = let more = long refl in absurd (omega arith)

@@ -4,6 +4,7 @@ use Rattle.std.specs.Prelude.{⊤, ℕ, suc, nat_lt, min, if◌then◌else◌, L
 use Rattle.pm_table.specs.declared.coefficients.Coefficients.{Coefficients}
 use Rattle.pm_device.specs.declared.config.Config.{Config}
 use Rattle.pm_device.specs.declared.config.OutputStart.{OutputStart}
+use Rattle.pm_device.specs.Start.{no_start}
 use Rattle.pm_world.specs.declared.event.Event.{Event}
 use Rattle.pm_lines.specs.Digits.{hex_of, signed_of, small_of}
 use Rattle.pm_lines.specs.Lines.{Numbered, lines_of, unskipped_from}
@@ -114,10 +115,6 @@ events_in form (line ∷ lines) =
     event_before (line_as (event_line form) line) (events_in form lines)
 
 -- ---- the whole
-
--- what stands in the place of an output that isn't there
-abbrev pub no_start : OutputStart
-no_start = record { mode = 0; operation = 0; command = 0; max = 0; high = 0; low = 0 }
 
 -- how many outputs there are, of which more than 255 count as 255
 abbrev pub counted : List OutputStart → ℕ

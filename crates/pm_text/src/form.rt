@@ -11,22 +11,13 @@ pub enum Form {
     First,
 }
 
-/// The registers of an output.
-const REGISTERS: [Reg; 5] = [
-    Reg::Operation,
-    Reg::VoutCommand,
-    Reg::VoutMax,
-    Reg::MarginHigh,
-    Reg::MarginLow,
-];
-
 impl Form {
     /// The registers that texts of this form name, in the order of an output's lines.
-    pub(crate) fn registers(self) -> [Reg; 5]
+    pub(crate) fn registers(self) -> [Reg; Reg::COUNT]
         ensures { result ≡ registers_of self }
     {
         match self {
-            Form::First => REGISTERS,
+            Form::First => Reg::ALL,
         }
     }
 }

@@ -9,7 +9,6 @@
 
 mod form;
 mod ran;
-mod register;
 mod replay_end;
 mod replays;
 mod report;
@@ -21,7 +20,6 @@ pub use pm_trace::{
     ByteList, DecodeEnd, Decoder, Fed, Shown, TraceLine, decode, read_trace_line, render_line,
 };
 pub use ran::Ran;
-pub use register::{is_byte_register, register_name};
 pub use replay_end::ReplayEnd;
 pub use replays::replay;
 pub use report::render_report;

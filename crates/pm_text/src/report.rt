@@ -1,7 +1,8 @@
 //! The report of a run: what the converter holds, commands and shows, and what the host knows.
 ghost use Rattle.std.specs.Prelude.{◌≡◌, ◌++◌, IfOk, IfErr, OnOk, codes, is_some, string_bytes};
 ghost use Rattle.pm_text.specs.declared.form.Form.TheVariants.{First};
-ghost use Rattle.pm_text.specs.Report.{cause_text, cml_line, end_text, first_line, job_line, job_text, report_text, seen_line, world_lines};
+ghost use Rattle.pm_world.specs.FaultWords.{cause_text};
+ghost use Rattle.pm_text.specs.Report.{cml_line, end_text, first_line, job_line, job_text, report_text, seen_line, world_lines};
 
 mod outputs;
 mod settings;
@@ -10,7 +11,7 @@ use crate::form::Form;
 use crate::ran::Ran;
 use outputs::push_outputs;
 use pm_host::JobEnd;
-use pm_lines::{TextFault, host_fault_words, push_decimal, push_hex, push_hex_word};
+use pm_lines::{TextFault, push_decimal, push_hex, push_hex_word};
 use pm_table::Cell;
 use pm_world::{Cause, Stop, World};
 use settings::push_setting;
@@ -72,16 +73,12 @@ fn push_first_line(text: &mut String, taken: u64, stop: &Option<Stop>) -> Result
 fn push_cause(text: &mut String, cause: Cause) -> Result<(), AllocError>
     ensures { OnOk result (string_bytes text.new ≡ string_bytes text.old ++ cause_text cause) }
 {
-    match cause {
-        Cause::Full => text.push_str("S5 Full"),
-        Cause::NothingSent => text.push_str("S2 NothingSent"),
-        Cause::WrongKind => text.push_str("S3 WrongKind"),
-        Cause::NotBetrayed => text.push_str("S1 NotBetrayed"),
-        Cause::Host(fault) => {
-            text.push_str("S4 Host ")?;
-            text.push_str(host_fault_words(fault))
-        }
+    text.push_str(cause.words())?;
+    if let Cause::Host(fault) = cause {
+        text.push_str(" ")?;
+        text.push_str(fault.words())?;
     }
+    Ok(())
 }
 
 // The lines that follow the first one.

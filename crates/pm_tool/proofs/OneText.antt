@@ -1,10 +1,10 @@
 -- There is one text for a question at most.
 use Rattle.std.proofs.Common.{◌≡◌, ◌∙◌, ℕ, ℤ, ◌≤ℤ◌, List, Ok, sym, ap, subst, arith}
 use Rattle.std.proofs.lemmas.Int.{ints}
-use Rattle.pm_num.specs.Laws.OneWord.{IsOneWord, one_from_nearest}
-use Rattle.pm_num.specs.Laws.Slope.{direct-one_word}
-use Rattle.pm_num.specs.Laws.Spelling.{linear11-one_word}
-use Rattle.pm_num.specs.Laws.Unsigned.{ulinear16-one_word}
+use Rattle.pm_num.specs.Lemmas.OneWord.{IsOneWord, one_from_nearest}
+use Rattle.pm_num.specs.Lemmas.Slope.{direct-one_word}
+use Rattle.pm_num.specs.Lemmas.Spelling.{linear11-one_word}
+use Rattle.pm_num.specs.Lemmas.Unsigned.{ulinear16-one_word}
 use Rattle.pm_num.specs.Ratio.{Ratio, micros}
 use Rattle.pm_tool.specs.NumberText.{IsAnswer, IsFloorMicro, IsFormat, IsNumberText, IsWordFor, line_of, rank_in, value_in}
 use Rattle.pm_tool.specs.declared.numbers.answer.Answer.{Answer}

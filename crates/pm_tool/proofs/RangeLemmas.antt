@@ -3,7 +3,7 @@ use Rattle.std.proofs.Common.{◌≡◌, ◌^◌, ◌<◌, ◌≤◌, ◌↔◌,
 use Rattle.std.proofs.lemmas.Int.{ints}
 use Rattle.pm_num.specs.Ratio.{AtMost, IsBetween, LessThan, Ratio, micros}
 use Rattle.pm_num.specs.Nearest.{IsOutside}
-use Rattle.pm_num.specs.Laws.Integers.{le-times, lt-times, times-swap}
+use Rattle.pm_num.specs.Lemmas.Integers.{le-times, lt-times, times-swap}
 use Rattle.pm_num.specs.declared.fault.NumFault.{NumFault}
 use Rattle.pm_num.specs.declared.fault.NumFault.TheVariants.{ZeroSlope, ExponentRange, BelowLeast, AboveGreatest, TooLarge}
 use Rattle.pm_tool.specs.declared.numbers.question.Asked.TheVariants.{Nearest}

@@ -1,15 +1,16 @@
 //! The text of a line that is shown.
 ghost use Rattle.std.specs.Prelude.{◌≡◌, ◌++◌, [], OnOk, string_bytes, option_map, unwrap_or, decimal, codes};
 ghost use Rattle.std.specs.Fmt.{signed_decimal};
+ghost use Rattle.pm_frame.specs.FaultWords.{frame_fault_text, place_text};
 ghost use Rattle.pm_trace.specs.ShownLines.{judged_in};
-ghost use Rattle.pm_trace.specs.TraceText.{told_line, told_text, judged_text, address_text, fault_text, message_text};
-ghost use Rattle.pm_trace.specs.TraceText.{plain_text, page_text, payload_text, written_text, asked_text, numbers_text, code_name};
+ghost use Rattle.pm_trace.specs.TraceText.{told_line, told_text, judged_text, address_text, message_text};
+ghost use Rattle.pm_trace.specs.TraceText.{plain_text, page_text, payload_text, written_text, asked_text, numbers_text};
 ghost use Rattle.pm_table.specs.Coefficients.{coefficients_of};
 
 use crate::shown::Shown;
 use pm_frame::{FrameFault, FrameView, Message};
 use pm_lines::{push_decimal, push_hex, push_hex_number, push_signed};
-use pm_table::{Code, Coefficients, known};
+use pm_table::{Code, Coefficients};
 use std::alloc::AllocError;
 
 /// Appends the text of a line to a text, with the line's number, and a line feed.
@@ -65,29 +66,24 @@ fn push_address(text: &mut String, addr: Option<u8>) -> Result<(), AllocError>
     }
 }
 
-// The letters and the name of a packet's fault, and its place.
+// The letter and the name of a packet's fault, and its place.
+#[tactic(auto, using(crate::proofs::Joins::joins))]
 fn push_fault(text: &mut String, fault: FrameFault) -> Result<(), AllocError>
-    ensures { OnOk result (string_bytes text.new ≡ string_bytes text.old ++ fault_text fault) }
+    ensures { OnOk result (string_bytes text.new ≡ string_bytes text.old ++ frame_fault_text fault) }
 {
-    match fault {
-        FrameFault::NotOurs => text.push_str("F1 NotOurs"),
-        FrameFault::Short(place) => push_placed(text, "F2 Short ", place),
-        FrameFault::Long(place) => push_placed(text, "F3 Long ", place),
-        FrameFault::WrongCount(place) => push_placed(text, "F4 WrongCount ", place),
-        FrameFault::WrongPec(place) => push_placed(text, "F5 WrongPec ", place),
-        FrameFault::UnknownCode(place) => push_placed(text, "F6 UnknownCode ", place),
-        FrameFault::WrongDirection(place) => push_placed(text, "F7 WrongDirection ", place),
-        FrameFault::Nested(place) => push_placed(text, "F8 Nested ", place),
-    }
+    text.push_str(fault.words())?;
+    push_place(text, fault.place())
 }
 
-// A name, and a place behind it.
+// The place of a fault, where it has one.
 #[tactic(auto, using(crate::proofs::Joins::joins))]
-fn push_placed(text: &mut String, name: &str, place: usize) -> Result<(), AllocError>
-    ensures { OnOk result (string_bytes text.new
-        ≡ string_bytes text.old ++ (name.now ++ decimal place)) }
+fn push_place(text: &mut String, place: Option<usize>) -> Result<(), AllocError>
+    ensures { OnOk result (string_bytes text.new ≡ string_bytes text.old ++ place_text place) }
 {
-    text.push_str(name)?;
+    let Some(place) = place else {
+        return Ok(());
+    };
+    text.push_str(" ")?;
     push_decimal(text, place as u64)
 }
 
@@ -120,7 +116,7 @@ fn push_plain(
         ++ plain_text view.now (option_map (λ bytes. bytes.now) answer.entry)) }
 {
     push_page(text, view.page())?;
-    text.push_str(name_of(view.code()))?;
+    text.push_str(Code(view.code()).name())?;
     match answer {
         Some(answer) => {
             text.push_str(" read ")?;
@@ -154,16 +150,6 @@ fn push_written(text: &mut String, payload: &[u8]) -> Result<(), AllocError>
     }
     text.push_str(" write ")?;
     push_hex_number(text, payload)
-}
-
-/// The name of a code that stands in the command table.
-pub(crate) fn name_of(code: u8) -> &'static str
-    ensures { result.now ≡ code_name code }
-{
-    match known(Code(code)) {
-        Some(line) => line.name,
-        None => "",
-    }
 }
 
 // The bytes of an answer, none where there is no answer.

@@ -14,20 +14,19 @@ use Rattle.pm_device.specs.declared.heard.Ending.{Ending}
 use Rattle.pm_device.specs.declared.heard.Ending.TheVariants.{Restart}
 use Rattle.pm_device.specs.Held.{Held}
 use Rattle.pm_device.specs.Reply.{reply_of}
-use Rattle.pm_device.specs.Start.{IsSound}
-use Rattle.pm_host.specs.Frames.{CanSend}
 use Rattle.pm_host.specs.Now.{now as host_now, AreTold}
-use Rattle.pm_host.specs.Refusals.{IsSetup}
 use Rattle.pm_host.specs.Summary.{sending_in}
 use Rattle.pm_host.specs.Transcript.{Setup, Entry, sending_of}
+use Rattle.pm_world.specs.Below.{Below}
 use Rattle.pm_world.specs.declared.event.Arrival.TheVariants as arrival
 use Rattle.pm_world.specs.declared.event.Back.TheVariants as back
 use Rattle.pm_world.specs.declared.event.Event.{Event}
 use Rattle.pm_world.specs.declared.event.Event.TheVariants.{Deliver, Exchange}
 use Rattle.pm_world.specs.declared.stop.Cause.TheVariants.{WrongKind, NotBetrayed}
 use Rattle.pm_world.specs.Damage.{AreOthers, IsBetrayedDamage, burst, few, odd}
+use Rattle.pm_world.specs.Laws.{BetrayedDamageIsLegal}
 use Rattle.pm_world.specs.Legal.{answer_in, frame_of, heard_ending, is_restart, is_heard_whole, is_legal_hearing, is_legal_return}
-use Rattle.pm_world.specs.Life.{life, now, state_of, AreTaken}
+use Rattle.pm_world.specs.Life.{life, now, state_of}
 use Rattle.pm_world.specs.Setup.{setup_of}
 use Rattle.pm_world.specs.State.{State, delivery_cause, exchange_cause, answer_to, rule, IsTaken, event_limit}
 use Rattle.pm_world.proofs.Exchanges.{exchange_cause-by}
@@ -35,69 +34,50 @@ use Rattle.pm_world.proofs.Frames.{heard_ending-request}
 use Rattle.pm_world.proofs.Hearings.{frame-write}
 use Rattle.pm_world.proofs.Learned.{is_request}
 use Rattle.pm_world.proofs.TakenWhole.{free, whole-hearing}
-use Rattle.pm_world.proofs.Undisturbed.{now-setup}
+use Rattle.pm_world.proofs.Lives.{IsLived, life-told, now-setup}
 
--- the laws of damage
-pub record BetrayalLaws : Type 0 where
-  pub write : (addr : ℕ) (message : Message) (bytes : List ℕ) → IsWrite addr message bytes → write_fault addr bytes ≡ None
-  pub answer : (addr : ℕ) (request : Message) (payload bytes : List ℕ) → IsAnswer addr request payload bytes → answer_fault addr request bytes ≡ None
-  pub write_refused : (addr : ℕ) (bytes : List ℕ) → is_betrayed [] bytes ≡ true → write_fault addr bytes ≢ None
-  pub answer_refused : (addr : ℕ) (request : Message) (bytes : List ℕ) → is_betrayed (sent addr request) bytes ≡ true → answer_fault addr request bytes ≢ None
-  pub bursts : (before bytes came : List ℕ) → AreBytes bytes → AreBytes came → is_betrayed before bytes ≡ false → length bytes ≡ length came → bytes ≢ came →
-      DifferWithinEight bytes came → is_betrayed before came ≡ true
-  pub few_bits : (before bytes came : List ℕ) → AreBytes bytes → AreBytes came → is_betrayed before bytes ≡ false → length bytes ≡ length came → bytes ≢ came →
-      length bytes ≤ 15 → changed_bits bytes came ≤ 3 → is_betrayed before came ≡ true
-  pub odd_bits : (before bytes came : List ℕ) → AreBytes bytes → AreBytes came → is_betrayed before bytes ≡ false → length bytes ≡ length came →
-      changed_bits bytes came % 2 ≡ 1 → is_betrayed before came ≡ true
-
+-- what isn't betrayed
 is-false : (b : Bool) → (b ≡ true → ⊥) → b ≡ false
 is-false false h = refl
 is-false true h = absurd (h refl)
 
 -- what wasn't betrayed is, where it came so
-damaged : BetrayalLaws → (before bytes came : List ℕ) → is_betrayed before bytes ≡ false → IsBetrayedDamage bytes came → is_betrayed before came ≡ true
-damaged laws before bytes came good (burst others within) = laws.bursts before bytes came others.were_bytes others.are_bytes good others.as_many others.other within
-damaged laws before bytes came good (few others short changed) = laws.few_bits before bytes came others.were_bytes others.are_bytes good others.as_many others.other short changed
-damaged laws before bytes came good (odd others changed) = laws.odd_bits before bytes came others.were_bytes others.are_bytes good others.as_many changed
+damaged : Below → (before bytes came : List ℕ) → is_betrayed before bytes ≡ false → IsBetrayedDamage bytes came → is_betrayed before came ≡ true
+damaged laws before bytes came good (burst others within) = laws.damage_is_betrayed.burst before bytes came others.were_bytes others.are_bytes good others.as_many others.other within
+damaged laws before bytes came good (few others short changed) = laws.damage_is_betrayed.few before bytes came others.were_bytes others.are_bytes good others.as_many others.other short changed
+damaged laws before bytes came good (odd others changed) = laws.damage_is_betrayed.odd before bytes came others.were_bytes others.are_bytes good others.as_many changed
 
-pub heard-legal : BetrayalLaws → (addr : ℕ) (message : Message) (frame bytes : List ℕ) (ending : Ending) → IsWrite addr message frame → IsBetrayedDamage frame bytes →
+pub heard-legal : Below → (addr : ℕ) (message : Message) (frame bytes : List ℕ) (ending : Ending) → IsWrite addr message frame → IsBetrayedDamage frame bytes →
     is_legal_hearing frame bytes ending ≡ true
 unfolding is_legal_hearing
 heard-legal laws addr message frame bytes ending is damage =
-    let good = is-false (is_betrayed [] frame) (λ e. laws.write_refused addr frame e (laws.write addr message frame is)) in
+    let good = is-false (is_betrayed [] frame) (λ e. laws.betrayal_is_refused.write addr frame e (laws.writes_are_exact.spelled addr message frame is)) in
     or_right (is_restart ending) _ (or_right (starts_with nat_eq frame bytes) (is_betrayed [] bytes) (damaged laws [] frame bytes good damage))
 
-pub return-legal : BetrayalLaws → (addr : ℕ) (request : Message) (frame payload answer bytes : List ℕ) (whole : Bool) → IsRequest addr request frame → IsAnswer addr request payload answer →
+pub return-legal : Below → (addr : ℕ) (request : Message) (frame payload answer bytes : List ℕ) (whole : Bool) → IsRequest addr request frame → IsAnswer addr request payload answer →
     IsBetrayedDamage answer bytes → is_legal_return frame (whole_answer request) whole answer bytes ≡ true
 unfolding is_legal_return
 return-legal laws addr request frame payload answer bytes whole asked is damage =
-    let good = is-false (is_betrayed (sent addr request) answer) (λ e. laws.answer_refused addr request answer e (laws.answer addr request payload answer is)) in
+    let good = is-false (is_betrayed (sent addr request) answer) (λ e. laws.betrayal_is_refused.answer addr request answer e (laws.answers_are_exact.spelled addr request payload answer is)) in
     let betrayed = subst (λ f. is_betrayed f bytes ≡ true) (sym asked.spelled) (damaged laws (sent addr request) answer bytes good damage) in
     or_right (whole && bytes_eq bytes answer) _ (or_right (nat_lt (length bytes) (whole_answer request)) (is_betrayed frame bytes) betrayed)
 
 -- such damage is legal, so a delivery and an exchange have no cause against them
-pub record LegalLaws : Type 0 where
-  pub heard : (addr : ℕ) (message : Message) (frame bytes : List ℕ) (ending : Ending) → IsWrite addr message frame → IsBetrayedDamage frame bytes → is_legal_hearing frame bytes ending ≡ true
-  pub came_back : (addr : ℕ) (request : Message) (frame payload answer bytes : List ℕ) (whole : Bool) → IsRequest addr request frame → IsAnswer addr request payload answer →
-      IsBetrayedDamage answer bytes → is_legal_return frame (whole_answer request) whole answer bytes ≡ true
-  pub answered : (held : Held) (request : Message) (frame heard : List ℕ) (whole : Bool) → AreOthers frame heard → DifferWithinEight frame heard → AreBytes (answer_in (reply_of held heard Restart)) →
-      is_legal_return frame (whole_answer request) whole (answer_in (reply_of held heard Restart)) (answer_in (reply_of held heard Restart)) ≡ true
-
-delivery-free : LegalLaws → (s : State) (message : Message) (bytes : List ℕ) (ending : Ending) → is_read_message message ≡ false → fits_layout message ≡ true →
+delivery-free : BetrayedDamageIsLegal → (s : State) (message : Message) (bytes : List ℕ) (ending : Ending) → is_read_message message ≡ false → fits_layout message ≡ true →
     IsBetrayedDamage (frame_of s.host.setup.addr message) bytes → delivery_cause s (arrival.Bytes (record { items = bytes }) ending) (Some message) ≡ None
 delivery-free laws s message bytes ending writes fits damage =
     let addr = s.host.setup.addr in
     let is : IsWrite addr message (frame_of addr message) = record { writes = writes; fits = fits; spelled = frame-write addr message writes } in
     ap₂ (λ b c. option_or (rule b WrongKind) (rule (not c) NotBetrayed)) writes (laws.heard addr message (frame_of addr message) bytes ending is damage)
 
-exchange-free : LegalLaws → (s : State) (request : Message) (payload bytes : List ℕ) → IsAnswer s.host.setup.addr request payload (answer_to s.device s.host.setup.addr request arrival.Whole) →
+exchange-free : BetrayedDamageIsLegal → (s : State) (request : Message) (payload bytes : List ℕ) → IsAnswer s.host.setup.addr request payload (answer_to s.device s.host.setup.addr request arrival.Whole) →
     IsBetrayedDamage (answer_to s.device s.host.setup.addr request arrival.Whole) bytes → exchange_cause s arrival.Whole (back.Bytes (record { items = bytes })) (Some request) ≡ None
 exchange-free laws s request payload bytes is damage =
     let addr = s.host.setup.addr in
     let frame = frame_of addr request in
     let answer = answer_to s.device addr request arrival.Whole in
     let ends : heard_ending request arrival.Whole ≡ Restart = sym (heard_ending-request request arrival.Whole is.reads) in
-    exchange_cause-by s arrival.Whole (back.Bytes (record { items = bytes })) request true true true is.reads
+    exchange_cause-by s arrival.Whole (back.Bytes (record { items = bytes })) request true true is.reads
     (ap (is_legal_hearing frame frame) ends ∙ whole-hearing frame)
     (laws.came_back addr request frame payload answer bytes (is_heard_whole frame frame (heard_ending request arrival.Whole)) (is_request addr request is.reads is.fits) is damage)
 
@@ -105,67 +85,60 @@ restart-legal : (frame bytes : List ℕ) → is_legal_hearing frame bytes Restar
 unfolding is_legal_hearing
 restart-legal frame bytes = refl
 
-misheard-free : LegalLaws → (s : State) (request : Message) (bytes : List ℕ) → is_read_message request ≡ true → AreOthers (frame_of s.host.setup.addr request) bytes →
+misheard-free : BetrayedDamageIsLegal → (s : State) (request : Message) (bytes : List ℕ) → is_read_message request ≡ true → AreOthers (frame_of s.host.setup.addr request) bytes →
     DifferWithinEight (frame_of s.host.setup.addr request) bytes → AreBytes (answer_to s.device s.host.setup.addr request (arrival.Bytes (record { items = bytes }) Restart)) →
     exchange_cause s (arrival.Bytes (record { items = bytes }) Restart) back.Whole (Some request) ≡ None
 misheard-free laws s request bytes asks others within are =
     let frame = frame_of s.host.setup.addr request in
-    exchange_cause-by s (arrival.Bytes (record { items = bytes }) Restart) back.Whole request true true true asks (restart-legal frame bytes)
+    exchange_cause-by s (arrival.Bytes (record { items = bytes }) Restart) back.Whole request true true asks (restart-legal frame bytes)
     (laws.answered s.device request frame bytes (is_heard_whole frame bytes Restart) others within are)
 
 -- such an event is taken
-pub record TakingLaws : Type 0 where
-  pub legal : LegalLaws
-  pub told : (config : Config) (passes : ℕ) (events : List Event) → IsSound config → IsSetup (setup_of config passes) → AreTaken config passes events →
-      AreTold (setup_of config passes) (life config passes events).entries
-  pub sending : (setup : Setup) (entries : List Entry) → sending_in (host_now setup entries) ≡ sending_of setup entries
-  pub named : (setup : Setup) (entries : List Entry) (message : Message) → IsSetup setup → AreTold setup entries → sending_of setup entries ≡ Some message → CanSend setup message
-  pub fits : (setup : Setup) (message : Message) → CanSend setup message → fits_layout message ≡ true
-
-pub delivered-taken : TakingLaws → (config : Config) (passes : ℕ) (events : List Event) (message : Message) (bytes : List ℕ) (ending : Ending) → IsSound config → IsSetup (setup_of config passes) →
-    AreTaken config passes events → (now config passes events).taken < event_limit → sending_in (now config passes events).host ≡ Some message → is_read_message message ≡ false →
+pub delivered-taken : Below → BetrayedDamageIsLegal → (config : Config) (passes : ℕ) (events : List Event) (message : Message) (bytes : List ℕ) (ending : Ending) → IsLived config passes events → (now config passes events).taken < event_limit → sending_in (now config passes events).host ≡ Some message → is_read_message message ≡ false →
     IsBetrayedDamage (frame_of config.addr message) bytes → IsTaken (now config passes events) (Deliver (arrival.Bytes (record { items = bytes }) ending))
 unfolding now state_of
-delivered-taken laws config passes events message bytes ending sound made taken room sending writes damage =
+delivered-taken laws legal config passes events message bytes ending lived room sending writes damage =
     let setup = setup_of config passes in
     let entries = (life config passes events).entries in
     let s = now config passes events in
-    let fits = laws.fits setup message (laws.named setup entries message made (laws.told config passes events sound made taken) (sym (laws.sending setup entries) ∙ sending)) in
+    let fits = laws.frames_are_named.fits setup message
+    (laws.frames_are_named.named setup entries message lived.made (life-told config passes events lived.legal)
+    (sym (laws.transcripts_are_followed.sending setup entries) ∙ sending)) in
     let damaged_frame = subst (λ (u : Setup). IsBetrayedDamage (frame_of u.addr message) bytes) (sym (now-setup config passes events)) damage in
     record {
       free = free s (Deliver (arrival.Bytes (record { items = bytes }) ending)) room
-          (ap (delivery_cause s (arrival.Bytes (record { items = bytes }) ending)) sending ∙ delivery-free laws.legal s message bytes ending writes fits damaged_frame);
+          (ap (delivery_cause s (arrival.Bytes (record { items = bytes }) ending)) sending ∙ delivery-free legal s message bytes ending writes fits damaged_frame);
       word = tt;
     }
 
-pub exchanged-taken : TakingLaws → (config : Config) (passes : ℕ) (events : List Event) (request : Message) (payload bytes : List ℕ) → (now config passes events).taken < event_limit →
+pub exchanged-taken : BetrayedDamageIsLegal → (config : Config) (passes : ℕ) (events : List Event) (request : Message) (payload bytes : List ℕ) → (now config passes events).taken < event_limit →
     sending_in (now config passes events).host ≡ Some request → IsAnswer config.addr request payload (answer_to (now config passes events).device config.addr request arrival.Whole) →
     IsBetrayedDamage (answer_to (now config passes events).device config.addr request arrival.Whole) bytes →
     IsTaken (now config passes events) (Exchange arrival.Whole (back.Bytes (record { items = bytes })))
-exchanged-taken laws config passes events request payload bytes room sending is damage =
+exchanged-taken legal config passes events request payload bytes room sending is damage =
     let s = now config passes events in
     let setup = sym (now-setup config passes events) in
     record {
       free = free s (Exchange arrival.Whole (back.Bytes (record { items = bytes }))) room
           (ap (exchange_cause s arrival.Whole (back.Bytes (record { items = bytes }))) sending
-          ∙ exchange-free laws.legal s request payload bytes
+          ∙ exchange-free legal s request payload bytes
           (subst (λ (u : Setup). IsAnswer u.addr request payload (answer_to s.device u.addr request arrival.Whole)) setup is)
           (subst (λ (u : Setup). IsBetrayedDamage (answer_to s.device u.addr request arrival.Whole) bytes) setup damage));
       word = tt;
     }
 
-pub misheard-taken : TakingLaws → (config : Config) (passes : ℕ) (events : List Event) (request : Message) (bytes : List ℕ) → (now config passes events).taken < event_limit →
+pub misheard-taken : BetrayedDamageIsLegal → (config : Config) (passes : ℕ) (events : List Event) (request : Message) (bytes : List ℕ) → (now config passes events).taken < event_limit →
     sending_in (now config passes events).host ≡ Some request → is_read_message request ≡ true → AreOthers (frame_of config.addr request) bytes → DifferWithinEight (frame_of config.addr request) bytes →
     AreBytes (answer_to (now config passes events).device config.addr request (arrival.Bytes (record { items = bytes }) Restart)) →
     IsTaken (now config passes events) (Exchange (arrival.Bytes (record { items = bytes }) Restart) back.Whole)
-misheard-taken laws config passes events request bytes room sending asks others within are =
+misheard-taken legal config passes events request bytes room sending asks others within are =
     let s = now config passes events in
     let heard = arrival.Bytes (record { items = bytes }) Restart in
     let setup = sym (now-setup config passes events) in
     record {
       free = free s (Exchange heard back.Whole) room
           (ap (exchange_cause s heard back.Whole) sending
-          ∙ misheard-free laws.legal s request bytes asks
+          ∙ misheard-free legal s request bytes asks
           (subst (λ (u : Setup). AreOthers (frame_of u.addr request) bytes) setup others)
           (subst (λ (u : Setup). DifferWithinEight (frame_of u.addr request) bytes) setup within)
           (subst (λ (u : Setup). AreBytes (answer_to s.device u.addr request (arrival.Bytes (record { items = bytes }) Restart))) setup are));

@@ -6,20 +6,19 @@ use Rattle.std.specs.Int.{bit_at}
 use Rattle.std.proofs.lemmas.Bool.{cases_lt, eqb-true, lt-ltb, or_left, or_right}
 use Rattle.std.proofs.lemmas.List.{get_or_append_left, get_or-append_right, get_or_past}
 use Rattle.std.proofs.Math.Seq.{get_or-append_seam, take-append_seam}
-use Rattle.pm_frame.specs.declared.fault.FrameFault.{FrameFault}
-use Rattle.pm_frame.specs.declared.fault.FrameFault.TheVariants.{NotOurs, Short, Long, WrongCount, WrongPec, UnknownCode, WrongDirection, Nested}
 use Rattle.pm_frame.specs.declared.message.Message.{Message}
 use Rattle.pm_frame.specs.declared.message.Message.TheVariants.{SendByte, WriteByte, WriteWord, PagePlusWrite, ReadCommand, PagePlusRead, ReadCoefficients}
 use Rattle.pm_frame.specs.Betrayal.{is_betrayed}
 use Rattle.pm_frame.specs.Damage.{DifferWithinEight, message_bit}
-use Rattle.pm_frame.specs.Fault.{request_fault, whole_answer}
-use Rattle.pm_frame.specs.Layout.{AreBytes, IsRequest, answered, sent}
+use Rattle.pm_frame.specs.Fault.{whole_answer}
+use Rattle.pm_frame.specs.Layout.{AreBytes, answered}
 use Rattle.pm_frame.specs.Pec.{pec_of}
-use Rattle.pm_frame.specs.View.{message_in}
 use Rattle.pm_device.specs.declared.heard.Ending.TheVariants.{Restart}
+use Rattle.pm_device.specs.declared.heard.Heard.{Heard}
+use Rattle.pm_device.specs.declared.heard.Heard.TheVariants.{Answer}
 use Rattle.pm_device.specs.Held.{Held}
-use Rattle.pm_device.specs.Reply.{answer_bytes, payload_for, reply_of, reply_to}
-use Rattle.pm_device.specs.Verdict.{answers_coefficients, fault_verdict, read_verdict, unless_faulty, verdict_of}
+use Rattle.pm_device.specs.Reply.{payload_for, reply_of}
+use Rattle.pm_world.specs.Below.{Below}
 use Rattle.pm_world.specs.Damage.{AreOthers}
 use Rattle.pm_world.specs.Legal.{answer_in, is_legal_return}
 
@@ -84,55 +83,18 @@ not-equal a b other = go (eqb a b) refl where
 abbrev pub Bursts : Type 0
 Bursts = (bytes others : List ℕ) → AreBytes bytes → AreBytes others → length bytes ≡ length others → bytes ≢ others → DifferWithinEight bytes others → pec_of bytes ≢ pec_of others
 
--- a request without a fault is the one that its places say
-pub record RequestLaws : Type 0 where
-  pub bursts : Bursts
-  pub faultless : (addr : ℕ) (bytes : List ℕ) → request_fault addr bytes ≡ None → (message : Message) × IsRequest addr message bytes
-  pub places : (addr : ℕ) (message : Message) (bytes : List ℕ) → IsRequest addr message bytes → message_in bytes ≡ message
-
 -- an answer is none, or its PEC covers what was heard
 abbrev EndsBehind : List ℕ → List ℕ → Type 0
 EndsBehind heard answer = (answer ≡ []) ⊎ ((body : List ℕ) × (answer ≡ body ++ pec_of (heard ++ body) ∷ []))
 
-refuses : (held : Held) (heard : List ℕ) (fault : FrameFault) → EndsBehind heard (answer_in (reply_to held (fault_verdict fault)))
-refuses held heard NotOurs = inl refl
-refuses held heard (Short place) = inl refl
-refuses held heard (Long place) = inl refl
-refuses held heard (WrongCount place) = inl refl
-refuses held heard (WrongPec place) = inl refl
-refuses held heard (UnknownCode place) = inl refl
-refuses held heard (WrongDirection place) = inl refl
-refuses held heard (Nested place) = inl refl
-
-reads : (held : Held) (heard : List ℕ) (message : Message) → heard ≡ sent held.config.addr message → EndsBehind heard (answer_bytes held message)
-reads held heard message is =
-    let body : List ℕ = answered held.config.addr message (payload_for held message) in
-    inr (body, ap (λ (h : List ℕ). body ++ pec_of (h ++ body) ∷ []) (sym is))
-
-either : {V : Type 0} (heard : List ℕ) (f : V → List ℕ) (b : Bool) (x y : V) → EndsBehind heard (f x) → EndsBehind heard (f y) → EndsBehind heard (f (cond b x y))
-either heard f true x y p q = p
-either heard f false x y p q = q
-
-answers : (held : Held) (heard : List ℕ) (message : Message) → heard ≡ sent held.config.addr message → EndsBehind heard (answer_in (reply_to held (read_verdict held.config message)))
-answers held heard (ReadCommand code) is = reads held heard (ReadCommand code) is
-answers held heard (PagePlusRead page code) is =
-    either heard (λ verdict. answer_in (reply_to held verdict)) (nat_lt page held.config.count) _ _ (reads held heard (PagePlusRead page code) is) (inl refl)
-answers held heard (ReadCoefficients code side) is =
-    either heard (λ verdict. answer_in (reply_to held verdict)) (answers_coefficients held.config code side) _ _ (reads held heard (ReadCoefficients code side) is) (inl refl)
-answers held heard (SendByte code) is = inl refl
-answers held heard (WriteByte code byte) is = inl refl
-answers held heard (WriteWord code word) is = inl refl
-answers held heard (PagePlusWrite page code payload) is = inl refl
-
-reply-ends : RequestLaws → (held : Held) (heard : List ℕ) → EndsBehind heard (answer_in (reply_of held heard Restart))
-unfolding reply_of verdict_of
-reply-ends laws held heard = go (request_fault held.config.addr heard) refl where
-  go : (fault : Option FrameFault) → request_fault held.config.addr heard ≡ fault → EndsBehind heard (answer_in (reply_to held (unless_faulty fault (read_verdict held.config (message_in heard)))))
-  go (Some fault) e = refuses held heard fault
-  go None e =
-      let found = laws.faultless held.config.addr heard e in
-      subst (λ m. EndsBehind heard (answer_in (reply_to held (read_verdict held.config m)))) (sym (laws.places held.config.addr found.0 heard found.1))
-      (answers held heard found.0 found.1.spelled)
+reply-ends : Below → (held : Held) (heard : List ℕ) → EndsBehind heard (answer_in (reply_of held heard Restart))
+reply-ends laws held heard = go (reply_of held heard Restart) refl where
+  go : (reply : Heard) → reply_of held heard Restart ≡ reply → EndsBehind heard (answer_in reply)
+  go (Answer frame) e =
+      let found = laws.reads_are_answered.answer held heard frame.items e in
+      let body = answered held.config.addr found.0 (payload_for held found.0) in
+      inr (body, found.2.spelled ∙ ap (λ (request : List ℕ). body ++ pec_of (request ++ body) ∷ []) (sym found.1.spelled))
+  go reply e = inl refl
 
 -- no answer is shorter than a whole one
 not-whole : (request : Message) → nat_lt 0 (whole_answer request) ≡ true
@@ -156,7 +118,7 @@ changed-betrayed bursts frame heard answer body spelled others within are =
     (λ same. others.other (same-fronts frame heard body others.as_many same)) (burst-behind frame heard body others.as_many within) in
     ap (is_betrayed frame) spelled ∙ (betrayed-last frame body (pec_of (heard ++ body)) ∙ not-equal (pec_of (heard ++ body)) (pec_of (frame ++ body)) (λ same. codes (sym same)))
 
-pub answered-legal : RequestLaws → (held : Held) (request : Message) (frame heard : List ℕ) (whole : Bool) → AreOthers frame heard → DifferWithinEight frame heard →
+pub answered-legal : Below → (held : Held) (request : Message) (frame heard : List ℕ) (whole : Bool) → AreOthers frame heard → DifferWithinEight frame heard →
     AreBytes (answer_in (reply_of held heard Restart)) →
     is_legal_return frame (whole_answer request) whole (answer_in (reply_of held heard Restart)) (answer_in (reply_of held heard Restart)) ≡ true
 unfolding is_legal_return
@@ -164,5 +126,5 @@ answered-legal laws held request frame heard whole others within are =
     let answer : List ℕ = answer_in (reply_of held heard Restart) in
     or_right (whole && bytes_eq answer answer) _ (elim (reply-ends laws held heard) [
       | inl none ↦ or_left (nat_lt (length answer) (whole_answer request)) (is_betrayed frame answer) (ap (λ (bytes : List ℕ). nat_lt (length bytes) (whole_answer request)) none ∙ not-whole request)
-      | inr ends ↦ or_right (nat_lt (length answer) (whole_answer request)) (is_betrayed frame answer) (changed-betrayed laws.bursts frame heard answer ends.0 ends.1 others within are)
+      | inr ends ↦ or_right (nat_lt (length answer) (whole_answer request)) (is_betrayed frame answer) (changed-betrayed laws.bursts_are_betrayed.code frame heard answer ends.0 ends.1 others within are)
     ])

@@ -1,28 +1,22 @@
 -- A world whose ends were told something.
-use Rattle.std.proofs.Common.{◌≡◌, ℕ, Option, sym, ◌∙◌, ap, subst}
+use Rattle.std.proofs.Common.{◌≡◌, ℕ, Option, Some, None, Ok, refl, sym, ◌∙◌, ap, subst}
 use Rattle.pm_device.specs.declared.config.Config.{Config}
 use Rattle.pm_device.specs.Held.{Held}
 use Rattle.pm_device.specs.Effect as device
 use Rattle.pm_device.specs.History.{next as device_next, after as device_after}
-use Rattle.pm_host.specs.declared.step.JobEnd.{JobEnd}
+use Rattle.pm_host.specs.declared.job_end.JobEnd.{JobEnd}
 use Rattle.pm_host.specs.Summary.{Summary, next as host_next, step_of}
-use Rattle.pm_host.specs.Transcript.{Entry, Setup}
-use Rattle.pm_world.specs.Setup.{IsMatched}
-use Rattle.pm_world.specs.State.{State, shared, tells, hears, end_by}
+use Rattle.pm_host.specs.declared.step.Step.TheVariants.{Next}
+use Rattle.pm_host.specs.Transcript.{Entry, Accepted, Job, Order}
+use Rattle.pm_world.specs.declared.event.Event.{Event}
+use Rattle.pm_world.specs.State.{State, Share, host_after, Acts, HasWord, asked, event_cause, shared, tells, hears, end_by}
+use Rattle.pm_world.proofs.Causes.{asked-share}
 
 -- the parts of a world, put together
 abbrev pub state : Held → Summary → Option JobEnd → ℕ → State
 state device host end taken = record { device = device; host = host; end = end; taken = taken }
 
--- no entry changes what a host was made with
-abbrev pub KeepsSetup : Type 0
-KeepsSetup = (s : Summary) (entry : Entry) → (host_next s entry).setup ≡ s.setup
-
--- the host's setup stays, and the converter's configuration
-pub matched-host : KeepsSetup → (s h : Summary) (entry : Entry) (config : Config) (taken : ℕ) → h ≡ host_next s entry → IsMatched s.setup config taken → IsMatched h.setup config taken
-matched-host kept s h entry config taken is matched =
-    subst (λ (u : Setup). IsMatched u config taken) (sym (ap (λ (x : Summary). x.setup) is ∙ kept s entry)) matched
-
+-- a converter keeps its configuration
 pub config-kept : (held new : Held) (event : device.Event) → new ≡ device_next held event → held.config ≡ new.config
 unfolding device_next device_after
 config-kept held new event is = sym (ap (λ (x : Held). x.config) is)
@@ -36,9 +30,34 @@ host-told s device host new end after taken entry view is ends =
     ∙ (ap (λ (e : Option JobEnd). state device (host_next host entry) e taken) ends
     ∙ ap (λ (t : State). shared t (tells entry)) view)
 
--- the world after the converter heard
-pub device-heard : (s : State) (held new : Held) (host : Summary) (end : Option JobEnd) (taken : ℕ) (event : device.Event) →
-    state held host end taken ≡ s → new ≡ device_next held event →
-    state new host end taken ≡ shared s (hears event)
-device-heard s held new host end taken event view is =
-    ap (λ (d : Held). state d host end taken) is ∙ ap (λ (t : State). shared t (hears event)) view
+-- a job begins
+begun-next : (s : Summary) (job : Job) → step_of s (Accepted job) ≡ Next
+unfolding step_of
+begun-next s (Order cell word) = refl
+begun-next s job = refl
+
+-- the host accepts the job that an event asks for
+pub record Begins (s : State) (event : Event) (job : Job) (new : Summary) : Type 0 where
+  pub free : event_cause s event ≡ None
+  pub word : HasWord s event
+  pub asks : asked s event ≡ Some job
+  pub told : new ≡ host_next s.host (Accepted job)
+
+-- and the event happened
+pub begun : (s inside : State) (event : Event) (job : Job) (new : Summary) → inside ≡ s → Begins inside event job new →
+    Acts s event (Ok tt) (state inside.device new None inside.taken)
+begun s inside event job new view b =
+    subst (λ (t : State). Acts t event (Ok tt) (state inside.device new None inside.taken)) view (
+      b.free,
+      b.word,
+      host-told inside inside.device inside.host new inside.end None inside.taken (Accepted job) refl b.told
+          (sym (ap end_by (begun-next inside.host job)))
+          ∙ ap (shared inside) (sym (asked-share inside event job b.asks)),
+    )
+
+-- no event changes what a host was made with
+pub event-kept : ((s : Summary) (entry : Entry) → (host_next s entry).setup ≡ s.setup) → (s : State) (share : Share) → (shared s share).host.setup ≡ s.host.setup
+event-kept kept s share = go share.told where
+  go : (told : Option Entry) → (host_after s.host told).setup ≡ s.host.setup
+  go None = refl
+  go (Some entry) = kept s.host entry

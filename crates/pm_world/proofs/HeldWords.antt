@@ -1,6 +1,7 @@
 -- A word that the host calls confirmed is the converter's, event by event.
 use Rattle.std.proofs.Common.{◌≡◌, ◌⊎◌, inl, inr, ℕ, Bool, true, false, cond, ◌||◌, List, [], ◌∷◌, ◌++◌, Option, Some, None, IsSome, option_map, refl, sym, ◌∙◌, ap, subst}
 use Rattle.std.specs.Prelude.{option_to_list}
+use Rattle.std.specs.Option.{option_map_or}
 use Rattle.std.proofs.lemmas.Option.{none-some, same_Some}
 use Rattle.pm_table.specs.declared.cell.Cell.{Cell}
 use Rattle.pm_table.specs.Cell.{cell_accepts, IsCell, same_cell}
@@ -10,73 +11,60 @@ use Rattle.pm_model.specs.declared.pending_order.PendingOrder.{PendingOrder}
 use Rattle.pm_model.specs.OrderMachine.{ordered, with_order}
 use Rattle.pm_model.specs.Settings.{Words, AreWords, word_at, with_word}
 use Rattle.pm_device.specs.declared.config.Config.{Config}
-use Rattle.pm_device.specs.Start.{IsSound}
 use Rattle.pm_device.specs.Effect as device
 use Rattle.pm_device.specs.History.{now as device_now, next as device_next, after as device_by}
 use Rattle.pm_host.specs.declared.stage.Stage.{Stage}
-use Rattle.pm_host.specs.declared.stage.Stage.TheVariants.{Writes, Reads, Checks, AsksMode, AsksCoefficients, Clears}
+use Rattle.pm_host.specs.declared.stage.Stage.TheVariants.{Writes, Reads}
 use Rattle.pm_host.specs.declared.standing.Standing.TheVariants.{Confirmed, Unknown}
 use Rattle.pm_host.specs.Answers.{good_payload, good_word, word_in}
-use Rattle.pm_host.specs.Frames.{CanSend}
 use Rattle.pm_host.specs.Marks.{read_by, marks}
 use Rattle.pm_host.specs.Messages.{cell_read}
-use Rattle.pm_host.specs.Now.{now as host_now, job_stage, stage_of, AreTold}
-use Rattle.pm_host.specs.Refusals.{IsSetup}
-use Rattle.pm_host.specs.Sound.{IsStage, IsSound as IsSoundHost}
+use Rattle.pm_host.specs.Now.{now as host_now, job_stage, stage_of}
+use Rattle.pm_host.specs.Possible.{is_possible, possible_of, restart_seen_of}
+use Rattle.pm_host.specs.Sound.{IsOrdering, IsStage, IsSound as IsSoundHost}
 use Rattle.pm_host.specs.Standing.{standing_of}
-use Rattle.pm_host.specs.Summary.{Summary, sending_in, stage_message, standing_at}
+use Rattle.pm_host.specs.Summary.{Summary, sending_in, stage_message, possible_at, standing_at}
 use Rattle.pm_host.specs.Transcript as host
+use Rattle.pm_world.specs.Below.{Below}
 use Rattle.pm_world.specs.declared.event.Arrival.{Arrival}
 use Rattle.pm_world.specs.declared.event.Back.{Back}
 use Rattle.pm_world.specs.declared.event.Event.{Event}
-use Rattle.pm_world.specs.declared.event.Event.TheVariants.{Order, OrderMicro, Check, Learn, Clear, Deliver, Finish, Exchange, RestartDevice, RestartHost, Reading}
+use Rattle.pm_world.specs.declared.event.Event.TheVariants.{Deliver, Exchange, RestartDevice, RestartHost}
 use Rattle.pm_world.specs.Confirmed.{reads_cell, restarts_converter, restarted_since, ConfirmedIsHeld}
 use Rattle.pm_world.specs.Legal.{back_bytes}
-use Rattle.pm_world.specs.Life.{life, now, state_of, AreTaken}
+use Rattle.pm_world.specs.Life.{life, now, state_of}
 use Rattle.pm_world.specs.Setup.{setup_of}
-use Rattle.pm_world.specs.State.{State, share_of, exchanged, delivered, device_after, next, event_cause, exchange_cause, answer_to, micro_job}
-use Rattle.pm_world.proofs.Hearings.{HearingLaws}
-use Rattle.pm_world.proofs.Learned.{DamageLaws, from_some}
+use Rattle.pm_world.specs.State.{State, asked, share_of, share_beside, tells, exchanged, delivered, device_after, next, event_cause, exchange_cause, answer_to}
+use Rattle.pm_world.proofs.Causes.{asked-restarts}
+use Rattle.pm_world.proofs.Learned.{from_some}
+use Rattle.pm_world.proofs.Lives.{IsLived, earlier, newest, entries-more, life-told, now-next}
 use Rattle.pm_world.proofs.OpenOrders.{stage_order}
 use Rattle.pm_world.proofs.OrderEvents.{delivered-words, exchanged-words}
 use Rattle.pm_world.proofs.ReadBack.{reads-cell, read-word}
-use Rattle.pm_world.proofs.Sending.{MapLaws, eight, taken-free, told-nothing}
-use Rattle.pm_world.proofs.Standings.{IsHeld, IsHeldAfter, SameCells, ReadsTrue, accepted-held, got-held, restarted-held}
+use Rattle.pm_world.proofs.Sending.{eight, told-nothing}
+use Rattle.pm_world.proofs.Standings.{IsKnown, IsKnownAfter, ReadsTrue, same-cells, accepted-known, got-known, restarted-known}
 use Rattle.pm_world.proofs.TrueHost.{good-same}
 
--- the laws of the ends and of the world's life
-pub record ConfirmedLaws : Type 0 where
-  pub hearing : HearingLaws
-  pub damage : DamageLaws
-  pub map_laws : MapLaws
-  pub same : SameCells
-  pub words : (config : Config) (past : List device.Event) → AreWords (device_now config past).words
-  pub accepted : (config : Config) (past : List device.Event) (cell : Cell) → IsSound config → IsCell config.count cell →
-      cell_accepts cell (word_at (device_now config past).words cell) ≡ true
-  pub sending : (setup : host.Setup) (entries : List host.Entry) → sending_in (host_now setup entries) ≡ host.sending_of setup entries
-  pub named : (setup : host.Setup) (entries : List host.Entry) (message : Message) → IsSetup setup → AreTold setup entries → host.sending_of setup entries ≡ Some message → CanSend setup message
-  pub standing : (setup : host.Setup) (entries : List host.Entry) (cell : Cell) → IsCell 8 cell → standing_at (host_now setup entries) cell ≡ standing_of (marks setup entries) cell
-  pub sound : (setup : host.Setup) (entries : List host.Entry) → IsSetup setup → AreTold setup entries → IsSoundHost (host_now setup entries)
-  pub more : (config : Config) (passes : ℕ) (events : List Event) (event : Event) → IsSound config → IsSetup (setup_of config passes) →
-      AreTaken config passes (event ∷ events) → now config passes (event ∷ events) ≡ next (now config passes events) event
-  pub told : (config : Config) (passes : ℕ) (events : List Event) → IsSound config → IsSetup (setup_of config passes) → AreTaken config passes events →
-      AreTold (setup_of config passes) (life config passes events).entries
+-- the order that is open: its word is possible, and no word of its cell is confirmed
+pub record IsPending (setup : host.Setup) (entries : List host.Entry) (order : PendingOrder) : Type 0 where
+  pub there : IsCell 8 order.cell
+  pub unknown : standing_of (marks setup entries) order.cell ≡ Unknown
+  pub possible : is_possible order.word (possible_of (marks setup entries) order.cell) ≡ true
 
 -- what is known of a world and of what its host was told
-record Knows (s : State) (setup : host.Setup) (entries : List host.Entry) : Type 0 where
-  addr : s.host.setup.addr ≡ s.device.config.addr
-  address : setup.addr ≡ s.device.config.addr
+pub record Knows (s : State) (setup : host.Setup) (entries : List host.Entry) : Type 0 where
+  pub addr : s.host.setup.addr ≡ s.device.config.addr
+  pub address : setup.addr ≡ s.device.config.addr
   -- the cell that the open job reads is there, and its read is being sent
-  asks : (read : Cell) → read_by (host.open_job setup entries) (host.told_since entries) ≡ Some read →
+  pub asks : (read : Cell) → read_by (host.open_job setup entries) (host.told_since entries) ≡ Some read →
       (sending_in s.host ≡ Some (cell_read read)) × IsCell s.device.config.count read
-  accepted : (cell : Cell) → IsCell s.device.config.count cell → cell_accepts cell (word_at s.device.words cell) ≡ true
-  fits : (message : Message) → sending_in s.host ≡ Some message → fits_layout message ≡ true
-  -- no word of the open order's cell is confirmed
-  unknown : (order : PendingOrder) → stage_order s.host.stage ≡ Some order → IsCell 8 order.cell × (standing_of (marks setup entries) order.cell ≡ Unknown)
-  are : AreWords s.device.words
+  pub accepted : (cell : Cell) → IsCell s.device.config.count cell → cell_accepts cell (word_at s.device.words cell) ≡ true
+  pub fits : (message : Message) → sending_in s.host ≡ Some message → fits_layout message ≡ true
+  pub pending : (order : PendingOrder) → stage_order s.host.stage ≡ Some order → IsPending setup entries order
+  pub are : AreWords s.device.words
 
 -- a good answer that is legal has the cell's word
-good-read : DamageLaws → (s : State) (arrival : Arrival) (back : Back) (read : Cell) (word : ℕ) → s.host.setup.addr ≡ s.device.config.addr →
+good-read : Below → (s : State) (arrival : Arrival) (back : Back) (read : Cell) (word : ℕ) → s.host.setup.addr ≡ s.device.config.addr →
     IsCell s.device.config.count read → cell_accepts read (word_at s.device.words read) ≡ true → fits_layout (cell_read read) ≡ true →
     exchange_cause s arrival back (Some (cell_read read)) ≡ None →
     good_word s.device.config.addr read (back_bytes (answer_to s.device s.host.setup.addr (cell_read read) arrival) back) ≡ Some word → word_at s.device.words read ≡ word
@@ -85,10 +73,10 @@ good-read laws s arrival back read word addr there accepted fits free good =
     let payload = from_some word_in (good_payload s.device.config.addr (cell_read read) bytes) word good in
     let same = good-same laws s arrival back (cell_read read) bytes payload.0 addr (reads-cell read) free refl payload.1 in
     same_Some (word_at s.device.words read) word
-    (sym (read-word laws.read s.device read there accepted fits) ∙ (ap (good_word s.device.config.addr read) (sym same) ∙ good))
+    (sym (read-word laws s.device read there accepted fits) ∙ (ap (good_word s.device.config.addr read) (sym same) ∙ good))
 
 -- what comes back is true of the cell that is read
-reads-true : DamageLaws → (s : State) (setup : host.Setup) (entries : List host.Entry) (arrival : Arrival) (back : Back) (message : Message) → Knows s setup entries →
+pub reads-true : Below → (s : State) (setup : host.Setup) (entries : List host.Entry) (arrival : Arrival) (back : Back) (message : Message) → Knows s setup entries →
     sending_in s.host ≡ Some message → exchange_cause s arrival back (Some message) ≡ None →
     ReadsTrue setup entries (back_bytes (answer_to s.device s.host.setup.addr message arrival) back) s.device.words
 reads-true laws s setup entries arrival back message knows sending free = λ read word asked good.
@@ -100,153 +88,176 @@ reads-true laws s setup entries arrival back message knows sending free = λ rea
     (subst (λ a. good_word a read (back_bytes (answer_to s.device s.host.setup.addr message arrival) back) ≡ Some word) knows.address good))
 
 -- an exchange
-exchange-held : HearingLaws → DamageLaws → SameCells → (s : State) (setup : host.Setup) (entries : List host.Entry) (cell : Cell) (restarted : Bool) (arrival : Arrival) (back : Back) (sending : Option Message) →
-    Knows s setup entries → sending_in s.host ≡ sending → exchange_cause s arrival back sending ≡ None → IsHeld (marks setup entries) cell restarted s.device.words →
-    IsHeldAfter setup entries cell restarted (exchanged s arrival back sending).told (device_after s.device (exchanged s arrival back sending).heard).words
-exchange-held hearing laws same s setup entries cell restarted arrival back None knows e free so_far = cc
-exchange-held hearing laws same s setup entries cell restarted arrival back (Some message) knows e free so_far =
-    subst (λ (w : Words). IsHeldAfter setup entries cell restarted (exchanged s arrival back (Some message)).told w)
-    (sym (exchanged-words hearing s arrival back (Some message) (λ m is. knows.fits m (e ∙ is)) free))
-    (got-held same setup entries cell restarted s.device.words (back_bytes (answer_to s.device s.host.setup.addr message arrival) back)
+exchange-known : Below → (s : State) (setup : host.Setup) (entries : List host.Entry) (cell : Cell) (restarted : Bool) (arrival : Arrival) (back : Back) (sending : Option Message) →
+    Knows s setup entries → sending_in s.host ≡ sending → exchange_cause s arrival back sending ≡ None → IsKnown (marks setup entries) cell restarted s.device.words →
+    IsKnownAfter setup entries cell restarted (exchanged s arrival back sending).told (device_after s.device (exchanged s arrival back sending).heard).words
+exchange-known laws s setup entries cell restarted arrival back None knows e free so_far = cc
+exchange-known laws s setup entries cell restarted arrival back (Some message) knows e free so_far =
+    subst (λ (w : Words). IsKnownAfter setup entries cell restarted (exchanged s arrival back (Some message)).told w)
+    (sym (exchanged-words laws s arrival back (Some message) (λ m is. knows.fits m (e ∙ is)) free))
+    (got-known laws setup entries cell restarted s.device.words (back_bytes (answer_to s.device s.host.setup.addr message arrival) back)
     (reads-true laws s setup entries arrival back message knows e free) so_far)
 
--- a delivery: the words stay, or the open order's cell gets its word
-written-held : MapLaws → SameCells → (s : State) (setup : host.Setup) (entries : List host.Entry) (cell : Cell) (restarted : Bool) (order : PendingOrder) → Knows s setup entries → IsCell 8 cell →
-    stage_order s.host.stage ≡ Some order → IsHeld (marks setup entries) cell restarted s.device.words →
-    IsHeld (marks setup entries) cell restarted (with_word s.device.words order.cell order.word)
-written-held laws same s setup entries cell restarted order knows there pending so_far = λ word confirmed fresh.
-    let unknown = knows.unknown order pending in
-    by_cell (same_cell order.cell cell) refl word confirmed fresh (laws.read s.device.words order.cell cell order.word knows.are unknown.0 there) unknown.1
-  where
-    by_cell : (b : Bool) → same_cell order.cell cell ≡ b → (word : ℕ) → standing_of (marks setup entries) cell ≡ Confirmed word → restarted ≡ false →
-        word_at (with_word s.device.words order.cell order.word) cell ≡ cond (same_cell order.cell cell) order.word (word_at s.device.words cell) →
-        standing_of (marks setup entries) order.cell ≡ Unknown → word_at (with_word s.device.words order.cell order.word) cell ≡ word
-    by_cell true e word confirmed fresh is unknown =
-        let both : Unknown ≡ Confirmed word = sym unknown ∙ (ap (standing_of (marks setup entries)) (same order.cell cell e) ∙ confirmed) in cc
-    by_cell false e word confirmed fresh is unknown =
-        is ∙ (ap (λ b. cond b order.word (word_at s.device.words cell)) e ∙ so_far word confirmed fresh)
+-- a delivery: the words stay, or the open order's cell gets its word, which is possible and not confirmed
+written-known : Below → (s : State) (setup : host.Setup) (entries : List host.Entry) (cell : Cell) (restarted : Bool) (order : PendingOrder) → Knows s setup entries → IsCell 8 cell →
+    stage_order s.host.stage ≡ Some order → IsKnown (marks setup entries) cell restarted s.device.words →
+    IsKnown (marks setup entries) cell restarted (with_word s.device.words order.cell order.word)
+written-known laws s setup entries cell restarted order knows there pending so_far = by_cell (same_cell order.cell cell) refl where
+  is : IsPending setup entries order
+  is = knows.pending order pending
 
-taken-held : MapLaws → SameCells → (s : State) (setup : host.Setup) (entries : List host.Entry) (cell : Cell) (restarted : Bool) (words : Words) (order : Option PendingOrder) → Knows s setup entries → IsCell 8 cell →
+  has : word_at (with_word s.device.words order.cell order.word) cell
+      ≡ cond (same_cell order.cell cell) order.word (word_at s.device.words cell)
+  has = laws.settings_are_a_map.read s.device.words order.cell cell order.word knows.are is.there there
+
+  by_cell : (b : Bool) → same_cell order.cell cell ≡ b →
+      IsKnown (marks setup entries) cell restarted (with_word s.device.words order.cell order.word)
+  by_cell true e = record {
+    held = λ word confirmed fresh.
+        let both : Unknown ≡ Confirmed word = sym is.unknown ∙ (ap (standing_of (marks setup entries)) (same-cells laws order.cell cell e) ∙ confirmed) in cc;
+    among = λ fresh.
+        ap (λ w. is_possible w (possible_of (marks setup entries) cell)) (has ∙ ap (λ b. cond b order.word (word_at s.device.words cell)) e)
+        ∙ (ap (λ c. is_possible order.word (possible_of (marks setup entries) c)) (sym (same-cells laws order.cell cell e)) ∙ is.possible);
+  }
+  by_cell false e =
+      let left = has ∙ ap (λ b. cond b order.word (word_at s.device.words cell)) e in
+      record {
+        held = λ word confirmed fresh. left ∙ so_far.held word confirmed fresh;
+        among = λ fresh. ap (λ w. is_possible w (possible_of (marks setup entries) cell)) left ∙ so_far.among fresh;
+      }
+
+taken-known : Below → (s : State) (setup : host.Setup) (entries : List host.Entry) (cell : Cell) (restarted : Bool) (words : Words) (order : Option PendingOrder) → Knows s setup entries → IsCell 8 cell →
     stage_order s.host.stage ≡ order → (words ≡ s.device.words) ⊎ (IsSome order × (words ≡ with_order s.device.words order)) →
-    IsHeld (marks setup entries) cell restarted s.device.words → IsHeld (marks setup entries) cell restarted words
-taken-held laws same s setup entries cell restarted words order knows there pending (inl e) so_far =
-    subst (IsHeld (marks setup entries) cell restarted) (sym e) so_far
-taken-held laws same s setup entries cell restarted words None knows there pending (inr (some, e)) so_far = cc
-taken-held laws same s setup entries cell restarted words (Some order) knows there pending (inr (some, e)) so_far =
-    subst (IsHeld (marks setup entries) cell restarted) (sym e) (written-held laws same s setup entries cell restarted order knows there pending so_far)
+    IsKnown (marks setup entries) cell restarted s.device.words → IsKnown (marks setup entries) cell restarted words
+taken-known laws s setup entries cell restarted words order knows there pending (inl e) so_far =
+    subst (IsKnown (marks setup entries) cell restarted) (sym e) so_far
+taken-known laws s setup entries cell restarted words None knows there pending (inr (some, e)) so_far = cc
+taken-known laws s setup entries cell restarted words (Some order) knows there pending (inr (some, e)) so_far =
+    subst (IsKnown (marks setup entries) cell restarted) (sym e) (written-known laws s setup entries cell restarted order knows there pending so_far)
 
-deliver-held : HearingLaws → MapLaws → SameCells → (s : State) (setup : host.Setup) (entries : List host.Entry) (cell : Cell) (restarted : Bool) (arrival : Arrival) → Knows s setup entries → IsCell 8 cell →
-    event_cause s (Deliver arrival) ≡ None → IsHeld (marks setup entries) cell restarted s.device.words →
-    IsHeldAfter setup entries cell restarted (delivered s arrival (sending_in s.host)).told (device_after s.device (delivered s arrival (sending_in s.host)).heard).words
-deliver-held hearing laws same s setup entries cell restarted arrival knows there free so_far =
-    subst (λ told. IsHeldAfter setup entries cell restarted told (device_after s.device (delivered s arrival (sending_in s.host)).heard).words)
+deliver-known : Below → (s : State) (setup : host.Setup) (entries : List host.Entry) (cell : Cell) (restarted : Bool) (arrival : Arrival) → Knows s setup entries → IsCell 8 cell →
+    event_cause s (Deliver arrival) ≡ None → IsKnown (marks setup entries) cell restarted s.device.words →
+    IsKnownAfter setup entries cell restarted (delivered s arrival (sending_in s.host)).told (device_after s.device (delivered s arrival (sending_in s.host)).heard).words
+deliver-known laws s setup entries cell restarted arrival knows there free so_far =
+    subst (λ told. IsKnownAfter setup entries cell restarted told (device_after s.device (delivered s arrival (sending_in s.host)).heard).words)
     (sym (told-nothing s arrival (sending_in s.host)))
-    (taken-held laws same s setup entries cell restarted _ (stage_order s.host.stage) knows there refl
-    (delivered-words hearing s arrival (sending_in s.host) knows.addr refl knows.fits free) so_far)
+    (taken-known laws s setup entries cell restarted _ (stage_order s.host.stage) knows there refl
+    (delivered-words laws s arrival (sending_in s.host) knows.addr refl knows.fits free) so_far)
+
+-- one event that asks for no job
+beside-known : Below → (s : State) (event : Event) (setup : host.Setup) (entries : List host.Entry) (cell : Cell) (restarted : Bool) → Knows s setup entries → IsCell 8 cell →
+    event_cause s event ≡ None → IsKnown (marks setup entries) cell restarted s.device.words →
+    IsKnownAfter setup entries cell (restarts_converter event || restarted) (share_beside s event).told (device_after s.device (share_beside s event).heard).words
+unfolding device_next device_by
+beside-known laws s (Deliver arrival) setup entries cell restarted knows there free so_far =
+    deliver-known laws s setup entries cell restarted arrival knows there free so_far
+beside-known laws s (Exchange arrival back) setup entries cell restarted knows there free so_far =
+    exchange-known laws s setup entries cell restarted arrival back (sending_in s.host) knows refl free so_far
+beside-known laws s RestartDevice setup entries cell restarted knows there free so_far =
+    record { held = λ word confirmed fresh. cc; among = λ fresh. cc }
+beside-known laws s RestartHost setup entries cell restarted knows there free so_far = restarted-known setup entries cell restarted s.device.words
+beside-known laws s _ setup entries cell restarted knows there free so_far = so_far
 
 -- one event
-event-held : ConfirmedLaws → (s : State) (event : Event) (setup : host.Setup) (entries : List host.Entry) (cell : Cell) (restarted : Bool) → Knows s setup entries → IsCell 8 cell →
-    event_cause s event ≡ None → IsHeld (marks setup entries) cell restarted s.device.words →
-    IsHeldAfter setup entries cell (restarts_converter event || restarted) (share_of s event).told (next s event).device.words
-unfolding next device_next device_by
-event-held laws s (Order c w) setup entries cell restarted knows there free so_far = accepted-held setup entries cell restarted s.device.words (host.Order c w) so_far
-event-held laws s (OrderMicro c x) setup entries cell restarted knows there free so_far = accepted-held setup entries cell restarted s.device.words (micro_job s.host c x) so_far
-event-held laws s (Check c) setup entries cell restarted knows there free so_far = accepted-held setup entries cell restarted s.device.words (host.Check c) so_far
-event-held laws s (Learn output) setup entries cell restarted knows there free so_far = accepted-held setup entries cell restarted s.device.words (host.Learn output) so_far
-event-held laws s (Clear output) setup entries cell restarted knows there free so_far = accepted-held setup entries cell restarted s.device.words (host.Clear output) so_far
-event-held laws s (Deliver arrival) setup entries cell restarted knows there free so_far = deliver-held laws.hearing laws.map_laws laws.same s setup entries cell restarted arrival knows there free so_far
-event-held laws s (Finish acked) setup entries cell restarted knows there free so_far = so_far
-event-held laws s (Exchange arrival back) setup entries cell restarted knows there free so_far =
-    exchange-held laws.hearing laws.damage laws.same s setup entries cell restarted arrival back (sending_in s.host) knows refl free so_far
-event-held laws s RestartDevice setup entries cell restarted knows there free so_far = λ word confirmed fresh. cc
-event-held laws s RestartHost setup entries cell restarted knows there free so_far = restarted-held setup entries cell restarted s.device.words
-event-held laws s (Reading output code word) setup entries cell restarted knows there free so_far = so_far
+event-known : Below → (s : State) (event : Event) (setup : host.Setup) (entries : List host.Entry) (cell : Cell) (restarted : Bool) → Knows s setup entries → IsCell 8 cell →
+    event_cause s event ≡ None → IsKnown (marks setup entries) cell restarted s.device.words →
+    IsKnownAfter setup entries cell (restarts_converter event || restarted) (share_of s event).told (next s event).device.words
+unfolding next
+event-known laws s event setup entries cell restarted knows there free so_far = go (asked s event) refl where
+  go : (o : Option host.Job) → asked s event ≡ o →
+      let share = option_map_or (λ j. tells (host.Accepted j)) o (share_beside s event) in
+      IsKnownAfter setup entries cell (restarts_converter event || restarted) share.told (device_after s.device share.heard).words
+  go None is = beside-known laws s event setup entries cell restarted knows there free so_far
+  go (Some job) is =
+      subst (λ b. IsKnownAfter setup entries cell (b || restarted) (Some (host.Accepted job)) s.device.words)
+      (sym (asked-restarts s event job is)) (accepted-known setup entries cell restarted s.device.words job so_far)
 
 -- the read that an open job sends
 read-sent : (setup : host.Setup) (s : Summary) (job : Option host.Job) (told : List host.Entry) (read : Cell) → read_by job told ≡ Some read →
     IsStage s (option_map (λ j. job_stage setup j told) job) →
     (option_map stage_message (option_map (λ j. job_stage setup j told) job) ≡ Some (cell_read read)) × IsCell s.setup.outputs read
-read-sent setup s None told read e is = absurd (none-some read e)
 read-sent setup s (Some (host.Order cell word)) told read e is = by_turn (host.is_write_turn told) _ e is where
   by_turn : (b : Bool) (pass : ℕ) → cond b None (Some cell) ≡ Some read → IsStage s (Some (cond b (Writes cell word pass) (Reads cell word pass))) →
       (option_map stage_message (Some (cond b (Writes cell word pass) (Reads cell word pass))) ≡ Some (cell_read read)) × IsCell s.setup.outputs read
   by_turn true pass e is = absurd (none-some read e)
   by_turn false pass e is = (ap (option_map cell_read) e, subst (IsCell s.setup.outputs) (same_Some cell read e) is.there)
 read-sent setup s (Some (host.Check cell)) told read e is = (ap (option_map cell_read) e, subst (IsCell s.setup.outputs) (same_Some cell read e) is.there)
-read-sent setup s (Some (host.Learn output)) told read e is = absurd (none-some read e)
-read-sent setup s (Some (host.Clear output)) told read e is = absurd (none-some read e)
+read-sent setup s job told read e is = absurd (none-some read e)
 
--- the order of a stage has a cell that is there, and of which no word is confirmed
-stage-unknown : (s : Summary) (stage : Option Stage) (order : PendingOrder) → IsStage s stage → stage_order stage ≡ Some order →
-    IsCell s.setup.outputs order.cell × (standing_at s order.cell ≡ Unknown)
-stage-unknown s None order is e = absurd (none-some order e)
-stage-unknown s (Some (Writes cell word pass)) order is e =
-    subst (λ (o : PendingOrder). IsCell s.setup.outputs o.cell × (standing_at s o.cell ≡ Unknown)) (same_Some (ordered cell word) order e) (is.there, is.unknown)
-stage-unknown s (Some (Reads cell word pass)) order is e =
-    subst (λ (o : PendingOrder). IsCell s.setup.outputs o.cell × (standing_at s o.cell ≡ Unknown)) (same_Some (ordered cell word) order e) (is.there, is.unknown)
-stage-unknown s (Some (Checks cell tries)) order is e = absurd (none-some order e)
-stage-unknown s (Some (AsksMode output tries)) order is e = absurd (none-some order e)
-stage-unknown s (Some (AsksCoefficients output tries)) order is e = absurd (none-some order e)
-stage-unknown s (Some (Clears output tries)) order is e = absurd (none-some order e)
+-- the order of a stage
+stage-ordering : (s : Summary) (stage : Option Stage) (order : PendingOrder) → IsStage s stage → stage_order stage ≡ Some order →
+    IsCell s.setup.outputs order.cell × (standing_at s order.cell ≡ Unknown) × (is_possible order.word (possible_at s order.cell) ≡ true)
+stage-ordering s stage order is e = by_stage stage is e where
+  by_order : (cell : Cell) (word pass : ℕ) → IsOrdering s cell word pass → Some (ordered cell word) ≡ Some order →
+      IsCell s.setup.outputs order.cell × (standing_at s order.cell ≡ Unknown) × (is_possible order.word (possible_at s order.cell) ≡ true)
+  by_order cell word pass is e =
+      subst (λ (o : PendingOrder). IsCell s.setup.outputs o.cell × (standing_at s o.cell ≡ Unknown) × (is_possible o.word (possible_at s o.cell) ≡ true))
+      (same_Some (ordered cell word) order e) (is.there, is.unknown, is.possible)
 
-knows : ConfirmedLaws → (config : Config) (passes : ℕ) (events : List Event) → IsSound config → IsSetup (setup_of config passes) → AreTaken config passes events →
+  by_stage : (stage : Option Stage) → IsStage s stage → stage_order stage ≡ Some order →
+      IsCell s.setup.outputs order.cell × (standing_at s order.cell ≡ Unknown) × (is_possible order.word (possible_at s order.cell) ≡ true)
+  by_stage (Some (Writes cell word pass)) is e = by_order cell word pass is e
+  by_stage (Some (Reads cell word pass)) is e = by_order cell word pass is e
+  by_stage stage is e = absurd (none-some order e)
+
+pub knows : Below → (config : Config) (passes : ℕ) (events : List Event) → IsLived config passes events →
     Knows (now config passes events) (setup_of config passes) (life config passes events).entries
 unfolding now state_of host_now device_now stage_of
-knows laws config passes events sound made taken =
+knows laws config passes events lived =
     let setup = setup_of config passes in
     let entries = (life config passes events).entries in
     let past = (life config passes events).past in
-    let told = laws.told config passes events sound made taken in
-    let is = laws.sound setup entries made told in
+    let told = life-told config passes events lived.legal in
+    let is = laws.transcripts_are_followed.sound setup entries lived.made told in
     record {
       addr = refl;
       address = refl;
       asks = λ read e. read-sent setup (host_now setup entries) (host.open_job setup entries) (host.told_since entries) read e is.stage;
-      accepted = λ cell there. laws.accepted config past cell sound there;
-      fits = λ message e. laws.damage.fits setup message (laws.named setup entries message made told (sym (laws.sending setup entries) ∙ e));
-      unknown = λ order e.
-          let at = stage-unknown (host_now setup entries) (host_now setup entries).stage order is.stage e in
-          let there = eight config.count order.cell sound.few at.0 in
-          (there, sym (laws.standing setup entries order.cell there) ∙ at.1);
-      are = laws.words config past;
+      accepted = λ cell there. laws.words_have_an_origin.accepted config past cell lived.sound there;
+      fits = λ message e. laws.frames_are_named.fits setup message
+          (laws.frames_are_named.named setup entries message lived.made told (sym (laws.transcripts_are_followed.sending setup entries) ∙ e));
+      pending = λ order e.
+          let at = stage-ordering (host_now setup entries) (host_now setup entries).stage order is.stage e in
+          let there = eight config.count order.cell lived.sound.few at.0 in
+          record {
+            there = there;
+            unknown = sym (laws.transcripts_are_followed.standing setup entries order.cell there) ∙ at.1;
+            possible = ap (is_possible order.word) (sym (laws.transcripts_are_followed.possible setup entries order.cell there)) ∙ at.2;
+          };
+      are = laws.pasts_are_followed.words config past;
     }
 
--- the life after one more event
-entries-more : (config : Config) (passes : ℕ) (before : List Event) (event : Event) →
-    (life config passes (event ∷ before)).entries ≡ option_to_list (share_of (now config passes before) event).told ++ (life config passes before).entries
-unfolding life now
-entries-more config passes before event = refl
-
+-- the look back after one more event
 restarted-more : (config : Config) (passes : ℕ) (cell : Cell) (before : List Event) (event : Event) →
     restarted_since config passes cell (event ∷ before)
     ≡ cond (reads_cell config passes cell before event) false (restarts_converter event || restarted_since config passes cell before)
 unfolding restarted_since
 restarted-more config passes cell before event = refl
 
-nothing-confirmed : (config : Config) (passes : ℕ) (cell : Cell) (restarted : Bool) (words : Words) → IsHeld (marks (setup_of config passes) (life config passes []).entries) cell restarted words
-unfolding life
-nothing-confirmed config passes cell restarted words = λ word confirmed fresh. cc
+nothing-known : (config : Config) (passes : ℕ) (cell : Cell) (restarted : Bool) (words : Words) → IsKnown (marks (setup_of config passes) (life config passes []).entries) cell restarted words
+unfolding life possible_of
+nothing-known config passes cell restarted words = record { held = λ word confirmed fresh. cc; among = λ fresh. refl }
 
-life-held : ConfirmedLaws → (config : Config) (passes : ℕ) (events : List Event) (cell : Cell) → IsSound config → IsSetup (setup_of config passes) → AreTaken config passes events → IsCell config.count cell →
-    IsHeld (marks (setup_of config passes) (life config passes events).entries) cell (restarted_since config passes cell events) (now config passes events).device.words
-life-held laws config passes [] cell sound made taken there = nothing-confirmed config passes cell _ _
-life-held laws config passes (event ∷ before) cell sound made taken there =
+pub life-known : Below → (config : Config) (passes : ℕ) (events : List Event) (cell : Cell) → IsLived config passes events → IsCell config.count cell →
+    IsKnown (marks (setup_of config passes) (life config passes events).entries) cell (restarted_since config passes cell events) (now config passes events).device.words
+life-known laws config passes [] cell lived there = nothing-known config passes cell _ _
+life-known laws config passes (event ∷ before) cell lived there =
     let s = now config passes before in
     let setup = setup_of config passes in
     let entries = (life config passes before).entries in
-    let after = event-held laws s event setup entries cell (restarted_since config passes cell before) (knows laws config passes before sound made taken.1)
-    (eight config.count cell sound.few there) (taken-free s event taken.0) (life-held laws config passes before cell sound made taken.1 there) in
-    subst (λ (t : State). IsHeld (marks setup (life config passes (event ∷ before)).entries) cell (restarted_since config passes cell (event ∷ before)) t.device.words)
-    (sym (laws.more config passes before event sound made taken))
-    (subst (λ es. IsHeld (marks setup es) cell (restarted_since config passes cell (event ∷ before)) (next s event).device.words) (sym (entries-more config passes before event))
-    (subst (λ b. IsHeld (marks setup (option_to_list (share_of s event).told ++ entries)) cell b (next s event).device.words) (sym (restarted-more config passes cell before event)) after))
+    let after = event-known laws s event setup entries cell (restarted_since config passes cell before) (knows laws config passes before (earlier lived))
+    (eight config.count cell lived.sound.few there) (newest lived) (life-known laws config passes before cell (earlier lived) there) in
+    subst (λ (t : State). IsKnown (marks setup (life config passes (event ∷ before)).entries) cell (restarted_since config passes cell (event ∷ before)) t.device.words)
+    (sym (now-next laws config passes before event lived))
+    (subst (λ es. IsKnown (marks setup es) cell (restarted_since config passes cell (event ∷ before)) (next s event).device.words) (sym (entries-more config passes before event))
+    (subst (λ b. IsKnown (marks setup (option_to_list (share_of s event).told ++ entries)) cell b (next s event).device.words) (sym (restarted-more config passes cell before event)) after))
 
-pub confirmed-held : ConfirmedLaws → (config : Config) (passes : ℕ) (events : List Event) → IsSound config → IsSetup (setup_of config passes) → AreTaken config passes events →
+pub confirmed-held : Below → (config : Config) (passes : ℕ) (events : List Event) → IsLived config passes events →
     ConfirmedIsHeld config passes events (now config passes events)
 unfolding now state_of
-confirmed-held laws config passes events sound made taken =
-    let standing = λ (cell : Cell) (there : IsCell config.count cell). laws.standing (setup_of config passes) (life config passes events).entries cell (eight config.count cell sound.few there) in
+confirmed-held laws config passes events lived =
+    let standing = λ (cell : Cell) (there : IsCell config.count cell). laws.transcripts_are_followed.standing (setup_of config passes) (life config passes events).entries cell (eight config.count cell lived.sound.few there) in
     record {
       standing = standing;
-      held = λ cell word there confirmed fresh. life-held laws config passes events cell sound made taken there word (sym (standing cell there) ∙ confirmed) fresh;
+      held = λ cell word there confirmed fresh. (life-known laws config passes events cell lived there).held word (sym (standing cell there) ∙ confirmed) fresh;
     }

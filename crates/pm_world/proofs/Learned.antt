@@ -10,11 +10,11 @@ use Rattle.pm_num.specs.AnyFormat.{Shape}
 use Rattle.pm_table.specs.declared.coefficients.Coefficients.{Coefficients}
 use Rattle.pm_table.specs.declared.vout_mode.VoutMode.TheVariants.{Direct}
 use Rattle.pm_table.specs.Coefficients.{coefficients_of, coefficient_bytes}
+use Rattle.pm_table.specs.Codes as command
 use Rattle.pm_table.specs.Commands.{line_of}
 use Rattle.pm_table.specs.VoutMode.{mode_of}
 use Rattle.pm_frame.specs.declared.fault.FrameFault.{FrameFault}
 use Rattle.pm_frame.specs.declared.message.Message.{Message}
-use Rattle.pm_frame.specs.declared.message.Message.TheVariants.{PagePlusRead, ReadCoefficients}
 use Rattle.pm_frame.specs.Betrayal.{is_betrayed}
 use Rattle.pm_frame.specs.Fault.{answer_fault, whole_answer}
 use Rattle.pm_frame.specs.Layout.{IsRequest, IsAnswer, sent, with_pec, is_read_message, fits_layout}
@@ -23,38 +23,26 @@ use Rattle.pm_device.specs.declared.config.Config.{Config}
 use Rattle.pm_device.specs.declared.config.OutputStart.{OutputStart}
 use Rattle.pm_device.specs.declared.heard.Ending.{Ending}
 use Rattle.pm_device.specs.declared.heard.Ending.TheVariants.{Stop, Restart}
-use Rattle.pm_device.specs.declared.heard.Heard.TheVariants.{Answer}
 use Rattle.pm_device.specs.Held.{Held, mode_for, shape_for}
 use Rattle.pm_device.specs.Reply.{register_bytes, reply_of}
 use Rattle.pm_device.specs.Start.{has_direct, is_direct}
 use Rattle.pm_host.specs.declared.stage.Stage.{Stage}
-use Rattle.pm_host.specs.declared.stage.Stage.TheVariants.{Writes, Reads, Checks, AsksMode, AsksCoefficients, Clears}
+use Rattle.pm_host.specs.declared.stage.Stage.TheVariants.{AsksMode, AsksCoefficients}
 use Rattle.pm_host.specs.Answers.{good_payload, good_mode, good_coefficients, word_in}
-use Rattle.pm_host.specs.Frames.{CanSend, reads_mode, reads_coefficients}
+use Rattle.pm_host.specs.Frames.{reads_mode, reads_coefficients}
 use Rattle.pm_host.specs.Messages.{mode_read, coefficients_read}
 use Rattle.pm_host.specs.Summary.{Summary}
 use Rattle.pm_host.specs.Transcript as host
+use Rattle.pm_world.specs.Below.{Below}
 use Rattle.pm_world.specs.declared.event.Arrival.{Arrival}
 use Rattle.pm_world.specs.declared.event.Back.{Back}
 use Rattle.pm_world.specs.declared.stop.Cause.TheVariants.{WrongKind, NotBetrayed}
 use Rattle.pm_world.specs.Honest.{IsSpelled}
 use Rattle.pm_world.specs.Legal.{frame_of, heard_bytes, heard_ending, is_restart, is_legal_return, is_heard_whole, answer_in, back_bytes}
 use Rattle.pm_world.specs.State.{State, hearing_cause, return_cause, exchange_cause, answer_to, rule}
-use Rattle.pm_world.proofs.Lives.{or-none, rule-none}
-use Rattle.pm_world.proofs.ReadBack.{ReadLaws, good-answer}
-
--- the laws of answers that are cut short or betrayed
-pub record DamageLaws : Type 0 where
-  pub short : (addr : ℕ) (request : Message) (bytes : List ℕ) → length bytes < whole_answer request → answer_fault addr request bytes ≡ None → ⊥
-  pub betrayed : (addr : ℕ) (request : Message) (bytes : List ℕ) → is_betrayed (sent addr request) bytes ≡ true → answer_fault addr request bytes ≡ None → ⊥
-  pub read : ReadLaws
-  pub mode : (held : Held) (output : ℕ) (bytes : List ℕ) → IsRequest held.config.addr (PagePlusRead output 0x20) bytes → output < held.config.count →
-      (frame : List ℕ) × (reply_of held bytes Restart ≡ Answer (record { items = frame }))
-      × IsAnswer held.config.addr (PagePlusRead output 0x20) (register_bytes 0x20 (mode_for held.config output)) frame
-  pub coefficients : (held : Held) (bytes : List ℕ) → IsRequest held.config.addr (ReadCoefficients 0x21 0x00) bytes → has_direct held.config ≡ true →
-      (frame : List ℕ) × (reply_of held bytes Restart ≡ Answer (record { items = frame }))
-      × IsAnswer held.config.addr (ReadCoefficients 0x21 0x00) (coefficient_bytes held.config.coefficients) frame
-  pub fits : (setup : host.Setup) (message : Message) → CanSend setup message → fits_layout message ≡ true
+use Rattle.pm_world.proofs.Causes.{or-none, rule-none, not-false}
+use Rattle.pm_world.proofs.Hearings.{frame-request}
+use Rattle.pm_world.proofs.ReadBack.{good-answer}
 
 -- a good answer has no fault
 good-free : (fault : Option FrameFault) (payload found : List ℕ) → cond (is_none fault) (Some found) None ≡ Some payload → fault ≡ None
@@ -69,12 +57,8 @@ restart-is : (ending : Ending) → is_restart ending ≡ true → ending ≡ Res
 restart-is Stop h = cc
 restart-is Restart h = refl
 
-frame-read : (addr : ℕ) (request : Message) → is_read_message request ≡ true → frame_of addr request ≡ sent addr request
-unfolding frame_of
-frame-read addr request reads = ap (λ b. cond b (sent addr request) (with_pec [] (sent addr request))) reads
-
 -- a good answer whose return is legal is the converter's to the whole request
-pub legal-good : DamageLaws → (held : Held) (addr : ℕ) (request : Message) (heard : List ℕ) (ending : Ending) (bytes : List ℕ) → is_read_message request ≡ true →
+pub legal-good : Below → (held : Held) (addr : ℕ) (request : Message) (heard : List ℕ) (ending : Ending) (bytes : List ℕ) → is_read_message request ≡ true →
     is_legal_return (frame_of addr request) (whole_answer request) (is_heard_whole (frame_of addr request) heard ending) (answer_in (reply_of held heard ending)) bytes ≡ true →
     answer_fault addr request bytes ≡ None → bytes ≡ answer_in (reply_of held (frame_of addr request) Restart)
 unfolding is_legal_return
@@ -90,14 +74,10 @@ legal-good laws held addr request heard ending bytes reads legal free =
           ∙ ap (λ b. answer_in (reply_of held b Restart)) ((bytes_eq-Decides heard frame).0 whole.1))
       | inr damaged ↦
           elim (or_cases (nat_lt (length bytes) (whole_answer request)) (is_betrayed frame bytes) damaged) [
-            | inl short ↦ absurd (laws.short addr request bytes (ltb-true (length bytes) (whole_answer request) short) free)
-            | inr betrayed ↦ absurd (laws.betrayed addr request bytes (subst (λ f. is_betrayed f bytes ≡ true) (frame-read addr request reads) betrayed) free)
+            | inl short ↦ absurd (laws.damage_is_refused.answer_short addr request bytes (ltb-true (length bytes) (whole_answer request) short) free)
+            | inr betrayed ↦ absurd (laws.betrayal_is_refused.answer addr request bytes (subst (λ f. is_betrayed f bytes ≡ true) (frame-request addr request reads) betrayed) free)
           ]
     ]
-
-not-not : (b : Bool) → not b ≡ false → b ≡ true
-not-not true h = refl
-not-not false h = cc
 
 -- the return of an exchange that is taken is legal
 pub exchange-legal : (s : State) (arrival : Arrival) (back : Back) (request : Message) → exchange_cause s arrival back (Some request) ≡ None →
@@ -109,16 +89,16 @@ exchange-legal s arrival back request free =
     let answer = answer_to s.device addr request arrival in
     let legal = is_legal_return (frame_of addr request) (whole_answer request) (is_heard_whole (frame_of addr request) (heard_bytes (frame_of addr request) arrival) (heard_ending request arrival)) answer (back_bytes answer back) in
     let past_kind = (or-none (rule (not (is_read_message request)) WrongKind) (option_or (hearing_cause addr request arrival) (return_cause s.device addr request arrival back)) free).1 in
-    not-not legal (rule-none (not legal) NotBetrayed (or-none (hearing_cause addr request arrival) (rule (not legal) NotBetrayed) past_kind).1)
+    not-false legal (rule-none (not legal) NotBetrayed (or-none (hearing_cause addr request arrival) (rule (not legal) NotBetrayed) past_kind).1)
 
 -- what the converter answers is its VOUT_MODE, and its coefficients
-is-answer : DamageLaws → (held : Held) (addr : ℕ) (request : Message) (payload frame bytes found : List ℕ) → bytes ≡ frame → IsAnswer addr request payload frame →
+is-answer : Below → (held : Held) (addr : ℕ) (request : Message) (payload frame bytes found : List ℕ) → bytes ≡ frame → IsAnswer addr request payload frame →
     good_payload addr request bytes ≡ Some found → found ≡ payload
 is-answer laws held addr request payload frame bytes found same is good =
-    same_Some found payload (sym good ∙ (ap (good_payload addr request) same ∙ good-answer laws.read addr request payload frame is))
+    same_Some found payload (sym good ∙ (ap (good_payload addr request) same ∙ good-answer laws addr request payload frame is))
 
 pub is_request : (addr : ℕ) (request : Message) → is_read_message request ≡ true → fits_layout request ≡ true → IsRequest addr request (frame_of addr request)
-is_request addr request reads fits = record { reads = reads; fits = fits; spelled = frame-read addr request reads }
+is_request addr request reads fits = record { reads = reads; fits = fits; spelled = frame-request addr request reads }
 
 -- some output is DIRECT where this one is
 direct-found : (starts : List OutputStart) (count output : ℕ) → output < count → mode_of (get_or (map (λ s. s.mode) starts) output 0) ≡ Ok Direct →
@@ -130,23 +110,14 @@ direct-found (s ∷ starts) (suc count) (suc output) below h = or_right (is_dire
 
 -- what a learn is told is true of the converter
 abbrev pub ToldTrue : Config → ℕ → Option Stage → List ℕ → Type 0
-ToldTrue config addr None bytes = Unit {0}
-ToldTrue config addr (Some (Writes cell word pass)) bytes = Unit {0}
-ToldTrue config addr (Some (Reads cell word pass)) bytes = Unit {0}
-ToldTrue config addr (Some (Checks cell tries)) bytes = Unit {0}
 ToldTrue config addr (Some (AsksMode output tries)) bytes = (byte : ℕ) → good_mode addr output bytes ≡ Some byte → byte ≡ mode_for config output
 ToldTrue config addr (Some (AsksCoefficients output tries)) bytes = (found : Coefficients) → good_coefficients addr bytes ≡ Some found → found ≡ config.coefficients
-ToldTrue config addr (Some (Clears output tries)) bytes = Unit {0}
+ToldTrue config addr stage bytes = Unit {0}
 
 -- coefficients are asked for where VOUT_MODE is DIRECT
 abbrev pub AsksSo : Config → Option Stage → Type 0
-AsksSo config None = Unit {0}
-AsksSo config (Some (Writes cell word pass)) = Unit {0}
-AsksSo config (Some (Reads cell word pass)) = Unit {0}
-AsksSo config (Some (Checks cell tries)) = Unit {0}
-AsksSo config (Some (AsksMode output tries)) = Unit {0}
 AsksSo config (Some (AsksCoefficients output tries)) = mode_of (mode_for config output) ≡ Ok Direct
-AsksSo config (Some (Clears output tries)) = Unit {0}
+AsksSo config stage = Unit {0}
 
 -- the known formats are the converter's
 abbrev pub Agree : Config → List (Option Shape) → Type 0
@@ -161,29 +132,29 @@ pub from_some : {A B : Type 0} (f : A → B) (o : Option A) (b : B) → option_m
 from_some f None b h = absurd (none-some b h)
 from_some f (Some a) b h = (a, refl, same_Some (f a) b h)
 
-mode_word : (n : ℕ) → n < 2 ^ 8 → word_in (register_bytes 0x20 n) ≡ n
+mode_word : (n : ℕ) → n < 2 ^ 8 → word_in (register_bytes command.vout_mode n) ≡ n
 unfolding line_of
 mode_word n below = omega arith
 
-pub mode-true : DamageLaws → (held : Held) (setup : host.Setup) (output : ℕ) (bytes : List ℕ) (byte : ℕ) → IsSpelled held.config → output < 8 → output < held.config.count → output < setup.outputs →
+pub mode-true : Below → (held : Held) (setup : host.Setup) (output : ℕ) (bytes : List ℕ) (byte : ℕ) → IsSpelled held.config → output < 8 → output < held.config.count → output < setup.outputs →
     (good_mode held.config.addr output bytes ≡ Some byte → bytes ≡ answer_in (reply_of held (frame_of held.config.addr (mode_read output)) Restart)) →
     good_mode held.config.addr output bytes ≡ Some byte → byte ≡ mode_for held.config output
 mode-true laws held setup output bytes byte spelled eight below there same good =
     let addr = held.config.addr in
-    let request = is_request addr (mode_read output) refl (laws.fits setup (mode_read output) (reads_mode output there)) in
-    let found = laws.mode held output (frame_of addr (mode_read output)) request below in
+    let request = is_request addr (mode_read output) refl (laws.frames_are_named.fits setup (mode_read output) (reads_mode output there)) in
+    let found = laws.reads_are_answered.mode held output (frame_of addr (mode_read output)) request below in
     let payload = from_some word_in (good_payload addr (mode_read output) bytes) byte good in
-    let is = is-answer laws held addr (mode_read output) (register_bytes 0x20 (mode_for held.config output)) found.0 bytes payload.0 (same good ∙ ap answer_in found.1) found.2 payload.1 in
+    let is = is-answer laws held addr (mode_read output) (register_bytes command.vout_mode (mode_for held.config output)) found.0 bytes payload.0 (same good ∙ ap answer_in found.1) found.2 payload.1 in
     sym payload.2 ∙ (ap word_in is ∙ mode_word (mode_for held.config output) (spelled.modes output eight))
 
-pub coefficients-true : DamageLaws → (held : Held) (setup : host.Setup) (output : ℕ) (bytes : List ℕ) (k : Coefficients) → IsSpelled held.config → output < held.config.count →
+pub coefficients-true : Below → (held : Held) (setup : host.Setup) (output : ℕ) (bytes : List ℕ) (k : Coefficients) → IsSpelled held.config → output < held.config.count →
     mode_of (mode_for held.config output) ≡ Ok Direct →
     (good_coefficients held.config.addr bytes ≡ Some k → bytes ≡ answer_in (reply_of held (frame_of held.config.addr coefficients_read) Restart)) →
     good_coefficients held.config.addr bytes ≡ Some k → k ≡ held.config.coefficients
 coefficients-true laws held setup output bytes k spelled below direct same good =
     let addr = held.config.addr in
-    let request = is_request addr coefficients_read refl (laws.fits setup coefficients_read reads_coefficients) in
-    let found = laws.coefficients held (frame_of addr coefficients_read) request (direct-found held.config.starts held.config.count output below direct) in
+    let request = is_request addr coefficients_read refl (laws.frames_are_named.fits setup coefficients_read reads_coefficients) in
+    let found = laws.reads_are_answered.coefficients held (frame_of addr coefficients_read) request (direct-found held.config.starts held.config.count output below direct) in
     let payload = from_some coefficients_of (good_payload addr coefficients_read bytes) k good in
     let is = is-answer laws held addr coefficients_read (coefficient_bytes held.config.coefficients) found.0 bytes payload.0 (same good ∙ ap answer_in found.1) found.2 payload.1 in
     sym payload.2 ∙ (ap coefficients_of is ∙ spelled.coefficients)

@@ -1,5 +1,6 @@
 -- The formats that a host learns in a life.
-use Rattle.std.proofs.Common.{◌≡◌, ℕ, ℤ, ◌<◌, List, [], ◌∷◌, Option, Some, None, IsSome, option_and_then, unwrap_or, refl, sym, ◌∙◌, ap, subst, arith}
+use Rattle.std.proofs.Common.{◌≡◌, ℕ, ℤ, ◌<◌, List, [], ◌∷◌, Option, Some, None, IsSome, option_and_then, option_map, refl, sym, ◌∙◌, ap, subst, arith}
+use Rattle.std.specs.Option.{option_map_or}
 use Rattle.pm_num.specs.AnyFormat.{Shape, shape_value, shape_rank}
 use Rattle.pm_num.specs.NearestWord.{nearest_word}
 use Rattle.pm_num.specs.Ratio.{micros}
@@ -8,37 +9,30 @@ use Rattle.pm_table.specs.Cell.{output_of}
 use Rattle.pm_device.specs.declared.config.Config.{Config}
 use Rattle.pm_device.specs.Held.{shape_for, value_for}
 use Rattle.pm_device.specs.Start.{IsSound}
-use Rattle.pm_host.specs.Now.{now as host_now}
-use Rattle.pm_host.specs.Refusals.{IsSetup}
 use Rattle.pm_host.specs.Summary.{format_at}
 use Rattle.pm_host.specs.Transcript.{format_of_output}
 use Rattle.pm_host.specs.Transcript as host
+use Rattle.pm_world.specs.Below.{Below}
 use Rattle.pm_world.specs.declared.event.Event.{Event}
 use Rattle.pm_world.specs.declared.event.Event.TheVariants.{OrderMicro}
 use Rattle.pm_world.specs.Honest.{IsSpelled, FormatsAgree, OrdersNearest, MicrosAreNearest}
-use Rattle.pm_world.specs.Life.{life, now, state_of, AreTaken}
+use Rattle.pm_world.specs.Life.{life, now, state_of}
 use Rattle.pm_world.specs.Setup.{setup_of, start}
-use Rattle.pm_world.specs.State.{State, next}
-use Rattle.pm_world.proofs.Learned.{DamageLaws, IsTrueHost}
+use Rattle.pm_world.specs.State.{State, next, nothing, tells}
+use Rattle.pm_world.proofs.Learned.{IsTrueHost}
+use Rattle.pm_world.proofs.Lives.{IsLived, earlier, newest, lived-before, now-config, now-next, now-nil, now-setup}
 use Rattle.pm_world.proofs.TrueHost.{Stands, agree-none, next-true}
-use Rattle.pm_world.proofs.Sending.{taken-free}
-use Rattle.pm_world.proofs.Undisturbed.{HonestLaws, now-config, now-setup, now-sound, taken-before, share-entries}
+use Rattle.pm_world.proofs.Undisturbed.{now-sound, share-entries}
 
-pub record FormatLaws : Type 0 where
-  pub lives : HonestLaws
-  pub damage : DamageLaws
-  pub none : (config : Config) (passes : ℕ) → IsSetup (setup_of config passes) → now config passes [] ≡ start config passes
-  pub format : (setup : host.Setup) (entries : List host.Entry) (output : ℕ) → output < 8 → format_at (host_now setup entries) output ≡ format_of_output setup entries output
-
-stands : FormatLaws → (config : Config) (passes : ℕ) (events : List Event) → IsSound config → IsSpelled config → IsSetup (setup_of config passes) → AreTaken config passes events → Stands (now config passes events)
-stands laws config passes events sound spelled made taken =
-    let same = now-config config passes events in
+stands : Below → (config : Config) (passes : ℕ) (events : List Event) → IsLived config passes events → IsSpelled config → Stands (now config passes events)
+stands laws config passes events lived spelled =
+    let same = sym (now-config config passes events) in
     let setup = now-setup config passes events in
     record {
       addr = ap (λ (u : host.Setup). u.addr) setup ∙ ap (λ (k : Config). k.addr) same;
       outputs = ap (λ (u : host.Setup). u.outputs) setup ∙ ap (λ (k : Config). k.count) same;
-      sound = subst IsSound same sound;
-      host = now-sound laws.lives config passes events sound made taken;
+      sound = subst IsSound same lived.sound;
+      host = now-sound laws config passes events lived;
       spelled = subst IsSpelled same spelled;
     }
 
@@ -46,23 +40,23 @@ true-start : (config : Config) (passes : ℕ) → IsTrueHost config (start confi
 unfolding start
 true-start config passes = record { formats = agree-none config; asks = tt }
 
-pub true-host : FormatLaws → (config : Config) (passes : ℕ) (events : List Event) → IsSound config → IsSpelled config → IsSetup (setup_of config passes) → AreTaken config passes events →
+pub true-host : Below → (config : Config) (passes : ℕ) (events : List Event) → IsLived config passes events → IsSpelled config →
     IsTrueHost config (now config passes events).host
-true-host laws config passes [] sound spelled made taken = subst (λ (s : State). IsTrueHost config s.host) (sym (laws.none config passes made)) (true-start config passes)
-true-host laws config passes (event ∷ before) sound spelled made taken =
+true-host laws config passes [] lived spelled = subst (λ (s : State). IsTrueHost config s.host) (sym (now-nil laws config passes lived.made)) (true-start config passes)
+true-host laws config passes (event ∷ before) lived spelled =
     let s = now config passes before in
-    let same = now-config config passes before in
-    let so_far = true-host laws config passes before sound spelled made taken.1 in
-    subst (λ (t : State). IsTrueHost config t.host) (sym (laws.lives.more config passes before event sound made taken))
+    let same = sym (now-config config passes before) in
+    let so_far = true-host laws config passes before (earlier lived) spelled in
+    subst (λ (t : State). IsTrueHost config t.host) (sym (now-next laws config passes before event lived))
     (subst (λ (k : Config). IsTrueHost k (next s event).host) (sym same)
-    (next-true laws.damage s event (stands laws config passes before sound spelled made taken.1) (subst (λ (k : Config). IsTrueHost k s.host) same so_far) (taken-free s event taken.0)))
+    (next-true laws s event (stands laws config passes before (earlier lived) spelled) (subst (λ (k : Config). IsTrueHost k s.host) same so_far) (newest lived)))
 
-pub formats-agree : FormatLaws → (config : Config) (passes : ℕ) (events : List Event) → IsSound config → IsSpelled config → IsSetup (setup_of config passes) → AreTaken config passes events →
+pub formats-agree : Below → (config : Config) (passes : ℕ) (events : List Event) → IsLived config passes events → IsSpelled config →
     FormatsAgree config passes events
 unfolding now state_of
-formats-agree laws config passes events sound spelled made taken = record {
-  held = (true-host laws config passes events sound spelled made taken).formats;
-  learned = λ output shape there found. laws.format (setup_of config passes) (life config passes events).entries output (let few = sound.few in omega arith) ∙ found;
+formats-agree laws config passes events lived spelled = record {
+  held = (true-host laws config passes events lived spelled).formats;
+  learned = λ output shape there found. laws.transcripts_are_followed.format (setup_of config passes) (life config passes events).entries output (let few = lived.sound.few in omega arith) ∙ found;
 }
 
 -- the word of an order in microvolts
@@ -79,19 +73,18 @@ nearest-found config output x (Some shape) agree some =
     let found = some-of (nearest_word (shape_value shape) (shape_rank shape) (micros x)) some in
     (found.0, found.1, subst (λ (t : Shape). nearest_word (shape_value t) (shape_rank t) (micros x) ≡ Some found.0) (agree shape refl) found.1)
 
-orders-nearest : FormatLaws → (config : Config) (passes : ℕ) (before : List Event) (cell : Cell) (x : ℤ) → IsSound config → IsSpelled config → IsSetup (setup_of config passes) →
-    AreTaken config passes (OrderMicro cell x ∷ before) → OrdersNearest config passes cell x before
-orders-nearest laws config passes before cell x sound spelled made taken =
+orders-nearest : Below → (config : Config) (passes : ℕ) (before : List Event) (cell : Cell) (x : ℤ) → IsLived config passes (OrderMicro cell x ∷ before) → IsSpelled config → OrdersNearest config passes cell x before
+orders-nearest laws config passes before cell x lived spelled =
     let s = now config passes before in
-    let found = nearest-found config (output_of cell) x (format_at s.host (output_of cell)) (λ shape h. (true-host laws config passes before sound spelled made taken.1).formats (output_of cell) shape h) taken.0.word in
+    let found = nearest-found config (output_of cell) x (format_at s.host (output_of cell)) (λ shape h. (true-host laws config passes before (earlier lived) spelled).formats (output_of cell) shape h) lived.legal.0.word in
     record {
       word = found.0;
       nearest = found.2;
-      ordered = share-entries config passes before (OrderMicro cell x) (host.Accepted (host.Order cell found.0))
-          (ap (λ (w : Option ℕ). Some (host.Accepted (host.Order cell (unwrap_or w 0)))) found.1);
+      ordered = share-entries config passes before (OrderMicro cell x) (Some (host.Accepted (host.Order cell found.0)))
+          (ap (λ (w : Option ℕ). (option_map_or (λ j. tells (host.Accepted j)) (option_map (λ w. host.Order cell w) w) nothing).told) found.1);
     }
 
-pub micros-nearest : FormatLaws → (config : Config) (passes : ℕ) (events : List Event) → IsSound config → IsSpelled config → IsSetup (setup_of config passes) → AreTaken config passes events →
+pub micros-nearest : Below → (config : Config) (passes : ℕ) (events : List Event) → IsLived config passes events → IsSpelled config →
     MicrosAreNearest config passes events
-micros-nearest laws config passes events sound spelled made taken = λ later before cell x is.
-    orders-nearest laws config passes before cell x sound spelled made (taken-before config passes later (OrderMicro cell x ∷ before) (subst (AreTaken config passes) is taken))
+micros-nearest laws config passes events lived spelled = λ later before cell x is.
+    orders-nearest laws config passes before cell x (lived-before config passes later (OrderMicro cell x ∷ before) (subst (IsLived config passes) is lived)) spelled

@@ -1,6 +1,6 @@
+mod Causes
 mod DamagedFrames
 mod DamagedRequests
-mod Deliveries
 mod Ends
 mod Exchanges
 mod Frames
@@ -15,6 +15,7 @@ mod OwnWords
 mod ReadBack
 mod Retellings
 mod Runs
+mod Seen
 mod Sending
 mod Standings
 mod TakenWhole

@@ -1,8 +1,7 @@
 -- The life of a world, event by event.
-use Rattle.std.proofs.Common.{◌≡◌, ℕ, ℤ, suc, ◌≤◌, Bool, true, false, not, List, [], ◌∷◌, ◌++◌, length, Option, Some, None, is_none, IsSome, unwrap_or, refl, sym, ◌∙◌, ap, ap₂, subst, add-one}
-use Rattle.std.specs.Prelude.{option_to_list, nat_le}
-use Rattle.std.specs.Option.{option_or, option_and_then, option_map_or}
-use Rattle.pm_table.specs.declared.cell.Cell.{Cell}
+use Rattle.std.proofs.Common.{◌≡◌, ℕ, suc, ◌≤◌, true, false, not, List, [], ◌∷◌, ◌++◌, length, Option, Some, None, is_none, refl, sym, ◌∙◌, ap, ap₂, subst, add-one}
+use Rattle.std.specs.Prelude.{option_to_list}
+use Rattle.std.specs.Option.{option_map_or}
 use Rattle.pm_frame.specs.declared.message.Message.{Message}
 use Rattle.pm_frame.specs.Layout.{is_read_message}
 use Rattle.pm_device.specs.declared.config.Config.{Config}
@@ -10,47 +9,54 @@ use Rattle.pm_device.specs.Held.{Held}
 use Rattle.pm_device.specs.Effect as device
 use Rattle.pm_device.specs.History.{now as device_now, next as device_next, start_of}
 use Rattle.pm_device.specs.Start.{IsSound}
-use Rattle.pm_host.specs.declared.fault.HostFault.{HostFault}
-use Rattle.pm_host.specs.declared.step.JobEnd.{JobEnd}
+use Rattle.pm_host.specs.declared.job_end.JobEnd.{JobEnd}
 use Rattle.pm_host.specs.Now.{now as host_now, AreTold}
-use Rattle.pm_host.specs.Refusals.{IsSetup, may_come, order_fault, micro_fault, micro_word, voltage_fault, range_fault, sends_write}
-use Rattle.pm_host.specs.Summary.{Summary, start as host_start, next as host_next, step_of, step_by, sending_in, format_at}
+use Rattle.pm_host.specs.Refusals.{IsSetup, job_fault, may_come, sends_write}
+use Rattle.pm_host.specs.Summary.{Summary, start as host_start, next as host_next, step_of, step_by, sending_in}
 use Rattle.pm_host.specs.Transcript as host
+use Rattle.pm_world.specs.Below.{Below}
 use Rattle.pm_world.specs.declared.event.Event.{Event}
-use Rattle.pm_world.specs.declared.event.Event.TheVariants.{Order, OrderMicro, Check, Learn, Clear, Deliver, Finish, Exchange, RestartDevice, RestartHost, Reading}
+use Rattle.pm_world.specs.declared.event.Event.TheVariants.{Deliver, Finish, Exchange, RestartHost}
 use Rattle.pm_world.specs.declared.event.Arrival.{Arrival}
 use Rattle.pm_world.specs.declared.event.Back.{Back}
-use Rattle.pm_world.specs.declared.stop.Cause.{Cause}
-use Rattle.pm_world.specs.declared.stop.Cause.TheVariants.{Full, WrongKind}
+use Rattle.pm_world.specs.declared.stop.Cause.TheVariants.{WrongKind}
 use Rattle.pm_world.specs.Setup.{setup_of, start}
-use Rattle.pm_world.specs.State.{State, Share, share_of, delivered, exchanged, shared, counted, next, end_by, end_after, host_after, device_after, rule, refused, event_limit, event_cause, cause_of, finish_cause, exchange_cause, IsTaken}
+use Rattle.pm_world.specs.State.{State, Share, asked, share_of, share_beside, tells, delivered, exchanged, shared, counted, next, end_by, end_after, host_after, device_after, HasWord, rule, event_cause, finish_cause, exchange_cause, IsTaken}
+use Rattle.pm_world.proofs.Causes.{or-none, rule-none, not-false, taken-free, job-free}
 use Rattle.pm_world.proofs.Ends.{state}
-use Rattle.pm_table.specs.Cell.{output_of}
 use Rattle.pm_world.specs.Life.{Life, state_of, lived, life, now, AreTaken, after_all, AreTakenFrom}
 
--- the laws of the two ends
-pub record EndLaws : Type 0 where
-  pub device_none : (config : Config) → device_now config [] ≡ start_of config
-  pub device_more : (config : Config) (past : List device.Event) (event : device.Event) → 1 ≤ config.count → config.count ≤ 8 →
-      device_now config (event ∷ past) ≡ device_next (device_now config past) event
-  pub host_none : (setup : host.Setup) → IsSetup setup → host_now setup [] ≡ host_start setup
-  pub host_more : (setup : host.Setup) (entries : List host.Entry) (entry : host.Entry) → IsSetup setup → AreTold setup (entry ∷ entries) →
-      host_now setup (entry ∷ entries) ≡ host_next (host_now setup entries) entry
-  pub host_step : (setup : host.Setup) (entries : List host.Entry) (entry : host.Entry) → IsSetup setup → AreTold setup (entry ∷ entries) →
-      step_of (host_now setup entries) entry ≡ step_by (host.end_of setup (entry ∷ entries))
+-- events that a world of this configuration lived through: nothing but their number may be against one
+pub record IsLegal (s : State) (event : Event) : Type 0 where
+  pub free : event_cause s event ≡ None
+  pub word : HasWord s event
 
--- of two, none
-pub or-none : {A : Type 0} (a b : Option A) → option_or a b ≡ None → (a ≡ None) × (b ≡ None)
-or-none None b h = (refl, h)
-or-none (Some x) b h = cc
+abbrev pub AreLegal : Config → ℕ → List Event → Type 0
+AreLegal config passes [] = Unit {0}
+AreLegal config passes (event ∷ before) = IsLegal (now config passes before) event × AreLegal config passes before
 
-refused-none : (fault : Option HostFault) → refused fault ≡ None → is_none fault ≡ true
-refused-none None h = refl
-refused-none (Some fault) h = cc
+pub record IsLived (config : Config) (passes : ℕ) (events : List Event) : Type 0 where
+  pub sound : IsSound config
+  pub made : IsSetup (setup_of config passes)
+  pub legal : AreLegal config passes events
 
-pub rule-none : (b : Bool) (cause : Cause) → rule b cause ≡ None → b ≡ false
-rule-none false cause h = refl
-rule-none true cause h = cc
+-- events that were taken are legal
+are-legal : (config : Config) (passes : ℕ) (events : List Event) → AreTaken config passes events → AreLegal config passes events
+are-legal config passes [] taken = tt
+are-legal config passes (event ∷ before) (taken, all) =
+    (record { free = taken-free (now config passes before) event taken; word = taken.word }, are-legal config passes before all)
+
+pub lived-by : (config : Config) (passes : ℕ) (events : List Event) → IsSound config → IsSetup (setup_of config passes) →
+    AreTaken config passes events → IsLived config passes events
+lived-by config passes events sound made taken = record { sound = sound; made = made; legal = are-legal config passes events taken }
+
+-- the events before the newest were lived through, and the newest has no cause
+pub earlier : {config : Config} {passes : ℕ} {before : List Event} {event : Event} → IsLived config passes (event ∷ before) → IsLived config passes before
+earlier lived = record { sound = lived.sound; made = lived.made; legal = lived.legal.1 }
+
+pub newest : {config : Config} {passes : ℕ} {before : List Event} {event : Event} → IsLived config passes (event ∷ before) →
+    event_cause (now config passes before) event ≡ None
+newest lived = lived.legal.0.free
 
 -- the host may be told what an event tells it
 abbrev MayBeTold : Summary → Option host.Entry → Type 0
@@ -61,10 +67,6 @@ finish-may : (s : Summary) (sending : Option Message) → sending_in s ≡ sendi
 finish-may s None e h = cc
 finish-may s (Some message) e h =
     ap (λ o. option_map_or (λ m. not (is_read_message m)) o false) e ∙ ap not (rule-none (is_read_message message) WrongKind h)
-
-pub not-false : (b : Bool) → not b ≡ false → b ≡ true
-not-false true h = refl
-not-false false h = cc
 
 exchange-may : (s : State) (arrival : Arrival) (back : Back) (sending : Option Message) → sending_in s.host ≡ sending → exchange_cause s arrival back sending ≡ None →
     MayBeTold s.host (exchanged s arrival back sending).told
@@ -77,64 +79,52 @@ deliver-may : (s : State) (arrival : Arrival) (sending : Option Message) → May
 deliver-may s arrival None = tt
 deliver-may s arrival (Some message) = tt
 
-word-none : (s : Summary) (cell : Cell) (word : Option ℕ) → IsSome word → option_and_then (λ w. order_fault s cell w) word ≡ None → is_none (order_fault s cell (unwrap_or word 0)) ≡ true
-word-none s cell None some h = cc
-word-none s cell (Some w) some h = ap is_none h
+-- a job without a fault may be accepted
+job-may : (s : Summary) (job : host.Job) → job_fault s job ≡ None → may_come s (host.Accepted job) ≡ true
+job-may s job h = ap is_none h
 
-refused-is : (fault : Option HostFault) → refused fault ≡ None → fault ≡ None
-refused-is None h = refl
-refused-is (Some fault) h = cc
+-- the host may be told what an event without a cause tells it: by the events that ask for no job,
+beside-may : (s : State) (event : Event) → event_cause s event ≡ None → MayBeTold s.host (share_beside s event).told
+beside-may s (Deliver arrival) h = deliver-may s arrival (sending_in s.host)
+beside-may s (Finish acked) h = finish-may s.host (sending_in s.host) refl h
+beside-may s (Exchange arrival back) h = exchange-may s arrival back (sending_in s.host) refl h
+beside-may s RestartHost h = refl
+beside-may s _ h = tt
 
-micro-may : (s : Summary) (cell : Cell) (x : ℤ) → refused (micro_fault s cell x) ≡ None → IsSome (micro_word s cell x) → is_none (order_fault s cell (unwrap_or (micro_word s cell x) 0)) ≡ true
-micro-may s cell x h some =
-    let free = refused-is (micro_fault s cell x) h in
-    let past_voltage = (or-none (voltage_fault s cell) _ free).1 in
-    let past_range = (or-none (option_and_then (λ shape. range_fault shape x) (format_at s (output_of cell))) _ past_voltage).1 in
-    word-none s cell (micro_word s cell x) some (or-none (option_and_then (λ w. order_fault s cell w) (micro_word s cell x)) None past_range).0
-
-event-may : (s : State) (event : Event) → event_cause s event ≡ None → IsTaken s event → MayBeTold s.host (share_of s event).told
-event-may s (Order cell word) h taken = refused-none (order_fault s.host cell word) h
-event-may s (OrderMicro cell x) h taken = micro-may s.host cell x h taken.word
-event-may s (Check cell) h taken = refused-none _ h
-event-may s (Learn output) h taken = refused-none _ h
-event-may s (Clear output) h taken = refused-none _ h
-event-may s (Deliver arrival) h taken = deliver-may s arrival (sending_in s.host)
-event-may s (Finish acked) h taken = finish-may s.host (sending_in s.host) refl h
-event-may s (Exchange arrival back) h taken = exchange-may s arrival back (sending_in s.host) refl h
-event-may s RestartDevice h taken = tt
-event-may s RestartHost h taken = refl
-event-may s (Reading output code word) h taken = tt
-
-may-be-told : (s : State) (event : Event) → IsTaken s event → MayBeTold s.host (share_of s event).told
-unfolding cause_of
-may-be-told s event taken = event-may s event (or-none (rule (nat_le event_limit s.taken) Full) (event_cause s event) taken.free).1 taken
+-- and by the job that is asked for
+may-be-told : (s : State) (event : Event) → event_cause s event ≡ None → MayBeTold s.host (share_of s event).told
+may-be-told s event h = go (asked s event) refl where
+  go : (o : Option host.Job) → asked s event ≡ o →
+      MayBeTold s.host (option_map_or (λ job. tells (host.Accepted job)) o (share_beside s event)).told
+  go None e = beside-may s event h
+  go (Some job) e = job-may s.host job (job-free s event job e h)
 
 -- a transcript with what the host was told
 told-more : (setup : host.Setup) (entries : List host.Entry) (told : Option host.Entry) → AreTold setup entries → MayBeTold (host_now setup entries) told → AreTold setup (option_to_list told ++ entries)
 told-more setup entries None before may = before
 told-more setup entries (Some entry) before may = (may, before)
 
-device-part : EndLaws → (config : Config) (past : List device.Event) (heard : Option device.Event) → IsSound config → device_now config (option_to_list heard ++ past) ≡ device_after (device_now config past) heard
+device-part : Below → (config : Config) (past : List device.Event) (heard : Option device.Event) → IsSound config → device_now config (option_to_list heard ++ past) ≡ device_after (device_now config past) heard
 device-part laws config past None sound = refl
-device-part laws config past (Some event) sound = laws.device_more config past event sound.some sound.few
+device-part laws config past (Some event) sound = laws.pasts_are_followed.more config past event sound.some sound.few
 
-host-part : EndLaws → (setup : host.Setup) (entries : List host.Entry) (told : Option host.Entry) → IsSetup setup → AreTold setup entries → MayBeTold (host_now setup entries) told →
+host-part : Below → (setup : host.Setup) (entries : List host.Entry) (told : Option host.Entry) → IsSetup setup → AreTold setup entries → MayBeTold (host_now setup entries) told →
     host_now setup (option_to_list told ++ entries) ≡ host_after (host_now setup entries) told
 host-part laws setup entries None good before may = refl
-host-part laws setup entries (Some entry) good before may = laws.host_more setup entries entry good (may, before)
+host-part laws setup entries (Some entry) good before may = laws.transcripts_are_followed.more setup entries entry good (may, before)
 
 end_by-step : (end : Option JobEnd) → end_by (step_by end) ≡ end
 end_by-step None = refl
 end_by-step (Some end) = refl
 
-end-part : EndLaws → (setup : host.Setup) (entries : List host.Entry) (told : Option host.Entry) → IsSetup setup → AreTold setup entries → MayBeTold (host_now setup entries) told →
+end-part : Below → (setup : host.Setup) (entries : List host.Entry) (told : Option host.Entry) → IsSetup setup → AreTold setup entries → MayBeTold (host_now setup entries) told →
     host.end_of setup (option_to_list told ++ entries) ≡ end_after (host_now setup entries) (host.end_of setup entries) told
 end-part laws setup entries None good before may = refl
 end-part laws setup entries (Some entry) good before may =
-    sym (ap end_by (laws.host_step setup entries entry good (may, before)) ∙ end_by-step (host.end_of setup (entry ∷ entries)))
+    sym (ap end_by (laws.transcripts_are_followed.step setup entries entry good (may, before)) ∙ end_by-step (host.end_of setup (entry ∷ entries)))
 
 -- the world after one more share
-lived-state : EndLaws → (config : Config) (passes n : ℕ) (l : Life) (share : Share) → IsSound config → IsSetup (setup_of config passes) → AreTold (setup_of config passes) l.entries →
+lived-state : Below → (config : Config) (passes n : ℕ) (l : Life) (share : Share) → IsSound config → IsSetup (setup_of config passes) → AreTold (setup_of config passes) l.entries →
     MayBeTold (host_now (setup_of config passes) l.entries) share.told →
     state_of config passes (suc n) (lived l share) ≡ counted (shared (state_of config passes n l) share)
 unfolding state_of
@@ -147,32 +137,57 @@ lived-state laws config passes n l share sound good before may =
     setup : host.Setup
     setup = setup_of config passes
 
-pub life-told : (config : Config) (passes : ℕ) (events : List Event) → AreTaken config passes events → AreTold (setup_of config passes) (life config passes events).entries
+-- what the host was told is a transcript that might come
+pub life-told : (config : Config) (passes : ℕ) (events : List Event) → AreLegal config passes events →
+    AreTold (setup_of config passes) (life config passes events).entries
 unfolding life now state_of
-life-told config passes [] taken = tt
-life-told config passes (event ∷ before) (taken, all) =
+life-told config passes [] legal = tt
+life-told config passes (event ∷ before) (legal, all) =
     told-more (setup_of config passes) (life config passes before).entries _ (life-told config passes before all)
-    (may-be-told (state_of config passes (length before) (life config passes before)) event taken)
+    (may-be-told (state_of config passes (length before) (life config passes before)) event legal.free)
 
-pub now-next : EndLaws → (config : Config) (passes : ℕ) (events : List Event) (event : Event) → IsSound config → IsSetup (setup_of config passes) → AreTaken config passes (event ∷ events) →
+-- one more event
+pub now-next : Below → (config : Config) (passes : ℕ) (events : List Event) (event : Event) → IsLived config passes (event ∷ events) →
     now config passes (event ∷ events) ≡ next (now config passes events) event
 unfolding life now next state_of
-now-next laws config passes events event sound good (taken, all) =
-    lived-state laws config passes (length events) (life config passes events) (share_of (state_of config passes (length events) (life config passes events)) event) sound good
-    (life-told config passes events all)
-    (may-be-told (state_of config passes (length events) (life config passes events)) event taken)
+now-next laws config passes events event lived =
+    let before_it = state_of config passes (length events) (life config passes events) in
+    lived-state laws config passes (length events) (life config passes events) (share_of before_it event) lived.sound lived.made
+    (life-told config passes events lived.legal.1) (may-be-told before_it event lived.legal.0.free)
 
-pub now-nil : EndLaws → (config : Config) (passes : ℕ) → IsSetup (setup_of config passes) → now config passes [] ≡ start config passes
+-- no event
+pub now-nil : Below → (config : Config) (passes : ℕ) → IsSetup (setup_of config passes) → now config passes [] ≡ start config passes
 unfolding life now start state_of host.end_of
 now-nil laws config passes good =
-    ap₂ (λ (d : Held) (h : Summary). state d h None 0) (laws.device_none config) (laws.host_none (setup_of config passes) good)
+    ap₂ (λ (d : Held) (h : Summary). state d h None 0) (laws.pasts_are_followed.none config) (laws.transcripts_are_followed.none (setup_of config passes) good)
 
 -- events that are taken from the start are those of a life
-pub from-start : EndLaws → (config : Config) (passes : ℕ) (events : List Event) → IsSound config → IsSetup (setup_of config passes) → AreTakenFrom (start config passes) events →
+pub from-start : Below → (config : Config) (passes : ℕ) (events : List Event) → IsSound config → IsSetup (setup_of config passes) →
+    AreTakenFrom (start config passes) events →
     AreTaken config passes events × (now config passes events ≡ after_all (start config passes) events)
 from-start laws config passes [] sound good all = (tt, now-nil laws config passes good)
 from-start laws config passes (event ∷ before) sound good (taken, all) =
     let so_far = from-start laws config passes before sound good all in
     let same = so_far.1 in
     let one : AreTaken config passes (event ∷ before) = (subst (λ (s : State). IsTaken s event) (sym same) taken, so_far.0) in
-    (one, now-next laws config passes before event sound good one ∙ ap (λ (s : State). next s event) same)
+    (one, now-next laws config passes before event (lived-by config passes (event ∷ before) sound good one) ∙ ap (λ (s : State). next s event) same)
+
+-- what came before events that were lived through was
+pub lived-before : (config : Config) (passes : ℕ) (later before : List Event) → IsLived config passes (later ++ before) → IsLived config passes before
+lived-before config passes [] before lived = lived
+lived-before config passes (event ∷ later) before lived = lived-before config passes later before (earlier lived)
+
+-- what no event changes
+pub now-config : (config : Config) (passes : ℕ) (events : List Event) → (now config passes events).device.config ≡ config
+unfolding now state_of device_now
+now-config config passes events = refl
+
+pub now-setup : (config : Config) (passes : ℕ) (events : List Event) → (now config passes events).host.setup ≡ setup_of config passes
+unfolding now state_of host_now
+now-setup config passes events = refl
+
+-- the entries after one more event
+pub entries-more : (config : Config) (passes : ℕ) (before : List Event) (event : Event) →
+    (life config passes (event ∷ before)).entries ≡ option_to_list (share_of (now config passes before) event).told ++ (life config passes before).entries
+unfolding life now
+entries-more config passes before event = refl

@@ -15,10 +15,10 @@ use Rattle.pm_model.specs.declared.pending_order.PendingOrder.{PendingOrder}
 use Rattle.pm_model.specs.OrderMachine.{ordered}
 use Rattle.pm_device.specs.declared.config.Config.{Config}
 use Rattle.pm_host.specs.declared.stage.Stage.{Stage}
-use Rattle.pm_host.specs.declared.stage.Stage.TheVariants.{Writes, Reads, Checks, AsksMode, AsksCoefficients, Clears}
+use Rattle.pm_host.specs.declared.stage.Stage.TheVariants.{Writes, Reads, Checks, AsksMode, AsksCoefficients, Sends}
 use Rattle.pm_host.specs.Answers.{good_word, good_mode, good_coefficients}
-use Rattle.pm_host.specs.declared.step.JobEnd.{JobEnd}
-use Rattle.pm_host.specs.declared.step.JobEnd.TheVariants.{Done, Differs, Unknown}
+use Rattle.pm_host.specs.declared.job_end.JobEnd.{JobEnd}
+use Rattle.pm_host.specs.declared.job_end.JobEnd.TheVariants.{Done, Differs, Unknown}
 use Rattle.pm_host.specs.Marks.{Good}
 use Rattle.pm_host.specs.Now.{now as host_now, stage_of, job_stage}
 use Rattle.pm_host.specs.Summary.{Summary, another, learned, read_back, checked, mode_taken, mode_answered, coefficients_answered, finished, answered, marked, writes, ends, goes_on}
@@ -30,13 +30,9 @@ use Rattle.pm_world.specs.Setup.{setup_of}
 
 -- the order of a stage
 abbrev pub stage_order : Option Stage → Option PendingOrder
-stage_order None = None
 stage_order (Some (Writes cell word pass)) = Some (ordered cell word)
 stage_order (Some (Reads cell word pass)) = Some (ordered cell word)
-stage_order (Some (Checks cell tries)) = None
-stage_order (Some (AsksMode output tries)) = None
-stage_order (Some (AsksCoefficients output tries)) = None
-stage_order (Some (Clears output tries)) = None
+stage_order stage = None
 
 order-of_stage : (setup : host.Setup) (entries : List host.Entry) → stage_order (host_now setup entries).stage ≡ option_and_then order_of (host.open_job setup entries)
 unfolding host_now stage_of
@@ -50,11 +46,10 @@ order-of_stage setup entries = go (host.open_job setup entries) where
   by_mode false output m n = refl
 
   go : (job : Option host.Job) → stage_order (option_map (λ j. job_stage setup j (host.told_since entries)) job) ≡ option_and_then order_of job
-  go None = refl
   go (Some (host.Order cell word)) = by_turn _ cell word _
-  go (Some (host.Check cell)) = refl
   go (Some (host.Learn output)) = by_mode _ output _ _
-  go (Some (host.Clear output)) = refl
+  go (Some (host.Check cell)) = refl
+  go job = refl
 
 pub open_order-is : (config : Config) (passes : ℕ) (events : List Event) → open_order config passes events ≡ stage_order (now config passes events).host.stage
 unfolding open_order now state_of
@@ -62,17 +57,12 @@ open_order-is config passes events = sym (order-of_stage (setup_of config passes
 
 -- the end of a write leaves the order
 pub finished-order : (s : Summary) (stage : Option Stage) (acked : Bool) → stage_order (finished s stage acked).after.stage ≡ stage_order stage
-finished-order s None acked = refl
-finished-order s (Some (Writes cell word pass)) acked = refl
-finished-order s (Some (Reads cell word pass)) acked = refl
-finished-order s (Some (Checks cell tries)) acked = refl
-finished-order s (Some (AsksMode output tries)) acked = refl
-finished-order s (Some (AsksCoefficients output tries)) acked = refl
-finished-order s (Some (Clears output tries)) true = refl
-finished-order s (Some (Clears output tries)) false = go (eqb (tries + 1) s.setup.passes) where
-  go : (b : Bool) → stage_order (cond b (ends s Unknown) (goes_on s (Clears output (tries + 1)))).after.stage ≡ None
+finished-order s (Some (Sends sent tries)) true = refl
+finished-order s (Some (Sends sent tries)) false = go (eqb (tries + 1) s.setup.passes) where
+  go : (b : Bool) → stage_order (cond b (ends s Unknown) (goes_on s (Sends sent (tries + 1)))).after.stage ≡ None
   go true = refl
   go false = refl
+finished-order s stage acked = refl
 
 -- an order stays open, or ends
 abbrev pub Goes : Option PendingOrder → Option PendingOrder → Type 0
@@ -86,8 +76,6 @@ another-order s tries stage none = go (eqb (tries + 1) s.setup.passes) where
 
 -- what came back leaves an order open, or ends it
 pub answered-order : (s : Summary) (stage : Option Stage) (bytes : List ℕ) → Goes (stage_order stage) (stage_order (answered s stage bytes).after.stage)
-answered-order s None bytes = inl refl
-answered-order s (Some (Writes cell word pass)) bytes = inl refl
 answered-order s (Some (Reads cell word pass)) bytes = go (good_word s.setup.addr cell bytes) where
   last : (b : Bool) (t : Summary) (e : JobEnd) → Goes (Some (ordered cell word)) (stage_order (cond b (ends t e) (writes t cell word (pass + 1))).after.stage)
   last true t e = inr refl
@@ -121,4 +109,4 @@ answered-order s (Some (AsksCoefficients output tries)) bytes = go (good_coeffic
   go : (coefficients : Option Coefficients) → Goes None (stage_order (coefficients_answered s output tries coefficients).after.stage)
   go None = inr (another-order s tries (AsksCoefficients output (tries + 1)) refl)
   go (Some coefficients) = found (result_ok (shape_in Direct coefficients))
-answered-order s (Some (Clears output tries)) bytes = inl refl
+answered-order s stage bytes = inl refl

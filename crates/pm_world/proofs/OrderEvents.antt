@@ -1,10 +1,10 @@
 -- What an event makes of the converter's words and of the open order, in a world that takes it.
-use Rattle.std.proofs.Common.{◌≡◌, ◌⊎◌, inl, inr, ℕ, ℤ, Bool, true, false, not, List, Option, Some, None, is_some, IsSome, unwrap_or, refl, sym, ◌∙◌, ap, subst}
-use Rattle.std.specs.Option.{option_or, option_and_then, option_map}
+use Rattle.std.proofs.Common.{◌≡◌, ◌⊎◌, inl, inr, ℕ, Bool, true, false, not, List, Option, Some, None, is_some, IsSome, unwrap_or, refl, sym, ◌∙◌, ap, subst}
+use Rattle.std.specs.Option.{option_or, option_map}
 use Rattle.std.proofs.lemmas.Bool.{ltb-true}
 use Rattle.pm_table.specs.declared.cell.Cell.{Cell}
 use Rattle.pm_table.specs.declared.cell.Cell.TheVariants.{Out, Protect}
-use Rattle.pm_table.specs.Cell.{cell_accepts, IsCell, output_of}
+use Rattle.pm_table.specs.Cell.{cell_accepts, IsCell}
 use Rattle.pm_frame.specs.declared.message.Message.{Message}
 use Rattle.pm_frame.specs.declared.message.Payload.TheVariants.{Empty}
 use Rattle.pm_frame.specs.Layout.{IsWrite, is_read_message, fits_layout}
@@ -16,41 +16,27 @@ use Rattle.pm_device.specs.Held.{Held}
 use Rattle.pm_device.specs.Effect.{Hearing, words_after}
 use Rattle.pm_device.specs.History.{next as device_next, after as device_by}
 use Rattle.pm_host.specs.declared.fault.HostFault.{HostFault}
+use Rattle.pm_host.specs.declared.command.Command.TheVariants.{ClearFaults}
 use Rattle.pm_host.specs.declared.stage.Stage.{Stage}
-use Rattle.pm_host.specs.declared.stage.Stage.TheVariants.{Writes, Reads, Checks, AsksMode, AsksCoefficients, Clears}
+use Rattle.pm_host.specs.declared.stage.Stage.TheVariants.{Writes, Reads, Checks, AsksMode, AsksCoefficients, Sends}
 use Rattle.pm_host.specs.Cells.{is_cell}
-use Rattle.pm_host.specs.Messages.{cell_read, cell_write, mode_read, coefficients_read, faults_clear}
-use Rattle.pm_host.specs.Refusals.{is_busy, cell_fault, order_fault, output_fault, micro_fault, micro_word, voltage_fault, range_fault, rule as host_rule}
-use Rattle.pm_host.specs.Summary.{Summary, next as host_next, sending_in, stage_message, idle, format_at}
+use Rattle.pm_host.specs.Messages.{cell_read, cell_write, mode_read, coefficients_read, command_message}
+use Rattle.pm_host.specs.Refusals.{is_busy, asking_fault, cell_fault, order_fault, job_fault, rule as host_rule}
+use Rattle.pm_host.specs.Summary.{Summary, next as host_next, sending_in, stage_message, idle}
+use Rattle.pm_host.specs.Transcript as host
+use Rattle.pm_world.specs.Below.{Below}
 use Rattle.pm_world.specs.declared.event.Arrival.{Arrival}
 use Rattle.pm_world.specs.declared.event.Back.{Back as Return}
-use Rattle.pm_world.specs.declared.stop.Cause.{Cause}
 use Rattle.pm_world.specs.declared.stop.Cause.TheVariants.{NotBetrayed, WrongKind}
 use Rattle.pm_world.specs.Legal.{frame_of, heard_bytes, heard_ending, is_legal_hearing}
-use Rattle.pm_world.specs.State.{State, rule, refused, device_after, host_after, delivered, exchanged, delivery_cause, exchange_cause, hearing_cause, return_cause}
-use Rattle.pm_world.proofs.Hearings.{HearingLaws, hears-write, hears-request, cell-reached}
+use Rattle.pm_world.specs.State.{State, rule, device_after, host_after, delivered, exchanged, delivery_cause, exchange_cause, hearing_cause, return_cause}
+use Rattle.pm_world.proofs.Causes.{or-none, rule-none, not-false}
+use Rattle.pm_world.proofs.Hearings.{hears-write, hears-request, cell-reached}
 use Rattle.pm_world.proofs.OpenOrders.{stage_order, Goes, answered-order}
-
--- of two, none
-pub or-none : {A : Type 0} (a b : Option A) → option_or a b ≡ None → (a ≡ None) × (b ≡ None)
-or-none None b h = (refl, h)
-or-none (Some x) b h = cc
-
-pub rule-none : (b : Bool) (cause : Cause) → rule b cause ≡ None → b ≡ false
-rule-none false cause h = refl
-rule-none true cause h = cc
 
 host_rule-none : (b : Bool) (fault : HostFault) → host_rule b fault ≡ None → b ≡ false
 host_rule-none false fault h = refl
 host_rule-none true fault h = cc
-
-not-false : (b : Bool) → not b ≡ false → b ≡ true
-not-false true h = refl
-not-false false h = cc
-
-pub refused-none : (fault : Option HostFault) → refused fault ≡ None → fault ≡ None
-refused-none None h = refl
-refused-none (Some fault) h = cc
 
 some-is : (a b : Message) → Some a ≡ Some b → a ≡ b
 some-is a b e = ap (λ o. unwrap_or o a) e
@@ -65,7 +51,7 @@ reads-cell (Out output register) message e writes = reads (cell_read (Out output
 reads-cell Protect message e writes = reads (cell_read Protect) message refl e writes
 
 -- a whole write that is being sent leaves the words, or is the open order's
-written : HearingLaws → (held : Held) (stage : Option Stage) (message : Message) (bytes : List ℕ) → option_map stage_message stage ≡ Some message → is_read_message message ≡ false →
+written : Below → (held : Held) (stage : Option Stage) (message : Message) (bytes : List ℕ) → option_map stage_message stage ≡ Some message → is_read_message message ≡ false →
     IsWrite held.config.addr message bytes →
     (words_after held (Hearing bytes Stop) ≡ held.words)
     ⊎ (IsSome (stage_order stage) × (words_after held (Hearing bytes Stop) ≡ with_order held.words (stage_order stage)))
@@ -78,8 +64,9 @@ written laws held (Some (Writes cell word pass)) message bytes e writes h =
         ⊎ (IsSome (stage_order (Some (Writes cell word pass))) × (words_after held (Hearing bytes Stop) ≡ with_order held.words (stage_order (Some (Writes cell word pass)))))
     go (inl e) = inl e
     go (inr e) = inr (refl, e)
-written laws held (Some (Clears output tries)) message bytes e writes h =
-    inl (laws.clears held output Empty bytes (subst (λ m. IsWrite held.config.addr m bytes) (sym (some-is (faults_clear output) message e)) h))
+written laws held (Some (Sends (ClearFaults output) tries)) message bytes e writes h =
+    inl (laws.writes_reach_one_cell.clears held output Empty bytes
+    (subst (λ m. IsWrite held.config.addr m bytes) (sym (some-is (command_message (ClearFaults output)) message e)) h)).0
 written laws held (Some (Reads cell word pass)) message bytes e writes h = absurd (reads-cell cell message e writes)
 written laws held (Some (Checks cell tries)) message bytes e writes h = absurd (reads-cell cell message e writes)
 written laws held (Some (AsksMode output tries)) message bytes e writes h = absurd (reads (mode_read output) message refl e writes)
@@ -94,7 +81,7 @@ heard-words held bytes ending = refl
 abbrev pub Takes : State → Words → Type 0
 Takes s words = (words ≡ s.device.words) ⊎ (IsSome (stage_order s.host.stage) × (words ≡ with_order s.device.words (stage_order s.host.stage)))
 
-pub delivered-words : HearingLaws → (s : State) (arrival : Arrival) (sending : Option Message) → s.host.setup.addr ≡ s.device.config.addr → sending_in s.host ≡ sending →
+pub delivered-words : Below → (s : State) (arrival : Arrival) (sending : Option Message) → s.host.setup.addr ≡ s.device.config.addr → sending_in s.host ≡ sending →
     ((message : Message) → sending ≡ Some message → fits_layout message ≡ true) → delivery_cause s arrival sending ≡ None →
     Takes s (device_after s.device (delivered s arrival sending).heard).words
 delivered-words laws s arrival None same e fits h = cc
@@ -133,7 +120,7 @@ delivered-stage s arrival None = refl
 delivered-stage s arrival (Some message) = refl
 
 -- an exchange leaves them
-pub exchanged-words : HearingLaws → (s : State) (arrival : Arrival) (back : Return) (sending : Option Message) →
+pub exchanged-words : Below → (s : State) (arrival : Arrival) (back : Return) (sending : Option Message) →
     ((message : Message) → sending ≡ Some message → fits_layout message ≡ true) → exchange_cause s arrival back sending ≡ None →
     (device_after s.device (exchanged s arrival back sending).heard).words ≡ s.device.words
 exchanged-words laws s arrival back None fits h = cc
@@ -158,11 +145,14 @@ idle-order s free = go s.stage free where
   go None h = refl
   go (Some stage) h = cc
 
-pub cell-order : (s : Summary) (cell : Cell) → cell_fault s cell ≡ None → stage_order s.stage ≡ None
-cell-order s cell h = idle-order s (host_rule-none (is_busy s) _ (or-none (host_rule (is_busy s) _) _ h).0)
+asking-order : (s : Summary) (there : Bool) → asking_fault s there ≡ None → stage_order s.stage ≡ None
+asking-order s there h = idle-order s (host_rule-none (is_busy s) _ (or-none (host_rule (is_busy s) _) _ h).0)
 
-pub output-order : (s : Summary) (output : ℕ) → output_fault s output ≡ None → stage_order s.stage ≡ None
-output-order s output h = idle-order s (host_rule-none (is_busy s) _ (or-none (host_rule (is_busy s) _) _ h).0)
+pub job-order : (s : Summary) (job : host.Job) → job_fault s job ≡ None → stage_order s.stage ≡ None
+job-order s (host.Order cell word) h = asking-order s _ (or-none (cell_fault s cell) _ h).0
+job-order s (host.Check cell) h = asking-order s _ h
+job-order s (host.Learn output) h = asking-order s _ h
+job-order s (host.Send sent) h = asking-order s _ h
 
 -- what is_cell says
 cell-there : (outputs : ℕ) (cell : Cell) → is_cell outputs cell ≡ true → IsCell outputs cell
@@ -181,17 +171,7 @@ order-free s cell word h =
     let cells = or-none (host_rule (is_busy s) _) _ first.0 in
     let words = or-none (host_rule (not (cell_accepts cell word)) _) _ first.1 in
     record {
-      free = cell-order s cell first.0;
+      free = asking-order s _ first.0;
       there = cell-there s.setup.outputs cell (not-false _ (host_rule-none (not (is_cell s.setup.outputs cell)) _ (or-none (host_rule (not (is_cell s.setup.outputs cell)) _) _ cells.1).0));
       fits = not-false _ (host_rule-none (not (cell_accepts cell word)) _ words.0);
     }
-
-word-free : (s : Summary) (cell : Cell) (word : Option ℕ) → IsSome word → option_and_then (λ w. order_fault s cell w) word ≡ None → IsFree s cell (unwrap_or word 0)
-word-free s cell None some h = cc
-word-free s cell (Some w) some h = order-free s cell w h
-
-pub micro-free : (s : Summary) (cell : Cell) (x : ℤ) → micro_fault s cell x ≡ None → IsSome (micro_word s cell x) → IsFree s cell (unwrap_or (micro_word s cell x) 0)
-micro-free s cell x h some =
-    let past_voltage = (or-none (voltage_fault s cell) _ h).1 in
-    let past_range = (or-none (option_and_then (λ shape. range_fault shape x) (format_at s (output_of cell))) _ past_voltage).1 in
-    word-free s cell (micro_word s cell x) some (or-none (option_and_then (λ w. order_fault s cell w) (micro_word s cell x)) None past_range).0

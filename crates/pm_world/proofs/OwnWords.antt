@@ -1,6 +1,7 @@
 -- Each cell's word is its own: the start word, or that of an order for this very cell.
-use Rattle.std.proofs.Common.{◌≡◌, inl, inr, ℕ, zero, suc, ◌<◌, ◌≤◌, Bool, true, false, ◌&&◌, cond, List, [], ◌∷◌, is_some, is_none, refl, ◌∙◌, ap, subst, arith}
+use Rattle.std.proofs.Common.{◌≡◌, inl, inr, ℕ, zero, suc, ◌<◌, ◌≤◌, Bool, true, false, ◌&&◌, cond, List, [], ◌∷◌, Option, Some, None, is_some, is_none, refl, ◌∙◌, ap, subst, arith}
 use Rattle.std.specs.List.{Contains}
+use Rattle.std.specs.Option.{option_map_or}
 use Rattle.std.proofs.lemmas.List.Elements.{Contains-append_cases}
 use Rattle.pm_table.specs.declared.cell.Cell.{Cell}
 use Rattle.pm_table.specs.declared.cell.Cell.TheVariants.{Out, Protect}
@@ -12,19 +13,16 @@ use Rattle.pm_model.specs.Settings.{Settings, Words, AreWords, word_at, words_of
 use Rattle.pm_device.specs.declared.config.Config.{Config}
 use Rattle.pm_device.specs.Held.{value_for}
 use Rattle.pm_device.specs.Start.{IsSound, start_word, start_words}
-use Rattle.pm_host.specs.Refusals.{IsSetup}
+use Rattle.pm_host.specs.Transcript as host
+use Rattle.pm_world.specs.Below.{Below}
 use Rattle.pm_world.specs.declared.event.Event.{Event}
-use Rattle.pm_world.specs.declared.event.Event.TheVariants.{Order, OrderMicro, Check, Learn, Clear, Deliver, Finish, Exchange, RestartDevice, RestartHost, Reading}
-use Rattle.pm_world.specs.Life.{now, AreTaken}
-use Rattle.pm_world.specs.Retelling.{start_settings, open_order, told, Retells, nothing, tells, takes, IsOrderRun, WasOrdered, IsOwnWord, CommandsOwn}
-use Rattle.pm_world.specs.Setup.{setup_of}
-use Rattle.pm_world.proofs.Retellings.{OrderLaws, same-config, life-run}
-
--- what the proof takes of the order machine and of the map of cells
-pub record MachineLaws : Type 0 where
-  pub own : (start : Settings) (steps : List Step) (cell : Cell) → start.count ≤ 8 → AreWords start.words → IsRun start steps → IsCell start.count cell →
-      IsOwnOfRun start steps cell (word_at (machine_of start steps).words cell)
-  pub made : (word : Cell → ℕ) → AreWords (words_of word) × ((cell : Cell) → IsCell 8 cell → word_at (words_of word) cell ≡ word cell)
+use Rattle.pm_world.specs.declared.event.Event.TheVariants.{Deliver, Exchange, RestartDevice, RestartHost}
+use Rattle.pm_world.specs.Life.{now}
+use Rattle.pm_world.specs.Retelling.{start_settings, open_order, order_of, accepts, told, told_beside, Retells, nothing, tells, takes, IsOrderRun, WasOrdered, IsOwnWord, CommandsOwn}
+use Rattle.pm_world.specs.State.{asked}
+use Rattle.pm_world.proofs.Lives.{IsLived, now-config}
+use Rattle.pm_world.proofs.Retellings.{life-run}
+use Rattle.pm_world.proofs.Sending.{eight}
 
 -- the elements of no step, and of one
 none : (x : Step) → Contains [] x → ⊥
@@ -34,23 +32,33 @@ single : (s x : Step) → Contains (s ∷ []) x → s ≡ x
 single s x (zero, below, e) = e
 single s x (suc k, below, e) = absurd (omega (arith, below))
 
+-- an event that asks for no job is told as no order
+told-nothing : (config : Config) (passes : ℕ) (before : List Event) (event : Event) (cell : Cell) (word : ℕ) →
+    Contains (told_beside config passes before event) (Accept cell word) → told_beside config passes before event ≡ Accept cell word ∷ []
+unfolding told_beside
+told-nothing config passes before (Exchange arrival back) cell word h =
+    go (is_some (open_order config passes before) && is_none (open_order config passes (Exchange arrival back ∷ before))) h
+  where
+    go : (b : Bool) → Contains (cond b (End ∷ []) []) (Accept cell word) → cond b (End ∷ []) [] ≡ Accept cell word ∷ []
+    go true h = let bad : End ≡ Accept cell word = single End (Accept cell word) h in cc
+    go false h = absurd (none (Accept cell word) h)
+told-nothing config passes before RestartHost cell word h = let bad : End ≡ Accept cell word = single End (Accept cell word) h in cc
+told-nothing config passes before RestartDevice cell word h = let bad : Back ≡ Accept cell word = single Back (Accept cell word) h in cc
+told-nothing config passes before event cell word h = absurd (none (Accept cell word) h)
+
 -- only orders are told as accepted
 told-accept : (config : Config) (passes : ℕ) (before : List Event) (event : Event) (cell : Cell) (word : ℕ) → Contains (told config passes before event) (Accept cell word) → told config passes before event ≡ Accept cell word ∷ []
 unfolding told
-told-accept config passes before (Order c w) cell word h = ap (λ (s : Step). s ∷ []) (single (Accept c w) (Accept cell word) h)
-told-accept config passes before (OrderMicro c x) cell word h = ap (λ (s : Step). s ∷ []) (single _ (Accept cell word) h)
-told-accept config passes before (Exchange arrival back) cell word h = go (is_some (open_order config passes before) && is_none (open_order config passes (Exchange arrival back ∷ before))) h where
-  go : (b : Bool) → Contains (cond b (End ∷ []) []) (Accept cell word) → cond b (End ∷ []) [] ≡ Accept cell word ∷ []
-  go true h = let bad : End ≡ Accept cell word = single End (Accept cell word) h in cc
-  go false h = absurd (none (Accept cell word) h)
-told-accept config passes before RestartHost cell word h = let bad : End ≡ Accept cell word = single End (Accept cell word) h in cc
-told-accept config passes before RestartDevice cell word h = let bad : Back ≡ Accept cell word = single Back (Accept cell word) h in cc
-told-accept config passes before (Check c) cell word h = absurd (none (Accept cell word) h)
-told-accept config passes before (Learn output) cell word h = absurd (none (Accept cell word) h)
-told-accept config passes before (Clear output) cell word h = absurd (none (Accept cell word) h)
-told-accept config passes before (Deliver arrival) cell word h = absurd (none (Accept cell word) h)
-told-accept config passes before (Finish acked) cell word h = absurd (none (Accept cell word) h)
-told-accept config passes before (Reading output code number) cell word h = absurd (none (Accept cell word) h)
+told-accept config passes before event cell word h = go (asked (now config passes before) event) h where
+  by_job : (job : host.Job) → Contains (accepts (order_of job)) (Accept cell word) → accepts (order_of job) ≡ Accept cell word ∷ []
+  by_job (host.Order c w) h = ap (λ (s : Step). s ∷ []) (single (Accept c w) (Accept cell word) h)
+  by_job job h = absurd (none (Accept cell word) h)
+
+  go : (o : Option host.Job) →
+      Contains (option_map_or (λ job. accepts (order_of job)) o (told_beside config passes before event)) (Accept cell word) →
+      option_map_or (λ job. accepts (order_of job)) o (told_beside config passes before event) ≡ Accept cell word ∷ []
+  go (Some job) h = by_job job h
+  go None h = told-nothing config passes before event cell word h
 
 -- what was accepted in steps that retell events was ordered among them
 later-ordered : (config : Config) (passes : ℕ) (event : Event) (events : List Event) (cell : Cell) (word : ℕ) → WasOrdered config passes events cell word → WasOrdered config passes (event ∷ events) cell word
@@ -75,44 +83,40 @@ retold config passes events steps cell word (takes arrival before rest r) h =
       | inr earlier ↦ later-ordered config passes (Deliver arrival) before cell word (retold config passes before rest cell word r earlier)
     ]
 
-cell-of_eight : (count : ℕ) (cell : Cell) → count ≤ 8 → IsCell count cell → IsCell 8 cell
-cell-of_eight count (Out output register) few here = omega (arith, few, here)
-cell-of_eight count Protect few here = tt
-
-full : MachineLaws → (config : Config) → AreWords (start_words config)
+full : Below → (config : Config) → AreWords (start_words config)
 unfolding start_words
-full laws config = (laws.made (start_word config)).0
+full laws config = (laws.settings_are_a_map.made (start_word config)).0
 
-start-at : MachineLaws → (config : Config) (cell : Cell) → IsCell 8 cell → word_at (start_words config) cell ≡ start_word config cell
+start-at : Below → (config : Config) (cell : Cell) → IsCell 8 cell → word_at (start_words config) cell ≡ start_word config cell
 unfolding start_words
-start-at laws config cell here = (laws.made (start_word config)).1 cell here
+start-at laws config cell here = (laws.settings_are_a_map.made (start_word config)).1 cell here
 
-run-own : MachineLaws → (config : Config) (passes : ℕ) (events : List Event) (words : Words) (cell : Cell) → IsSound config → IsOrderRun config passes events words → IsCell config.count cell → IsOwnWord config passes events cell (word_at words cell)
+run-own : Below → (config : Config) (passes : ℕ) (events : List Event) (words : Words) (cell : Cell) → IsSound config → IsOrderRun config passes events words → IsCell config.count cell → IsOwnWord config passes events cell (word_at words cell)
 run-own laws config passes events words cell sound r here =
     subst (λ (w : Words). IsOwnWord config passes events cell (word_at w cell)) r.words_are
-    (elim (laws.own (start_settings config) r.steps cell sound.few (full laws config) r.run here) [
-      | inl e ↦ inl (e ∙ start-at laws config cell (cell-of_eight config.count cell sound.few here))
+    (elim (laws.orders_stay_in_their_cells.own (start_settings config) r.steps cell sound.few (full laws config) r.run here) [
+      | inl e ↦ inl (e ∙ start-at laws config cell (eight config.count cell sound.few here))
       | inr h ↦ inr (retold config passes events r.steps cell (word_at (machine_of (start_settings config) r.steps).words cell) r.retells h)
     ])
 
-pub life-own : OrderLaws → MachineLaws → (config : Config) (passes : ℕ) (events : List Event) (cell : Cell) → IsSound config → IsSetup (setup_of config passes) → AreTaken config passes events → IsCell config.count cell →
+pub life-own : Below → (config : Config) (passes : ℕ) (events : List Event) (cell : Cell) → IsLived config passes events → IsCell config.count cell →
     IsOwnWord config passes events cell (word_at (now config passes events).device.words cell)
-life-own laws machine config passes events cell sound good all here =
-    run-own machine config passes events (now config passes events).device.words cell sound (life-run laws config passes events sound good all) here
+life-own laws config passes events cell lived here =
+    run-own laws config passes events (now config passes events).device.words cell lived.sound (life-run laws config passes events lived) here
 
 -- so each output commands a value of its own
-pub life-commands : OrderLaws → MachineLaws → (config : Config) (passes : ℕ) (events : List Event) (output : ℕ) → IsSound config → IsSetup (setup_of config passes) → AreTaken config passes events → output < config.count →
+pub life-commands : Below → (config : Config) (passes : ℕ) (events : List Event) (output : ℕ) → IsLived config passes events → output < config.count →
     CommandsOwn config passes events output (commanded (value_for (now config passes events).device.config output) (now config passes events).device.words output)
 unfolding commanded is_cut selected
-life-commands laws machine config passes events output sound good all here =
+life-commands laws config passes events output lived here =
     let words = (now config passes events).device.words in
     let operation = word_at words (Out output Operation) in
     record {
       operation = operation;
       selected = word_at words (Out output (selected_register operation));
       most = word_at words (Out output VoutMax);
-      own_operation = life-own laws machine config passes events (Out output Operation) sound good all here;
-      own_selected = life-own laws machine config passes events (Out output (selected_register operation)) sound good all here;
-      own_most = life-own laws machine config passes events (Out output VoutMax) sound good all here;
-      cut = ap (λ (k : Config). commanded (value_for k output) words output) (same-config config passes events);
+      own_operation = life-own laws config passes events (Out output Operation) lived here;
+      own_selected = life-own laws config passes events (Out output (selected_register operation)) lived here;
+      own_most = life-own laws config passes events (Out output VoutMax) lived here;
+      cut = ap (λ (k : Config). commanded (value_for k output) words output) (now-config config passes events);
     }

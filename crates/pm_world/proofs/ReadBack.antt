@@ -4,7 +4,6 @@ use Rattle.pm_table.specs.declared.cell.Cell.{Cell}
 use Rattle.pm_table.specs.declared.cell.Cell.TheVariants.{Out, Protect}
 use Rattle.pm_table.specs.Cell.{cell_at, cell_accepts, cell_code, register_code, IsCell}
 use Rattle.pm_frame.specs.declared.message.Message.{Message}
-use Rattle.pm_frame.specs.declared.message.Message.TheVariants.{PagePlusRead, ReadCommand}
 use Rattle.pm_frame.specs.Fault.{answer_fault}
 use Rattle.pm_frame.specs.Layout.{IsRequest, IsAnswer, fits_layout, is_read_message}
 use Rattle.pm_frame.specs.View.{answer_payload, payload_in}
@@ -16,57 +15,47 @@ use Rattle.pm_device.specs.Reply.{register_bytes, reply_of}
 use Rattle.pm_device.specs.Verdict.{payload_word}
 use Rattle.pm_host.specs.Answers.{good_payload, good_word, word_in}
 use Rattle.pm_host.specs.Messages.{cell_read}
+use Rattle.pm_world.specs.Below.{Below}
 use Rattle.pm_world.specs.Legal.{frame_of, answer_in}
-use Rattle.pm_world.proofs.Deliveries.{register_cell}
+use Rattle.pm_world.proofs.Hearings.{frame-request}
 
--- the laws of answers
-pub record ReadLaws : Type 0 where
-  pub cell : (held : Held) (output code : ℕ) (cell : Cell) (bytes : List ℕ) → IsRequest held.config.addr (PagePlusRead output code) bytes →
-      output < held.config.count → cell_at code output ≡ Some cell →
-      (frame : List ℕ) × (reply_of held bytes Restart ≡ Answer (record { items = frame }))
-      × IsAnswer held.config.addr (PagePlusRead output code) (register_bytes code (word_at held.words cell)) frame
-  pub protect : (held : Held) (bytes : List ℕ) → IsRequest held.config.addr (ReadCommand 0x10) bytes →
-      (frame : List ℕ) × (reply_of held bytes Restart ≡ Answer (record { items = frame }))
-      × IsAnswer held.config.addr (ReadCommand 0x10) (register_bytes 0x10 (word_at held.words Protect)) frame
-  pub number : (cell : Cell) (word : ℕ) → cell_accepts cell word ≡ true → payload_word (payload_in (register_bytes (cell_code cell) word)) ≡ word
-  pub spelled : (addr : ℕ) (request : Message) (payload bytes : List ℕ) → IsAnswer addr request payload bytes → answer_fault addr request bytes ≡ None
-  pub places : (addr : ℕ) (request : Message) (payload bytes : List ℕ) → IsAnswer addr request payload bytes → answer_payload request bytes ≡ payload
-
+-- the read of a cell is a read, and its frame spells it
 pub reads-cell : (cell : Cell) → is_read_message (cell_read cell) ≡ true
 reads-cell (Out output register) = refl
 reads-cell Protect = refl
 
 is_request : (addr : ℕ) (cell : Cell) → fits_layout (cell_read cell) ≡ true → IsRequest addr (cell_read cell) (frame_of addr (cell_read cell))
-unfolding frame_of
-is_request addr (Out output register) fits = record { reads = refl; fits = fits; spelled = refl }
-is_request addr Protect fits = record { reads = refl; fits = fits; spelled = refl }
+is_request addr cell fits =
+    record { reads = reads-cell cell; fits = fits; spelled = frame-request addr (cell_read cell) (reads-cell cell) }
 
+-- the word of a payload
 number_in : (payload : List ℕ) → word_in payload ≡ payload_word (payload_in payload)
 number_in [] = refl
 number_in (byte ∷ []) = refl
 number_in (low ∷ high ∷ rest) = refl
 
 -- a whole answer is good, and has its payload
-pub good-answer : ReadLaws → (addr : ℕ) (request : Message) (payload bytes : List ℕ) → IsAnswer addr request payload bytes → good_payload addr request bytes ≡ Some payload
+pub good-answer : Below → (addr : ℕ) (request : Message) (payload bytes : List ℕ) → IsAnswer addr request payload bytes → good_payload addr request bytes ≡ Some payload
 unfolding good_payload
 good-answer laws addr request payload bytes is =
-    ap (λ f. cond (is_none f) (Some (answer_payload request bytes)) None) (laws.spelled addr request payload bytes is)
-    ∙ ap (λ p. Some p) (laws.places addr request payload bytes is)
+    ap (λ f. cond (is_none f) (Some (answer_payload request bytes)) None) (laws.answers_are_exact.spelled addr request payload bytes is)
+    ∙ ap (λ p. Some p) (laws.answers_are_exact.places addr request payload bytes is)
 
-answer-word : ReadLaws → (addr : ℕ) (cell : Cell) (word : ℕ) (bytes : List ℕ) → cell_accepts cell word ≡ true →
+-- an answer with a cell's word is good, and has this word
+answer-word : Below → (addr : ℕ) (cell : Cell) (word : ℕ) (bytes : List ℕ) → cell_accepts cell word ≡ true →
     IsAnswer addr (cell_read cell) (register_bytes (cell_code cell) word) bytes → good_word addr cell bytes ≡ Some word
 answer-word laws addr cell word bytes accepted is =
     ap (option_map word_in) (good-answer laws addr (cell_read cell) (register_bytes (cell_code cell) word) bytes is)
-    ∙ ap (λ n. Some n) (number_in (register_bytes (cell_code cell) word) ∙ laws.number cell word accepted)
+    ∙ ap (λ n. Some n) (number_in (register_bytes (cell_code cell) word) ∙ laws.reads_are_answered.number cell word accepted)
 
 -- an undisturbed read gives the cell's word
-pub read-word : ReadLaws → (held : Held) (cell : Cell) → IsCell held.config.count cell → cell_accepts cell (word_at held.words cell) ≡ true → fits_layout (cell_read cell) ≡ true →
+pub read-word : Below → (held : Held) (cell : Cell) → IsCell held.config.count cell → cell_accepts cell (word_at held.words cell) ≡ true → fits_layout (cell_read cell) ≡ true →
     good_word held.config.addr cell (answer_in (reply_of held (frame_of held.config.addr (cell_read cell)) Restart)) ≡ Some (word_at held.words cell)
 read-word laws held (Out output register) there accepted fits =
-    let found = laws.cell held output (register_code register) (Out output register) _ (is_request held.config.addr (Out output register) fits) there (register_cell output register) in
+    let found = laws.reads_are_answered.cell held output (register_code register) (Out output register) _ (is_request held.config.addr (Out output register) fits) there (laws.registers_are_in_the_table.found register output) in
     ap (λ h. good_word held.config.addr (Out output register) (answer_in h)) found.1
     ∙ answer-word laws held.config.addr (Out output register) (word_at held.words (Out output register)) found.0 accepted found.2
 read-word laws held Protect there accepted fits =
-    let found = laws.protect held _ (is_request held.config.addr Protect fits) in
+    let found = laws.reads_are_answered.protect held _ (is_request held.config.addr Protect fits) in
     ap (λ h. good_word held.config.addr Protect (answer_in h)) found.1
     ∙ answer-word laws held.config.addr Protect (word_at held.words Protect) found.0 accepted found.2

@@ -1,39 +1,38 @@
 -- A world while the write of an order is being sent.
-use Rattle.std.proofs.Common.{◌≡◌, ℕ, ◌≤◌, Bool, true, false, not, cond, ◌||◌, eqb, Option, Some, None, option_map, refl, sym, ◌∙◌, ap, subst, ◌⊎◌, inl, inr, arith}
-use Rattle.std.specs.Prelude.{if◌then◌else◌, nat_le}
-use Rattle.std.proofs.lemmas.Bool.{eq-eqb, cond-true}
+use Rattle.std.proofs.Common.{◌≡◌, ℕ, ◌≤◌, Bool, true, false, not, cond, ◌||◌, eqb, Option, Some, None, option_map, refl, sym, ◌∙◌, ap, ap₂, subst, ◌⊎◌, inl, inr, arith}
+use Rattle.std.specs.Prelude.{bytes_eq}
+use Rattle.std.proofs.lemmas.Bool.{and_parts, eq-eqb, cond-true}
+use Rattle.std.proofs.lemmas.Slice.Eq.{bytes_eq-Decides}
 use Rattle.pm_table.specs.declared.cell.Cell.{Cell}
 use Rattle.pm_table.specs.declared.cell.Cell.TheVariants.{Out, Protect}
-use Rattle.pm_table.specs.Cell.{cell_accepts, cell_code, is_protection, register_number, IsCell, same_cell}
+use Rattle.pm_table.specs.Cell.{cell_accepts, cell_code, is_protection, register_code, IsCell, same_cell}
+use Rattle.pm_table.specs.Codes as command
 use Rattle.pm_table.specs.Commands.{line_of}
 use Rattle.pm_table.specs.Protection.{is_allowed}
 use Rattle.pm_frame.specs.declared.message.Message.{Message}
 use Rattle.pm_frame.specs.Layout.{fits_layout, is_read_message}
 use Rattle.pm_model.specs.Settings.{Words, AreWords, word_at, with_word}
-use Rattle.pm_device.specs.declared.heard.Ending.TheVariants.{Stop}
+use Rattle.pm_device.specs.declared.heard.Ending.{Ending}
+use Rattle.pm_device.specs.declared.heard.Ending.TheVariants.{Stop, Restart}
 use Rattle.pm_device.specs.Effect as device
 use Rattle.pm_device.specs.Effect.{words_after}
 use Rattle.pm_device.specs.History.{next as device_next, after as device_outcome}
 use Rattle.pm_host.specs.declared.stage.Stage.TheVariants.{Writes}
-use Rattle.pm_host.specs.Frames.{CanSend, writes_output, writes_protect, reads_output, reads_protect}
+use Rattle.pm_host.specs.Frames.{writes_output, writes_protect, reads_output, reads_protect}
 use Rattle.pm_host.specs.Messages.{cell_write, cell_read}
 use Rattle.pm_host.specs.Summary.{Summary, sending_in, stage_message}
 use Rattle.pm_host.specs.Transcript as host
+use Rattle.pm_world.specs.Below.{Below}
 use Rattle.pm_world.specs.declared.event.Event.{Event}
 use Rattle.pm_world.specs.declared.event.Event.TheVariants.{Deliver}
 use Rattle.pm_world.specs.declared.event.Arrival.{Arrival}
-use Rattle.pm_world.specs.declared.event.Arrival.TheVariants.{Whole, Cut, Bytes}
-use Rattle.pm_world.specs.declared.stop.Cause.TheVariants.{Full, WrongKind, NotBetrayed}
+use Rattle.pm_world.specs.declared.stop.Cause.TheVariants.{WrongKind, NotBetrayed}
 use Rattle.pm_world.specs.Honest.{is_whole}
-use Rattle.pm_world.specs.Legal.{frame_of, heard_bytes, heard_ending, is_legal_hearing}
-use Rattle.pm_world.specs.State.{State, delivered, next, device_after, host_after, event_cause, event_limit, cause_of, delivery_cause, rule, hearing, IsTaken}
-use Rattle.pm_world.proofs.Deliveries.{WriteLaws, CanTake, whole-write, legal-write}
-use Rattle.pm_world.proofs.Lives.{or-none, rule-none}
-
--- a cell that was written has the new word, and every other cell its old one
-pub record MapLaws : Type 0 where
-  pub read : (words : Words) (cell other : Cell) (word : ℕ) → AreWords words → IsCell 8 cell → IsCell 8 other →
-      word_at (with_word words cell word) other ≡ (if same_cell cell other then word else word_at words other)
+use Rattle.pm_world.specs.Legal.{frame_of, heard_bytes, ending_of, heard_ending, is_legal_hearing, is_restart}
+use Rattle.pm_world.specs.State.{State, delivered, next, device_after, host_after, event_cause, delivery_cause, rule, hearing}
+use Rattle.pm_world.proofs.Frames.{heard_ending-write}
+use Rattle.pm_world.proofs.Hearings.{CanTake, is_write, whole-write, legal-write, write-kind}
+use Rattle.pm_world.proofs.Causes.{or-none, rule-none, not-false}
 
 -- a word that WRITE_PROTECT may hold allows its own code
 four : (a b c d : Bool) → (a || b || c || d) ≡ true → cond d true (cond c true (cond b true (cond a true false))) ≡ true
@@ -43,54 +42,46 @@ four a true false false h = refl
 four true false false false h = refl
 four false false false false h = cc
 
-protect-allowed : (word : ℕ) → is_protection word ≡ true → is_allowed word 0x10 ≡ true
+protect-allowed : (word : ℕ) → is_protection word ≡ true → is_allowed word command.write_protect ≡ true
 unfolding line_of
 protect-allowed word h = four (eqb word 0x00) (eqb word 0x20) (eqb word 0x40) (eqb word 0x80) h
 
-same_cell-itself : (cell : Cell) → same_cell cell cell ≡ true
-same_cell-itself (Out output register) = rw (eq-eqb output output refl, eq-eqb (register_number register) (register_number register) refl) refl
+pub same_cell-itself : (cell : Cell) → same_cell cell cell ≡ true
+same_cell-itself (Out output register) = rw (eq-eqb output output refl, eq-eqb (register_code register) (register_code register) refl) refl
 same_cell-itself Protect = refl
 
 -- after a write the cell has its word, and its code stays allowed
-wrote-held : MapLaws → (words : Words) (cell : Cell) (word : ℕ) → AreWords words → IsCell 8 cell → word_at (with_word words cell word) cell ≡ word
-wrote-held laws words cell word are there = laws.read words cell cell word are there there ∙ cond-true (same_cell cell cell) word (word_at words cell) (same_cell-itself cell)
+wrote-held : Below → (words : Words) (cell : Cell) (word : ℕ) → AreWords words → IsCell 8 cell → word_at (with_word words cell word) cell ≡ word
+wrote-held laws words cell word are there = laws.settings_are_a_map.read words cell cell word are there there ∙ cond-true (same_cell cell cell) word (word_at words cell) (same_cell-itself cell)
 
-wrote-allowed : MapLaws → (words : Words) (cell : Cell) (word : ℕ) → AreWords words → IsCell 8 cell → cell_accepts cell word ≡ true →
+wrote-allowed : Below → (words : Words) (cell : Cell) (word : ℕ) → AreWords words → IsCell 8 cell → cell_accepts cell word ≡ true →
     is_allowed (word_at words Protect) (cell_code cell) ≡ true → is_allowed (word_at (with_word words cell word) Protect) (cell_code cell) ≡ true
 wrote-allowed laws words (Out output register) word are there accepted allowed =
-    ap (λ p. is_allowed p (cell_code (Out output register))) (laws.read words (Out output register) Protect word are there tt) ∙ allowed
+    ap (λ p. is_allowed p (cell_code (Out output register))) (laws.settings_are_a_map.read words (Out output register) Protect word are there tt) ∙ allowed
 wrote-allowed laws words Protect word are there accepted allowed =
-    ap (λ p. is_allowed p (cell_code Protect)) (laws.read words Protect Protect word are tt tt) ∙ protect-allowed word accepted
+    ap (λ p. is_allowed p (cell_code Protect)) (laws.settings_are_a_map.read words Protect Protect word are tt tt) ∙ protect-allowed word accepted
 
 pub eight : (count : ℕ) (cell : Cell) → count ≤ 8 → IsCell count cell → IsCell 8 cell
 eight count (Out output register) few there = omega (arith, few, there)
 eight count Protect few there = tt
 
-pub write-fits : ((setup : host.Setup) (message : Message) → CanSend setup message → fits_layout message ≡ true) →
-    (setup : host.Setup) (cell : Cell) (word : ℕ) → IsCell setup.outputs cell → cell_accepts cell word ≡ true → fits_layout (cell_write cell word) ≡ true
-write-fits fits setup (Out output register) word there accepted = fits setup _ (writes_output output register word there accepted)
-write-fits fits setup Protect word there accepted = fits setup _ (writes_protect word accepted)
+pub write-fits : Below → (setup : host.Setup) (cell : Cell) (word : ℕ) → IsCell setup.outputs cell → cell_accepts cell word ≡ true →
+    fits_layout (cell_write cell word) ≡ true
+write-fits laws setup (Out output register) word there accepted =
+    laws.frames_are_named.fits setup _ (writes_output output register word there accepted)
+write-fits laws setup Protect word there accepted = laws.frames_are_named.fits setup _ (writes_protect word accepted)
 
-pub read-fits : ((setup : host.Setup) (message : Message) → CanSend setup message → fits_layout message ≡ true) →
-    (setup : host.Setup) (cell : Cell) → IsCell setup.outputs cell → fits_layout (cell_read cell) ≡ true
-read-fits fits setup (Out output register) there = fits setup _ (reads_output output register there)
-read-fits fits setup Protect there = fits setup _ reads_protect
+pub read-fits : Below → (setup : host.Setup) (cell : Cell) → IsCell setup.outputs cell → fits_layout (cell_read cell) ≡ true
+read-fits laws setup (Out output register) there = laws.frames_are_named.fits setup _ (reads_output output register there)
+read-fits laws setup Protect there = laws.frames_are_named.fits setup _ reads_protect
 
 -- one delivery
-pub taken-free : (s : State) (event : Event) → IsTaken s event → event_cause s event ≡ None
-unfolding cause_of
-taken-free s event taken = (or-none (rule (nat_le event_limit s.taken) Full) (event_cause s event) taken.free).1
-
-not-not : (b : Bool) → not b ≡ false → b ≡ true
-not-not true h = refl
-not-not false h = cc
-
 delivery-legal : (s : State) (arrival : Arrival) (message : Message) → sending_in s.host ≡ Some message → event_cause s (Deliver arrival) ≡ None →
     is_legal_hearing (frame_of s.host.setup.addr message) (heard_bytes (frame_of s.host.setup.addr message) arrival) (heard_ending message arrival) ≡ true
 delivery-legal s arrival message sending free =
     let none : delivery_cause s arrival (Some message) ≡ None = ap (delivery_cause s arrival) (sym sending) ∙ free in
     let legal = is_legal_hearing (frame_of s.host.setup.addr message) (heard_bytes (frame_of s.host.setup.addr message) arrival) (heard_ending message arrival) in
-    not-not legal (rule-none (not legal) NotBetrayed (or-none (rule (is_read_message message) WrongKind) (rule (not legal) NotBetrayed) none).1)
+    not-false legal (rule-none (not legal) NotBetrayed (or-none (rule (is_read_message message) WrongKind) (rule (not legal) NotBetrayed) none).1)
 
 pub told-nothing : (s : State) (arrival : Arrival) (sending : Option Message) → (delivered s arrival sending).told ≡ None
 told-nothing s arrival None = refl
@@ -105,9 +96,13 @@ next-deliver-words : (s : State) (arrival : Arrival) (message : Message) → sen
 unfolding next device_next device_outcome
 next-deliver-words s arrival message sending = ap (λ o. (device_after s.device (delivered s arrival o).heard).words) sending
 
-write-stop : (cell : Cell) (word : ℕ) → heard_ending (cell_write cell word) Whole ≡ Stop
-write-stop (Out output register) word = refl
-write-stop Protect word = refl
+-- how a delivery of a write ends
+write-ending : (cell : Cell) (word : ℕ) (arrival : Arrival) → heard_ending (cell_write cell word) arrival ≡ ending_of Stop arrival
+write-ending cell word arrival = sym (heard_ending-write (cell_write cell word) arrival (write-kind cell word))
+
+stop-is : (ending : Ending) → not (is_restart ending) ≡ true → ending ≡ Stop
+stop-is Stop h = refl
+stop-is Restart h = cc
 
 -- what holds of a world while the write of an order is being sent
 pub record Sends (s : State) (cell : Cell) (word : ℕ) (whole : Bool) : Type 0 where
@@ -128,7 +123,7 @@ pub record Fixed (s : State) (cell : Cell) (word : ℕ) : Type 0 where
 can-take : (s : State) (cell : Cell) (word : ℕ) (whole : Bool) → Fixed s cell word → Sends s cell word whole → CanTake s.device cell word
 can-take s cell word whole fixed sends = record { there = fixed.there; accepted = fixed.accepted; allowed = sends.allowed; fits = fixed.write_fits }
 
-sends-words : MapLaws → (s t : State) (cell : Cell) (word : ℕ) (whole : Bool) → Fixed s cell word → Sends s cell word whole → t.host ≡ s.host →
+sends-words : Below → (s t : State) (cell : Cell) (word : ℕ) (whole : Bool) → Fixed s cell word → Sends s cell word whole → t.host ≡ s.host →
     (t.device.words ≡ s.device.words) ⊎ (t.device.words ≡ with_word s.device.words cell word) → Sends t cell word whole
 sends-words laws s t cell word whole fixed sends host (inl same) = record {
   stage = ap (λ (h : Summary). h.stage) host ∙ sends.stage;
@@ -142,7 +137,7 @@ sends-words laws s t cell word whole fixed sends host (inr wrote) = record {
   held = λ h. ap (λ w. word_at w cell) wrote ∙ wrote-held laws s.device.words cell word fixed.are (eight s.device.config.count cell fixed.few fixed.there);
 }
 
-sends-whole : MapLaws → (s t : State) (cell : Cell) (word : ℕ) (whole : Bool) → Fixed s cell word → Sends s cell word whole → t.host ≡ s.host →
+sends-whole : Below → (s t : State) (cell : Cell) (word : ℕ) (whole : Bool) → Fixed s cell word → Sends s cell word whole → t.host ≡ s.host →
     t.device.words ≡ with_word s.device.words cell word → Sends t cell word true
 sends-whole laws s t cell word whole fixed sends host wrote = record {
   stage = ap (λ (h : Summary). h.stage) host ∙ sends.stage;
@@ -155,7 +150,7 @@ sending-write : (s : State) (cell : Cell) (word : ℕ) → s.host.stage ≡ Some
 sending-write s cell word stage = ap (option_map stage_message) stage
 
 -- a delivery leaves the words or sets that one
-delivered-words : WriteLaws → (s : State) (cell : Cell) (word : ℕ) (whole : Bool) (arrival : Arrival) → Fixed s cell word → Sends s cell word whole → event_cause s (Deliver arrival) ≡ None →
+delivered-words : Below → (s : State) (cell : Cell) (word : ℕ) (whole : Bool) (arrival : Arrival) → Fixed s cell word → Sends s cell word whole → event_cause s (Deliver arrival) ≡ None →
     ((next s (Deliver arrival)).device.words ≡ s.device.words) ⊎ ((next s (Deliver arrival)).device.words ≡ with_word s.device.words cell word)
 delivered-words laws s cell word whole arrival fixed sends free =
     let message = cell_write cell word in
@@ -168,18 +163,28 @@ delivered-words laws s cell word whole arrival fixed sends free =
       | inr wrote ↦ inr (after ∙ wrote)
     ]
 
-pub deliver-sends : WriteLaws → MapLaws → (s : State) (cell : Cell) (word : ℕ) (whole : Bool) (arrival : Arrival) → Fixed s cell word → Sends s cell word whole → event_cause s (Deliver arrival) ≡ None →
-    Sends (next s (Deliver arrival)) cell word (is_whole arrival || whole)
-deliver-sends laws map_laws s cell word whole Whole fixed sends free =
+-- a delivery of the write, heard whole or not
+whole-words : Below → (s : State) (cell : Cell) (word : ℕ) (whole : Bool) (arrival : Arrival) → Fixed s cell word → Sends s cell word whole →
+    is_whole (frame_of s.device.config.addr (cell_write cell word)) arrival ≡ true →
+    (next s (Deliver arrival)).device.words ≡ with_word s.device.words cell word
+whole-words laws s cell word whole arrival fixed sends is =
     let message = cell_write cell word in
-    sends-whole map_laws s (next s (Deliver Whole)) cell word whole fixed sends (next-deliver-host s Whole)
-    (next-deliver-words s Whole message (sending-write s cell word sends.stage)
-    ∙ (ap (λ a. words_after s.device (hearing a message Whole)) fixed.addr
-    ∙ (ap (λ e. words_after s.device (device.Hearing (frame_of s.device.config.addr message) e)) (write-stop cell word)
-    ∙ whole-write laws s.device cell word (can-take s cell word whole fixed sends))))
-deliver-sends laws map_laws s cell word whole (Cut count) fixed sends free =
-    sends-words map_laws s (next s (Deliver (Cut count))) cell word whole fixed sends (next-deliver-host s (Cut count))
-    (delivered-words laws s cell word whole (Cut count) fixed sends free)
-deliver-sends laws map_laws s cell word whole (Bytes bytes ending) fixed sends free =
-    sends-words map_laws s (next s (Deliver (Bytes bytes ending))) cell word whole fixed sends (next-deliver-host s (Bytes bytes ending))
-    (delivered-words laws s cell word whole (Bytes bytes ending) fixed sends free)
+    let frame = frame_of s.device.config.addr message in
+    let parts = and_parts (bytes_eq (heard_bytes frame arrival) frame) (not (is_restart (ending_of Stop arrival))) is in
+    let ending = write-ending cell word arrival ∙ stop-is (ending_of Stop arrival) parts.1 in
+    next-deliver-words s arrival message (sending-write s cell word sends.stage)
+    ∙ (ap (λ a. words_after s.device (hearing a message arrival)) fixed.addr
+    ∙ (ap₂ (λ b e. words_after s.device (device.Hearing b e)) ((bytes_eq-Decides (heard_bytes frame arrival) frame).0 parts.0) ending
+    ∙ whole-write laws s.device cell word frame (can-take s cell word whole fixed sends) (is_write s.device.config.addr cell word fixed.write_fits)))
+
+pub deliver-sends : Below → (s : State) (cell : Cell) (word : ℕ) (whole : Bool) (arrival : Arrival) → Fixed s cell word → Sends s cell word whole →
+    event_cause s (Deliver arrival) ≡ None →
+    Sends (next s (Deliver arrival)) cell word (is_whole (frame_of s.device.config.addr (cell_write cell word)) arrival || whole)
+deliver-sends laws s cell word whole arrival fixed sends free =
+    go (is_whole (frame_of s.device.config.addr (cell_write cell word)) arrival) refl
+  where
+    go : (b : Bool) → is_whole (frame_of s.device.config.addr (cell_write cell word)) arrival ≡ b → Sends (next s (Deliver arrival)) cell word (b || whole)
+    go true e = sends-whole laws s (next s (Deliver arrival)) cell word whole fixed sends (next-deliver-host s arrival)
+        (whole-words laws s cell word whole arrival fixed sends e)
+    go false e = sends-words laws s (next s (Deliver arrival)) cell word whole fixed sends (next-deliver-host s arrival)
+        (delivered-words laws s cell word whole arrival fixed sends free)

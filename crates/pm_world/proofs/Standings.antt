@@ -1,16 +1,21 @@
 -- What the host says of a cell after one more entry, and the word that the cell has then.
-use Rattle.std.proofs.Common.{◌≡◌, ℕ, Bool, true, false, cond, ◌||◌, List, [], ◌∷◌, ◌++◌, Option, Some, None, option_map, option_and_then, refl, sym, ◌∙◌, ap}
+use Rattle.std.proofs.Common.{◌≡◌, ◌⊎◌, inl, inr, ℕ, Bool, true, false, not, cond, eqb, ◌||◌, List, [], ◌∷◌, ◌++◌, filter, reverse, Option, Some, None, option_map, option_and_then, refl, sym, ◌∙◌, ap, subst}
 use Rattle.std.specs.Prelude.{option_to_list}
 use Rattle.std.specs.List.{list_any}
+use Rattle.std.proofs.lemmas.Bool.{cases_eq, eq-eqb, ne_eqb, or_right}
+use Rattle.std.proofs.lemmas.List.{reverse-append}
+use Rattle.std.proofs.lemmas.List.Folds.{list_any-append}
 use Rattle.pm_table.specs.declared.cell.Cell.{Cell}
 use Rattle.pm_table.specs.Cell.{same_cell}
 use Rattle.pm_model.specs.Settings.{Words, word_at}
 use Rattle.pm_host.specs.declared.standing.Standing.{Standing}
 use Rattle.pm_host.specs.declared.standing.Standing.TheVariants.{Confirmed, Unknown}
 use Rattle.pm_host.specs.Answers.{good_word}
-use Rattle.pm_host.specs.Marks.{Mark, Put, Good, put_by, read_by, puts, goods, marks}
+use Rattle.pm_host.specs.Marks.{Mark, Put, Good, Restart, put_by, read_by, puts, goods, marks}
+use Rattle.pm_host.specs.Possible.{is_listed, is_possible, once, possible_from, words_since, possible_of}
 use Rattle.pm_host.specs.Standing.{standing_of}
-use Rattle.pm_host.specs.Transcript.{Setup, Job, Order, Check, Learn, Clear, Entry, Accepted, Got, Restarted, open_job, told_since, is_write_turn}
+use Rattle.pm_host.specs.Transcript.{Setup, Job, Order, Entry, Accepted, Got, Restarted, open_job, told_since, is_write_turn}
+use Rattle.pm_world.specs.Below.{Below}
 use Rattle.pm_world.specs.Confirmed.{is_good_for, reads}
 
 -- a word that the marks confirm is the cell's, where the converter didn't restart since
@@ -18,48 +23,123 @@ abbrev pub IsHeld : List Mark → Cell → Bool → Words → Type 0
 IsHeld ms cell restarted words =
     (word : ℕ) → standing_of ms cell ≡ Confirmed word → restarted ≡ false → word_at words cell ≡ word
 
+-- then the cell's word is also one that the marks make possible
+abbrev pub IsAmong : List Mark → Cell → Bool → Words → Type 0
+IsAmong ms cell restarted words = restarted ≡ false → is_possible (word_at words cell) (possible_of ms cell) ≡ true
+
+-- both
+pub record IsKnown (ms : List Mark) (cell : Cell) (restarted : Bool) (words : Words) : Type 0 where
+  pub held : IsHeld ms cell restarted words
+  pub among : IsAmong ms cell restarted words
+
 -- the same after the host was told something more, or nothing
-abbrev pub IsHeldAfter : Setup → List Entry → Cell → Bool → Option Entry → Words → Type 0
-IsHeldAfter setup entries cell restarted told words =
-    IsHeld (marks setup (option_to_list told ++ entries)) cell (cond (reads setup entries cell told) false restarted) words
+abbrev pub IsKnownAfter : Setup → List Entry → Cell → Bool → Option Entry → Words → Type 0
+IsKnownAfter setup entries cell restarted told words =
+    IsKnown (marks setup (option_to_list told ++ entries)) cell (cond (reads setup entries cell told) false restarted) words
 
 -- two cells that the test calls one are one
-abbrev pub SameCells : Type 0
-SameCells = (cell other : Cell) → same_cell cell other ≡ true → cell ≡ other
+pub same-cells : Below → (cell other : Cell) → same_cell cell other ≡ true → cell ≡ other
+same-cells laws cell other same = (laws.cells_are_told_apart cell other).0 same
 
--- a write that begins confirms nothing
-put-keeps : (b : Bool) (rest : Standing) (word : ℕ) → cond b Unknown rest ≡ Confirmed word → rest ≡ Confirmed word
-put-keeps true rest word h = cc
-put-keeps false rest word h = h
+-- words other than x stay listed where x is left out
+is_listed-filter : (w x : ℕ) → (x ≡ w → ⊥) → (ys : List ℕ) → is_listed w (filter (λ y. not (eqb y x)) ys) ≡ is_listed w ys
+is_listed-filter w x differ [] = refl
+is_listed-filter w x differ (y ∷ ys) =
+    elim (cases_eq y x) [
+      | inl same ↦
+          let other : y ≡ w → ⊥ = λ e. differ (sym same ∙ e) in
+          rw (eq-eqb y x same, ne_eqb y w other) (is_listed-filter w x differ ys)
+      | inr apart ↦ rw (ne_eqb y x apart) (ap (λ b. eqb y w || b) (is_listed-filter w x differ ys))
+    ]
 
-puts-keep : (setup : Setup) (entries : List Entry) (ms : List Mark) (cell : Cell) (word : ℕ) →
-    standing_of (puts setup entries ++ ms) cell ≡ Confirmed word → standing_of ms cell ≡ Confirmed word
+-- each word of a list is listed once
+is_listed-once : (w : ℕ) (xs : List ℕ) → is_listed w (once xs) ≡ is_listed w xs
+is_listed-once w [] = refl
+is_listed-once w (x ∷ xs) =
+    elim (cases_eq x w) [
+      | inl same ↦ rw (eq-eqb x w same) refl
+      | inr apart ↦ ap (λ b. eqb x w || b) (is_listed-filter w x apart (once xs) ∙ is_listed-once w xs)
+    ]
+
+-- words stay listed where one is added in front, and that one is listed
+listed-added : (w x : ℕ) (ws : List ℕ) → is_listed x (once (reverse (w ∷ ws))) ≡ (is_listed x (once (reverse ws)) || eqb w x)
+listed-added w x ws =
+    is_listed-once x (reverse (w ∷ ws))
+    ∙ (ap (is_listed x) (reverse-append (w ∷ []) ws)
+    ∙ (list_any-append (λ listed. eqb listed x) (reverse ws) (w ∷ [])
+    ∙ rw (sym (is_listed-once x (reverse ws))) (last (is_listed x (once (reverse ws))) (eqb w x))))
+  where
+    last : (a b : Bool) → (a || (b || false)) ≡ (a || b)
+    last true b = refl
+    last false true = refl
+    last false false = refl
+
+-- a write that begins leaves its cell's possible words, and those of the other cells
+put-from : (w x : ℕ) (found : Option (List ℕ)) → is_possible x (possible_from found) ≡ true →
+    is_possible x (possible_from (option_map (λ ws. w ∷ ws) found)) ≡ true
+put-from w x None h = refl
+put-from w x (Some ws) h = listed-added w x ws ∙ ap (λ b. b || eqb w x) h
+
+put-possible : (ms : List Mark) (c cell : Cell) (w x : ℕ) → is_possible x (possible_of ms cell) ≡ true →
+    is_possible x (possible_of (Put c w ∷ ms) cell) ≡ true
+unfolding possible_of
+put-possible ms c cell w x h = go (same_cell c cell) where
+  go : (b : Bool) → is_possible x (possible_from (cond b (option_map (λ ws. w ∷ ws) (words_since ms cell)) (words_since ms cell))) ≡ true
+  go true = put-from w x (words_since ms cell) h
+  go false = h
+
+-- it confirms nothing
+put-confirms : (b : Bool) (rest : Standing) (word : ℕ) → cond b Unknown rest ≡ Confirmed word → rest ≡ Confirmed word
+put-confirms true rest word h = cc
+put-confirms false rest word h = h
+
+put-known : (ms : List Mark) (c : Cell) (w : ℕ) (cell : Cell) (restarted : Bool) (words : Words) →
+    IsKnown ms cell restarted words → IsKnown (Put c w ∷ ms) cell restarted words
+put-known ms c w cell restarted words known = record {
+  held = λ word confirmed fresh. known.held word (put-confirms (same_cell c cell) (standing_of ms cell) word confirmed) fresh;
+  among = λ fresh. put-possible ms c cell w (word_at words cell) (known.among fresh);
+}
+
+-- the marks of the writes that begin with an entry: none, or one
+pub data ArePuts : List Mark → Type 0 where
+  no_put : ArePuts []
+  one_put : (cell : Cell) (word : ℕ) → ArePuts (Put cell word ∷ [])
+
+pub are-puts : (setup : Setup) (entries : List Entry) → ArePuts (puts setup entries)
 unfolding puts
-puts-keep setup entries ms cell word h = go (open_job setup entries) h where
-  by_turn : (b : Bool) (c : Cell) (w : ℕ) → standing_of (cond b (Put c w ∷ []) [] ++ ms) cell ≡ Confirmed word → standing_of ms cell ≡ Confirmed word
-  by_turn true c w e = put-keeps (same_cell c cell) (standing_of ms cell) word e
-  by_turn false c w e = e
+are-puts setup entries = go (open_job setup entries) where
+  by_turn : (b : Bool) (cell : Cell) (word : ℕ) → ArePuts (cond b (Put cell word ∷ []) [])
+  by_turn true cell word = one_put cell word
+  by_turn false cell word = no_put
 
-  go : (job : Option Job) → standing_of (put_by job (told_since entries) ++ ms) cell ≡ Confirmed word → standing_of ms cell ≡ Confirmed word
-  go None e = e
-  go (Some (Order c w)) e = by_turn (is_write_turn (told_since entries)) c w e
-  go (Some (Check c)) e = e
-  go (Some (Learn output)) e = e
-  go (Some (Clear output)) e = e
+  go : (job : Option Job) → ArePuts (put_by job (told_since entries))
+  go None = no_put
+  go (Some (Order cell word)) = by_turn (is_write_turn (told_since entries)) cell word
+  go (Some job) = no_put
 
--- a good answer that has its cell's word
-confirmed-is : (w word : ℕ) → Confirmed w ≡ Confirmed word → w ≡ word
-confirmed-is w word h = cc
+puts-known : (new ms : List Mark) → ArePuts new → (cell : Cell) (restarted : Bool) (words : Words) →
+    IsKnown ms cell restarted words → IsKnown (new ++ ms) cell restarted words
+puts-known new ms no_put cell restarted words known = known
+puts-known new ms (one_put c w) cell restarted words known = put-known ms c w cell restarted words known
 
-good-holds : SameCells → (ms : List Mark) (cell : Cell) (restarted : Bool) (words : Words) (read : Cell) (found : Option ℕ) →
-    ((w : ℕ) → found ≡ Some w → word_at words read ≡ w) → IsHeld ms cell restarted words →
-    IsHeld (option_to_list (option_map (λ w. Good read w) found) ++ ms) cell
-    (cond (list_any (is_good_for cell) (option_to_list (option_map (λ w. Good read w) found))) false restarted) words
-good-holds same ms cell restarted words read None is so_far = so_far
-good-holds same ms cell restarted words read (Some w) is so_far = by_cell (same_cell read cell) refl where
-  by_cell : (b : Bool) → same_cell read cell ≡ b → (word : ℕ) → cond b (Confirmed w) (standing_of ms cell) ≡ Confirmed word → cond (b || false) false restarted ≡ false → word_at words cell ≡ word
-  by_cell true e word confirmed fresh = ap (word_at words) (sym (same read cell e)) ∙ (is w refl ∙ confirmed-is w word confirmed)
-  by_cell false e word confirmed fresh = so_far word confirmed fresh
+-- the marks of the good answer that bytes are: none, or one for the cell that was asked for
+pub data AreGoods (setup : Setup) (before : List Entry) (bytes : List ℕ) : List Mark → Type 0 where
+  no_good : AreGoods setup before bytes []
+  one_good : (read : Cell) (word : ℕ) → read_by (open_job setup before) (told_since before) ≡ Some read →
+      good_word setup.addr read bytes ≡ Some word → AreGoods setup before bytes (Good read word ∷ [])
+
+pub are-goods : (setup : Setup) (before : List Entry) (bytes : List ℕ) → AreGoods setup before bytes (goods setup before bytes)
+unfolding goods
+are-goods setup before bytes = go (read_by (open_job setup before) (told_since before)) refl where
+  by_word : (read : Cell) → read_by (open_job setup before) (told_since before) ≡ Some read → (found : Option ℕ) →
+      good_word setup.addr read bytes ≡ found → AreGoods setup before bytes (option_to_list (option_map (λ w. Good read w) found))
+  by_word read asked None good = no_good
+  by_word read asked (Some word) good = one_good read word asked good
+
+  go : (asked : Option Cell) → read_by (open_job setup before) (told_since before) ≡ asked →
+      AreGoods setup before bytes (option_to_list (option_and_then (λ c. option_map (λ w. Good c w) (good_word setup.addr c bytes)) asked))
+  go None asked = no_good
+  go (Some read) asked = by_word read asked (good_word setup.addr read bytes) refl
 
 -- a good answer has the word of the cell that it is read for
 abbrev pub ReadsTrue : Setup → List Entry → List ℕ → Words → Type 0
@@ -67,28 +147,64 @@ ReadsTrue setup before bytes words =
     (read : Cell) (word : ℕ) → read_by (open_job setup before) (told_since before) ≡ Some read →
     good_word setup.addr read bytes ≡ Some word → word_at words read ≡ word
 
-goods-hold : SameCells → (setup : Setup) (before : List Entry) (bytes : List ℕ) (ms : List Mark) (cell : Cell) (restarted : Bool) (words : Words) →
-    ReadsTrue setup before bytes words → IsHeld ms cell restarted words →
-    IsHeld (goods setup before bytes ++ ms) cell (cond (list_any (is_good_for cell) (goods setup before bytes)) false restarted) words
-unfolding goods
-goods-hold same setup before bytes ms cell restarted words is so_far = go (read_by (open_job setup before) (told_since before)) is where
-  go : (asked : Option Cell) → ((read : Cell) (word : ℕ) → asked ≡ Some read → good_word setup.addr read bytes ≡ Some word → word_at words read ≡ word) →
-      IsHeld (option_to_list (option_and_then (λ c. option_map (λ w. Good c w) (good_word setup.addr c bytes)) asked) ++ ms) cell
-      (cond (list_any (is_good_for cell) (option_to_list (option_and_then (λ c. option_map (λ w. Good c w) (good_word setup.addr c bytes)) asked))) false restarted) words
-  go None reads = so_far
-  go (Some read) reads = good-holds same ms cell restarted words read (good_word setup.addr read bytes) (λ w e. reads read w refl e) so_far
+-- so what is known stays true
+confirmed-is : (w word : ℕ) → Confirmed w ≡ Confirmed word → w ≡ word
+confirmed-is w word h = cc
+
+good-possible : (ms : List Mark) (read cell : Cell) (w x : ℕ) → (same_cell read cell ≡ true → x ≡ w) →
+    (same_cell read cell ≡ false → is_possible x (possible_of ms cell) ≡ true) →
+    is_possible x (possible_of (Good read w ∷ ms) cell) ≡ true
+unfolding possible_of
+good-possible ms read cell w x itself other = go (same_cell read cell) refl where
+  by_surprise : (b : Bool) → is_possible x (possible_from (words_since ms cell)) ≡ true →
+      is_possible x (possible_from (cond b (words_since ms cell) None)) ≡ true
+  by_surprise true h = h
+  by_surprise false h = refl
+
+  go : (b : Bool) → same_cell read cell ≡ b →
+      is_possible x (possible_from (cond b (Some (w ∷ [])) (cond (is_possible w (possible_from (words_since ms read))) (words_since ms cell) None))) ≡ true
+  go true e = ap (λ b. b || false) (eq-eqb w x (sym (itself e)))
+  go false e = by_surprise (is_possible w (possible_from (words_since ms read))) (other e)
+
+good-known : Below → (ms : List Mark) (read : Cell) (w : ℕ) (cell : Cell) (restarted : Bool) (words : Words) →
+    word_at words read ≡ w → IsKnown ms cell restarted words →
+    IsKnown (Good read w ∷ ms) cell (cond (list_any (is_good_for cell) (Good read w ∷ [])) false restarted) words
+good-known laws ms read w cell restarted words is known = record {
+  held = by_cell (same_cell read cell) refl;
+  among = λ fresh. good-possible ms read cell w (word_at words cell) its_word (λ e. known.among (not-read e fresh));
+}
+  where
+    its_word : same_cell read cell ≡ true → word_at words cell ≡ w
+    its_word e = ap (word_at words) (sym (same-cells laws read cell e)) ∙ is
+
+    by_cell : (b : Bool) → same_cell read cell ≡ b → (word : ℕ) → cond b (Confirmed w) (standing_of ms cell) ≡ Confirmed word →
+        cond (b || false) false restarted ≡ false → word_at words cell ≡ word
+    by_cell true e word confirmed fresh = its_word e ∙ confirmed-is w word confirmed
+    by_cell false e word confirmed fresh = known.held word confirmed fresh
+
+    not-read : same_cell read cell ≡ false → cond (same_cell read cell || false) false restarted ≡ false → restarted ≡ false
+    not-read e fresh = sym (ap (λ b. cond (b || false) false restarted) e) ∙ fresh
+
+goods-known : Below → (setup : Setup) (before : List Entry) (bytes : List ℕ) (new ms : List Mark) → AreGoods setup before bytes new →
+    (cell : Cell) (restarted : Bool) (words : Words) → ReadsTrue setup before bytes words → IsKnown ms cell restarted words →
+    IsKnown (new ++ ms) cell (cond (list_any (is_good_for cell) new) false restarted) words
+goods-known laws setup before bytes new ms no_good cell restarted words is known = known
+goods-known laws setup before bytes new ms (one_good read word asked good) cell restarted words is known =
+    good-known laws ms read word cell restarted words (is read word asked good) known
 
 -- one more entry
-pub accepted-held : (setup : Setup) (entries : List Entry) (cell : Cell) (restarted : Bool) (words : Words) (job : Job) →
-    IsHeld (marks setup entries) cell restarted words → IsHeldAfter setup entries cell restarted (Some (Accepted job)) words
-accepted-held setup entries cell restarted words job so_far = λ word confirmed fresh.
-    so_far word (puts-keep setup (Accepted job ∷ entries) (marks setup entries) cell word confirmed) fresh
+pub accepted-known : (setup : Setup) (entries : List Entry) (cell : Cell) (restarted : Bool) (words : Words) (job : Job) →
+    IsKnown (marks setup entries) cell restarted words → IsKnownAfter setup entries cell restarted (Some (Accepted job)) words
+accepted-known setup entries cell restarted words job known =
+    puts-known (puts setup (Accepted job ∷ entries)) (marks setup entries) (are-puts setup (Accepted job ∷ entries)) cell restarted words known
 
-pub got-held : SameCells → (setup : Setup) (entries : List Entry) (cell : Cell) (restarted : Bool) (words : Words) (bytes : List ℕ) →
-    ReadsTrue setup entries bytes words → IsHeld (marks setup entries) cell restarted words → IsHeldAfter setup entries cell restarted (Some (Got bytes)) words
-got-held same setup entries cell restarted words bytes is so_far = λ word confirmed fresh.
-    goods-hold same setup entries bytes (marks setup entries) cell restarted words is so_far word
-    (puts-keep setup (Got bytes ∷ entries) (goods setup entries bytes ++ marks setup entries) cell word confirmed) fresh
+pub got-known : Below → (setup : Setup) (entries : List Entry) (cell : Cell) (restarted : Bool) (words : Words) (bytes : List ℕ) →
+    ReadsTrue setup entries bytes words → IsKnown (marks setup entries) cell restarted words → IsKnownAfter setup entries cell restarted (Some (Got bytes)) words
+got-known laws setup entries cell restarted words bytes is known =
+    puts-known (puts setup (Got bytes ∷ entries)) (goods setup entries bytes ++ marks setup entries) (are-puts setup (Got bytes ∷ entries)) cell _ words
+    (goods-known laws setup entries bytes (goods setup entries bytes) (marks setup entries) (are-goods setup entries bytes) cell restarted words is known)
 
-pub restarted-held : (setup : Setup) (entries : List Entry) (cell : Cell) (restarted : Bool) (words : Words) → IsHeldAfter setup entries cell restarted (Some Restarted) words
-restarted-held setup entries cell restarted words = λ word confirmed fresh. cc
+pub restarted-known : (setup : Setup) (entries : List Entry) (cell : Cell) (restarted : Bool) (words : Words) →
+    IsKnownAfter setup entries cell restarted (Some Restarted) words
+unfolding possible_of
+restarted-known setup entries cell restarted words = record { held = λ word confirmed fresh. cc; among = λ fresh. refl }

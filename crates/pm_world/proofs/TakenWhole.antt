@@ -17,8 +17,10 @@ use Rattle.pm_host.specs.declared.stage.Stage.TheVariants.{Writes, Reads}
 use Rattle.pm_host.specs.Messages.{cell_write, cell_read}
 use Rattle.pm_host.specs.Refusals.{IsSetup}
 use Rattle.pm_host.specs.Summary.{Summary, sending_in, stage_message}
+use Rattle.pm_host.specs.Transcript as host
+use Rattle.pm_world.specs.Below.{Below}
 use Rattle.pm_world.specs.declared.event.Event.{Event}
-use Rattle.pm_world.specs.declared.event.Event.TheVariants.{Order, Deliver, Finish, Exchange}
+use Rattle.pm_world.specs.declared.event.Event.TheVariants.{Deliver, Finish, Exchange}
 use Rattle.pm_world.specs.declared.event.Arrival.{Arrival}
 use Rattle.pm_world.specs.declared.event.Arrival.TheVariants.{Whole}
 use Rattle.pm_world.specs.declared.event.Back.TheVariants as back
@@ -28,14 +30,12 @@ use Rattle.pm_world.specs.Honest.{honest, sent_by}
 use Rattle.pm_world.specs.Legal.{frame_of, heard_ending, is_heard_whole, is_legal_hearing, is_legal_return}
 use Rattle.pm_world.specs.Life.{now, state_of, AreTaken}
 use Rattle.pm_world.specs.Setup.{setup_of}
-use Rattle.pm_world.specs.State.{State, event_limit, event_cause, cause_of, finish_cause, exchange_cause, answer_to, rule, IsTaken}
+use Rattle.pm_world.specs.State.{State, asked, event_limit, event_cause, cause_of, finish_cause, exchange_cause, answer_to, rule, IsTaken}
+use Rattle.pm_world.proofs.Hearings.{write-kind}
+use Rattle.pm_world.proofs.Lives.{IsLived, earlier, lived-by, now-next}
 use Rattle.pm_world.proofs.ReadBack.{reads-cell}
-use Rattle.pm_world.proofs.Undisturbed.{HonestLaws, finish-stage, order-stage, read-restart}
+use Rattle.pm_world.proofs.Undisturbed.{finish-stage, order-stage, read-restart}
 use Rattle.pm_world.proofs.Sending.{next-deliver-host}
-
-write-kind : (cell : Cell) (word : ℕ) → is_read_message (cell_write cell word) ≡ false
-write-kind (Out output register) word = refl
-write-kind Protect word = refl
 
 same_bytes : (bytes : List ℕ) → bytes_eq bytes bytes ≡ true
 same_bytes bytes = (bytes_eq-Decides bytes bytes).1 refl
@@ -72,34 +72,39 @@ unfolding now state_of
 now-taken config passes events = refl
 
 -- after its deliveries the write is still being sent
-sent-stage : HonestLaws → (config : Config) (passes : ℕ) (before : List Event) (cell : Cell) (word : ℕ) (arrivals : List Arrival) → IsSound config → IsSetup (setup_of config passes) →
-    AreTaken config passes (sent_by cell word arrivals before) → (now config passes (sent_by cell word arrivals before)).host.stage ≡ Some (Writes cell word 0)
-sent-stage laws config passes before cell word [] sound made taken =
-    ap (λ (s : State). s.host.stage) (laws.more config passes before (Order cell word) sound made taken) ∙ order-stage (now config passes before) cell word
-sent-stage laws config passes before cell word (arrival ∷ arrivals) sound made taken =
-    let events = sent_by cell word arrivals before in
-    ap (λ (s : State). s.host.stage) (laws.more config passes events (Deliver arrival) sound made taken)
+sent-stage : Below → (config : Config) (passes : ℕ) (before : List Event) (order : Event) (cell : Cell) (word : ℕ) (arrivals : List Arrival) →
+    IsLived config passes (sent_by order arrivals before) → asked (now config passes before) order ≡ Some (host.Order cell word) →
+    (now config passes (sent_by order arrivals before)).host.stage ≡ Some (Writes cell word 0)
+sent-stage laws config passes before order cell word [] lived asks =
+    ap (λ (s : State). s.host.stage) (now-next laws config passes before order lived) ∙ order-stage (now config passes before) order cell word asks
+sent-stage laws config passes before order cell word (arrival ∷ arrivals) lived asks =
+    let events = sent_by order arrivals before in
+    ap (λ (s : State). s.host.stage) (now-next laws config passes events (Deliver arrival) lived)
     ∙ (ap (λ (h : Summary). h.stage) (next-deliver-host (now config passes events) arrival)
-    ∙ sent-stage laws config passes before cell word arrivals sound made taken.1)
+    ∙ sent-stage laws config passes before order cell word arrivals (earlier lived) asks)
 
-pub taken-whole : HonestLaws → (config : Config) (passes : ℕ) (before : List Event) (cell : Cell) (word : ℕ) (arrivals : List Arrival) (acked : Bool) → IsSound config → IsSetup (setup_of config passes) →
-    AreTaken config passes (sent_by cell word arrivals before) → length (sent_by cell word arrivals before) + 2 ≤ event_limit →
-    AreTaken config passes (honest cell word arrivals acked before)
-taken-whole laws config passes before cell word arrivals acked sound made taken room =
-    let events = sent_by cell word arrivals before in
+pub taken-whole : Below → (config : Config) (passes : ℕ) (before : List Event) (order : Event) (cell : Cell) (word : ℕ) (arrivals : List Arrival) (acked : Bool) →
+    IsSound config → IsSetup (setup_of config passes) → AreTaken config passes (sent_by order arrivals before) →
+    asked (now config passes before) order ≡ Some (host.Order cell word) → length (sent_by order arrivals before) + 2 ≤ event_limit →
+    AreTaken config passes (honest order arrivals acked before)
+taken-whole laws config passes before order cell word arrivals acked sound made taken asks room =
+    let events = sent_by order arrivals before in
     let s = now config passes events in
-    let stage = sent-stage laws config passes before cell word arrivals sound made taken in
+    let stage = sent-stage laws config passes before order cell word arrivals (lived-by config passes events sound made taken) asks in
     let sending : sending_in s.host ≡ Some (cell_write cell word) = ap (option_map stage_message) stage in
     let finish : IsTaken s (Finish acked) = record {
       free = free s (Finish acked) (let count = now-taken config passes events in omega arith) (ap finish_cause sending ∙ off _ WrongKind (write-kind cell word));
       word = tt;
     } in
     let t = now config passes (Finish acked ∷ events) in
-    let next_stage : t.host.stage ≡ Some (Reads cell word 0) = ap (λ (u : State). u.host.stage) (laws.more config passes events (Finish acked) sound made (finish, taken)) ∙ finish-stage s acked cell word stage in
+    let next_stage : t.host.stage ≡ Some (Reads cell word 0) =
+    ap (λ (u : State). u.host.stage) (now-next laws config passes events (Finish acked) (lived-by config passes (Finish acked ∷ events) sound made (finish, taken)))
+    ∙ finish-stage s acked cell word stage in
     let reading : sending_in t.host ≡ Some (cell_read cell) = ap (option_map stage_message) next_stage in
     let count = now-taken config passes (Finish acked ∷ events) in (
       record {
-        free = free t (Exchange Whole back.Whole) (omega arith) (ap (exchange_cause t Whole back.Whole) reading ∙ exchange-free t (cell_read cell) (reads-cell cell) (read-restart cell));
+        free = free t (Exchange Whole back.Whole) (omega arith)
+            (ap (exchange_cause t Whole back.Whole) reading ∙ exchange-free t (cell_read cell) (reads-cell cell) (read-restart cell));
         word = tt;
       },
       (finish, taken),

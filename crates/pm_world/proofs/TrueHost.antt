@@ -20,24 +20,26 @@ use Rattle.pm_device.specs.Held.{mode_for, shape_made, shape_for}
 use Rattle.pm_device.specs.Reply.{reply_of}
 use Rattle.pm_device.specs.Start.{IsSound}
 use Rattle.pm_host.specs.declared.stage.Stage.{Stage}
-use Rattle.pm_host.specs.declared.stage.Stage.TheVariants.{Writes, Reads, Checks, AsksMode, AsksCoefficients, Clears}
-use Rattle.pm_host.specs.declared.step.JobEnd.TheVariants as job_end
+use Rattle.pm_host.specs.declared.stage.Stage.TheVariants.{Reads, Checks, AsksMode, AsksCoefficients, Sends}
+use Rattle.pm_host.specs.declared.job_end.JobEnd.TheVariants as job_end
 use Rattle.pm_host.specs.Answers.{good_payload, good_word, good_mode, good_coefficients, word_in}
 use Rattle.pm_table.specs.Coefficients.{coefficients_of}
 use Rattle.pm_host.specs.Messages.{mode_read, coefficients_read}
 use Rattle.pm_host.specs.Sound.{IsStage, IsSound as IsSoundHost}
-use Rattle.pm_host.specs.Summary.{Summary, Turn, next as host_next, begins, finished, answered, read_back, checked, learned, mode_taken, mode_answered, coefficients_answered, another, ends, goes_on, writes, idle, marked, no_formats, stage_message}
+use Rattle.pm_host.specs.Summary.{Summary, Change, next as host_next, begins, finished, answered, read_back, checked, learned, mode_taken, mode_answered, coefficients_answered, another, ends, goes_on, writes, idle, marked, no_formats, sending_in, stage_message}
 use Rattle.pm_host.specs.Marks.{Good}
 use Rattle.pm_host.specs.Transcript as host
+use Rattle.pm_world.specs.Below.{Below}
 use Rattle.pm_world.specs.declared.event.Event.{Event}
-use Rattle.pm_world.specs.declared.event.Event.TheVariants.{Order, OrderMicro, Check, Learn, Clear, Deliver, Finish, Exchange, RestartDevice, RestartHost, Reading}
+use Rattle.pm_world.specs.declared.event.Event.TheVariants.{Deliver, Finish, Exchange, RestartHost}
 use Rattle.pm_world.specs.declared.event.Arrival.{Arrival}
 use Rattle.pm_world.specs.declared.event.Back.{Back}
 use Rattle.pm_world.specs.Honest.{IsSpelled}
 use Rattle.pm_world.specs.Legal.{frame_of, heard_bytes, heard_ending, answer_in, back_bytes}
-use Rattle.pm_world.specs.State.{State, micro_job, exchanged, host_after, next, event_cause, exchange_cause, answer_to}
-use Rattle.pm_world.proofs.Learned.{DamageLaws, ToldTrue, AsksSo, Agree, IsTrueHost, from_some, good-faultless, legal-good, exchange-legal, mode-true, coefficients-true}
-use Rattle.pm_world.proofs.Sending.{next-deliver-host}
+use Rattle.pm_world.specs.State.{State, asked, share_beside, exchanged, host_after, next, event_cause, exchange_cause, answer_to}
+use Rattle.pm_world.proofs.Learned.{ToldTrue, AsksSo, Agree, IsTrueHost, from_some, good-faultless, legal-good, exchange-legal, mode-true, coefficients-true}
+use Rattle.pm_world.proofs.Causes.{asked-next, beside-next}
+use Rattle.pm_world.proofs.Sending.{told-nothing}
 
 -- one more format
 agree-set : (config : Config) (formats : List (Option Shape)) (output : ℕ) (shape : Shape) → Agree config formats → output < length formats → shape ≡ shape_for config output → Agree config (set formats output (Some shape))
@@ -57,7 +59,7 @@ agree-none config other found h =
       | inr past ↦ absurd (none-some found (sym (get_or_past {X = Option Shape} (replicate 8 None) other None past) ∙ h))
     ]
 
-either : (config : Config) (b : Bool) (t u : Turn) → IsTrueHost config t.after → IsTrueHost config u.after → IsTrueHost config (cond b t u).after
+either : (config : Config) (b : Bool) (t u : Change) → IsTrueHost config t.after → IsTrueHost config u.after → IsTrueHost config (cond b t u).after
 either config true t u p q = p
 either config false t u p q = q
 
@@ -112,51 +114,36 @@ coefficients_answered-true config s output tries (Some k) agree inside made dire
 
 -- a learn asks for an output that is there
 abbrev Inside : ℕ → Option Stage → Type 0
-Inside count None = Unit {0}
-Inside count (Some (Writes cell word pass)) = Unit {0}
-Inside count (Some (Reads cell word pass)) = Unit {0}
-Inside count (Some (Checks cell tries)) = Unit {0}
 Inside count (Some (AsksMode output tries)) = output < count
 Inside count (Some (AsksCoefficients output tries)) = output < count
-Inside count (Some (Clears output tries)) = Unit {0}
+Inside count stage = Unit {0}
 
 stage-inside : (s : Summary) (stage : Option Stage) → IsStage s stage → Inside s.setup.outputs stage
-stage-inside s None is = tt
-stage-inside s (Some (Writes cell word pass)) is = tt
-stage-inside s (Some (Reads cell word pass)) is = tt
-stage-inside s (Some (Checks cell tries)) is = tt
 stage-inside s (Some (AsksMode output tries)) is = is.there
 stage-inside s (Some (AsksCoefficients output tries)) is = is.there
-stage-inside s (Some (Clears output tries)) is = tt
+stage-inside s stage is = tt
 
 -- an entry
 answered-true : (config : Config) (s : Summary) (stage : Option Stage) (bytes : List ℕ) → IsSound config → length s.formats ≡ 8 → Agree config s.formats → AsksSo config stage → Inside config.count stage →
     ToldTrue config s.setup.addr stage bytes → IsTrueHost config (answered s stage bytes).after
-answered-true config s None bytes sound long agree asks inside told = record { formats = agree; asks = tt }
-answered-true config s (Some (Writes cell word pass)) bytes sound long agree asks inside told = record { formats = agree; asks = tt }
 answered-true config s (Some (Reads cell word pass)) bytes sound long agree asks inside told = read_back-true config s cell word pass (good_word s.setup.addr cell bytes) agree
 answered-true config s (Some (Checks cell tries)) bytes sound long agree asks inside told = checked-true config s cell tries (good_word s.setup.addr cell bytes) agree
 answered-true config s (Some (AsksMode output tries)) bytes sound long agree asks inside told =
     mode_answered-true config s output tries (good_mode s.setup.addr output bytes) agree (let few = sound.few in omega arith) (sound.formats output inside) told
 answered-true config s (Some (AsksCoefficients output tries)) bytes sound long agree asks inside told =
     coefficients_answered-true config s output tries (good_coefficients s.setup.addr bytes) agree (let few = sound.few in omega arith) (sound.formats output inside) asks told
-answered-true config s (Some (Clears output tries)) bytes sound long agree asks inside told = record { formats = agree; asks = tt }
+answered-true config s stage bytes sound long agree asks inside told = record { formats = agree; asks = tt }
 
 finished-true : (config : Config) (s : Summary) (stage : Option Stage) (acked : Bool) → Agree config s.formats → AsksSo config stage → IsTrueHost config (finished s stage acked).after
-finished-true config s None acked agree asks = record { formats = agree; asks = tt }
-finished-true config s (Some (Writes cell word pass)) acked agree asks = record { formats = agree; asks = tt }
-finished-true config s (Some (Reads cell word pass)) acked agree asks = record { formats = agree; asks = tt }
-finished-true config s (Some (Checks cell tries)) acked agree asks = record { formats = agree; asks = tt }
-finished-true config s (Some (AsksMode output tries)) acked agree asks = record { formats = agree; asks = tt }
 finished-true config s (Some (AsksCoefficients output tries)) acked agree asks = record { formats = agree; asks = asks }
-finished-true config s (Some (Clears output tries)) acked agree asks =
-    either config acked (ends s job_end.Done) (another s tries (Clears output (tries + 1))) (record { formats = agree; asks = tt }) (another-true config s tries (Clears output (tries + 1)) agree tt)
+finished-true config s (Some (Sends sent tries)) acked agree asks =
+    either config acked (ends s job_end.Done) (another s tries (Sends sent (tries + 1))) (record { formats = agree; asks = tt })
+    (another-true config s tries (Sends sent (tries + 1)) agree tt)
+finished-true config s stage acked agree asks = record { formats = agree; asks = tt }
 
 begins-true : (config : Config) (s : Summary) (job : host.Job) → Agree config s.formats → IsTrueHost config (begins s job).after
 begins-true config s (host.Order cell word) agree = record { formats = agree; asks = tt }
-begins-true config s (host.Check cell) agree = record { formats = agree; asks = tt }
-begins-true config s (host.Learn output) agree = record { formats = agree; asks = tt }
-begins-true config s (host.Clear output) agree = record { formats = agree; asks = tt }
+begins-true config s job agree = record { formats = agree; asks = tt }
 
 -- what holds of a world throughout
 pub record Stands (s : State) : Type 0 where
@@ -166,7 +153,7 @@ pub record Stands (s : State) : Type 0 where
   pub host : IsSoundHost s.host
   pub spelled : IsSpelled s.device.config
 
-pub good-same : DamageLaws → (s : State) (arrival : Arrival) (back : Back) (request : Message) (bytes payload : List ℕ) → s.host.setup.addr ≡ s.device.config.addr → is_read_message request ≡ true →
+pub good-same : Below → (s : State) (arrival : Arrival) (back : Back) (request : Message) (bytes payload : List ℕ) → s.host.setup.addr ≡ s.device.config.addr → is_read_message request ≡ true →
     exchange_cause s arrival back (Some request) ≡ None → bytes ≡ back_bytes (answer_to s.device s.host.setup.addr request arrival) back → good_payload s.device.config.addr request bytes ≡ Some payload →
     bytes ≡ answer_in (reply_of s.device (frame_of s.device.config.addr request) Restart)
 good-same laws s arrival back request bytes payload addr reads free is good =
@@ -177,12 +164,9 @@ good-same laws s arrival back request bytes payload addr reads free is good =
     (good-faultless a request _ payload (subst (λ b. good_payload a request b ≡ Some payload) is (ap (λ x. good_payload x request bytes) addr ∙ good)))
     ∙ ap (λ x. answer_in (reply_of s.device (frame_of x request) Restart)) addr)
 
-told-true : DamageLaws → (s : State) (arrival : Arrival) (back : Back) (stage : Stage) → Stands s → AsksSo s.device.config (Some stage) → Inside s.device.config.count (Some stage) →
+told-true : Below → (s : State) (arrival : Arrival) (back : Back) (stage : Stage) → Stands s → AsksSo s.device.config (Some stage) → Inside s.device.config.count (Some stage) →
     exchange_cause s arrival back (Some (stage_message stage)) ≡ None →
     ToldTrue s.device.config s.device.config.addr (Some stage) (back_bytes (answer_to s.device s.host.setup.addr (stage_message stage) arrival) back)
-told-true laws s arrival back (Writes cell word pass) stands asks inside free = tt
-told-true laws s arrival back (Reads cell word pass) stands asks inside free = tt
-told-true laws s arrival back (Checks cell tries) stands asks inside free = tt
 told-true laws s arrival back (AsksMode output tries) stands asks inside free = λ byte good.
     mode-true laws s.device s.host.setup output _ byte stands.spelled (let few = stands.sound.few in omega arith) inside (subst (λ n. output < n) (sym stands.outputs) inside)
     (λ g. good-same laws s arrival back (mode_read output) _ (from_some word_in (good_payload s.device.config.addr (mode_read output) _) byte g).0 stands.addr refl free refl
@@ -191,9 +175,9 @@ told-true laws s arrival back (AsksCoefficients output tries) stands asks inside
     coefficients-true laws s.device s.host.setup output _ k stands.spelled inside asks
     (λ g. good-same laws s arrival back coefficients_read _ (from_some coefficients_of (good_payload s.device.config.addr coefficients_read _) k g).0 stands.addr refl free refl
     (from_some coefficients_of (good_payload s.device.config.addr coefficients_read _) k g).1) good
-told-true laws s arrival back (Clears output tries) stands asks inside free = tt
+told-true laws s arrival back stage stands asks inside free = tt
 
-exchange-true : DamageLaws → (s : State) (arrival : Arrival) (back : Back) (stage : Option Stage) → Stands s → IsTrueHost s.device.config s.host → s.host.stage ≡ stage →
+exchange-true : Below → (s : State) (arrival : Arrival) (back : Back) (stage : Option Stage) → Stands s → IsTrueHost s.device.config s.host → s.host.stage ≡ stage →
     exchange_cause s arrival back (option_map stage_message stage) ≡ None →
     IsTrueHost s.device.config (host_after s.host (exchanged s arrival back (option_map stage_message stage)).told)
 unfolding host_next
@@ -207,17 +191,26 @@ exchange-true laws s arrival back (Some stage) stands is e free =
     (answered-true s.device.config (idle s.host) (Some stage) bytes stands.sound stands.host.formats is.formats asks inside
     (subst (λ a. ToldTrue s.device.config a (Some stage) bytes) (sym stands.addr) told))
 
--- one event
-pub next-true : DamageLaws → (s : State) (event : Event) → Stands s → IsTrueHost s.device.config s.host → event_cause s event ≡ None → IsTrueHost s.device.config (next s event).host
-unfolding next host_next
-next-true laws s (Order cell word) stands is free = begins-true s.device.config s.host (host.Order cell word) is.formats
-next-true laws s (OrderMicro cell x) stands is free = begins-true s.device.config s.host (micro_job s.host cell x) is.formats
-next-true laws s (Check cell) stands is free = begins-true s.device.config s.host (host.Check cell) is.formats
-next-true laws s (Learn output) stands is free = begins-true s.device.config s.host (host.Learn output) is.formats
-next-true laws s (Clear output) stands is free = begins-true s.device.config s.host (host.Clear output) is.formats
-next-true laws s (Deliver arrival) stands is free = subst (IsTrueHost s.device.config) (sym (next-deliver-host s arrival)) is
-next-true laws s (Finish acked) stands is free = finished-true s.device.config (idle s.host) s.host.stage acked is.formats is.asks
-next-true laws s (Exchange arrival back) stands is free = exchange-true laws s arrival back s.host.stage stands is refl free
-next-true laws s RestartDevice stands is free = is
-next-true laws s RestartHost stands is free = record { formats = agree-none s.device.config; asks = tt }
-next-true laws s (Reading output code word) stands is free = is
+-- one event: a job that it asks for is accepted, or it asks for none
+begun-true : (s : State) (event : Event) (job : host.Job) → IsTrueHost s.device.config s.host → asked s event ≡ Some job →
+    IsTrueHost s.device.config (next s event).host
+unfolding host_next
+begun-true s event job is e =
+    subst (λ (t : State). IsTrueHost s.device.config t.host) (sym (asked-next s event job e)) (begins-true s.device.config s.host job is.formats)
+
+beside-true : Below → (s : State) (event : Event) → Stands s → IsTrueHost s.device.config s.host → event_cause s event ≡ None →
+    IsTrueHost s.device.config (host_after s.host (share_beside s event).told)
+unfolding host_next
+beside-true laws s (Deliver arrival) stands is free =
+    subst (λ told. IsTrueHost s.device.config (host_after s.host told)) (sym (told-nothing s arrival (sending_in s.host))) is
+beside-true laws s (Finish acked) stands is free = finished-true s.device.config (idle s.host) s.host.stage acked is.formats is.asks
+beside-true laws s (Exchange arrival back) stands is free = exchange-true laws s arrival back s.host.stage stands is refl free
+beside-true laws s RestartHost stands is free = record { formats = agree-none s.device.config; asks = tt }
+beside-true laws s _ stands is free = is
+
+pub next-true : Below → (s : State) (event : Event) → Stands s → IsTrueHost s.device.config s.host → event_cause s event ≡ None →
+    IsTrueHost s.device.config (next s event).host
+next-true laws s event stands is free = go (asked s event) refl where
+  go : (o : Option host.Job) → asked s event ≡ o → IsTrueHost s.device.config (next s event).host
+  go None e = subst (λ (t : State). IsTrueHost s.device.config t.host) (sym (beside-next s event e)) (beside-true laws s event stands is free)
+  go (Some job) e = begun-true s event job is e

@@ -1,6 +1,6 @@
 -- What undisturbed frames come to in a world: this project's own choice of how an order, a check, a
 -- learn and a clear go.
-use Rattle.std.specs.Prelude.{◌≡◌, ◌<◌, ◌≤◌, ◌*◌, ◌^◌, ℕ, ℤ, Bool, true, false, List, [], ◌∷◌, ◌++◌, map, Some}
+use Rattle.std.specs.Prelude.{◌≡◌, ◌<◌, ◌≤◌, ◌*◌, ◌^◌, ℕ, ℤ, Bool, true, ◌&&◌, not, bytes_eq, List, [], ◌∷◌, ◌++◌, map, Some}
 use Rattle.std.specs.List.{list_any}
 use Rattle.pm_num.specs.AnyFormat.{Shape, shape_rank}
 use Rattle.pm_num.specs.NearestWord.{nearest_word}
@@ -12,21 +12,25 @@ use Rattle.pm_table.specs.Coefficients.{coefficients_of, coefficient_bytes}
 use Rattle.pm_table.specs.Protection.{is_allowed}
 use Rattle.pm_model.specs.Settings.{word_at}
 use Rattle.pm_device.specs.declared.config.Config.{Config}
+use Rattle.pm_device.specs.declared.heard.Ending.TheVariants.{Stop}
 use Rattle.pm_device.specs.Held.{mode_for, shape_for, value_for}
 use Rattle.pm_host.specs.declared.standing.Standing.TheVariants.{Confirmed}
-use Rattle.pm_host.specs.declared.step.JobEnd.TheVariants.{Done}
+use Rattle.pm_host.specs.declared.job_end.JobEnd.TheVariants.{Done}
 use Rattle.pm_host.specs.Answers.{good_word}
 use Rattle.pm_host.specs.Frames.{frames_of}
+use Rattle.pm_host.specs.Messages.{cell_write}
 use Rattle.pm_host.specs.Summary.{format_at, standing_at}
 use Rattle.pm_host.specs.Transcript.{Accepted, Finished, Got, format_of_output}
 use Rattle.pm_host.specs.Transcript as host
 use Rattle.pm_world.specs.declared.event.Event.{Event}
-use Rattle.pm_world.specs.declared.event.Event.TheVariants.{Order, OrderMicro, Deliver, Finish, Exchange}
+use Rattle.pm_world.specs.declared.event.Event.TheVariants.{OrderMicro, Deliver, Finish, Exchange}
 use Rattle.pm_world.specs.declared.event.Arrival.{Arrival}
-use Rattle.pm_world.specs.declared.event.Arrival.TheVariants.{Whole, Cut, Bytes}
+use Rattle.pm_world.specs.declared.event.Arrival.TheVariants.{Whole}
 use Rattle.pm_world.specs.declared.event.Back.TheVariants as back
-use Rattle.pm_world.specs.Setup.{setup_of}
+use Rattle.pm_world.specs.Legal.{frame_of, heard_bytes, ending_of, is_restart}
 use Rattle.pm_world.specs.Life.{life, now}
+use Rattle.pm_world.specs.Setup.{setup_of}
+use Rattle.pm_world.specs.State.{asked}
 
 -- after each of the events, the last job has sent at most twice as many frames as a job has passes,
 -- with the one that is being sent
@@ -36,21 +40,19 @@ AreFewFrames config passes (event ∷ before) =
     (frames_of (setup_of config passes) (life config passes (event ∷ before)).entries ≤ 2 * passes)
     × AreFewFrames config passes before
 
--- a delivery of all the bytes of a frame
-abbrev pub is_whole : Arrival → Bool
-is_whole Whole = true
-is_whole (Cut count) = false
-is_whole (Bytes bytes ending) = false
+-- a delivery by which the write of this frame is heard whole: its bytes, ended by a stop
+abbrev pub is_whole : List ℕ → Arrival → Bool
+is_whole frame arrival =
+    bytes_eq (heard_bytes frame arrival) frame && not (is_restart (ending_of Stop arrival))
 
 -- an order and deliveries of its write, newest first
-abbrev pub sent_by : Cell → ℕ → List Arrival → List Event → List Event
-sent_by cell word arrivals before =
-    map (λ arrival. Deliver arrival) arrivals ++ Order cell word ∷ before
+abbrev pub sent_by : Event → List Arrival → List Event → List Event
+sent_by order arrivals before = map (λ arrival. Deliver arrival) arrivals ++ order ∷ before
 
 -- these, the end of that write, acknowledged or not, and an exchange that nothing disturbs
-abbrev pub honest : Cell → ℕ → List Arrival → Bool → List Event → List Event
-honest cell word arrivals acked before =
-    Exchange Whole back.Whole ∷ Finish acked ∷ sent_by cell word arrivals before
+abbrev pub honest : Event → List Arrival → Bool → List Event → List Event
+honest order arrivals acked before =
+    Exchange Whole back.Whole ∷ Finish acked ∷ sent_by order arrivals before
 
 -- An order went through: the host sent its write and one read, whose answer was good and had the
 -- word; its job is done, the cell's word is confirmed, and the converter holds it.
@@ -63,15 +65,16 @@ pub record WentThrough (config : Config) (passes : ℕ) (cell : Cell) (word : �
   pub confirmed : standing_at (now config passes after).host cell ≡ Confirmed word
   pub held : word_at (now config passes after).device.words cell ≡ word
 
--- Each such order among the events went through, where WRITE_PROTECT allowed its code as it was
--- accepted and its write was delivered whole at least once.
+-- Each order among the events went through, of a word or in microvolts, where WRITE_PROTECT allowed its
+-- code as it was accepted, its write was heard whole at least once, and nothing disturbed its read.
 abbrev pub OrdersGoThrough : Config → ℕ → List Event → Type 0
 OrdersGoThrough config passes events =
-    (later before : List Event) (cell : Cell) (word : ℕ) (arrivals : List Arrival) (acked : Bool) →
-    events ≡ later ++ honest cell word arrivals acked before →
+    (later before : List Event) (order : Event) (cell : Cell) (word : ℕ) (arrivals : List Arrival) (acked : Bool) →
+    events ≡ later ++ honest order arrivals acked before →
+    asked (now config passes before) order ≡ Some (host.Order cell word) →
     is_allowed (word_at (now config passes before).device.words Protect) (cell_code cell) ≡ true →
-    list_any is_whole arrivals ≡ true →
-    WentThrough config passes cell word acked before (honest cell word arrivals acked before)
+    list_any (is_whole (frame_of config.addr (cell_write cell word))) arrivals ≡ true →
+    WentThrough config passes cell word acked before (honest order arrivals acked before)
 
 -- the numbers of a configuration are those that its bytes on the bus spell
 pub record IsSpelled (config : Config) : Type 0 where

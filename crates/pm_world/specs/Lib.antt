@@ -1,8 +1,14 @@
-pub mod Confirmed
-pub mod Damage
-pub mod Honest
+-- What the crate promises.
+pub mod State
+pub mod Setup
 pub mod Legal
 pub mod Life
 pub mod Retelling
-pub mod Setup
-pub mod State
+pub mod Confirmed
+pub mod Possible
+pub mod Honest
+pub mod Damage
+pub mod Laws
+pub mod FaultWords
+-- How it is kept.
+pub mod Below

@@ -1,12 +1,13 @@
 -- The life of a world, retold by the order machine: settings under orders alone, with no bytes, pages,
 -- packet error codes or passes. This project's own. Lists are newest first.
 use Rattle.std.specs.Prelude.{◌≡◌, ◌⊎◌, ℕ, ◌&&◌, if◌then◌else◌, List, [], ◌∷◌, ◌++◌, Option, Some, None, is_some, is_none, option_and_then}
+use Rattle.std.specs.Option.{option_map_or}
 use Rattle.pm_num.specs.Ratio.{Ratio}
 use Rattle.pm_table.specs.declared.cell.Cell.{Cell}
 use Rattle.pm_table.specs.declared.cell.Cell.TheVariants.{Out}
 use Rattle.pm_table.specs.declared.cell.Reg.TheVariants.{Operation, VoutMax}
 use Rattle.pm_model.specs.declared.pending_order.PendingOrder.{PendingOrder}
-use Rattle.pm_model.specs.Commanded.{selected_register, is_above}
+use Rattle.pm_model.specs.Commanded.{selected_register, limited}
 use Rattle.pm_model.specs.OrderMachine.{Step, Accept, Take, End, Back, IsRun, machine_of, ordered}
 use Rattle.pm_model.specs.Settings.{Settings, Words}
 use Rattle.pm_device.specs.declared.config.Config.{Config}
@@ -15,10 +16,10 @@ use Rattle.pm_device.specs.Start.{start_word, start_words}
 use Rattle.pm_host.specs.Transcript as host
 use Rattle.pm_world.specs.declared.event.Arrival.{Arrival}
 use Rattle.pm_world.specs.declared.event.Event.{Event}
-use Rattle.pm_world.specs.declared.event.Event.TheVariants.{Order, OrderMicro, Check, Learn, Clear, Deliver, Finish, Exchange, RestartDevice, RestartHost, Reading}
+use Rattle.pm_world.specs.declared.event.Event.TheVariants.{Deliver, Exchange, RestartDevice, RestartHost}
 use Rattle.pm_world.specs.Life.{life, now}
 use Rattle.pm_world.specs.Setup.{setup_of}
-use Rattle.pm_world.specs.State.{micro_job}
+use Rattle.pm_world.specs.State.{asked}
 
 -- the settings that a converter starts with
 abbrev pub start_settings : Config → Settings
@@ -27,9 +28,7 @@ start_settings config = record { count = config.count; words = start_words confi
 -- the order that a job is
 abbrev pub order_of : host.Job → Option PendingOrder
 order_of (host.Order cell word) = Some (ordered cell word)
-order_of (host.Check cell) = None
-order_of (host.Learn output) = None
-order_of (host.Clear output) = None
+order_of _ = None
 
 -- the order that is open after some events
 unfoldable pub open_order : Config → ℕ → List Event → Option PendingOrder
@@ -45,23 +44,20 @@ accepts (Some order) = Accept order.cell order.word ∷ []
 abbrev pub ends_between : Option PendingOrder → Option PendingOrder → List Step
 ends_between before after = if is_some before && is_none after then End ∷ [] else []
 
--- How an event is told, but for what takes: an order by its word, one in microvolts by the word that the
--- host chose; the end of its job, and each restart of the host, as its end; each restart of the
--- converter as the start words' return; and nothing else.
-unfoldable pub told : Config → ℕ → List Event → Event → List Step
-told config passes before (Order cell word) = Accept cell word ∷ []
-told config passes before (OrderMicro cell x) =
-    accepts (order_of (micro_job (now config passes before).host cell x))
-told config passes before (Exchange arrival back) = ends_between
+-- How an event that asks for no job is told: the end of the open order, and each restart of the host, as
+-- its end; each restart of the converter as the start words' return; and nothing else.
+unfoldable pub told_beside : Config → ℕ → List Event → Event → List Step
+told_beside config passes before (Exchange arrival back) = ends_between
     (open_order config passes before) (open_order config passes (Exchange arrival back ∷ before))
-told config passes before RestartHost = End ∷ []
-told config passes before RestartDevice = Back ∷ []
-told config passes before (Check cell) = []
-told config passes before (Learn output) = []
-told config passes before (Clear output) = []
-told config passes before (Deliver arrival) = []
-told config passes before (Finish acked) = []
-told config passes before (Reading output code word) = []
+told_beside config passes before RestartHost = End ∷ []
+told_beside config passes before RestartDevice = Back ∷ []
+told_beside config passes before _ = []
+
+-- How an event is told, but for what takes: a job that it asks for as the order that it is.
+unfoldable pub told : Config → ℕ → List Event → Event → List Step
+told config passes before event =
+    option_map_or (λ job. accepts (order_of job)) (asked (now config passes before) event)
+    (told_beside config passes before event)
 
 -- The steps retell the events: each event in its place as it is told, and a delivery may have let the
 -- pending order take. Nothing else takes.
@@ -97,7 +93,7 @@ IsOwnWord config passes events cell word =
     (word ≡ start_word config cell) ⊎ WasOrdered config passes events cell word
 
 -- an output commands a value of its own: that of the word which its own OPERATION selects among its
--- own registers, or where that is above the value of its own VOUT_MAX, the latter
+-- own registers, cut to that of its own VOUT_MAX
 pub record CommandsOwn (config : Config) (passes : ℕ) (events : List Event) (output : ℕ) (voltage : Ratio) : Type 0 where
   pub operation : ℕ
   pub selected : ℕ
@@ -107,5 +103,4 @@ pub record CommandsOwn (config : Config) (passes : ℕ) (events : List Event) (o
       IsOwnWord config passes events (Out output (selected_register operation)) selected
   pub own_most : IsOwnWord config passes events (Out output VoutMax) most
   pub cut : voltage
-      ≡ (if is_above (value_for config output selected) (value_for config output most)
-      then value_for config output most else value_for config output selected)
+      ≡ limited (value_for config output selected) (value_for config output most)

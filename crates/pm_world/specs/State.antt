@@ -1,6 +1,6 @@
 -- What a world holds, and what an event makes of it: this project's own choice.
-use Rattle.std.specs.Prelude.{ℕ, ℤ, ◌+◌, ◌^◌, Bool, not, nat_le, if◌then◌else◌, List, Option, Some, None, IsSome, option_map, unwrap_or, Result, Ok, Err, ◌≡◌}
-use Rattle.std.specs.Option.{option_or}
+use Rattle.std.specs.Prelude.{ℕ, ℤ, ◌+◌, ◌^◌, Bool, not, nat_le, if◌then◌else◌, List, Option, Some, None, IsSome, option_map, Result, Ok, Err, ◌≡◌}
+use Rattle.std.specs.Option.{option_or, option_map_or}
 use Rattle.pm_table.specs.declared.cell.Cell.{Cell}
 use Rattle.pm_frame.specs.declared.message.Message.{Message}
 use Rattle.pm_frame.specs.Layout.{is_read_message}
@@ -9,12 +9,13 @@ use Rattle.pm_device.specs.Held.{Held}
 use Rattle.pm_device.specs.Effect as device
 use Rattle.pm_device.specs.History.{next as device_next}
 use Rattle.pm_device.specs.Reply.{reply_of}
+use Rattle.pm_host.specs.declared.command.Command.TheVariants.{ClearFaults}
 use Rattle.pm_host.specs.declared.fault.HostFault.{HostFault}
-use Rattle.pm_host.specs.declared.step.JobEnd.{JobEnd}
+use Rattle.pm_host.specs.declared.job_end.JobEnd.{JobEnd}
 use Rattle.pm_host.specs.declared.step.Step.{Step}
 use Rattle.pm_host.specs.declared.step.Step.TheVariants.{Next, Ended}
 use Rattle.pm_host.specs.Summary.{Summary, sending_in, next as host_next, step_of}
-use Rattle.pm_host.specs.Refusals.{order_fault, micro_fault, micro_word, cell_fault, output_fault}
+use Rattle.pm_host.specs.Refusals.{job_fault, micro_fault, micro_word}
 use Rattle.pm_host.specs.Transcript as host
 use Rattle.pm_world.specs.declared.event.Event.{Event}
 use Rattle.pm_world.specs.declared.event.Event.TheVariants.{Order, OrderMicro, Check, Learn, Clear, Deliver, Finish, Exchange, RestartDevice, RestartHost, Reading}
@@ -48,9 +49,15 @@ tells entry = record { heard = None; told = Some entry }
 abbrev pub hears : device.Event → Share
 hears event = record { heard = Some event; told = None }
 
--- the job of an order in microvolts: the nearest word in the format that the host learned
-abbrev pub micro_job : Summary → Cell → ℤ → host.Job
-micro_job s cell x = host.Order cell (unwrap_or (micro_word s cell x) 0)
+-- Which job an event asks the host for: an order in microvolts that of the nearest word in the format
+-- that the host learned.
+abbrev pub asked : State → Event → Option host.Job
+asked s (Order cell word) = Some (host.Order cell word)
+asked s (OrderMicro cell x) = option_map (λ word. host.Order cell word) (micro_word s.host cell x)
+asked s (Check cell) = Some (host.Check cell)
+asked s (Learn output) = Some (host.Learn output)
+asked s (Clear output) = Some (host.Send (ClearFaults output))
+asked s _ = None
 
 -- the converter hears a frame of a message as it arrives
 abbrev pub hearing : ℕ → Message → Arrival → device.Event
@@ -74,19 +81,19 @@ exchanged s arrival back (Some message) = record {
   told = Some (host.Got (back_bytes (answer_to s.device s.host.setup.addr message arrival) back));
 }
 
--- what an event tells the ends
+-- what an event that asks for no job tells the ends
+abbrev pub share_beside : State → Event → Share
+share_beside s (Deliver arrival) = delivered s arrival (sending_in s.host)
+share_beside s (Finish acked) = tells (host.Finished acked)
+share_beside s (Exchange arrival back) = exchanged s arrival back (sending_in s.host)
+share_beside s RestartDevice = hears device.Restarted
+share_beside s RestartHost = tells host.Restarted
+share_beside s (Reading output code word) = hears (device.Reading output code.0 word)
+share_beside s _ = nothing
+
+-- what an event tells the ends: a job that it asks for is accepted
 abbrev pub share_of : State → Event → Share
-share_of s (Order cell word) = tells (host.Accepted (host.Order cell word))
-share_of s (OrderMicro cell x) = tells (host.Accepted (micro_job s.host cell x))
-share_of s (Check cell) = tells (host.Accepted (host.Check cell))
-share_of s (Learn output) = tells (host.Accepted (host.Learn output))
-share_of s (Clear output) = tells (host.Accepted (host.Clear output))
-share_of s (Deliver arrival) = delivered s arrival (sending_in s.host)
-share_of s (Finish acked) = tells (host.Finished acked)
-share_of s (Exchange arrival back) = exchanged s arrival back (sending_in s.host)
-share_of s RestartDevice = hears device.Restarted
-share_of s RestartHost = tells host.Restarted
-share_of s (Reading output code word) = hears (device.Reading output code.0 word)
+share_of s event = option_map_or (λ job. tells (host.Accepted job)) (asked s event) (share_beside s event)
 
 -- how the last job stands after what the host was told
 abbrev pub end_by : Step → Option JobEnd
@@ -164,19 +171,17 @@ exchange_cause s arrival back (Some message) =
     (option_or (hearing_cause s.host.setup.addr message arrival)
     (return_cause s.device s.host.setup.addr message arrival back))
 
+-- why an event that asks for no job isn't taken
+abbrev pub cause_beside : State → Event → Option Cause
+cause_beside s (Deliver arrival) = delivery_cause s arrival (sending_in s.host)
+cause_beside s (Finish acked) = finish_cause (sending_in s.host)
+cause_beside s (Exchange arrival back) = exchange_cause s arrival back (sending_in s.host)
+cause_beside s _ = None
+
 -- why an event isn't taken, but for the world being full
 abbrev pub event_cause : State → Event → Option Cause
-event_cause s (Order cell word) = refused (order_fault s.host cell word)
 event_cause s (OrderMicro cell x) = refused (micro_fault s.host cell x)
-event_cause s (Check cell) = refused (cell_fault s.host cell)
-event_cause s (Learn output) = refused (output_fault s.host output)
-event_cause s (Clear output) = refused (output_fault s.host output)
-event_cause s (Deliver arrival) = delivery_cause s arrival (sending_in s.host)
-event_cause s (Finish acked) = finish_cause (sending_in s.host)
-event_cause s (Exchange arrival back) = exchange_cause s arrival back (sending_in s.host)
-event_cause s RestartDevice = None
-event_cause s RestartHost = None
-event_cause s (Reading output code word) = None
+event_cause s event = option_map_or (λ job. refused (job_fault s.host job)) (asked s event) (cause_beside s event)
 
 -- how many events a world takes
 abbrev pub event_limit : ℕ
@@ -188,17 +193,8 @@ cause_of s event = option_or (rule (nat_le event_limit s.taken) Full) (event_cau
 
 -- an order in microvolts that isn't refused has a word
 abbrev pub HasWord : State → Event → Type 0
-HasWord s (Order cell word) = Unit {0}
 HasWord s (OrderMicro cell x) = IsSome (micro_word s.host cell x)
-HasWord s (Check cell) = Unit {0}
-HasWord s (Learn output) = Unit {0}
-HasWord s (Clear output) = Unit {0}
-HasWord s (Deliver arrival) = Unit {0}
-HasWord s (Finish acked) = Unit {0}
-HasWord s (Exchange arrival back) = Unit {0}
-HasWord s RestartDevice = Unit {0}
-HasWord s RestartHost = Unit {0}
-HasWord s (Reading output code word) = Unit {0}
+HasWord s _ = Unit {0}
 
 -- an event is taken: no cause is against it
 pub record IsTaken (s : State) (event : Event) : Type 0 where

@@ -1,15 +1,11 @@
 //! Which hearings and which returns a world takes, and what arrives of a frame and of an answer.
 
 ghost use Rattle.std.specs.Prelude.{◌≡◌, take};
-ghost use Rattle.pm_table.specs.Address.{IsAddress};
-ghost use Rattle.pm_frame.specs.declared.message.Message.{Message};
-ghost use Rattle.pm_frame.specs.Fault.{whole_answer as spec_whole_answer};
-ghost use Rattle.pm_frame.specs.Layout.{IsRequest};
 ghost use Rattle.pm_world.specs.Legal.{heard_bytes as spec_heard_bytes, ending_of, back_bytes as spec_back_bytes, answer_in as spec_answer_in, is_heard_whole as spec_is_heard_whole, is_legal_hearing as spec_is_legal_hearing, is_legal_return as spec_is_legal_return};
 
 use crate::event::{Arrival, Back};
 use pm_device::{Ending, Heard};
-use pm_frame::{is_betrayed, read_request};
+use pm_frame::is_betrayed;
 
 /// What is heard of a frame.
 pub(crate) fn heard_bytes<'a>(frame: &'a [u8], arrival: &'a Arrival) -> &'a [u8]
@@ -77,18 +73,6 @@ pub(crate) fn is_heard_whole(frame: &[u8], bytes: &[u8], ending: Ending) -> bool
     ensures { result ≡ spec_is_heard_whole frame.now bytes.now ending }
 {
     ending == Ending::Restart && bytes == frame
-}
-
-/// How many bytes the whole answer to a request has.
-pub(crate) fn needed_bytes(addr: u8, request: &[u8]) -> usize
-    requires { IsAddress addr }
-    ensures { (message : Message) → IsRequest addr message request.now →
-        result ≡ spec_whole_answer message }
-{
-    match read_request(addr, request) {
-        Ok(view) => view.message().whole_answer(),
-        Err(_) => 0,
-    }
 }
 
 /// Whether bytes that come back for a request are legal, where the converter answered this to it.

@@ -1,21 +1,39 @@
-//! Both ends of the bus under a list of events.
+//! A host and a converter at the two ends of a bus, and what happens between them.
+//!
+//! A [`World`] holds one [`Host`](pm_host::Host) and one [`Converter`](pm_device::Converter). An [`Event`]
+//! asks the host for a job, lets a frame arrive whole, cut or damaged, gives an answer back, or restarts an
+//! end. [`World::run`] takes a list of them, and its contract is the main theorem: what the converter's
+//! settings are, what the host's words about them are worth, and when an order goes through.
+//!
+//! The one premise on the bus is that the packet error code (PEC) betrays damage: bytes that it doesn't
+//! betray, and that no cut explains, stop a run as [`Cause::NotBetrayed`]. Time, voltages between frames and
+//! more than one converter are no part of a world.
+//!
+//! ```text
+//! let cell = Cell::Out(0, Reg::VoutCommand);
+//! let events = [
+//!     Event::Order(cell, 0x34CD),
+//!     Event::Deliver(Arrival::Cut(3)),
+//!     Event::Deliver(Arrival::Whole),
+//!     Event::Finish(false),
+//!     Event::Exchange(Arrival::Whole, Back::Whole),
+//! ];
+//! let (world, stop) = World::run(config, 2, &events)?;
+//! // stop is None, world.last_end() is Some(JobEnd::Done), and the host calls 34CDh confirmed.
+//! ```
 #![tactic(auto)]
 
-mod confirmed;
-mod damage;
 mod event;
-mod honest;
 mod laws;
 mod legal;
-mod orders;
 mod stop;
 mod world;
 
-pub use confirmed::confirmed_settings_are_held;
-pub use damage::{betrayed_damage_is_legal, betrayed_damage_is_taken};
 pub use event::{Arrival, Back, Event};
-pub use honest::{frames_are_few, honest_orders_go_through, learned_formats_are_true};
-pub use laws::lives_are_followed;
-pub use orders::lives_are_orders;
+pub use laws::{
+    betrayed_damage_is_legal, betrayed_damage_is_taken, confirmed_settings_are_held,
+    frames_are_few, honest_orders_go_through, learned_formats_are_true, lives_are_followed,
+    lives_are_orders,
+};
 pub use stop::{Cause, SetupFault, Stop};
 pub use world::World;

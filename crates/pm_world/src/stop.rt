@@ -26,7 +26,25 @@ pub enum Cause {
     Host(HostFault),
 }
 
-/// Where a run stopped: so many events were taken, and the next one wasn't.
+impl Cause {
+    ghost use Rattle.pm_world.specs.FaultWords.{cause_words};
+
+    /// The letter and the name of the cause, as programs print them: `S1 NotBetrayed`. After `S4 Host`
+    /// stand the words of the host's refusal.
+    pub fn words(self) -> &'static str
+        ensures { result.now ≡ cause_words self }
+    {
+        match self {
+            Cause::NotBetrayed => "S1 NotBetrayed",
+            Cause::NothingSent => "S2 NothingSent",
+            Cause::WrongKind => "S3 WrongKind",
+            Cause::Host(_) => "S4 Host",
+            Cause::Full => "S5 Full",
+        }
+    }
+}
+
+/// Where a run stopped: the events before this place were taken, and the one there wasn't.
 #[derive(Clone, Copy, Debug, PartialEq, Eq)]
 pub struct Stop {
     /// How many events were taken, which is the place of the one that wasn't.

@@ -3,7 +3,8 @@ ghost use Rattle.std.specs.Result.{result_err};
 ghost use Rattle.pm_device.specs.Start.{IsSound};
 ghost use Rattle.pm_host.specs.Refusals.{IsSetup, may_come};
 ghost use Rattle.pm_world.specs.Confirmed.{ConfirmedIsHeld};
-ghost use Rattle.pm_world.specs.Honest.{AreFewFrames, FormatsAgree, MicrosAreNearest, OrdersGoThrough};
+ghost use Rattle.pm_world.specs.Honest.{AreFewFrames, FormatsAgree, IsSpelled, MicrosAreNearest, OrdersGoThrough};
+ghost use Rattle.pm_world.specs.Possible.{PossibleIsHeld, SeenIsTrue};
 ghost use Rattle.pm_world.specs.Setup.{setup_of, start, setup_fault};
 ghost use Rattle.pm_world.specs.Life.{now, taken_events, after_all, AreTaken, AreTakenFrom, StopsAt, StopsFrom};
 ghost use Rattle.pm_world.specs.State.{Steps, Acts, shared, tells, hears};
@@ -16,20 +17,22 @@ ghost use Rattle.pm_table.specs.Cell.{IsCell};
 ghost use Rattle.pm_model.specs.Commanded.{commanded};
 ghost use Rattle.pm_model.specs.Settings.{word_at};
 ghost use Rattle.pm_device.specs.Held.{value_for};
+ghost use Rattle.pm_device.specs.History.{next as device_next};
+ghost use Rattle.pm_device.specs.Reply.{reply_of};
 ghost use Rattle.pm_world.specs.Retelling.{IsOrderRun, IsOwnWord, CommandsOwn};
 
-use crate::confirmed::confirmed_settings_are_held;
 use crate::event::{Arrival, Back, Event};
-use crate::honest::{frames_are_few, honest_orders_go_through, learned_formats_are_true, spell};
-use crate::laws::lives_are_followed;
+use crate::laws::{
+    confirmed_settings_are_held, frames_are_few, honest_orders_go_through,
+    learned_formats_are_true, lives_are_followed, lives_are_orders, possible_words_are_held, spell,
+};
 use crate::legal::{
     answer_in, back_bytes, heard_bytes, heard_ending, is_heard_whole, is_legal_hearing,
-    is_legal_return, needed_bytes,
+    is_legal_return,
 };
-use crate::orders::lives_are_orders;
 use crate::stop::{Cause, SetupFault, Stop};
-use pm_device::{Config, Converter, Ending};
-use pm_host::{Host, JobEnd, Step, Told, transcripts_are_followed};
+use pm_device::{Config, Converter, Ending, Heard, refusals_set_one_bit};
+use pm_host::{Host, JobEnd, Step, Told, Turn, transcripts_are_followed};
 use pm_table::{Cell, Code};
 use std::marker::Model;
 
@@ -39,7 +42,6 @@ const EVENT_LIMIT: u64 = 1 << 48;
 /// One host and one converter, and what happens between them.
 #[derive(Drop)]
 pub struct World {
-    addr: u8,
     device: Converter,
     host: Host,
     end: Option<JobEnd>,
@@ -51,7 +53,6 @@ impl Model for World {
 
     ghost Value = { State };
 
-    ghost use Rattle.std.specs.Prelude.{◌≡◌};
     ghost use Rattle.pm_world.specs.Setup.{IsMatched};
 
     ghost view = { λ w. record {
@@ -61,19 +62,19 @@ impl Model for World {
       taken = w.taken;
     } };
 
-    ghost invariant = { λ w. (w.addr ≡ w.device.config.addr)
-        × IsMatched w.host.setup w.device.config w.taken };
+    ghost invariant = { λ w. IsMatched w.host.setup w.device.config w.taken };
 }
 
 impl World {
     /// A world whose two ends start: a converter of this configuration, and a host for its address
-    /// and its outputs with so many passes. The converter's fault comes before the host's.
+    /// and its outputs, with this number of passes. The converter's fault comes before the host's.
     #[tactic(auto, unfolding(crate::specs::Setup::start, crate::specs::Setup::setup_fault))]
     pub fn new(c: Config, passes: u8) -> Result<World, SetupFault>
         ensures made { IfOk result (λ world. world ≡ start c passes) }
-        ensures sound { OnOk result (IsSound c × IsSetup (setup_of c passes)) }
+        ensures sound { OnOk result (IsSound c × IsSetup (setup_of c passes) × IsSpelled c) }
         ensures fault { result_err result ≡ setup_fault c passes }
     {
+        spell(c); // hands the prover that the configuration's numbers are those of bytes
         let device = match Converter::new(c) {
             Ok(device) => device,
             Err(fault) => return Err(SetupFault::Device(fault)),
@@ -83,7 +84,6 @@ impl World {
             Err(fault) => return Err(SetupFault::Host(fault)),
         };
         Ok(World {
-            addr: c.addr,
             device,
             host,
             end: None,
@@ -91,26 +91,32 @@ impl World {
         })
     }
 
-    /// A new world, and then one event after another up to the first that isn't taken. `Err` is why
-    /// no world is made.
+    /// Makes a new world, and lets the events happen one after another, up to the first that isn't taken.
+    /// It gives the world after them, and where it stopped and why, or `None` where every event was
+    /// taken. `Err` is why no world is made.
     ///
-    /// Whatever was lost, cut, damaged, repeated or falsely acknowledged, and whichever end started
-    /// again: the converter's words are those of a run of the order machine that retells the taken
-    /// events (`orders`). In it exactly the orders are accepted, each in its place and with its word,
-    /// and an order takes only at a delivery between its acceptance and the end of its job. So each
-    /// cell that is there has its start word, or the word of an order that was taken for that very
-    /// cell (`own`); and what [`Converter::commanded`] answers of an output is the value of a word of
-    /// its own, or where that is above the value of its own VOUT_MAX, the latter (`commanded`). A word
-    /// that the host calls confirmed is the one that the converter holds, unless the converter
-    /// restarted since the host read the cell (`confirmed`).
+    /// The *taken events* are those before the stop, or all where there is none. Whatever was lost, cut,
+    /// damaged, repeated or falsely acknowledged, and whichever end started again:
     ///
-    /// What the clauses call the taken events are the first ones of the list, as many as the stop
-    /// says, or all of them; newest first, as lives are. The world is what its definition says of
-    /// them (`now`), each was taken (`all`), and the run stops exactly at the first event that has a
-    /// cause, with that cause (`stop`). No job sends more than twice as many frames as it has passes
-    /// (`few`), and an undisturbed order that WRITE_PROTECT allows ends done, confirmed and held
-    /// (`through`). A format that the host learned is the converter's (`formats`), and an order in
-    /// microvolts is that of the nearest word in it (`nearest`).
+    /// - `orders`: the converter's words are those of a run of the order machine that retells the taken
+    ///   events. In it exactly the orders are accepted, each in its place and with its word, and an order
+    ///   takes only at a delivery between its acceptance and the end of its job.
+    /// - `own`: each cell has its start word, or the word of an order for that very cell.
+    /// - `commanded`: each output commands the value of one of its own words, cut to its own VOUT_MAX.
+    /// - `confirmed`: a word that the host calls confirmed is the one that the converter holds, unless
+    ///   the converter restarted since the host read the cell.
+    /// - `possible`: where the host lists the words that are possible for a cell, the converter's is among
+    ///   them, unless the converter restarted since the host's last good answer for the cell.
+    /// - `seen`: a good answer that the host didn't think possible comes only where the converter
+    ///   restarted since the one before it for the same cell. So where the host saw a restart, there
+    ///   was one since the host started.
+    /// - `few`: no job sends more than twice as many frames as it has passes.
+    /// - `through`: an undisturbed order that WRITE_PROTECT allows ends done, confirmed and held.
+    /// - `formats`, `nearest`: a format that the host learned is the converter's, and an order in
+    ///   microvolts is that of the nearest word in it.
+    /// - `now`, `all`, `stop`: the world is what its definition says of the taken events, each of them was
+    ///   taken, and the first other one has a cause, which is the stop's.
+    /// - `sound`: what the laws ask, by which all this is had of further calls of [`World::step`] too.
     pub fn run(c: Config, passes: u8, events: &[Event]) -> Result<(World, Option<Stop>), SetupFault>
         ensures fault { result_err result ≡ setup_fault c passes }
         ensures now { IfOk result (λ run.
@@ -134,31 +140,49 @@ impl World {
             MicrosAreNearest c passes (taken_events events.now run.1)) }
         ensures confirmed { IfOk result (λ run.
             ConfirmedIsHeld c passes (taken_events events.now run.1) run.0) }
+        ensures possible { IfOk result (λ run.
+            PossibleIsHeld c passes (taken_events events.now run.1) run.0) }
+        ensures seen { IfOk result (λ run.
+            SeenIsTrue c passes (taken_events events.now run.1) run.0) }
+        ensures sound { OnOk result (IsSound c × IsSetup (setup_of c passes) × IsSpelled c) }
     {
+        // These calls hand their laws to the prover, and do nothing else.
         lives_are_orders();
-        lives_are_followed();
         frames_are_few();
         honest_orders_go_through();
         learned_formats_are_true();
         confirmed_settings_are_held();
-        spell(c);
-        let mut world = match World::new(c, passes) {
-            Ok(world) => world,
-            Err(fault) => return Err(fault),
-        };
+        possible_words_are_held();
+        World::lived(c, passes, events)
+    }
+
+    // A new world, and its life up to the first event that isn't taken.
+    fn lived(c: Config, passes: u8, events: &[Event]) -> Result<(World, Option<Stop>), SetupFault>
+        ensures fault { result_err result ≡ setup_fault c passes }
+        ensures sound { OnOk result (IsSound c × IsSetup (setup_of c passes) × IsSpelled c) }
+        ensures now { IfOk result (λ run.
+            run.0 ≡ now c passes (taken_events events.now run.1)) }
+        ensures all { IfOk result (λ run. AreTaken c passes (taken_events events.now run.1)) }
+        ensures stop { IfOk result (λ run. StopsAt c passes events.now run.1) }
+    {
+        // Hands its law to the prover.
+        lives_are_followed();
+        let mut world = World::new(c, passes)?;
         let stop = world.run_up(events);
         Ok((world, stop))
     }
 
     /// Lets an event happen. `Err` is the first cause against it, in the order of [`Cause`]; then
-    /// nothing has changed.
+    /// nothing has changed (`taken`). The host stays that of the same outputs (`kept`).
     #[tactic(auto, unfolding(crate::specs::State::cause_of, crate::specs::State::next))]
     pub fn step(&mut self, e: &Event) -> Result<(), Cause>
-        ensures { Steps self.old e.now result self.new }
+        ensures taken { Steps self.old e.now result self.new }
+        ensures kept { self.new.host.setup ≡ self.old.host.setup }
     {
         if self.taken >= EVENT_LIMIT {
             return Err(Cause::Full);
         }
+        transcripts_are_followed(); // hands the prover that the host's setup stays
         self.act(e)?;
         self.taken += 1;
         Ok(())
@@ -234,85 +258,59 @@ impl World {
     fn order(&mut self, cell: Cell, word: u16) -> Result<(), Cause>
         ensures { Acts self.old (event.Order cell word) result self.new }
     {
-        transcripts_are_followed();
-        match self.host.order(cell, word) {
-            Ok(()) => {
-                self.end = None;
-                Ok(())
-            }
-            Err(fault) => Err(Cause::Host(fault)),
-        }
+        self.host.order(cell, word)?;
+        self.end = None;
+        Ok(())
     }
 
     // The host is asked to write a voltage, in microvolts.
     fn order_micro(&mut self, cell: Cell, microvolts: i64) -> Result<(), Cause>
         ensures { Acts self.old (event.OrderMicro cell microvolts) result self.new }
     {
-        transcripts_are_followed();
-        match self.host.order_micro(cell, microvolts) {
-            Ok(()) => {
-                self.end = None;
-                Ok(())
-            }
-            Err(fault) => Err(Cause::Host(fault)),
-        }
+        self.host.order_micro(cell, microvolts)?;
+        self.end = None;
+        Ok(())
     }
 
     // The host is asked to read a cell.
     fn check(&mut self, cell: Cell) -> Result<(), Cause>
         ensures { Acts self.old (event.Check cell) result self.new }
     {
-        transcripts_are_followed();
-        match self.host.check(cell) {
-            Ok(()) => {
-                self.end = None;
-                Ok(())
-            }
-            Err(fault) => Err(Cause::Host(fault)),
-        }
+        self.host.check(cell)?;
+        self.end = None;
+        Ok(())
     }
 
     // The host is asked to read a format.
     fn learn(&mut self, output: u8) -> Result<(), Cause>
         ensures { Acts self.old (event.Learn output) result self.new }
     {
-        transcripts_are_followed();
-        match self.host.learn(output) {
-            Ok(()) => {
-                self.end = None;
-                Ok(())
-            }
-            Err(fault) => Err(Cause::Host(fault)),
-        }
+        self.host.learn(output)?;
+        self.end = None;
+        Ok(())
     }
 
     // The host is asked to clear latched status.
     fn clear(&mut self, output: u8) -> Result<(), Cause>
         ensures { Acts self.old (event.Clear output) result self.new }
     {
-        transcripts_are_followed();
-        match self.host.clear(output) {
-            Ok(()) => {
-                self.end = None;
-                Ok(())
-            }
-            Err(fault) => Err(Cause::Host(fault)),
-        }
+        self.host.clear(output)?;
+        self.end = None;
+        Ok(())
     }
 
     // The converter hears the write that is being sent.
     fn deliver(&mut self, arrival: &Arrival) -> Result<(), Cause>
         ensures { Acts self.old (event.Deliver arrival.now) result self.new }
     {
-        let Some(frame) = self.host.sending() else {
-            return Err(Cause::NothingSent);
+        let frame = match self.host.turn() {
+            Turn::Idle => return Err(Cause::NothingSent),
+            Turn::Request { .. } => return Err(Cause::WrongKind),
+            Turn::Write(frame) => frame.as_slice(),
         };
-        if self.host.sending_reads() {
-            return Err(Cause::WrongKind);
-        }
-        let bytes = heard_bytes(frame.as_slice(), arrival);
+        let bytes = heard_bytes(frame, arrival);
         let ending = heard_ending(Ending::Stop, arrival);
-        if !is_legal_hearing(frame.as_slice(), bytes, ending) {
+        if !is_legal_hearing(frame, bytes, ending) {
             return Err(Cause::NotBetrayed);
         }
         let _ = self.device.hear(bytes, ending);
@@ -323,11 +321,10 @@ impl World {
     fn finish(&mut self, acked: bool) -> Result<(), Cause>
         ensures { Acts self.old (event.Finish acked) result self.new }
     {
-        if self.host.sending().is_none() {
-            return Err(Cause::NothingSent);
-        }
-        if self.host.sending_reads() {
-            return Err(Cause::WrongKind);
+        match self.host.turn() {
+            Turn::Idle => return Err(Cause::NothingSent),
+            Turn::Request { .. } => return Err(Cause::WrongKind),
+            Turn::Write(_) => {}
         }
         self.tell(Told::Finished { acked });
         Ok(())
@@ -337,26 +334,24 @@ impl World {
     fn exchange(&mut self, arrival: &Arrival, back: &Back) -> Result<(), Cause>
         ensures { Acts self.old (event.Exchange arrival.now back.now) result self.new }
     {
-        let Some(frame) = self.host.sending() else {
-            return Err(Cause::NothingSent);
+        let (frame, needed) = match self.host.turn() {
+            Turn::Idle => return Err(Cause::NothingSent),
+            Turn::Write(_) => return Err(Cause::WrongKind),
+            Turn::Request { frame, bytes } => (frame.as_slice(), bytes),
         };
-        if !self.host.sending_reads() {
-            return Err(Cause::WrongKind);
-        }
-        let bytes = heard_bytes(frame.as_slice(), arrival);
+        let bytes = heard_bytes(frame, arrival);
         let ending = heard_ending(Ending::Restart, arrival);
-        if !is_legal_hearing(frame.as_slice(), bytes, ending) {
+        if !is_legal_hearing(frame, bytes, ending) {
             return Err(Cause::NotBetrayed);
         }
         let reply = self.device.reply(bytes, ending);
         let answer = answer_in(&reply);
         let came = back_bytes(answer, back);
-        let needed = needed_bytes(self.addr, frame.as_slice());
-        let whole = is_heard_whole(frame.as_slice(), bytes, ending);
-        if !is_legal_return(frame.as_slice(), needed, whole, answer, came) {
+        let whole = is_heard_whole(frame, bytes, ending);
+        if !is_legal_return(frame, needed, whole, answer, came) {
             return Err(Cause::NotBetrayed);
         }
-        let _ = self.device.hear(bytes, ending);
+        hear_replied(&mut self.device, &reply, bytes, ending);
         self.tell(Told::Got(came));
         Ok(())
     }
@@ -366,7 +361,6 @@ impl World {
         requires { may_come self.old.host (entry_told told) ≡ true }
         ensures { self.new ≡ shared self.old (tells (entry_told told.entry)) }
     {
-        transcripts_are_followed();
         let step = self.host.told(told);
         self.end = match step {
             Step::Next => None,
@@ -385,7 +379,6 @@ impl World {
     fn restart_host(&mut self)
         ensures { self.new ≡ shared self.old (tells told.Restarted) }
     {
-        transcripts_are_followed();
         self.host.restart();
         self.end = None;
     }
@@ -395,5 +388,21 @@ impl World {
         ensures { self.new ≡ shared self.old (hears (heard.Reading output code.0 word)) }
     {
         let _ = self.device.set_reading(output, code, word);
+    }
+}
+
+// The converter hears bytes that it would answer so. An answer or silence changes nothing.
+fn hear_replied(device: &mut Converter, reply: &Heard, bytes: &[u8], ending: Ending)
+    requires { reply.now ≡ reply_of device.old bytes.now ending }
+    ensures after { device.new ≡ device_next device.old (heard.Hearing bytes.now ending) }
+    ensures kept { device.old.config ≡ device.new.config }
+{
+    // Hands the prover what silence and an answer leave.
+    refusals_set_one_bit();
+    match reply {
+        Heard::Answer(_) | Heard::Silent => {}
+        Heard::Taken | Heard::Refused(_) => {
+            let _ = device.hear(bytes, ending);
+        }
     }
 }

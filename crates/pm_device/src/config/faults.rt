@@ -54,11 +54,11 @@ fn bad_registers(outputs: &[OutputStart]) -> Option<Cell>
 fn bad_register(output: u8, start: &OutputStart) -> Option<Cell>
     ensures { result ≡ spec.bad_register output start.now }
 {
-    bad_word(Cell::Out(output, Reg::Operation), start.operation)
-        .or(bad_word(Cell::Out(output, Reg::VoutCommand), start.command))
-        .or(bad_word(Cell::Out(output, Reg::VoutMax), start.max))
-        .or(bad_word(Cell::Out(output, Reg::MarginHigh), start.high))
-        .or(bad_word(Cell::Out(output, Reg::MarginLow), start.low))
+    Reg::ALL
+        .iter()
+        .copied()
+        .find(|register| !Cell::Out(output, *register).accepts(start.word(*register)))
+        .map(|register| Cell::Out(output, register))
 }
 
 // The cell, where it doesn't accept the word.

@@ -2,9 +2,7 @@ ghost use Rattle.std.specs.Prelude.{◌≡◌, ◌<◌, true, false};
 ghost use Rattle.pm_frame.specs.Layout.{is_read_message, fits_layout, answer_length, answered, sent, with_pec};
 ghost use Rattle.pm_table.specs.Commands.{payload_length};
 ghost use Rattle.pm_device.specs.Verdict.{IsFit, verdict_of, names_no_output};
-ghost use Rattle.pm_device.specs.Effect.{Hearing};
 ghost use Rattle.pm_device.specs.Reply as spec;
-ghost use Rattle.pm_device.specs.History.{next};
 
 use crate::converter::Converter;
 use crate::heard::{Ending, Heard};
@@ -19,31 +17,8 @@ const CAPABILITY: u16 = 0x80;
 const REVISION: u16 = 0x33;
 
 impl Converter {
-    /// Hears the bytes of one frame, of any number, and answers: [`Heard::Silent`] where the frame is
-    /// for another device, [`Heard::Taken`] for a write, [`Heard::Answer`] for a read, otherwise
-    /// [`Heard::Refused`] with the first of K1, K2, K6, K7, K4, K5 and K3 that applies. A refusal
-    /// changes no setting and no PAGE, and sets one bit of STATUS_CML.
-    #[tactic(auto, unfolding(crate::specs::Reply::reply_of, crate::specs::History::next))]
-    pub fn hear(&mut self, bytes: &[u8], ending: Ending) -> Heard
-        ensures reply { result ≡ spec.reply_of self.old bytes.now ending }
-        ensures after { self.new ≡ next self.old (Hearing bytes.now ending) }
-    {
-        let verdict = self.verdict(bytes, ending);
-        let heard = self.reply_to(verdict);
-        self.settle(verdict);
-        heard
-    }
-
-    /// What [`Converter::hear`] would answer; nothing changes.
-    #[tactic(auto, unfolding(crate::specs::Reply::reply_of))]
-    pub fn reply(&self, bytes: &[u8], ending: Ending) -> Heard
-        ensures { result ≡ spec.reply_of self.now bytes.now ending }
-    {
-        self.reply_to(self.verdict(bytes, ending))
-    }
-
     // What a hearing comes to.
-    fn verdict(&self, bytes: &[u8], ending: Ending) -> Verdict
+    pub(super) fn verdict(&self, bytes: &[u8], ending: Ending) -> Verdict
         ensures value { result
             ≡ verdict_of self.now.config self.now.words self.now.page bytes.now ending }
         ensures fit { IsFit self.now.config.count result }
@@ -52,7 +27,7 @@ impl Converter {
     }
 
     // The answer to what a hearing came to.
-    fn reply_to(&self, verdict: Verdict) -> Heard
+    pub(super) fn reply_to(&self, verdict: Verdict) -> Heard
         requires { IsFit self.now.config.count verdict }
         ensures { result ≡ spec.reply_to self.now verdict }
     {
@@ -73,52 +48,57 @@ impl Converter {
     {
         let addr = self.config.addr;
         match *request {
-            Message::PagePlusRead { page, code } => { self.register_answer(request, page, code) }
-            Message::ReadCommand { code } => self.register_answer(request, self.page, code),
+            Message::PagePlusRead { page, code } => {
+                self.register_answer(request, page, Code(code))
+            }
+            Message::ReadCommand { code } => {
+                self.register_answer(request, self.page, Code(code))
+            }
             _ => answer(addr, request, &self.config.coefficients.bytes()),
         }
     }
 
     // The bytes that answer a request with the word of a code at an output.
-    fn register_answer(&self, request: &Message, output: u8, code: u8) -> Frame
+    fn register_answer(&self, request: &Message, output: u8, code: Code) -> Frame
         requires there { output < self.now.config.count }
         requires reads { is_read_message request.now ≡ true }
         requires fits { fits_layout request.now ≡ true }
-        requires counted { answer_length request.now ≡ payload_length code }
+        requires counted { answer_length request.now ≡ payload_length code.0 }
         ensures { result.items ≡ with_pec (sent self.now.config.addr request.now)
             (answered self.now.config.addr request.now
-            (spec.register_bytes code (spec.register_word self.now output code))) }
+            (spec.register_bytes code.0 (spec.register_word self.now output code.0))) }
     {
+        // No answer is longer than the two bytes of a word.
         payloads_are_short();
         let bytes = self.register_word(output, code).to_le_bytes();
         answer(self.config.addr, request, &bytes[..request.answer_length()])
     }
 
     // The word that a code reads as, at an output.
-    fn register_word(&self, output: u8, code: u8) -> u16
+    fn register_word(&self, output: u8, code: Code) -> u16
         requires { output < self.now.config.count }
-        ensures { result ≡ spec.register_word self.now output code }
+        ensures { result ≡ spec.register_word self.now output code.0 }
     {
-        match cell_of(Code(code), output) {
+        match cell_of(code, output) {
             Some(cell) => self.word(cell),
             None => self.plain_register(output, code),
         }
     }
 
     // The same of a code that isn't a cell's.
-    fn plain_register(&self, output: u8, code: u8) -> u16
+    fn plain_register(&self, output: u8, code: Code) -> u16
         requires { output < self.now.config.count }
-        ensures { result ≡ spec.plain_register self.now output code }
+        ensures { result ≡ spec.plain_register self.now output code.0 }
     {
         match code {
-            0x00 => u16::from(self.page),
-            0x19 => CAPABILITY,
-            0x20 => u16::from(self.config.starts[usize::from(output)].mode),
-            0x78 => u16::from(self.status_byte(output)),
-            0x79 => self.status_word(output),
-            0x7A => u16::from(self.status_vout(output)),
-            0x7E => u16::from(self.status_cml()),
-            0x98 => REVISION,
+            Code::PAGE => u16::from(self.page),
+            Code::CAPABILITY => CAPABILITY,
+            Code::VOUT_MODE => u16::from(self.config.starts[usize::from(output)].mode),
+            Code::STATUS_BYTE => u16::from(self.status_byte(output)),
+            Code::STATUS_WORD => self.status_word(output),
+            Code::STATUS_VOUT => u16::from(self.status_vout(output)),
+            Code::STATUS_CML => u16::from(self.status_cml()),
+            Code::PMBUS_REVISION => REVISION,
             _ => self.readings.get(output, code),
         }
     }

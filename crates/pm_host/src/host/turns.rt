@@ -1,21 +1,22 @@
-//! What one turn makes of an open job.
+//! What becomes of an open job once its frame was sent.
 
-ghost use Rattle.std.specs.Prelude.{◌≡◌, ◌≢◌, ◌+◌, ◌<◌, ◌≤◌, true, false, Some, None, option_map};
+ghost use Rattle.std.specs.Prelude.{◌≡◌, ◌≢◌, ◌+◌, ◌-◌, ◌*◌, ◌<◌, ◌≤◌, true, Some, None, option_map};
 ghost use Rattle.std.specs.Result.{ForOk};
 ghost use Rattle.pm_num.specs.AnyFormat.{shape_of};
 ghost use Rattle.pm_table.specs.Cell.{cell_accepts, IsCell};
 ghost use Rattle.pm_table.specs.VoutMode.{IsMode};
-ghost use Rattle.pm_frame.specs.Layout.{is_read_message};
+ghost use Rattle.pm_host.specs.Frames.{frames_from, frames_left};
 ghost use Rattle.pm_host.specs.Marks.{Good};
 ghost use Rattle.pm_host.specs.Possible.{has_room, only};
-ghost use Rattle.pm_host.specs.Sound.{IsOrdering, IsChecking, IsAsking, IsStage, HasWord};
-ghost use Rattle.pm_host.specs.Summary.{possible_at, stage_message, goes_on, ends, another as spec_another, marked, writes, read_back as spec_read_back, checked as spec_checked, learned as spec_learned, mode_taken, mode_answered, coefficients_answered, finished as spec_finished, answered as spec_answered};
+ghost use Rattle.pm_host.specs.Sound.{IsOrdering, IsChecking, IsAsking, IsSending, IsStage, HasWord};
+ghost use Rattle.pm_host.specs.Told.{OnEnded};
+ghost use Rattle.pm_host.specs.Summary.{possible_at, goes_on, ends, another as spec_another, marked, writes, read_back as spec_read_back, checked as spec_checked, learned as spec_learned, mode_taken, mode_answered, coefficients_answered, finished};
 
-use crate::answers::{good_byte, good_coefficients, good_word};
+use crate::command::Command;
 use crate::host::Host;
-use crate::messages::cell_read;
-use crate::stage::{Stage, mode_read};
-use crate::step::{JobEnd, Step};
+use crate::job_end::JobEnd;
+use crate::stage::{Sending, Stage};
+use crate::step::Step;
 use pm_frame::write_part;
 use pm_num::AnyFormat;
 use pm_table::{Cell, Coefficients, TableFault, VoutMode, format_of};
@@ -31,8 +32,10 @@ impl Host {
         ensures after { self.new ≡ (goes_on self.old stage).after }
         ensures step { result ≡ Step.Next }
     {
-        self.frame = write_part(self.addr, &stage.message());
-        self.stage = Some(stage);
+        self.sending = Some(Sending {
+            stage,
+            frame: write_part(self.addr, &stage.message()),
+        });
         Step::Next
     }
 
@@ -41,7 +44,7 @@ impl Host {
         ensures after { self.new ≡ (ends self.old end).after }
         ensures step { result ≡ Step.Ended end }
     {
-        self.stage = None;
+        self.sending = None;
         Step::Ended(end)
     }
 
@@ -53,6 +56,8 @@ impl Host {
         requires left { tries < self.old.setup.passes }
         ensures after { self.new ≡ (spec_another self.old tries stage).after }
         ensures step { result ≡ (spec_another self.old tries stage).step }
+        ensures left { frames_left self.new ≤ frames_from self.old.setup.passes stage }
+        ensures over { OnEnded result (frames_left self.new ≡ 0) }
     {
         if tries + 1 == self.passes {
             return self.end(JobEnd::Unknown);
@@ -70,7 +75,7 @@ impl Host {
         ensures after { self.new ≡ (writes self.old cell word pass).after }
         ensures step { result ≡ Step.Next }
     {
-        self.knowledge.put(self.outputs, cell, word);
+        self.knowledge.put(cell, word);
         self.go_on(Stage::Writes { cell, word, pass })
     }
 
@@ -81,7 +86,7 @@ impl Host {
         ensures after { self.new ≡ marked self.old (Good cell word) }
         ensures alone { possible_at self.new cell ≡ only word }
     {
-        self.knowledge.good(self.outputs, cell, word);
+        self.knowledge.good(cell, word);
     }
 
     /// An order read its cell back.
@@ -91,6 +96,8 @@ impl Host {
         requires ordering { IsOrdering self.old cell word pass }
         ensures after { self.new ≡ (spec_read_back self.old cell word pass read).after }
         ensures step { result ≡ (spec_read_back self.old cell word pass read).step }
+        ensures left { frames_left self.new ≤ 2 * (self.old.setup.passes - (pass + 1)) }
+        ensures over { OnEnded result (frames_left self.new ≡ 0) }
     {
         if let Some(read) = read {
             self.note(cell, read);
@@ -114,6 +121,8 @@ impl Host {
         requires checking { IsChecking self.old cell tries }
         ensures after { self.new ≡ (spec_checked self.old cell tries read).after }
         ensures step { result ≡ (spec_checked self.old cell tries read).step }
+        ensures left { frames_left self.new ≤ self.old.setup.passes - (tries + 1) }
+        ensures over { OnEnded result (frames_left self.new ≡ 0) }
     {
         match read {
             Some(read) => {
@@ -137,6 +146,9 @@ impl Host {
         requires asking { IsAsking self.old output tries }
         ensures after { self.new ≡ (mode_answered self.old output tries byte).after }
         ensures step { result ≡ (mode_answered self.old output tries byte).step }
+        ensures left { frames_left self.new
+            ≤ (self.old.setup.passes - (tries + 1)) + self.old.setup.passes }
+        ensures over { OnEnded result (frames_left self.new ≡ 0) }
     {
         match byte {
             Some(byte) => self.mode_known(output, VoutMode::read(byte)),
@@ -158,6 +170,8 @@ impl Host {
         requires mode { ForOk mode IsMode }
         ensures after { self.new ≡ (mode_taken self.old output mode).after }
         ensures step { result ≡ (mode_taken self.old output mode).step }
+        ensures left { frames_left self.new ≤ self.old.setup.passes }
+        ensures over { OnEnded result (frames_left self.new ≡ 0) }
     {
         match mode {
             Ok(VoutMode::Direct) => self.go_on(Stage::AsksCoefficients { output, tries: 0 }),
@@ -178,6 +192,8 @@ impl Host {
         requires asking { IsAsking self.old output tries }
         ensures after { self.new ≡ (coefficients_answered self.old output tries told).after }
         ensures step { result ≡ (coefficients_answered self.old output tries told).step }
+        ensures left { frames_left self.new ≤ self.old.setup.passes - (tries + 1) }
+        ensures over { OnEnded result (frames_left self.new ≡ 0) }
     {
         match told {
             Some(told) => self.learned(output, format_of(VoutMode::Direct, told).ok()),
@@ -197,66 +213,36 @@ impl Host {
         requires there { output < self.old.setup.outputs }
         ensures after { self.new ≡ (spec_learned self.old output (option_map shape_of format)).after }
         ensures step { result ≡ (spec_learned self.old output (option_map shape_of format)).step }
+        ensures left { frames_left self.new ≡ 0 }
     {
         match format {
             Some(format) => {
-                self.formats.learn(output, format);
+                self.learned.learn(output, format);
                 self.end(JobEnd::Learned)
             }
             None => self.end(JobEnd::Unknown),
         }
     }
 
-    /// A write was sent.
-    pub(super) fn finished(&mut self, stage: Stage, acked: bool) -> Step
+    /// A command was sent.
+    pub(super) fn sent(&mut self, command: Command, tries: u8, acked: bool) -> Step
         requires few { self.old.setup.passes ≤ 15 }
         requires idle { self.old.stage ≡ None }
-        requires stage { IsStage self.old (Some stage) }
-        requires writes { is_read_message (stage_message stage) ≡ false }
-        ensures after { self.new ≡ (spec_finished self.old (Some stage) acked).after }
-        ensures step { result ≡ (spec_finished self.old (Some stage) acked).step }
+        requires sending { IsSending self.old command tries }
+        ensures after { self.new ≡ (finished self.old (Some (Stage.Sends command tries)) acked).after }
+        ensures step { result ≡ (finished self.old (Some (Stage.Sends command tries)) acked).step }
+        ensures left { frames_left self.new ≤ self.old.setup.passes - (tries + 1) }
+        ensures over { OnEnded result (frames_left self.new ≡ 0) }
     {
-        match stage {
-            Stage::Writes { cell, word, pass } => self.go_on(Stage::Reads { cell, word, pass }),
-            Stage::Clears { .. } if acked => self.end(JobEnd::Done),
-            Stage::Clears { output, tries } => self.another(
-                tries,
-                Stage::Clears {
-                    output,
-                    tries: tries + 1,
-                },
-            ),
-            _ => unreachable!(),
+        if acked {
+            return self.end(JobEnd::Done);
         }
-    }
-
-    /// Bytes came back for a request.
-    pub(super) fn answered(&mut self, stage: Stage, bytes: &[u8]) -> Step
-        requires few { self.old.setup.passes ≤ 15 }
-        requires idle { self.old.stage ≡ None }
-        requires stage { IsStage self.old (Some stage) }
-        requires reads { is_read_message (stage_message stage) ≡ true }
-        ensures after { self.new ≡ (spec_answered self.old (Some stage) bytes.now).after }
-        ensures step { result ≡ (spec_answered self.old (Some stage) bytes.now).step }
-    {
-        match stage {
-            Stage::Reads { cell, word, pass } => {
-                let read = good_word(self.addr, &cell_read(cell), bytes);
-                self.read_back(cell, word, pass, read)
-            }
-            Stage::Checks { cell, tries } => {
-                let read = good_word(self.addr, &cell_read(cell), bytes);
-                self.checked(cell, tries, read)
-            }
-            Stage::AsksMode { output, tries } => {
-                let byte = good_byte(self.addr, &mode_read(output), bytes);
-                self.mode_told(output, tries, byte)
-            }
-            Stage::AsksCoefficients { output, tries } => {
-                let told = good_coefficients(self.addr, bytes);
-                self.coefficients_told(output, tries, told)
-            }
-            _ => unreachable!(),
-        }
+        self.another(
+            tries,
+            Stage::Sends {
+                command,
+                tries: tries + 1,
+            },
+        )
     }
 }

@@ -3,7 +3,6 @@ ghost use Rattle.std.specs.Prelude.{◌≡◌, ◌<◌, ◌++◌, OnOk, string_b
 ghost use Rattle.pm_table.specs.Cell.{IsCell};
 ghost use Rattle.pm_text.specs.Report.{cell_text, register_line, setting_line, standing_text};
 
-use crate::register::{is_byte_register, register_name};
 use pm_host::Standing;
 use pm_lines::{push_hex, push_hex_word};
 use pm_table::{Cell, Reg};
@@ -21,12 +20,8 @@ pub(crate) fn push_register(
     ensures { OnOk result (string_bytes text.new
         ≡ string_bytes text.old ++ register_line world.now output register) }
 {
-    push_setting(
-        text,
-        world,
-        register_name(register),
-        Cell::Out(output, register),
-    )
+    let cell = Cell::Out(output, register);
+    push_setting(text, world, cell.name(), cell)
 }
 
 /// Appends the line of a cell, under this name.
@@ -69,8 +64,9 @@ fn push_cell_word(text: &mut String, cell: Cell, word: u16) -> Result<(), AllocE
     ensures { OnOk result (string_bytes text.new
         ≡ string_bytes text.old ++ cell_text cell word) }
 {
-    match cell {
-        Cell::Out(_, register) if !is_byte_register(register) => push_hex_word(text, word),
-        _ => push_hex(text, (word % 256) as u8),
+    if cell.is_voltage() {
+        push_hex_word(text, word)
+    } else {
+        push_hex(text, (word % 256) as u8)
     }
 }

@@ -1,12 +1,13 @@
 //! The cells that lines name, and their words.
-ghost use Rattle.std.specs.Prelude.{◌≡◌, ◌==◌, bytes_eq, find};
+ghost use Rattle.std.specs.Prelude.{◌≡◌, bytes_eq, find};
+ghost use Rattle.pm_table.specs.Cell.{register_code};
+ghost use Rattle.pm_table.specs.Commands.{name_of};
 ghost use Rattle.pm_text.specs.EventLines.{cell as cell_field};
 ghost use Rattle.pm_text.specs.Kinds as kinds;
 ghost use Rattle.pm_text.specs.Readers.{Reads, field};
 ghost use Rattle.pm_text.specs.declared.scenario.fault.ScenarioFault.TheVariants.{Syntax, BadHex};
 
 use crate::form::Form;
-use crate::register::{is_byte_register, register_name};
 use crate::scenario::fault::ScenarioFault;
 use crate::scenario::fields::Fields;
 use pm_table::{Cell, Reg};
@@ -17,7 +18,7 @@ pub(crate) fn cell(form: Form, fields: &mut Fields<'_>) -> Result<Cell, Scenario
     ensures { Reads result fields.new (cell_field form fields.old) }
 {
     let Some(output) = fields.output_or_device()? else {
-        fields.keyword("WRITE_PROTECT")?;
+        fields.keyword(Cell::Protect.name())?;
         return Ok(Cell::Protect);
     };
     let register = register(form, fields)?;
@@ -39,31 +40,21 @@ pub(crate) fn register(form: Form, fields: &mut Fields<'_>) -> Result<Reg, Scena
 pub(crate) fn cell_word(fields: &mut Fields<'_>, cell: Cell) -> Result<u16, ScenarioFault>
     ensures { Reads result fields.new (field BadHex (kinds.cell_word cell) fields.old) }
 {
-    if is_byte_cell(cell) {
+    if cell.is_voltage() {
+        fields.hex_word()
+    } else {
         let byte = fields.hex_byte()?;
         Ok(u16::from(byte))
-    } else {
-        fields.hex_word()
     }
 }
 
 // The first of the registers that has this name.
 fn named_among(registers: &[Reg], name: &[u8]) -> Option<Reg>
-    ensures { result ≡ find (λ register. bytes_eq name.now (kinds.register_name register))
+    ensures { result ≡ find (λ register. bytes_eq name.now (name_of (register_code register)))
         registers.now }
 {
     registers
         .iter()
         .copied()
-        .find(|register| name == register_name(*register).as_bytes())
-}
-
-// Whether the cell's words are bytes.
-fn is_byte_cell(cell: Cell) -> bool
-    ensures { result ≡ (kinds.cell_digits cell == 2) }
-{
-    match cell {
-        Cell::Out(_, register) => is_byte_register(register),
-        Cell::Protect => true,
-    }
+        .find(|register| name == register.code().name().as_bytes())
 }

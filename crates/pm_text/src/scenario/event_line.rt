@@ -188,10 +188,10 @@ fn output_reading(fields: &mut Fields<'_>) -> Result<Code, ScenarioFault>
         (λ fault. field Syntax output_reading_named fields.old ≡ Err fault) }
 {
     let name = fields.word()?;
-    if name == b"READ_VOUT".as_slice() {
-        Ok(Code(0x8B))
-    } else if name == b"READ_IOUT".as_slice() {
-        Ok(Code(0x8C))
+    if name == Code::READ_VOUT.name().as_bytes() {
+        Ok(Code::READ_VOUT)
+    } else if name == Code::READ_IOUT.name().as_bytes() {
+        Ok(Code::READ_IOUT)
     } else {
         Err(fields.syntax())
     }
@@ -204,10 +204,10 @@ fn device_reading(fields: &mut Fields<'_>) -> Result<Code, ScenarioFault>
         (λ fault. field Syntax device_reading_named fields.old ≡ Err fault) }
 {
     let name = fields.word()?;
-    if name == b"READ_VIN".as_slice() {
-        Ok(Code(0x88))
-    } else if name == b"READ_TEMPERATURE_1".as_slice() {
-        Ok(Code(0x8D))
+    if name == Code::READ_VIN.name().as_bytes() {
+        Ok(Code::READ_VIN)
+    } else if name == Code::READ_TEMPERATURE_1.name().as_bytes() {
+        Ok(Code::READ_TEMPERATURE_1)
     } else {
         Err(fields.syntax())
     }

@@ -5,10 +5,11 @@ ghost use Rattle.pm_text.specs.Kinds.{frame_bytes as frame_bytes_of};
 ghost use Rattle.pm_text.specs.Readers.{Reads, field};
 ghost use Rattle.pm_text.specs.declared.scenario.fault.ScenarioFault.TheVariants.{Syntax, BadHex};
 
-use crate::scenario::fault::ScenarioFault;
 use crate::scenario::fields::Fields;
+use crate::scenario::fault::ScenarioFault;
 use pm_device::Ending;
 use pm_frame::Frame;
+use pm_lines::pair_of;
 use pm_world::{Arrival, Back};
 
 /// `whole`, `cut N`, or `bytes HEX stop` or `bytes HEX restart`.
@@ -82,13 +83,20 @@ fn frame_of(word: &[u8]) -> Option<Frame>
     ensures { MatchOption result (frame_bytes_of word.now ≡ None)
         (λ frame. frame_bytes_of word.now ≡ Some frame.items) }
 {
-    let mut frame = Frame::from([0; 16]);
-    frame.truncate(word.len() / 2);
-    if frame.is_empty() {
-        return None;
+    let mut frame = Frame::new();
+    let mut digits = word;
+    'pairs: while let [high, low, more @ ..] = digits {
+        let Some(byte) = pair_of(*high, *low) else {
+            return None;
+        };
+        if frame.try_push(byte).is_err() {
+            return None;
+        }
+        digits = more;
     }
-    match hex::decode_to_slice(word, frame.as_mut_slice()) {
-        Ok(()) => Some(frame),
-        Err(_) => None,
+    if digits.is_empty() && !frame.is_empty() {
+        Some(frame)
+    } else {
+        None
     }
 }

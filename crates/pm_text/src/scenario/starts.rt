@@ -1,15 +1,5 @@
 use pm_device::OutputStart;
 
-/// What stands in the place of an output that isn't there.
-const NO_START: OutputStart = OutputStart {
-    mode: 0,
-    operation: 0,
-    command: 0,
-    max: 0,
-    high: 0,
-    low: 0,
-};
-
 /// The outputs that were read: how many, of which more than 255 count as 255, and the first eight.
 #[derive(Clone, Copy, Debug)]
 pub(crate) struct Starts {
@@ -28,11 +18,11 @@ impl Starts {
     {
         Starts {
             count: 0,
-            starts: [NO_START; 8],
+            starts: [OutputStart::NONE; 8],
         }
     }
 
-    /// Puts an output behind those that are there.
+    /// Appends an output.
     pub(crate) fn push(&mut self, start: OutputStart)
         ensures { (given : List Start) → self.old ≡ starts_of given
             → self.new ≡ starts_of (given ++ start ∷ []) }

@@ -1,21 +1,17 @@
-use Rattle.pm_device.proofs.Follow.{IsMap, now-nil, now-next, now-page, now-words}
+use Rattle.pm_device.proofs.Follow.{now-nil, now-next, now-page, now-words}
 use Rattle.pm_device.proofs.Refusals.{vout-looked_up, cml-looked_up, now-shows}
 use Rattle.pm_device.proofs.laws.pasts_are_followed.Goals as goal
 
 pub returns : goal.returns
-returns c = record {
-  none = now-nil;
-  more = λ config past event some few. now-next law config (record { some = some; few = few }) past event;
-  vout = vout-looked_up;
-  cml = cml-looked_up;
-  shows = now-shows;
-  page = now-page;
-  words = now-words law;
-} where
-  law : IsMap
-  law = record {
-    read = c.settings_are_a_map.ensures.read;
-    kept_words = c.settings_are_a_map.ensures.kept;
-    made = c.settings_are_a_map.ensures.made;
-    cut = c.outputs_stand_alone.ensures.cut;
-  }
+returns c =
+    let map = c.settings_are_a_map.ensures in
+    let alone = c.outputs_stand_alone.ensures in
+    record {
+      none = now-nil;
+      more = λ config past event some few. now-next map alone config (record { some = some; few = few }) past event;
+      vout = vout-looked_up;
+      cml = cml-looked_up;
+      shows = now-shows;
+      page = now-page;
+      words = now-words map;
+    }

@@ -7,6 +7,7 @@ returns c = record {
   faultless = λ addr request bytes reads fits none. (_, answer_fault-found addr request bytes reads fits none);
   spelled = answer_fault-spelled;
   places = answer-payload;
-  one = λ addr request payload other bytes h k. sym (answer-payload addr request payload bytes h) ∙ answer-payload addr request other bytes k;
+  one = λ addr request payload other bytes h k. sym (answer-payload addr request payload bytes h)
+      ∙ answer-payload addr request other bytes k;
   front = answer-front;
 }

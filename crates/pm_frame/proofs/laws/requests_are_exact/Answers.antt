@@ -9,5 +9,6 @@ returns c = record {
   spelled = request_fault-spelled;
   places = message_in-request;
   one = λ addr message other bytes h k. sym (message_in-request addr message bytes h) ∙ message_in-request addr other bytes k;
-  front = λ addr message other front rest h k. request-front addr front rest (request_fault-spelled addr message front h) (request_fault-spelled addr other _ k);
+  front = λ addr message other front rest h k. request-front addr front rest (request_fault-spelled addr message front h)
+      (request_fault-spelled addr other _ k);
 }

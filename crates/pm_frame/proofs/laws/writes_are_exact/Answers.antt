@@ -9,5 +9,6 @@ returns c = record {
   spelled = write_fault-spelled;
   places = message_in-write;
   one = λ addr message other bytes h k. sym (message_in-write addr message bytes h) ∙ message_in-write addr other bytes k;
-  front = λ addr message other front rest h k. write-front addr front rest (write_fault-spelled addr message front h) (write_fault-spelled addr other _ k);
+  front = λ addr message other front rest h k. write-front addr front rest (write_fault-spelled addr message front h)
+      (write_fault-spelled addr other _ k);
 }

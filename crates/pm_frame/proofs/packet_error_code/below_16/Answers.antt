@@ -13,10 +13,11 @@ returns-clause-sum c =
     let third : upper ≡ upper * 2 ^ 0 = omega arith in
     let whole : upper * 2 ^ 16 + lower ≡ number = omega arith in
     (λ i. residues_of (bit_xor (bit_xor (bit_xor (first i) (second i)) (third i)) lower) 0 128)
-    ∙ narrowed 16 4 2 0 turned_16 (omega arith) (omega arith) (omega arith) (omega arith) upper lower (omega arith) (omega arith)
+    ∙ narrowed turned_16 upper lower (omega arith) (omega arith)
     ∙ ap (λ (x : ℕ). residues_of x 0 128) whole
 
 pub returns-clause-narrow : goal.returns-clause-narrow
 returns-clause-narrow c =
     let number : ℕ = c.args.number in
-    xor_four-lt 20 (number / 2 ^ 16 * 2 ^ 4 % 2 ^ 128) (number / 2 ^ 16 * 2 ^ 2 % 2 ^ 128) (number / 2 ^ 16) (number % 2 ^ 16) (omega arith) (omega arith) (omega arith) (omega arith)
+    xor_four-lt 20 (number / 2 ^ 16 * 2 ^ 4 % 2 ^ 128) (number / 2 ^ 16 * 2 ^ 2 % 2 ^ 128) (number / 2 ^ 16) (number % 2 ^ 16)
+    record { first = omega arith; second = omega arith; third = omega arith; fourth = omega arith }

@@ -13,10 +13,12 @@ returns-clause-sum c =
     let third : upper * 2 ^ 1 % 2 ^ 128 ≡ upper * 2 ^ 1 = omega arith in
     let whole : upper * 2 ^ 32 + lower ≡ number = omega arith in
     (λ i. residues_of (bit_xor (bit_xor (bit_xor (first i) (second i)) (third i)) lower) 0 128)
-    ∙ narrowed 32 4 2 1 turned_32 (omega arith) (omega arith) (omega arith) (omega arith) upper lower (omega arith) (omega arith)
+    ∙ narrowed turned_32 upper lower (omega arith) (omega arith)
     ∙ ap (λ (x : ℕ). residues_of x 0 128) whole
 
 pub returns-clause-narrow : goal.returns-clause-narrow
 returns-clause-narrow c =
     let number : ℕ = c.args.number in
-    xor_four-lt 40 (number / 2 ^ 32 * 2 ^ 4 % 2 ^ 128) (number / 2 ^ 32 * 2 ^ 2 % 2 ^ 128) (number / 2 ^ 32 * 2 ^ 1 % 2 ^ 128) (number % 2 ^ 32) (omega arith) (omega arith) (omega arith) (omega arith)
+    xor_four-lt 40 (number / 2 ^ 32 * 2 ^ 4 % 2 ^ 128) (number / 2 ^ 32 * 2 ^ 2 % 2 ^ 128) (number / 2 ^ 32 * 2 ^ 1 % 2 ^ 128)
+    (number % 2 ^ 32)
+    record { first = omega arith; second = omega arith; third = omega arith; fourth = omega arith }

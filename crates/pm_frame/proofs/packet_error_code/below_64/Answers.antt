@@ -13,10 +13,11 @@ returns-clause-sum c =
     let third : upper ≡ upper * 2 ^ 0 = omega arith in
     let whole : upper * 2 ^ 64 + lower ≡ number = omega arith in
     (λ i. residues_of (bit_xor (bit_xor (bit_xor (first i) (second i)) (third i)) lower) 0 128)
-    ∙ narrowed 64 4 1 0 turned_64 (omega arith) (omega arith) (omega arith) (omega arith) upper lower (omega arith) (omega arith)
+    ∙ narrowed turned_64 upper lower (omega arith) (omega arith)
     ∙ ap (λ (x : ℕ). residues_of x 0 128) whole
 
 pub returns-clause-narrow : goal.returns-clause-narrow
 returns-clause-narrow c =
     let number : ℕ = c.args.number in
-    xor_four-lt 68 (number / 2 ^ 64 * 2 ^ 4 % 2 ^ 128) (number / 2 ^ 64 * 2 ^ 1 % 2 ^ 128) (number / 2 ^ 64) (number % 2 ^ 64) (omega arith) (omega arith) (omega arith) (omega arith)
+    xor_four-lt 68 (number / 2 ^ 64 * 2 ^ 4 % 2 ^ 128) (number / 2 ^ 64 * 2 ^ 1 % 2 ^ 128) (number / 2 ^ 64) (number % 2 ^ 64)
+    record { first = omega arith; second = omega arith; third = omega arith; fourth = omega arith }

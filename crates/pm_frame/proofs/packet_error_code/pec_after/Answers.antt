@@ -1,4 +1,5 @@
-use Rattle.std.proofs.Common.{◌≡◌, ℕ, ◌+◌, ◌*◌, ◌%◌, ◌^◌, List, [], ◌++◌, length, bit_xor, refl, sym, ap, ap₂, ◌∙◌, subst, arith, append_assoc}
+use Rattle.std.proofs.Common.{◌≡◌, ℕ, ◌+◌, ◌*◌, ◌%◌, ◌^◌, List, [], ◌++◌, length, bit_xor, refl, sym, ap, ap₂, ◌∙◌, subst, arith}
+use Rattle.std.proofs.Common.{append_assoc}
 use Rattle.std.proofs.lemmas.List.{append-nil, take-append-drop, length-append}
 use Rattle.std.specs.Int.{from_be_bytes, w128}
 use Rattle.std.proofs.lemmas.Nat.{xor_lt}
@@ -14,7 +15,8 @@ loop-block-init c =
     let up : c.from-folded.result * 2 ^ 119 % 2 ^ 128 ≡ c.args.so_far * 2 ^ 119 = omega arith in (
       [],
       refl,
-      λ front starts. ap pec_of (append-nil front) ∙ sym starts ∙ sym (residues_of-register c.args.so_far (omega arith)) ∙ ap (λ (x : ℕ). residues_of x 0 128) (sym up),
+      λ front starts. ap pec_of (append-nil front) ∙ sym starts ∙ sym (residues_of-register c.args.so_far (omega arith))
+          ∙ ap (λ (x : ℕ). residues_of x 0 128) (sym up),
       omega arith,
     )
 
@@ -38,7 +40,8 @@ loop-block-preserved c =
       all ∙ sym (append_assoc taken block more),
       λ front starts.
           ap pec_of (sym (append_assoc front taken block))
-          ∙ pec_of-folded (front ++ taken) block c.loop-block.folded c.moved_up.result (AreBytes-part taken block more are_bytes) size (before.2 front starts) c.moved_up.ensures
+          ∙ pec_of-folded (front ++ taken) block c.loop-block.folded c.moved_up.result (AreBytes-part taken block more are_bytes) size
+          (before.2 front starts) c.moved_up.ensures
           ∙ ap (λ (x : ℕ). residues_of x 0 128) value,
       xor_lt 128 c.moved_up.result c.from_be_bytes.result c.moved_up.type_inv c.from_be_bytes.type_inv,
     )

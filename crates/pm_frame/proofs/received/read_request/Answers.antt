@@ -6,12 +6,14 @@ use Rattle.pm_frame.proofs.Whole.{request-whole}
 use Rattle.pm_frame.proofs.received.read_request.Goals as goal
 
 pub returns-in_err-requested-clause-accepts : goal.returns-in_err-requested-clause-accepts
-returns-in_err-requested-clause-accepts c = λ message h. let none = request_fault-spelled c.args.addr message c.args.bytes.now h in cc (c.in_err-requested.ensures)
+returns-in_err-requested-clause-accepts c = λ message h. let none =
+    request_fault-spelled c.args.addr message c.args.bytes.now h in cc (c.in_err-requested.ensures)
 
 pub new-requires : goal.new-requires
 new-requires c =
     let none : request_fault c.args.addr c.args.bytes.now ≡ None = sym c.in_ok-requested.ensures in
-    request-whole c.args.addr (message_in c.args.bytes.now) c.args.bytes.now (request_fault-found c.args.addr c.args.bytes.now none) (λ i. omega (arith, c.type_inv.bytes i))
+    request-whole c.args.addr (message_in c.args.bytes.now) c.args.bytes.now (request_fault-found c.args.addr c.args.bytes.now none)
+    (λ i. omega (arith, c.type_inv.bytes i))
 
 pub returns-clause-message : goal.returns-clause-message
 returns-clause-message c =

@@ -1,7 +1,7 @@
 use Rattle.std.proofs.Common.{◌≡◌, get_or, sym, ◌∙◌, rules}
 use Rattle.std.proofs.lemmas.List.{same_lists, length-replicate, get_or-replicate}
 use Rattle.pm_host.specs.declared.possible.Possible.TheVariants.{Any}
-use Rattle.pm_host.specs.Cells.{places}
+use Rattle.pm_table.specs.Cell.{places}
 use Rattle.pm_host.specs.Known.{all_any}
 use Rattle.pm_host.proofs.knowledge.all_possible.Goals as goal
 

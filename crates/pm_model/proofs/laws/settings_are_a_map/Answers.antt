@@ -1,12 +1,20 @@
-use Rattle.pm_model.proofs.MapLaws.{word_at-with_word, AreWords-with_word, with_word-again, with_word-unchanged, word_at-words_of, AreWords-words_of, words_of-all}
+use Rattle.std.proofs.Common.{◌∙◌}
+use Rattle.std.proofs.lemmas.List.{length-set, set-set}
+use Rattle.pm_table.specs.Cell.{place_of}
+use Rattle.pm_model.specs.Settings.{AreWords, with_word}
+use Rattle.pm_model.proofs.MapLaws.{word_at-with_word, with_word-unchanged, word_at-words_of, AreWords-words_of, words_of-all}
 use Rattle.pm_model.proofs.laws.settings_are_a_map.Goals as goal
 
 pub returns : goal.returns
-returns c = record {
-  read = word_at-with_word c.cells_are_told_apart.ensures;
-  kept = AreWords-with_word;
-  again = with_word-again;
-  unchanged = with_word-unchanged;
-  made = λ word. (AreWords-words_of word, word_at-words_of word);
-  one = words_of-all;
-}
+unfolding AreWords with_word
+returns c =
+    let stand = c.cells_have_places.ensures in
+    record {
+      read = λ words cell other word full here there.
+          word_at-with_word stand c.cells_are_told_apart.ensures words cell other word (full, here, there);
+      kept = λ words cell word full. length-set words (place_of cell) word ∙ full;
+      again = λ words cell word. set-set words (place_of cell) word word;
+      unchanged = with_word-unchanged stand;
+      made = λ word. (AreWords-words_of word, word_at-words_of stand word);
+      one = words_of-all stand;
+    }

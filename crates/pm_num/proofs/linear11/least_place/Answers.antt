@@ -16,5 +16,9 @@ next_bounded size unit place limit reachable is bounded less =
 
 pub loop-limit-preserved : goal.loop-limit-preserved
 loop-limit-preserved c =
-    let e = ap (λ (k : ℕ). c.args.unit * k) (pow-add 2 c.loop-limit.place 1) in
-    (omega arith, below_more _ _ c.loop-limit.invariant.1 (omega arith), next_bounded c.args.size c.args.unit c.loop-limit.place c.loop-limit.limit c.requires.reachable c.loop-limit.invariant.0 c.loop-limit.invariant.2 c.loop-limit-test.true)
+    let e = ap (λ (k : ℕ). c.args.unit * k) (pow-add 2 c.loop-limit.place 1) in (
+      omega arith,
+      below_more _ _ c.loop-limit.invariant.1 (omega arith),
+      next_bounded c.args.size c.args.unit c.loop-limit.place
+          c.loop-limit.limit c.requires.reachable c.loop-limit.invariant.0 c.loop-limit.invariant.2 c.loop-limit-test.true,
+    )

@@ -5,6 +5,7 @@ use Rattle.std.proofs.lemmas.Int.{to_z-of_z, unsigned_abs-mul, fits_signed_mul}
 use Rattle.std.proofs.lemmas.Nat.{mul-le}
 use Rattle.pm_num.proofs.whole.product.Goals as goal
 
+-- The product of two numbers within their bounds fits.
 fits : (c : goal.Start) → FitsSigned w128 (c.args.a *ℤ c.args.b)
 fits c = fits_signed_mul w128 c.args.a c.args.b (2 ^ 55) (2 ^ 55) c.requires.left c.requires.right (lit< tt)
 

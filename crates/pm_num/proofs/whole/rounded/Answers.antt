@@ -5,5 +5,5 @@ use Rattle.pm_num.proofs.whole.rounded.Goals as goal
 
 pub returns : goal.returns
 returns c =
-    rounded-floor c.args.a c.args.d c.floor.result _ _ _ c.requires.positive c.floor.ensures
+    rounded-floor c.args.a c.args.d c.requires.positive c.floor.ensures
     (omega (arith, ints)) (omega (arith, ints)) (omega (arith, ints))

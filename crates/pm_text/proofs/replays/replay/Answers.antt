@@ -21,7 +21,7 @@ returns-in_err-put-clause-same g c =
 
 pub returns-clause-same : goal.returns-clause-same
 returns-clause-same g c =
-    same-reported _ _ _ _ _ _ c.in_ok-input.ensures.whole c.deref.ensures.value c.in_ok-text.ensures.replayed
+    same-reported _ _ _ _ _ c.in_ok-input.ensures.whole (ap replay_of (sym c.deref.ensures.value) ∙ c.in_ok-text.ensures.replayed)
 
 pub returns-in_err-put-clause-cut_short : goal.returns-in_err-put-clause-cut_short
 returns-in_err-put-clause-cut_short g c = λ _.

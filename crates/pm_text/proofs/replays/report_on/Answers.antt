@@ -12,7 +12,8 @@ returns-in_err-scenario-clause-memory c = λ is.
 pub returns-in_err-scenario-clause-faults : goal.returns-in_err-scenario-clause-faults
 returns-in_err-scenario-clause-faults c =
     let p = err_from_is_err_and c.from_residual.result c.from_residual.ensures.1 in
-    rw (p.1, p.2) (replay-faults c.args.input.now _ (search rules) c.in_err-scenario.ensures.faults (λ e. c.in_err-scenario.ensures.too_long (ap Err e)))
+    rw (p.1, p.2) (replay-faults c.args.input.now _ (search rules) c.in_err-scenario.ensures.faults
+        (λ e. c.in_err-scenario.ensures.too_long (ap Err e)))
 
 pub returns-in_err-text-clause-memory : goal.returns-in_err-text-clause-memory
 returns-in_err-text-clause-memory c = λ is. read-some c.args.input.now _ c.in_ok-scenario.ensures.scenario
@@ -29,5 +30,10 @@ returns-in_err-run-clause-refused c =
 
 pub returns-clause-replayed : goal.returns-clause-replayed
 returns-clause-replayed c =
-    replay-told c.args.input.now _ _ _ _ c.in_ok-scenario.ensures.scenario c.in_ok-run.ensures.fault c.in_ok-run.ensures.ran c.in_ok-text.ensures.text
-    c.end_of.ensures
+    replay-told c.args.input.now _ _ _ _ (record {
+      reads = c.in_ok-scenario.ensures.scenario;
+      made = c.in_ok-run.ensures.fault;
+      runs = c.in_ok-run.ensures.ran;
+      text_is = c.in_ok-text.ensures.text;
+      end_is = c.end_of.ensures;
+    })

@@ -1,6 +1,6 @@
 use Rattle.std.proofs.Common.{sym, ◌∙◌, ap, length, arith}
 use Rattle.pm_device.proofs.StartLemmas.{sound}
-use Rattle.pm_device.proofs.OverLemmas.{length-each_output}
+use Rattle.pm_device.proofs.CutLemmas.{length-each_output}
 use Rattle.pm_device.proofs.converter.Converter.new.Goals as goal
 
 pub start_settings-settings-requires : goal.start_settings-settings-requires
@@ -12,7 +12,7 @@ invariant_of-result c = record {
   shapes = c.formats_of-formats.ensures;
   counted = c.start_settings-settings.ensures.count;
   selected = omega (arith, (sound c.args.c (sym c.config_fault.ensures ∙ c.in_default.is)).some);
-  latches = ap length c.each_over-over.ensures ∙ length-each_output _;
+  latches = ap length c.each_cut-cut.ensures ∙ length-each_output _;
 }
 
 pub returns-clause-sound : goal.returns-clause-sound

@@ -4,6 +4,3 @@ use Rattle.pm_frame.proofs.view.FrameView.code.Goals as goal
 
 pub returns-in_default : goal.returns-in_default
 returns-in_default c = rw (← c.self.view_is) (sym (message_code-other c.self.inside.bytes.now (λ e. omega arith) (λ e. omega arith)))
-
-pub returns-in_default-2 : goal.returns-in_default-2
-returns-in_default-2 c = rw (← c.self.view_is) (sym (message_code-other c.self.inside.bytes.now (λ e. omega arith) (λ e. omega arith)))

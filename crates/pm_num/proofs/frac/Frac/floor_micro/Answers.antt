@@ -6,5 +6,5 @@ use Rattle.pm_num.proofs.frac.Frac.floor_micro.Goals as goal
 pub returns-clause-greatest : goal.returns-clause-greatest
 returns-clause-greatest c = λ k le.
     let x = c.args.self.now in
-    greatest_from_floor (x.num *ℤ pos 1000000) c.floor.result k _ _ _ x.den c.floor.ensures
+    greatest_from_floor (x.num *ℤ pos 1000000) k x.den c.floor.ensures
     (omega (arith, ints, c.num.ensures.bounds)) (omega (arith, ints, c.num.ensures.bounds)) (omega (arith, ints)) le

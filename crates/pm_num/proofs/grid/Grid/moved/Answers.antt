@@ -13,6 +13,7 @@ returns-clause-value c =
     let fits_den : SFits w128 c.den.result = search rules in
     let fits_offset : SFits w128 c.offset.result = search rules in
     let fits_other : SFits w128 c.den-2.result = search rules in
-    let e = same_product x.num (pos g.den) c.num.result c.den.result c.product.result fits_num fits_den c.product.ensures.value c.num.ensures.value c.den.ensures.value in
-    let f = same_product g.offset (pos x.den) c.offset.result c.den-2.result c.product-2.result fits_offset fits_other c.product-2.ensures.value c.offset.ensures.value c.den-2.ensures.value in
+    let e = same_product x.num (pos g.den) fits_num fits_den c.product.ensures.value c.num.ensures.value c.den.ensures.value in
+    let f = same_product g.offset (pos x.den) fits_offset fits_other c.product-2.ensures.value c.offset.ensures.value c.den-2.ensures.value
+    in
     omega (arith, ints)

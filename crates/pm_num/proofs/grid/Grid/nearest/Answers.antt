@@ -7,16 +7,21 @@ use Rattle.pm_num.proofs.Rounding.{rounded_at}
 use Rattle.pm_num.proofs.Spaced.{moved_num, nearest_on_grid, lowest_on_grid, above_on_grid, below_on_grid}
 use Rattle.pm_num.proofs.grid.Grid.nearest.Goals as goal
 
-place : (c : goal.After-rounded) → IsRounded (moved_num c.args.self.now c.args.x.now) (pos (c.args.self.now.step * c.args.x.now.den)) (to_z w128 (of_z w128 c.rounded.result))
+-- The rounded quotient that the code computes is that of the moved number.
+place : (c : goal.After-rounded)
+    → IsRounded (moved_num c.args.self.now c.args.x.now) (pos (c.args.self.now.step * c.args.x.now.den))
+    (to_z w128 (of_z w128 c.rounded.result))
 place c =
     let g = c.args.self.now in
     let x = c.args.x.now in
-    rounded_at (moved_num g x) (pos (g.step * x.den)) c.rounded.result _ _ _ c.rounded.ensures
+    rounded_at (moved_num g x) (pos (g.step * x.den)) c.rounded.ensures
     (omega (arith, ints)) (omega (arith, ints)) (omega (arith, ints))
 
+-- The denominator is positive,
 den_above : (c : goal.After-rounded) → 0 < c.args.self.now.den
 den_above c = omega (arith, ints, c.moved.ensures.sizes)
 
+-- and so is the spacing.
 spacing_above : (c : goal.After-rounded) → 0 < c.args.self.now.step * c.args.x.now.den
 spacing_above c = omega (arith, ints, c.spacing.ensures.positive)
 

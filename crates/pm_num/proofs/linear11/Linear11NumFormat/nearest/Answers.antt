@@ -8,12 +8,14 @@ use Rattle.pm_num.proofs.linear11.Linear11NumFormat.nearest.Goals as goal
 
 pub settled-requires-clause-above : goal.settled-requires-clause-above
 settled-requires-clause-above c =
-    let h = IsUnsettled-rounded c.args.x c.place_for-place.result c.mantissa_at-mantissa.result c.place_for-place.ensures c.mantissa_at-mantissa.ensures in
+    let h = IsUnsettled-rounded c.args.x c.place_for-place.result c.mantissa_at-mantissa.result c.place_for-place.ensures
+    c.mantissa_at-mantissa.ensures in
     omega (arith, ints)
 
 pub settled-requires-clause-below : goal.settled-requires-clause-below
 settled-requires-clause-below c =
-    let h = IsUnsettled-rounded c.args.x c.place_for-place.result c.mantissa_at-mantissa.result c.place_for-place.ensures c.mantissa_at-mantissa.ensures in
+    let h = IsUnsettled-rounded c.args.x c.place_for-place.result c.mantissa_at-mantissa.result c.place_for-place.ensures
+    c.mantissa_at-mantissa.ensures in
     omega (arith, ints)
 
 pub settled-requires-clause-far : goal.settled-requires-clause-far
@@ -32,4 +34,5 @@ returns-clause-word c =
     let back : to_z w128 (of_z w128 k) ≡ k = omega (arith, ints) in
     let same = c.preferred.ensures.same ∙ c.settled.ensures.same ∙ ap (λ (z : ℤ). z *ℤ pos (2 ^ p)) back in
     let at_place = place_of-exponent (exponent c.word_of.result) s.place c.word_of.ensures.exponent in
-    linear11-found c.args.x p k s.mantissa s.place c.word_of.result c.place_for-place.ensures c.mantissa_at-mantissa.ensures word c.word_of.ensures.mantissa at_place same c.preferred.ensures.preferred
+    linear11-found c.place_for-place.ensures c.mantissa_at-mantissa.ensures word c.word_of.ensures.mantissa at_place same
+    c.preferred.ensures.preferred

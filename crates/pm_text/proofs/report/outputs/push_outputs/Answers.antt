@@ -11,7 +11,8 @@ loop-output-preserved c =
       written = c.in_ok-push_output.ensures
           ∙ ap (λ t. t ++ output_lines c.args.form world c.loop-output.output) c.loop-output.invariant.written
           ∙ append_assoc (string_bytes c.args.text.now) _ _
-          ∙ ap (λ l. string_bytes c.args.text.now ++ l) (numbered-more (output_lines c.args.form world) world.device.config.count c.loop-output.output there);
+          ∙ ap (λ l. string_bytes c.args.text.now ++ l)
+              (numbered-more (output_lines c.args.form world) world.device.config.count c.loop-output.output there);
       within = omega (arith, there);
     }
 
@@ -19,4 +20,5 @@ pub returns : goal.returns
 returns c =
     let world = c.args.world.now in
     c.loop-output.invariant.written
-    ∙ ap (λ l. string_bytes c.args.text.now ++ l) (numbered-all (output_lines c.args.form world) world.device.config.count c.loop-output.output (search rules))
+    ∙ ap (λ l. string_bytes c.args.text.now ++ l)
+        (numbered-all (output_lines c.args.form world) world.device.config.count c.loop-output.output (search rules))

@@ -21,7 +21,8 @@ returns-in_err-start c =
     let p = err_from_is_err_and c.from_residual-in_err-start.result c.from_residual-in_err-start.ensures.1 in
     let (given, same, read) = c.outputs.invariant in
     let row = c.in_ok-row.ensures in
-    rw p.1 (read ∙ behind-fault c.args.form given c.outputs.rows c.row.new.self _ row.lines row.count p.0 (sym c.output_line.ensures ∙ c.in_err-start.was ∙ ap Err (sym p.2)))
+    rw p.1 (read ∙ behind-fault c.args.form given c.outputs.rows c.row.new.self _ row.lines row.count p.0
+        (sym c.output_line.ensures ∙ c.in_err-start.was ∙ ap Err (sym p.2)))
 
 pub outputs-smaller : goal.outputs-smaller
 outputs-smaller c = omega (arith, ap length c.in_ok-row.ensures.lines)
@@ -32,7 +33,8 @@ outputs-preserved c =
     let row = c.in_ok-row.ensures in (
       given ++ c.in-Some.start ∷ [],
       c.push.ensures given same,
-      read ∙ behind-output c.args.form given c.outputs.rows c.row.new.self _ row.lines row.count c.in-Some.start (sym c.output_line.ensures ∙ c.in_ok-start.was ∙ ap Ok c.in-Some.is),
+      read ∙ behind-output c.args.form given c.outputs.rows c.row.new.self _ row.lines row.count c.in-Some.start
+          (sym c.output_line.ensures ∙ c.in_ok-start.was ∙ ap Ok c.in-Some.is),
     )
 
 pub returns : goal.returns
@@ -40,4 +42,5 @@ unfolding outputs
 returns c =
     let (given, same, read) = c.outputs.invariant in
     let row = c.in_ok-row.ensures in
-    (given, same, read ∙ behind-begin c.args.form given c.outputs.rows c.row.new.self _ row.lines row.count (sym c.output_line.ensures ∙ c.in_ok-start.was ∙ ap Ok c.in_default.is))
+    (given, same, read ∙ behind-begin c.args.form given c.outputs.rows c.row.new.self _ row.lines row.count
+        (sym c.output_line.ensures ∙ c.in_ok-start.was ∙ ap Ok c.in_default.is))

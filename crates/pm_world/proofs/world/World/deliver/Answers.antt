@@ -1,52 +1,38 @@
-use Rattle.std.proofs.Common.{sym, ◌∙◌, ap, subst, refl}
-use Rattle.pm_device.specs.declared.config.Config.{Config}
-use Rattle.pm_device.specs.declared.heard.Ending.TheVariants.{Stop}
-use Rattle.pm_device.specs.Effect.{Hearing}
+use Rattle.std.proofs.Common.{◌≡◌, true, false, Some, Ok, refl, sym, ◌∙◌, subst}
+use Rattle.std.specs.Prelude.{IsSomeAnd}
+use Rattle.pm_frame.specs.Layout.{IsWrite}
 use Rattle.pm_host.specs.Summary.{sending_in}
-use Rattle.pm_world.specs.Legal.{heard_bytes, is_legal_hearing}
-use Rattle.pm_world.specs.Setup.{IsMatched}
-use Rattle.pm_world.proofs.Ends.{config-kept}
-use Rattle.pm_world.proofs.Frames.{Arrives, is_sent, delivers-betrayed, delivers-legal, delivers-heard}
+use Rattle.pm_world.specs.declared.event.Event.TheVariants.{Deliver}
+use Rattle.pm_world.specs.declared.stop.Cause.TheVariants.{NotBetrayed}
+use Rattle.pm_world.specs.State.{State, Acts, event_cause}
+use Rattle.pm_world.proofs.Ends.{state}
+use Rattle.pm_world.proofs.Frames.{Arrives, arrives-write, deliver-acts, deliver-cause}
 use Rattle.pm_world.proofs.world.World.deliver.Goals as goal
 
 pub returns-then-not-is_legal_hearing : goal.returns-then-not-is_legal_hearing
 returns-then-not-is_legal_hearing c =
-    let host = c.self.inside.host in
-    let frame = c.in-Some.frame.now.items in
+    let inside = state c.self.inside.device c.self.inside.host c.self.inside.end c.self.inside.taken in
+    let frame = c.as_slice-frame.result.now in
     let heard = c.heard_bytes-bytes.result.now in
     let ending = c.heard_ending-ending.result in
-    let arrives : Arrives host c.args.arrival.now Stop frame heard ending = record {
-      sent = is_sent host (sending_in host) frame refl c.in-Some.ensures;
-      heard_is = c.heard_bytes-bytes.ensures ∙ ap (λ f. heard_bytes f c.args.arrival.now) c.as_slice.ensures.value;
-      ending_is = c.heard_ending-ending.ensures;
-    } in (
-      delivers-betrayed c.args.self.now c.self.inside.device host c.self.inside.end c.self.inside.taken c.args.arrival.now frame heard ending c.self.view_is arrives
-          (sym c.sending_reads.ensures ∙ c.if-sending_reads.false)
-          (ap (λ f. is_legal_hearing f heard ending) (sym c.as_slice-2.ensures.value) ∙ sym c.is_legal_hearing.ensures ∙ c.if-not-is_legal_hearing.true),
+    let shown = subst (λ bytes. IsSomeAnd (sending_in inside.host) (λ message. IsWrite inside.host.setup.addr message bytes))
+    (sym c.as_slice-frame.ensures.value) c.in-Write.ensures.1 in
+    let arrives : Arrives inside false c.args.arrival.now frame heard ending =
+    arrives-write inside c.args.arrival.now frame heard ending shown c.heard_bytes-bytes.ensures c.heard_ending-ending.ensures in (
+      subst (λ (s : State). event_cause s (Deliver c.args.arrival.now) ≡ Some NotBetrayed) c.self.view_is
+          (deliver-cause false arrives (sym c.is_legal_hearing.ensures ∙ c.if-not-is_legal_hearing.true)),
       refl,
-    )
-
-pub invariant_of-self : goal.invariant_of-self
-invariant_of-self c =
-    let same = config-kept c.self.inside.device c.hear.new.self (Hearing c.heard_bytes-bytes.result.now c.heard_ending-ending.result) c.hear.ensures.after in (
-      c.self.invariant.0 ∙ ap (λ (k : Config). k.addr) same,
-      subst (λ (k : Config). IsMatched c.self.inside.host.setup k c.self.inside.taken) same c.self.invariant.1,
     )
 
 pub returns : goal.returns
 returns c =
-    let host = c.self.inside.host in
-    let frame = c.in-Some.frame.now.items in
+    let inside = state c.self.inside.device c.self.inside.host c.self.inside.end c.self.inside.taken in
+    let frame = c.as_slice-frame.result.now in
     let heard = c.heard_bytes-bytes.result.now in
     let ending = c.heard_ending-ending.result in
-    let arrives : Arrives host c.args.arrival.now Stop frame heard ending = record {
-      sent = is_sent host (sending_in host) frame refl c.in-Some.ensures;
-      heard_is = c.heard_bytes-bytes.ensures ∙ ap (λ f. heard_bytes f c.args.arrival.now) c.as_slice.ensures.value;
-      ending_is = c.heard_ending-ending.ensures;
-    } in
-    let writes = sym c.sending_reads.ensures ∙ c.if-sending_reads.false in (
-      delivers-legal c.args.self.now c.self.inside.device host c.self.inside.end c.self.inside.taken c.args.arrival.now frame heard ending c.self.view_is arrives writes
-          (ap (λ f. is_legal_hearing f heard ending) (sym c.as_slice-2.ensures.value) ∙ sym c.is_legal_hearing.ensures ∙ c.if-not-is_legal_hearing.false),
-      tt,
-      delivers-heard c.args.self.now c.self.inside.device c.hear.new.self host c.self.inside.end c.self.inside.taken c.args.arrival.now frame heard ending c.self.view_is arrives writes c.hear.ensures.after,
-    )
+    let shown = subst (λ bytes. IsSomeAnd (sending_in inside.host) (λ message. IsWrite inside.host.setup.addr message bytes))
+    (sym c.as_slice-frame.ensures.value) c.in-Write.ensures.1 in
+    let arrives : Arrives inside false c.args.arrival.now frame heard ending =
+    arrives-write inside c.args.arrival.now frame heard ending shown c.heard_bytes-bytes.ensures c.heard_ending-ending.ensures in
+    subst (λ (s : State). Acts s (Deliver c.args.arrival.now) (Ok tt) (state c.hear.new.self inside.host inside.end inside.taken)) c.self.view_is
+    (deliver-acts c.hear.new.self arrives (sym c.is_legal_hearing.ensures ∙ c.if-not-is_legal_hearing.false) c.hear.ensures.after)

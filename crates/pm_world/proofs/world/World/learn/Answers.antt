@@ -1,21 +1,16 @@
-use Rattle.std.proofs.Common.{None, refl, sym, ◌∙◌, ap}
-use Rattle.pm_host.specs.Summary.{step_of}
-use Rattle.pm_host.specs.Transcript.{Accepted, Learn as Job}
+use Rattle.std.proofs.Common.{refl, sym, ap}
+use Rattle.pm_host.specs.Transcript.{Learn as Job}
 use Rattle.pm_world.specs.declared.event.Event.TheVariants.{Learn}
-use Rattle.pm_world.specs.State.{State, event_cause, refused}
-use Rattle.pm_world.proofs.Ends.{matched-host, host-told}
+use Rattle.pm_world.specs.State.{refused}
+use Rattle.pm_world.proofs.Ends.{state, begun}
 use Rattle.pm_world.proofs.world.World.learn.Goals as goal
 
-pub invariant_of-self : goal.invariant_of-self
-invariant_of-self c = (
-  c.self.invariant.0,
-  matched-host c.transcripts_are_followed.ensures.kept c.self.inside.host c.learn.new.self (Accepted (Job c.args.output)) c.self.inside.device.config c.self.inside.taken c.in-Ok.ensures.ok c.self.invariant.1,
-)
-
-pub returns-in-Ok : goal.returns-in-Ok
-unfolding step_of
-returns-in-Ok c = (
-  sym (ap (λ (s : State). event_cause s (Learn c.args.output)) c.self.view_is) ∙ ap refused (sym c.in-Ok.ensures.fault),
-  tt,
-  host-told c.args.self.now c.self.inside.device c.self.inside.host c.learn.new.self c.self.inside.end None c.self.inside.taken (Accepted (Job c.args.output)) c.self.view_is c.in-Ok.ensures.ok refl,
-)
+pub returns : goal.returns
+returns c =
+    let inside = state c.self.inside.device c.self.inside.host c.self.inside.end c.self.inside.taken in
+    begun c.args.self.now inside (Learn c.args.output) (Job c.args.output) c.learn.new.self c.self.view_is (record {
+      free = ap refused (sym c.in_ok-learn.ensures.fault);
+      word = tt;
+      asks = refl;
+      told = c.in_ok-learn.ensures.ok;
+    })

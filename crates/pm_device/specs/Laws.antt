@@ -1,0 +1,231 @@
+-- What the laws of this crate say, each by a name that a crate above takes it by. A past is a list
+-- of events, newest first.
+use Rattle.std.specs.Prelude.{◌≡◌, ◌≢◌, ◌⊎◌, ◌↔◌, ◌<◌, ◌≤◌, ℕ, Bool, false, List, [], ◌∷◌, not, ◌&&◌, ◌||◌, true, nat_lt, if◌then◌else◌, Some, None}
+use Rattle.std.specs.Option.{option_map_or}
+use Rattle.pm_table.specs.declared.cell.Cell.{Cell}
+use Rattle.pm_table.specs.declared.cell.Cell.TheVariants.{Protect}
+use Rattle.pm_table.specs.Cell.{cell_at, cell_accepts, cell_code, IsCell}
+use Rattle.pm_table.specs.Codes as command
+use Rattle.pm_table.specs.Commands.{line_of}
+use Rattle.pm_table.specs.Coefficients.{coefficient_bytes}
+use Rattle.pm_table.specs.Protection.{is_allowed}
+use Rattle.pm_frame.specs.declared.fault.FrameFault.TheVariants.{UnknownCode}
+use Rattle.pm_frame.specs.declared.message.Message.{Message}
+use Rattle.pm_frame.specs.declared.message.Message.TheVariants.{WriteByte, PagePlusWrite, ReadCommand, PagePlusRead, ReadCoefficients}
+use Rattle.pm_frame.specs.declared.message.Payload.{Payload}
+use Rattle.pm_frame.specs.Fault.{write_fault, request_fault}
+use Rattle.pm_frame.specs.Layout.{AreBytes, IsWrite, IsRequest, IsAnswer}
+use Rattle.pm_frame.specs.View.{payload_in, message_code}
+use Rattle.pm_model.specs.Settings.{Words, AreWords, word_at, with_word}
+use Rattle.pm_model.specs.Commanded.{is_cut}
+use Rattle.pm_device.specs.declared.config.Config.{Config}
+use Rattle.pm_device.specs.declared.fault.DeviceFault.{DeviceFault}
+use Rattle.pm_device.specs.declared.fault.DeviceFault.TheVariants.{UnsupportedCode}
+use Rattle.pm_device.specs.declared.heard.Ending.{Ending}
+use Rattle.pm_device.specs.declared.heard.Ending.TheVariants.{Stop, Restart}
+use Rattle.pm_device.specs.declared.heard.Heard.TheVariants.{Silent, Taken, Answer, Refused}
+use Rattle.pm_device.specs.Held.{Held, is_device_reading, is_output_reading, mode_for, reading_at, value_for}
+use Rattle.pm_device.specs.Start.{IsSound, has_direct, start_word}
+use Rattle.pm_device.specs.Verdict.{is_answered, names_no_output, output_in, payload_word, verdict_of, write_verdict, written_word}
+use Rattle.pm_device.specs.Effect.{Event, Hearing, words_after, page_after}
+use Rattle.pm_device.specs.Status.{CmlBit, fault_bit, with_bit, cml_at, cml_in, vout_in, marked, status_byte, status_cml, status_vout, status_word}
+use Rattle.pm_device.specs.Reply.{payload_for, register_bytes, register_word, reply_of}
+use Rattle.pm_device.specs.History.{AreHeard, WasCarried, next, now, start_of}
+
+-- What a converter with 1 to 8 outputs holds after any past is what one event after another makes of
+-- its start (`none`, `more`), so the status bits that are latched are those that are found by looking
+-- back (`vout`, `cml`). A cause that holds now shows at once (`shows`). PAGE always names an output
+-- that is there (`page`), and there is always a word for each cell (`words`).
+pub record PastsAreFollowed : Type 0 where
+  pub none : (config : Config) → now config [] ≡ start_of config
+  pub more : (config : Config) (past : List Event) (event : Event) →
+      1 ≤ config.count → config.count ≤ 8 →
+      now config (event ∷ past) ≡ next (now config past) event
+  pub vout : (config : Config) (past : List Event) (output : ℕ) → output < 8 →
+      status_vout (now config past) output ≡ marked 0x08 (vout_in config past output)
+  pub cml : (config : Config) (past : List Event) (bit : CmlBit) →
+      cml_at (now config past).faults bit ≡ cml_in config past bit
+  pub shows : (config : Config) (past : List Event) (output : ℕ) →
+      config.count ≤ 8 → output < config.count →
+      is_cut (value_for config output) (now config past).words output ≡ true →
+      status_vout (now config past) output ≡ 0x08
+  pub page : (config : Config) (past : List Event) →
+      1 ≤ config.count → (now config past).page < config.count
+  pub words : (config : Config) (past : List Event) → AreWords (now config past).words
+
+-- Over any past each cell's word is its start word, or one that a frame which was taken since the
+-- last restart carried for that very cell (`origin`), and it is a word that the cell accepts
+-- (`accepted`).
+pub record WordsHaveAnOrigin : Type 0 where
+  pub origin : (config : Config) (past : List Event) (cell : Cell) →
+      1 ≤ config.count → config.count ≤ 8 → AreHeard past → IsCell config.count cell →
+      (word_at (now config past).words cell ≡ start_word config cell)
+      ⊎ WasCarried config past cell (word_at (now config past).words cell)
+  pub accepted : (config : Config) (past : List Event) (cell : Cell) →
+      IsSound config → IsCell config.count cell →
+      cell_accepts cell (word_at (now config past).words cell) ≡ true
+
+-- A refusal sets the one bit of STATUS_CML of its kind, and changes nothing else (`refused`).
+-- Silence and a read that is answered change nothing (`silent`, `answered`). A write that is taken
+-- sets no bit of STATUS_CML (`taken`).
+pub record RefusalsSetOneBit : Type 0 where
+  pub refused : (held : Held) (bytes : List ℕ) (ending : Ending) (fault : DeviceFault) →
+      reply_of held bytes ending ≡ Refused fault →
+      next held (Hearing bytes ending)
+      ≡ record held { faults = with_bit held.faults (fault_bit fault) }
+  pub silent : (held : Held) (bytes : List ℕ) (ending : Ending) →
+      reply_of held bytes ending ≡ Silent → next held (Hearing bytes ending) ≡ held
+  pub answered : (held : Held) (bytes : List ℕ) (ending : Ending) →
+      reply_of held bytes ending ≢ Silent → reply_of held bytes ending ≢ Taken →
+      ((fault : DeviceFault) → reply_of held bytes ending ≢ Refused fault) →
+      next held (Hearing bytes ending) ≡ held
+  pub taken : (held : Held) (bytes : List ℕ) (ending : Ending) (bit : CmlBit) →
+      reply_of held bytes ending ≡ Taken →
+      cml_at (next held (Hearing bytes ending)).faults bit ≡ true →
+      cml_at held.faults bit ≡ true
+
+-- What the words of the cells and PAGE are after one frame. A request and a faulty write leave both
+-- (`request`, `faulty`); a write comes to what its message comes to (`write`). A write of a cell's
+-- code, plain by PAGE or carried, gives that cell the word where the output is there, WRITE_PROTECT
+-- allows the code and the cell accepts the word, otherwise all stays (`cell`); so does a
+-- PAGE_PLUS_WRITE (`carried`), and a plain write of WRITE_PROTECT (`plain`). A write of PAGE selects
+-- an output that is there, where WRITE_PROTECT allows it (`selects`). CLEAR_FAULTS leaves both
+-- (`clears`).
+pub record WritesReachOneCell : Type 0 where
+  pub request : (held : Held) (bytes : List ℕ) →
+      (words_after held (Hearing bytes Restart) ≡ held.words)
+      × (page_after held (Hearing bytes Restart) ≡ held.page)
+  pub faulty : (held : Held) (bytes : List ℕ) →
+      write_fault held.config.addr bytes ≢ None →
+      (words_after held (Hearing bytes Stop) ≡ held.words)
+      × (page_after held (Hearing bytes Stop) ≡ held.page)
+  pub write : (held : Held) (message : Message) (bytes : List ℕ) →
+      IsWrite held.config.addr message bytes →
+      verdict_of held.config held.words held.page bytes Stop
+      ≡ write_verdict held.config held.words held.page message
+  pub cell : (held : Held) (message : Message) (cell : Cell) (bytes : List ℕ) →
+      IsWrite held.config.addr message bytes →
+      cell_at (message_code message) (output_in held.page message) ≡ Some cell →
+      (words_after held (Hearing bytes Stop)
+      ≡ (if not (names_no_output held.config.count message)
+      && is_allowed (word_at held.words Protect) (message_code message)
+      && cell_accepts cell (written_word message)
+      then with_word held.words cell (written_word message) else held.words))
+      × (page_after held (Hearing bytes Stop) ≡ held.page)
+  pub carried : (held : Held) (output code : ℕ) (payload : Payload) (cell : Cell)
+      (bytes : List ℕ) →
+      IsWrite held.config.addr (PagePlusWrite output code payload) bytes →
+      cell_at code output ≡ Some cell →
+      (words_after held (Hearing bytes Stop)
+      ≡ (if nat_lt output held.config.count && is_allowed (word_at held.words Protect) code
+      && cell_accepts cell (payload_word payload)
+      then with_word held.words cell (payload_word payload) else held.words))
+      × (page_after held (Hearing bytes Stop) ≡ held.page)
+  pub plain : (held : Held) (byte : ℕ) (bytes : List ℕ) →
+      IsWrite held.config.addr (WriteByte command.write_protect byte) bytes →
+      (words_after held (Hearing bytes Stop)
+      ≡ (if is_allowed (word_at held.words Protect) command.write_protect
+      && cell_accepts Protect byte
+      then with_word held.words Protect byte else held.words))
+      × (page_after held (Hearing bytes Stop) ≡ held.page)
+  pub selects : (held : Held) (byte : ℕ) (bytes : List ℕ) →
+      IsWrite held.config.addr (WriteByte command.page byte) bytes →
+      (words_after held (Hearing bytes Stop) ≡ held.words)
+      × (page_after held (Hearing bytes Stop)
+      ≡ (if nat_lt byte held.config.count && is_allowed (word_at held.words Protect) command.page
+      then byte else held.page))
+  pub clears : (held : Held) (output : ℕ) (payload : Payload) (bytes : List ℕ) →
+      IsWrite held.config.addr (PagePlusWrite output command.clear_faults payload) bytes →
+      (words_after held (Hearing bytes Stop) ≡ held.words)
+      × (page_after held (Hearing bytes Stop) ≡ held.page)
+
+-- bytes that a repeated start ended are answered by an answer to this request with this payload
+abbrev pub AnswersWith : Held → List ℕ → Message → List ℕ → Type 0
+AnswersWith held bytes request payload =
+    (frame : List ℕ) × (reply_of held bytes Restart ≡ Answer (record { items = frame }))
+    × IsAnswer held.config.addr request payload frame
+
+-- What is answered after a repeated start is an answer, of the length that its layout has, to a
+-- request that was heard (`answer`), and a whole request whose page is there, or whose coefficients
+-- are, is answered (`answered`). So a PAGE_PLUS_READ of a cell's code at an output that is there
+-- is answered with that cell's word (`cell`), a plain read of WRITE_PROTECT with its word
+-- (`protect`), VOUT_MODE with the output's byte (`mode`), and COEFFICIENTS of VOUT_COMMAND with the
+-- coefficients where some output is DIRECT (`coefficients`). A word that its cell accepts is the number of the bytes
+-- that answer it (`number`).
+pub record ReadsAreAnswered : Type 0 where
+  pub answer : (held : Held) (bytes items : List ℕ) →
+      reply_of held bytes Restart ≡ Answer (record { items = items }) →
+      (request : Message) × IsRequest held.config.addr request bytes
+      × IsAnswer held.config.addr request (payload_for held request) items
+  pub answered : (held : Held) (request : Message) (bytes : List ℕ) →
+      IsRequest held.config.addr request bytes → is_answered held.config request ≡ true →
+      AnswersWith held bytes request
+      (payload_for held request)
+  pub cell : (held : Held) (output code : ℕ) (cell : Cell) (bytes : List ℕ) →
+      IsRequest held.config.addr (PagePlusRead output code) bytes →
+      output < held.config.count → cell_at code output ≡ Some cell →
+      AnswersWith held bytes (PagePlusRead output code)
+      (register_bytes code (word_at held.words cell))
+  pub protect : (held : Held) (bytes : List ℕ) →
+      IsRequest held.config.addr (ReadCommand command.write_protect) bytes →
+      AnswersWith held bytes (ReadCommand command.write_protect)
+      (register_bytes command.write_protect (word_at held.words Protect))
+  pub mode : (held : Held) (output : ℕ) (bytes : List ℕ) →
+      IsRequest held.config.addr (PagePlusRead output command.vout_mode) bytes →
+      output < held.config.count →
+      AnswersWith held bytes (PagePlusRead output command.vout_mode)
+      (register_bytes command.vout_mode (mode_for held.config output))
+  pub coefficients : (held : Held) (bytes : List ℕ) →
+      IsRequest held.config.addr (ReadCoefficients command.vout_command 0x00) bytes →
+      has_direct held.config ≡ true →
+      AnswersWith held bytes (ReadCoefficients command.vout_command 0x00)
+      (coefficient_bytes held.config.coefficients)
+  pub number : (cell : Cell) (word : ℕ) → cell_accepts cell word ≡ true →
+      payload_word (payload_in (register_bytes (cell_code cell) word)) ≡ word
+
+-- A register that is read over the bus says what the call of its name answers. What a request is
+-- answered is made of this word (`ReadsAreAnswered.answered`).
+pub record RegistersSayWhatCallsSay : Type 0 where
+  pub page : (held : Held) (output : ℕ) → register_word held output command.page ≡ held.page
+  pub status_byte : (held : Held) (output : ℕ) →
+      register_word held output command.status_byte ≡ status_byte held output
+  pub status_word : (held : Held) (output : ℕ) →
+      register_word held output command.status_word ≡ status_word held output
+  pub status_vout : (held : Held) (output : ℕ) →
+      register_word held output command.status_vout ≡ status_vout held output
+  pub status_cml : (held : Held) (output : ℕ) →
+      register_word held output command.status_cml ≡ status_cml held
+  pub readings : (held : Held) (output code : ℕ) →
+      (is_device_reading code || is_output_reading code) ≡ true →
+      register_word held output code ≡ reading_at held.readings output code
+
+-- Nothing is answered after a stop, and nothing taken after a repeated start.
+pub record RepliesFollowEndings : Type 0 where
+  pub stop : (held : Held) (bytes items : List ℕ) →
+      reply_of held bytes Stop ≢ Answer (record { items = items })
+  pub restart : (held : Held) (bytes : List ℕ) → reply_of held bytes Restart ≢ Taken
+
+-- K2 comes exactly for a code that isn't in the command table.
+pub record UnknownCodesAreRefused : Type 0 where
+  pub write : (held : Held) (bytes : List ℕ) → AreBytes bytes →
+      (reply_of held bytes Stop ≡ Refused UnsupportedCode)
+      ↔ ((place : ℕ) × (write_fault held.config.addr bytes ≡ Some (UnknownCode place)))
+  pub read : (held : Held) (bytes : List ℕ) →
+      (reply_of held bytes Restart ≡ Refused UnsupportedCode)
+      ↔ ((place : ℕ) × (request_fault held.config.addr bytes ≡ Some (UnknownCode place)))
+
+-- the code stands in the command table, and acts on the device and not on one output
+abbrev pub is_device_code : ℕ → Bool
+is_device_code code = option_map_or (λ line. not line.paged) (line_of code) false
+
+-- A code of the device acts and answers alike on every page that is there, and whatever PAGE is.
+pub record DeviceCodesIgnorePages : Type 0 where
+  pub carried : (config : Config) (words : Words) (page output other code : ℕ) (payload : Payload) →
+      is_device_code code ≡ true → output < config.count → other < config.count →
+      write_verdict config words page (PagePlusWrite output code payload)
+      ≡ write_verdict config words page (PagePlusWrite other code payload)
+  pub plain : (config : Config) (words : Words) (page other : ℕ) (message : Message) →
+      is_device_code (message_code message) ≡ true →
+      write_verdict config words page message ≡ write_verdict config words other message
+  pub read : (held : Held) (output other code : ℕ) → is_device_code code ≡ true →
+      register_word held output code ≡ register_word held other code

@@ -1,0 +1,49 @@
+ghost use Rattle.std.specs.Prelude.{◌≡◌, ◌<◌};
+ghost use Rattle.pm_device.specs.Status as spec;
+
+use crate::converter::Converter;
+use crate::status_bits::{StatusByte, StatusVout, StatusWord};
+use bitflags::Flags;
+
+impl Converter {
+    /// STATUS_BYTE of an output that is there: the bits of [`StatusByte`].
+    pub fn status_byte(&self, output: u8) -> u8
+        requires { output < self.now.config.count }
+        ensures { result ≡ spec.status_byte self.now output }
+    {
+        let off = !self.is_on(output);
+        StatusByte::new(off, self.status_cml() != 0, self.is_latched(output)).bits()
+    }
+
+    /// STATUS_WORD of an output that is there: the bits of [`StatusWord`].
+    pub fn status_word(&self, output: u8) -> u16
+        requires { output < self.now.config.count }
+        ensures { result ≡ spec.status_word self.now output }
+    {
+        let off = !self.is_on(output);
+        StatusWord::new(off, self.status_cml() != 0, self.is_latched(output)).bits()
+    }
+
+    /// STATUS_VOUT of an output that is there: the bits of [`StatusVout`].
+    pub fn status_vout(&self, output: u8) -> u8
+        requires { output < self.now.config.count }
+        ensures { result ≡ spec.status_vout self.now output }
+    {
+        StatusVout::new(self.is_latched(output)).bits()
+    }
+
+    /// STATUS_CML, the device's: the bits of `StatusCml`.
+    pub fn status_cml(&self) -> u8
+        ensures { result ≡ spec.status_cml self.now }
+    {
+        self.faults.status().bits()
+    }
+
+    // Whether bit 3 of an output's STATUS_VOUT is latched.
+    fn is_latched(&self, output: u8) -> bool
+        requires { output < self.now.config.count }
+        ensures { result ≡ spec.cut_at self.now.cut output }
+    {
+        self.cut[usize::from(output)]
+    }
+}

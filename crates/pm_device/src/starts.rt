@@ -1,0 +1,44 @@
+//! The settings as they start, by a configuration.
+
+ghost use Rattle.std.specs.Prelude.{◌≡◌, ◌<◌, ℕ, [], slice_index_or};
+ghost use Rattle.pm_device.specs.Start.{IsSound, no_start, start_row, start_words};
+
+use crate::config::{Config, OutputStart};
+use pm_model::{Plain, settings_are_a_map};
+use pm_table::Reg;
+
+/// The settings as they start.
+pub(crate) fn start_settings(config: &Config) -> Plain
+    requires { IsSound config.now }
+    ensures count { result.count ≡ config.now.count }
+    ensures words { result.words ≡ start_words config.now }
+{
+    // No other words give each cell its start word.
+    settings_are_a_map();
+    Plain::new(config.count, rows(config.starts), config.protect)
+}
+
+// The start words of each output, in the order of its registers.
+fn rows(starts: [OutputStart; 8]) -> [[u16; Reg::COUNT]; 8]
+    ensures { (output : ℕ) → output < 8 →
+        slice_index_or result output [] ≡ start_row (slice_index_or starts output no_start) }
+{
+    let [a, b, c, d, e, f, g, h] = starts;
+    [
+        row(&a),
+        row(&b),
+        row(&c),
+        row(&d),
+        row(&e),
+        row(&f),
+        row(&g),
+        row(&h),
+    ]
+}
+
+// The start words of an output, in the order of its registers.
+fn row(start: &OutputStart) -> [u16; Reg::COUNT]
+    ensures { result ≡ start_row start.now }
+{
+    Reg::ALL.map(|register| start.word(register))
+}

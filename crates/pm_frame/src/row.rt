@@ -1,0 +1,90 @@
+ghost use Rattle.std.specs.Prelude.{◌≡◌, ◌≤◌};
+ghost use Rattle.pm_table.specs.Commands.{attributes_of, is_known, payload_length};
+ghost use Rattle.pm_frame.specs.Fault.{codes_of};
+ghost use Rattle.pm_frame.specs.Layout as layout;
+
+use pm_table::{Attributes, Code};
+
+/// Which way a packet goes, as its code sees it.
+#[derive(Clone, Copy)]
+pub(crate) enum Direction {
+    /// The host writes.
+    Write,
+    /// The host reads.
+    Read,
+}
+
+/// A code with what the command table says of it, which is looked up once for each packet.
+#[derive(Clone, Copy)]
+pub(crate) struct Row {
+    code: Code,
+    attributes: Option<Attributes>,
+    ghost looked_up: { attributes ≡ attributes_of code.0 },
+    ghost short: { payload_length code.0 ≤ 2 },
+}
+
+impl Row {
+    /// The row of this code.
+    pub(crate) fn of(code: Code) -> Row
+        ensures { result.code ≡ code }
+    {
+        Row {
+            code,
+            attributes: code.attributes(),
+        }
+    }
+
+    /// Whether the code stands in the command table.
+    pub(crate) fn is_known(self) -> bool
+        ensures { result ≡ is_known self.code.0 }
+    {
+        self.attributes.is_some()
+    }
+
+    /// Whether the code goes this way: it's written, or read.
+    pub(crate) fn goes(self, direction: Direction) -> bool
+        ensures { result ≡ codes_of direction self.code.0 }
+    {
+        match (self.attributes, direction) {
+            (Some(attributes), Direction::Write) => attributes.writes,
+            (Some(attributes), Direction::Read) => attributes.reads,
+            (None, _) => false,
+        }
+    }
+
+    /// The bytes of the code's payload, 0 to 2.
+    pub(crate) fn payload_length(self) -> usize
+        ensures length { result ≡ payload_length self.code.0 }
+        ensures short { result ≤ 2 }
+    {
+        match self.attributes {
+            Some(attributes) => usize::from(attributes.length),
+            None => 0,
+        }
+    }
+
+    /// Whether PAGE_PLUS carries the code.
+    pub(crate) fn is_carried(self) -> bool
+        ensures { result ≡ layout.is_carried self.code.0 }
+    {
+        !matches!(
+            self.code,
+            Code::PAGE | Code::PAGE_PLUS_WRITE | Code::PAGE_PLUS_READ | Code::COEFFICIENTS
+        )
+    }
+
+    /// Whether a plain packet writes the code.
+    pub(crate) fn is_plain_write(self) -> bool
+        ensures { result ≡ layout.is_plain_write self.code.0 }
+    {
+        self.goes(Direction::Write) && self.code != Code::PAGE_PLUS_WRITE
+    }
+
+    /// Whether a plain packet reads the code.
+    pub(crate) fn is_plain_read(self) -> bool
+        ensures { result ≡ layout.is_plain_read self.code.0 }
+    {
+        self.goes(Direction::Read)
+            && !matches!(self.code, Code::PAGE_PLUS_READ | Code::COEFFICIENTS)
+    }
+}

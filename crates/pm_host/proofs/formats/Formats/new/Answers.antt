@@ -1,7 +1,0 @@
-use Rattle.std.proofs.Common.{refl}
-use Rattle.pm_host.specs.Summary.{no_formats}
-use Rattle.pm_host.proofs.formats.Formats.new.Goals as goal
-
-pub returns : goal.returns
-unfolding no_formats
-returns c = refl

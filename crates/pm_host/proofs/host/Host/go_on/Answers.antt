@@ -1,5 +1,0 @@
-use Rattle.pm_host.proofs.FrameLemmas.{stage_message-fits}
-use Rattle.pm_host.proofs.host.Host.go_on.Goals as goal
-
-pub write_part-self-inside-requires-clause-fits : goal.write_part-self-inside-requires-clause-fits
-write_part-self-inside-requires-clause-fits c = rw c.message.ensures (stage_message-fits c.args.stage)

@@ -1,0 +1,17 @@
+-- The letters and the names of the host's refusals, as programs print them: `H6 TooUncertain`. This
+-- project's own choice.
+use Rattle.std.specs.Prelude.{ℕ, List, codes}
+use Rattle.pm_num.specs.FaultWords.{num_fault_words}
+use Rattle.pm_host.specs.declared.fault.HostFault.{HostFault}
+use Rattle.pm_host.specs.declared.fault.HostFault.TheVariants.{OutputCount, Passes, Busy, UnknownOutput, BadWord, TooUncertain, FormatUnknown, Num}
+
+-- the fault of a number is told as that
+abbrev pub host_fault_words : HostFault → List ℕ
+host_fault_words OutputCount = codes "H1 OutputCount"
+host_fault_words Passes = codes "H2 Passes"
+host_fault_words Busy = codes "H3 Busy"
+host_fault_words UnknownOutput = codes "H4 UnknownOutput"
+host_fault_words BadWord = codes "H5 BadWord"
+host_fault_words TooUncertain = codes "H6 TooUncertain"
+host_fault_words FormatUnknown = codes "H7 FormatUnknown"
+host_fault_words (Num fault) = num_fault_words fault

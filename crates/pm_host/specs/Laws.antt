@@ -1,0 +1,84 @@
+-- What the laws of this crate say, each by a name that a crate above takes it by. A transcript is
+-- newest first.
+use Rattle.std.specs.Prelude.{◌≡◌, ◌≢◌, ℕ, ◌*◌, ◌<◌, ◌≤◌, true, List, [], ◌∷◌, Some, is_some}
+use Rattle.pm_table.specs.declared.cell.Cell.{Cell}
+use Rattle.pm_table.specs.Cell.{cell_accepts, IsCell}
+use Rattle.pm_table.specs.Codes as command
+use Rattle.pm_frame.specs.declared.message.Message.{Message}
+use Rattle.pm_frame.specs.Layout.{fits_layout}
+use Rattle.pm_frame.specs.View.{message_code}
+use Rattle.pm_host.specs.declared.standing.Standing.TheVariants.{Unknown}
+use Rattle.pm_host.specs.Frames.{CanSend, frames_of}
+use Rattle.pm_host.specs.Marks.{marks}
+use Rattle.pm_host.specs.Now.{now, AreTold}
+use Rattle.pm_host.specs.Possible.{possible_of, is_possible, restart_seen_of}
+use Rattle.pm_host.specs.Refusals.{IsSetup, is_busy}
+use Rattle.pm_host.specs.Sound.{IsSound}
+use Rattle.pm_host.specs.Standing.{standing_of}
+use Rattle.pm_host.specs.Summary.{Summary, start, next, step_of, step_by, sending_in, possible_at, standing_at, format_at}
+use Rattle.pm_host.specs.Transcript.{Setup, Order, Entry, open_job, end_of, sending_of, format_of_output}
+
+-- What a host holds after its transcript, which the definitions find by looking back over the whole
+-- of it, is what one entry after another makes of its start.
+pub record TranscriptsAreFollowed : Type 0 where
+  -- of no entry, and of one more
+  pub none : (setup : Setup) → IsSetup setup → now setup [] ≡ start setup
+  pub more : (setup : Setup) (entries : List Entry) (entry : Entry) → IsSetup setup
+      → AreTold setup (entry ∷ entries) → now setup (entry ∷ entries) ≡ next (now setup entries) entry
+  -- what the call that brings an entry answers is how the job stands after it
+  pub step : (setup : Setup) (entries : List Entry) (entry : Entry) → IsSetup setup
+      → AreTold setup (entry ∷ entries)
+      → step_of (now setup entries) entry ≡ step_by (end_of setup (entry ∷ entries))
+  -- no entry changes what a host was made with
+  pub kept : (s : Summary) (entry : Entry) → (next s entry).setup ≡ s.setup
+  -- what the host answers is what the definitions find in the transcript and its marks
+  pub busy : (setup : Setup) (entries : List Entry)
+      → is_busy (now setup entries) ≡ is_some (open_job setup entries)
+  pub sending : (setup : Setup) (entries : List Entry)
+      → sending_in (now setup entries) ≡ sending_of setup entries
+  pub format : (setup : Setup) (entries : List Entry) (output : ℕ) → output < 8
+      → format_at (now setup entries) output ≡ format_of_output setup entries output
+  pub standing : (setup : Setup) (entries : List Entry) (cell : Cell) → IsCell 8 cell
+      → standing_at (now setup entries) cell ≡ standing_of (marks setup entries) cell
+  pub possible : (setup : Setup) (entries : List Entry) (cell : Cell) → IsCell 8 cell
+      → possible_at (now setup entries) cell ≡ possible_of (marks setup entries) cell
+  pub seen : (setup : Setup) (entries : List Entry)
+      → (now setup entries).known.seen ≡ restart_seen_of (marks setup entries)
+  -- what holds of each host between two calls holds of it
+  pub sound : (setup : Setup) (entries : List Entry) → IsSetup setup → AreTold setup entries
+      → IsSound (now setup entries)
+
+-- no job sends more than twice as many frames as a job has passes
+abbrev pub JobsAreBounded : Type 0
+JobsAreBounded = (setup : Setup) (entries : List Entry) → IsSetup setup → AreTold setup entries
+    → frames_of setup entries ≤ 2 * setup.passes
+
+-- the frames that a host sends
+pub record FramesAreNamed : Type 0 where
+  -- they are of these kinds and no others
+  pub named : (setup : Setup) (entries : List Entry) (message : Message) → IsSetup setup
+      → AreTold setup entries → sending_of setup entries ≡ Some message → CanSend setup message
+  -- each has its layout
+  pub fits : (setup : Setup) (message : Message) → CanSend setup message
+      → fits_layout message ≡ true
+  -- none means PAGE, by itself or carried
+  pub never_page : (setup : Setup) (message : Message) → CanSend setup message
+      → message_code message ≢ command.page
+
+-- while an order is open, from its acceptance to its end
+pub record OpenOrdersAreUncertain : Type 0 where
+  -- its cell exists, and accepts its word
+  pub there : (setup : Setup) (entries : List Entry) (cell : Cell) (word : ℕ) → IsSetup setup
+      → AreTold setup entries → open_job setup entries ≡ Some (Order cell word)
+      → IsCell setup.outputs cell
+  pub accepted : (setup : Setup) (entries : List Entry) (cell : Cell) (word : ℕ) → IsSetup setup
+      → AreTold setup entries → open_job setup entries ≡ Some (Order cell word)
+      → cell_accepts cell word ≡ true
+  -- its word is one that the cell may hold
+  pub possible : (setup : Setup) (entries : List Entry) (cell : Cell) (word : ℕ) → IsSetup setup
+      → AreTold setup entries → open_job setup entries ≡ Some (Order cell word)
+      → is_possible word (possible_of (marks setup entries) cell) ≡ true
+  -- no word of the cell is confirmed
+  pub unknown : (setup : Setup) (entries : List Entry) (cell : Cell) (word : ℕ) → IsSetup setup
+      → AreTold setup entries → open_job setup entries ≡ Some (Order cell word)
+      → standing_of (marks setup entries) cell ≡ Unknown

@@ -1,0 +1,20 @@
+/// A command that a job sends until it is acknowledged.
+#[derive(Clone, Copy, Debug)]
+pub(crate) enum Command {
+    /// CLEAR_FAULTS: clears the latched status of an output.
+    ClearFaults { output: u8 },
+}
+
+impl Command {
+    ghost use Rattle.std.specs.Prelude.{◌≡◌};
+    ghost use Rattle.pm_host.specs.Cells.{is_command};
+
+    /// Whether the output that it names is one of this many.
+    pub(crate) fn is_there(self, outputs: u8) -> bool
+        ensures { result ≡ is_command outputs self }
+    {
+        match self {
+            Command::ClearFaults { output } => output < outputs,
+        }
+    }
+}

@@ -1,0 +1,67 @@
+//! The word of an order that names a number of microvolts.
+
+ghost use Rattle.std.specs.Prelude.{◌≡◌, Some, IfOk};
+ghost use Rattle.std.specs.Result.{result_err};
+ghost use Rattle.pm_num.specs.AnyFormat.{shape_of, shape_value, shape_rank};
+ghost use Rattle.pm_num.specs.Nearest.{IsNearest};
+ghost use Rattle.pm_num.specs.NearestWord.{nearest_word as spec_nearest_word};
+ghost use Rattle.pm_num.specs.Ratio.{micros};
+ghost use Rattle.pm_table.specs.Cell.{output_of};
+ghost use Rattle.pm_host.specs.Refusals.{range_fault, outside_fault, voltage_fault};
+ghost use Rattle.pm_host.specs.Summary.{format_at};
+
+use crate::fault::HostFault;
+use crate::host::Host;
+use pm_num::{AnyFormat, Frac, NumFault, NumFormat, micro};
+use pm_table::Cell;
+
+impl Host {
+    /// The format of the cell's output, where the cell is a voltage that may be ordered now.
+    pub(super) fn voltage_format(&self, cell: Cell) -> Result<AnyFormat, HostFault>
+        ensures fault { result_err result ≡ voltage_fault self.now cell }
+        ensures format { IfOk result (λ format.
+            format_at self.now (output_of cell) ≡ Some (shape_of format)) }
+    {
+        self.cell_is_free(cell)?;
+        match cell {
+            Cell::Out(output, register) if register.is_voltage() => {
+                self.learned.get(output).ok_or(HostFault::FormatUnknown)
+            }
+            _ => Err(HostFault::BadWord),
+        }
+    }
+}
+
+/// The word of a format that is nearest to a number of microvolts. N5 where the number is beyond
+/// 10^15 in size, N3 and N4 where it lies outside the format's least and greatest value.
+pub(super) fn nearest_word(format: &AnyFormat, x: i64) -> Result<u16, HostFault>
+    ensures fault { result_err result ≡ range_fault (shape_of format.now) x }
+    ensures nearest { let shape = shape_of format.now in
+        IfOk result (IsNearest (shape_value shape) (shape_rank shape) (micros x)) }
+    ensures found { let shape = shape_of format.now in
+        IfOk result (λ word. spec_nearest_word (shape_value shape) (shape_rank shape) (micros x)
+        ≡ Some word) }
+{
+    let micros = match micro(x) {
+        Ok(micros) => micros,
+        Err(fault) => return Err(HostFault::Num(fault)),
+    };
+    match word_in(format, micros) {
+        Ok(word) => Ok(word),
+        Err(fault) => Err(HostFault::Num(fault)),
+    }
+}
+
+// The word of a format that is nearest to a number, of any format. N3 and N4 where it lies outside.
+fn word_in<F: NumFormat>(format: &F, x: Frac) -> Result<u16, NumFault>
+    ensures fault { result_err result
+        ≡ outside_fault (F.lowest format.now) (F.highest format.now) x }
+    ensures nearest { IfOk result (IsNearest (F.value format.now) (F.rank format.now) x) }
+    ensures found { IfOk result
+        (λ word. spec_nearest_word (F.value format.now) (F.rank format.now) x ≡ Some word) }
+{
+    match format.nearest(x) {
+        Ok(word) => Ok(word),
+        Err(fault) => Err(fault),
+    }
+}

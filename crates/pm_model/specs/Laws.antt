@@ -1,0 +1,54 @@
+-- What the laws of this crate say, each by a name that a crate above takes it by.
+use Rattle.std.specs.Prelude.{◌≡◌, ℕ, ◌≤◌, false, List, if◌then◌else◌}
+use Rattle.pm_table.specs.declared.cell.Cell.{Cell}
+use Rattle.pm_table.specs.Cell.{same_cell, IsCell}
+use Rattle.pm_model.specs.Settings.{Settings, Words, AreWords, word_at, with_word, words_of, HaveSameRegisters}
+use Rattle.pm_model.specs.Commanded.{Scale, commanded, greatest_value, is_above, is_cut}
+use Rattle.pm_model.specs.OrderMachine.{Step, IsAccepted, IsOwnWord, IsRun, machine_of}
+
+-- the words of the cells of eight outputs are a map: a cell that was written has the new word and
+-- every other cell its old one; a write leaves a word for each cell; the same write again changes
+-- nothing, and neither does that of the existing word; any words can be given to the cells, and no
+-- two maps give each cell the same one
+pub record SettingsAreAMap : Type 0 where
+  pub read : (words : Words) (cell other : Cell) (word : ℕ) →
+      AreWords words → IsCell 8 cell → IsCell 8 other →
+      word_at (with_word words cell word) other
+      ≡ (if same_cell cell other then word else word_at words other)
+  pub kept : (words : Words) (cell : Cell) (word : ℕ) →
+      AreWords words → AreWords (with_word words cell word)
+  pub again : (words : Words) (cell : Cell) (word : ℕ) →
+      with_word (with_word words cell word) cell word ≡ with_word words cell word
+  pub unchanged : (words : Words) (cell : Cell) → AreWords words → IsCell 8 cell →
+      with_word words cell (word_at words cell) ≡ words
+  pub made : (word : Cell → ℕ) → AreWords (words_of word)
+      × ((cell : Cell) → IsCell 8 cell → word_at (words_of word) cell ≡ word cell)
+  pub one : (words : Words) (word : Cell → ℕ) → AreWords words →
+      ((cell : Cell) → IsCell 8 cell → word_at words cell ≡ word cell) →
+      words ≡ words_of word
+
+-- what an output commands, and whether it is cut, depends on that output's own registers alone
+pub record OutputsStandAlone : Type 0 where
+  pub commanded : (value : Scale) (words others : Words) (output : ℕ) →
+      HaveSameRegisters words others output →
+      commanded value words output ≡ commanded value others output
+  pub cut : (value : Scale) (words others : Words) (output : ℕ) →
+      HaveSameRegisters words others output →
+      is_cut value words output ≡ is_cut value others output
+
+-- no output commands a value above that of its VOUT_MAX
+abbrev pub CommandsAreLimited : Type 0
+CommandsAreLimited = (value : Scale) (words : Words) (output : ℕ) →
+    is_above (commanded value words output) (greatest_value value words output) ≡ false
+
+-- in a run of the order machine, which starts with a word for each cell of at most eight outputs,
+-- each cell that there is has its start word or one that was accepted for that very cell, a pending
+-- order is one that was accepted, and the start stays what it was
+pub record OrdersStayInTheirCells : Type 0 where
+  pub own : (start : Settings) (steps : List Step) (cell : Cell) →
+      start.count ≤ 8 → AreWords start.words → IsRun start steps → IsCell start.count cell →
+      IsOwnWord start steps cell (word_at (machine_of start steps).words cell)
+  pub pending : (start : Settings) (steps : List Step) → IsRun start steps →
+      IsAccepted start steps (machine_of start steps).pending
+  pub start : (start : Settings) (steps : List Step) →
+      (machine_of start steps).start ≡ start

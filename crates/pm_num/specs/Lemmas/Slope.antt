@@ -1,0 +1,104 @@
+use Rattle.std.specs.Prelude.{◌≡◌, ◌≢◌, ℕ, ◌*◌, ◌^◌, ◌<◌, suc, ℤ, pos, negsuc, ◌-ℤ◌, ◌*ℤ◌, ◌≤ℤ◌, unsigned_abs, refl}
+use Rattle.std.proofs.Common.{arith, lit<}
+use Rattle.std.proofs.lemmas.Int.{ints}
+use Rattle.std.proofs.lemmas.Bool.Decides.{nat_tests}
+use Rattle.std.proofs.Math.Nat.{one-le-pow, mul-pos}
+use Rattle.pm_num.specs.Ratio.{AtMost, IsBetween}
+use Rattle.pm_num.specs.Value.{upper, lower, signed, sign, direct_value, direct_least, direct_greatest}
+use Rattle.pm_num.specs.Nearest.{IsValue, one_rank}
+use Rattle.pm_num.specs.Lemmas.Integers.{le-times, same_from_times}
+use Rattle.pm_num.specs.Lemmas.OneWord.{IsOneWord}
+
+-- DIRECT.
+
+-- both parts of a power of ten are positive
+pub upper_ten-positive : (n : ℤ) → 0 < upper 10 n
+upper_ten-positive (pos n) = one-le-pow n 10 (omega arith)
+upper_ten-positive (negsuc n) = omega arith
+
+-- and the lower one
+pub lower_ten-positive : (n : ℤ) → 0 < lower 10 n
+lower_ten-positive (pos n) = omega arith
+lower_ten-positive (negsuc n) = one-le-pow (suc n) 10 (omega arith)
+
+-- Two's complement at 16 bits: its range, and no two words are one number.
+pub signed-below : (w : ℕ) → w < 2 ^ 16 → signed 16 w ≤ℤ pos 32767
+signed-below w h = grind (arith, ints, nat_tests)
+
+-- and from below,
+pub signed-above : (w : ℕ) → w < 2 ^ 16 → negsuc 32767 ≤ℤ signed 16 w
+signed-above w h = grind (arith, ints, nat_tests)
+
+-- and no two words are one number
+pub signed-one : (u w : ℕ) → u < 2 ^ 16 → w < 2 ^ 16 → signed 16 u ≡ signed 16 w → u ≡ w
+signed-one u w hu hw e = grind (arith, ints, nat_tests)
+
+-- The greater m * word, the greater the value.
+pub at_most_by_sign : (m b r : ℤ) (u w : ℕ) → (sign m *ℤ signed 16 u) ≤ℤ (sign m *ℤ signed 16 w)
+    → AtMost (direct_value m b r u) (direct_value m b r w)
+at_most_by_sign (pos n) b r u w h =
+    let y = signed 16 u in
+    let z = signed 16 w in
+    let k : y ≤ℤ z = omega (arith, ints) in
+    let l = le-times y z (lower 10 r) k in
+    le-times (pos 1 *ℤ (y *ℤ pos (lower 10 r) -ℤ b *ℤ pos (upper 10 r))) (pos 1 *ℤ (z *ℤ pos (lower 10 r) -ℤ b *ℤ pos (upper 10 r)))
+    (n * upper 10 r) (omega (arith, ints))
+at_most_by_sign (negsuc n) b r u w h =
+    let y = signed 16 u in
+    let z = signed 16 w in
+    let k : z ≤ℤ y = omega (arith, ints) in
+    let l = le-times z y (lower 10 r) k in
+    le-times (negsuc 0 *ℤ (y *ℤ pos (lower 10 r) -ℤ b *ℤ pos (upper 10 r))) (negsuc 0 *ℤ (z *ℤ pos (lower 10 r) -ℤ b *ℤ pos (upper 10 r)))
+    (suc n * upper 10 r) (omega (arith, ints))
+
+-- so the values lie between those of the least and of the greatest word
+pub direct-within : (m b r : ℤ) (w : ℕ) → w < 2 ^ 16
+    → IsBetween (direct_value m b r (direct_least m)) (direct_value m b r (direct_greatest m)) (direct_value m b r w)
+direct-within (pos n) b r w h =
+    let l = signed-above w h in
+    let g = signed-below w h in
+    record {
+      from_least = at_most_by_sign (pos n) b r 32768 w (omega (arith, ints));
+      to_greatest = at_most_by_sign (pos n) b r w 32767 (omega (arith, ints));
+    }
+direct-within (negsuc n) b r w h =
+    let l = signed-above w h in
+    let g = signed-below w h in
+    record {
+      from_least = at_most_by_sign (negsuc n) b r 32767 w (omega (arith, ints));
+      to_greatest = at_most_by_sign (negsuc n) b r w 32768 (omega (arith, ints));
+    }
+
+-- a slope that is not 0 has a size,
+unsigned_abs-positive : (m : ℤ) → m ≢ pos 0 → 0 < unsigned_abs m
+unsigned_abs-positive m h = omega (arith, ints)
+
+-- so the denominators are positive
+pub direct-has_den : (m b r : ℤ) (w : ℕ) → m ≢ pos 0 → 0 < (direct_value m b r w).den
+direct-has_den m b r w h = mul-pos (unsigned_abs-positive m h) (upper_ten-positive r)
+
+-- a sign can be taken away on both sides
+same_by_sign : (m a b : ℤ) → sign m *ℤ a ≡ sign m *ℤ b → a ≡ b
+same_by_sign (pos n) a b e = omega (arith, ints)
+same_by_sign (negsuc n) a b e = omega (arith, ints)
+
+-- no two words have one value
+pub direct-one_word : (m b r : ℤ) → m ≢ pos 0 → IsOneWord (direct_value m b r) one_rank
+direct-one_word m b r slope u w hu hw same _ =
+    let y = signed 16 u *ℤ pos (lower 10 r) in
+    let z = signed 16 w *ℤ pos (lower 10 r) in
+    let c = b *ℤ pos (upper 10 r) in
+    let e = same_from_times (sign m *ℤ (y -ℤ c)) (sign m *ℤ (z -ℤ c)) (unsigned_abs m * upper 10 r) (direct-has_den m b r u slope) same in
+    let f = same_by_sign m (y -ℤ c) (z -ℤ c) e in
+    let g : y ≡ z = omega (arith, ints) in
+    signed-one u w hu hw (same_from_times (signed 16 u) (signed 16 w) (lower 10 r) (lower_ten-positive r) g)
+
+-- a word has the least value,
+pub direct-least_met : (m b r : ℤ) → IsValue (direct_value m b r) (direct_value m b r (direct_least m))
+direct-least_met (pos n) b r = (0x8000, lit< tt, refl)
+direct-least_met (negsuc n) b r = (0x7FFF, lit< tt, refl)
+
+-- and another the greatest
+pub direct-greatest_met : (m b r : ℤ) → IsValue (direct_value m b r) (direct_value m b r (direct_greatest m))
+direct-greatest_met (pos n) b r = (0x7FFF, lit< tt, refl)
+direct-greatest_met (negsuc n) b r = (0x8000, lit< tt, refl)

@@ -1,0 +1,41 @@
+use Rattle.std.specs.Prelude.{ℕ, ◌^◌, ◌<◌, ◌≤◌, suc, ℤ, pos, negsuc, ◌*ℤ◌, ◌≤ℤ◌}
+use Rattle.std.proofs.Common.{arith}
+use Rattle.std.proofs.lemmas.Int.{ints}
+use Rattle.std.proofs.lemmas.Nat.{pow_pos}
+use Rattle.pm_num.specs.Ratio.{AtMost, IsBetween}
+use Rattle.pm_num.specs.Value.{upper, lower, ulinear16_value}
+use Rattle.pm_num.specs.Nearest.{one_rank}
+use Rattle.pm_num.specs.Lemmas.Integers.{le-times, same_from_times}
+use Rattle.pm_num.specs.Lemmas.OneWord.{IsOneWord}
+
+-- ULINEAR16.
+
+-- both parts of a power of two are positive
+pub upper-positive : (n : ℤ) → 0 < upper 2 n
+upper-positive (pos n) = pow_pos n
+upper-positive (negsuc n) = omega arith
+
+-- and the lower one
+pub lower-positive : (n : ℤ) → 0 < lower 2 n
+lower-positive (pos n) = omega arith
+lower-positive (negsuc n) = pow_pos (suc n)
+
+-- A greater word has a greater value.
+pub at_most_by_word : (n : ℤ) (u w : ℕ) → u ≤ w → AtMost (ulinear16_value n u) (ulinear16_value n w)
+at_most_by_word n u w h =
+    let p : pos u ≤ℤ pos w = omega (arith, ints) in
+    le-times (pos u *ℤ pos (upper 2 n)) (pos w *ℤ pos (upper 2 n)) (lower 2 n) (le-times (pos u) (pos w) (upper 2 n) p)
+
+-- so the values lie between those of the least and of the greatest word
+pub ulinear16-within : (n : ℤ) (w : ℕ) → w < 2 ^ 16 → IsBetween (ulinear16_value n 0) (ulinear16_value n 65535) (ulinear16_value n w)
+ulinear16-within n w h = record {
+  from_least = at_most_by_word n 0 w (omega arith);
+  to_greatest = at_most_by_word n w 65535 (omega arith);
+}
+
+-- and no two words have one value
+pub ulinear16-one_word : (n : ℤ) → IsOneWord (ulinear16_value n) one_rank
+ulinear16-one_word n u w hu hw same _ =
+    let e = same_from_times (pos u *ℤ pos (upper 2 n)) (pos w *ℤ pos (upper 2 n)) (lower 2 n) (lower-positive n) same in
+    let f = same_from_times (pos u) (pos w) (upper 2 n) (upper-positive n) e in
+    omega (arith, ints)

@@ -1,0 +1,89 @@
+-- Why an event is taken, and the job that it asks for.
+use Rattle.std.proofs.Common.{◌≡◌, ℕ, ℤ, Bool, true, false, not, Option, Some, None, refl, ap, subst}
+use Rattle.std.specs.Prelude.{nat_le, option_map}
+use Rattle.std.specs.Option.{option_or, option_and_then, option_map_or}
+use Rattle.std.proofs.lemmas.Option.{same_Some}
+use Rattle.pm_table.specs.declared.cell.Cell.{Cell}
+use Rattle.pm_table.specs.Cell.{output_of}
+use Rattle.pm_host.specs.declared.fault.HostFault.{HostFault}
+use Rattle.pm_host.specs.Refusals.{job_fault, order_fault, micro_fault, micro_word, voltage_fault, range_fault}
+use Rattle.pm_host.specs.Summary.{Summary, format_at, next as host_next}
+use Rattle.pm_host.specs.Transcript as host
+use Rattle.pm_world.specs.declared.event.Event.{Event}
+use Rattle.pm_world.specs.declared.event.Event.TheVariants.{OrderMicro, RestartDevice, RestartHost}
+use Rattle.pm_world.specs.declared.stop.Cause.{Cause}
+use Rattle.pm_world.specs.declared.stop.Cause.TheVariants.{Full}
+use Rattle.pm_world.specs.Confirmed.{restarts_converter}
+use Rattle.pm_world.specs.State.{State, asked, share_of, share_beside, tells, shared, counted, next, rule, refused, event_cause, cause_beside, cause_of, event_limit, IsTaken}
+
+-- of two, none
+pub or-none : {A : Type 0} (a b : Option A) → option_or a b ≡ None → (a ≡ None) × (b ≡ None)
+or-none None b h = (refl, h)
+or-none (Some x) b h = cc
+
+-- a rule that names no cause doesn't apply
+pub rule-none : (b : Bool) (cause : Cause) → rule b cause ≡ None → b ≡ false
+rule-none false cause h = refl
+rule-none true cause h = cc
+
+pub not-false : (b : Bool) → not b ≡ false → b ≡ true
+not-false true h = refl
+not-false false h = cc
+
+-- what the host doesn't refuse has no fault
+refused-none : (fault : Option HostFault) → refused fault ≡ None → fault ≡ None
+refused-none None h = refl
+refused-none (Some fault) h = cc
+
+-- an event that is taken has no cause
+pub taken-free : (s : State) (event : Event) → IsTaken s event → event_cause s event ≡ None
+unfolding cause_of
+taken-free s event taken = (or-none (rule (nat_le event_limit s.taken) Full) (event_cause s event) taken.free).1
+
+-- a job that an event asks for, and that has no cause, has no fault: of an order in microvolts,
+word-free : (s : Summary) (cell : Cell) (word : Option ℕ) (job : host.Job) →
+    option_map (λ w. host.Order cell w) word ≡ Some job →
+    option_and_then (λ w. order_fault s cell w) word ≡ None → job_fault s job ≡ None
+word-free s cell None job is h = cc
+word-free s cell (Some word) job is h = subst (λ j. job_fault s j ≡ None) (same_Some (host.Order cell word) job is) h
+
+micro-free : (s : Summary) (cell : Cell) (x : ℤ) (job : host.Job) →
+    option_map (λ w. host.Order cell w) (micro_word s cell x) ≡ Some job → micro_fault s cell x ≡ None →
+    job_fault s job ≡ None
+micro-free s cell x job is h =
+    let past_voltage = (or-none (voltage_fault s cell) _ h).1 in
+    let past_range = (or-none (option_and_then (λ shape. range_fault shape x) (format_at s (output_of cell))) _ past_voltage).1 in
+    word-free s cell (micro_word s cell x) job is
+    (or-none (option_and_then (λ w. order_fault s cell w) (micro_word s cell x)) None past_range).0
+
+-- and of every other event
+fault-none : (s : Summary) (o : Option host.Job) (beside : Option Cause) (job : host.Job) → o ≡ Some job →
+    option_map_or (λ j. refused (job_fault s j)) o beside ≡ None → job_fault s job ≡ None
+fault-none s None beside job is h = cc
+fault-none s (Some j) beside job is h = subst (λ k. job_fault s k ≡ None) (same_Some j job is) (refused-none _ h)
+
+pub job-free : (s : State) (event : Event) (job : host.Job) → asked s event ≡ Some job → event_cause s event ≡ None →
+    job_fault s.host job ≡ None
+job-free s (OrderMicro cell x) job is h = micro-free s.host cell x job is (refused-none _ h)
+job-free s event job is h = fault-none s.host (asked s event) (cause_beside s event) job is h
+
+-- an event that asks for a job tells the host alone, that it was accepted
+pub asked-share : (s : State) (event : Event) (job : host.Job) → asked s event ≡ Some job →
+    share_of s event ≡ tells (host.Accepted job)
+asked-share s event job is = ap (λ o. option_map_or (λ j. tells (host.Accepted j)) o (share_beside s event)) is
+
+pub asked-next : (s : State) (event : Event) (job : host.Job) → asked s event ≡ Some job →
+    next s event ≡ counted (shared s (tells (host.Accepted job)))
+unfolding next
+asked-next s event job is = ap (λ share. counted (shared s share)) (asked-share s event job is)
+
+-- and any other tells the ends what it does
+pub beside-next : (s : State) (event : Event) → asked s event ≡ None → next s event ≡ counted (shared s (share_beside s event))
+unfolding next
+beside-next s event is =
+    ap (λ o. counted (shared s (option_map_or (λ j. tells (host.Accepted j)) o (share_beside s event)))) is
+
+-- it is no restart of the converter
+pub asked-restarts : (s : State) (event : Event) (job : host.Job) → asked s event ≡ Some job → restarts_converter event ≡ false
+asked-restarts s RestartDevice job is = cc
+asked-restarts s event job is = refl

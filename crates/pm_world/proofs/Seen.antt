@@ -1,0 +1,382 @@
+-- The words that the host calls possible, and the restarts that it saw, event by event.
+use Rattle.std.proofs.Common.{◌≡◌, ◌≢◌, ◌⊎◌, inl, inr, ℕ, Bool, true, false, not, cond, ◌||◌, ◌&&◌, List, [], ◌∷◌, ◌++◌, Option, Some, None, refl, sym, ◌∙◌, ap, subst}
+use Rattle.std.specs.Prelude.{option_to_list}
+use Rattle.std.specs.List.{list_any}
+use Rattle.std.specs.Option.{option_map, option_map_or}
+use Rattle.std.proofs.lemmas.Bool.{cases_Bool, true≢false, false≢true}
+use Rattle.std.proofs.lemmas.Option.{none-some, same_Some}
+use Rattle.pm_table.specs.declared.cell.Cell.{Cell}
+use Rattle.pm_table.specs.Cell.{IsCell, same_cell}
+use Rattle.pm_frame.specs.declared.message.Message.{Message}
+use Rattle.pm_model.specs.Settings.{Words, word_at}
+use Rattle.pm_device.specs.declared.config.Config.{Config}
+use Rattle.pm_host.specs.declared.possible.Possible.TheVariants.{Any}
+use Rattle.pm_host.specs.Answers.{good_word}
+use Rattle.pm_host.specs.Marks.{Mark, Put, Good, Restart, read_by, puts, goods, marks}
+use Rattle.pm_host.specs.Possible.{is_possible, possible_from, possible_of, words_since, restart_seen_of}
+use Rattle.pm_host.specs.Refusals.{IsSetup}
+use Rattle.pm_host.specs.Summary.{sending_in, possible_at}
+use Rattle.pm_host.specs.Transcript as host
+use Rattle.pm_world.specs.Below.{Below}
+use Rattle.pm_world.specs.declared.event.Arrival.{Arrival}
+use Rattle.pm_world.specs.declared.event.Back.{Back}
+use Rattle.pm_world.specs.declared.event.Event.{Event}
+use Rattle.pm_world.specs.declared.event.Event.TheVariants.{Deliver, Exchange, RestartHost}
+use Rattle.pm_world.specs.Confirmed.{is_good_for, reads, reads_cell, restarts_converter, restarted_since}
+use Rattle.pm_world.specs.Life.{life, now, state_of, AreTaken}
+use Rattle.pm_world.specs.Possible.{restarts_host, has_read, is_surprise_for, surprises, surprises_by, restarted_between, restarted_since_host, PossibleIsHeld, SeenIsTrue}
+use Rattle.pm_world.specs.Setup.{setup_of}
+use Rattle.pm_world.specs.State.{State, asked, share_of, share_beside, exchanged, tells, event_cause, exchange_cause}
+use Rattle.pm_world.proofs.HeldWords.{Knows, knows, reads-true, life-known}
+use Rattle.pm_world.proofs.Lives.{IsLived, earlier, newest, entries-more, lived-before, now-config}
+use Rattle.pm_world.proofs.Sending.{eight, same_cell-itself, told-nothing}
+use Rattle.pm_world.proofs.Standings.{ArePuts, no_put, one_put, are-puts, AreGoods, no_good, one_good, are-goods, ReadsTrue, same-cells}
+use Rattle.pm_device.specs.Start.{IsSound}
+
+-- of two, both; of two, neither; one of two
+and-both : (a b : Bool) → (a && b) ≡ true → (a ≡ true) × (b ≡ true)
+and-both true b h = (refl, h)
+and-both false b h = absurd (false≢true h)
+
+or-neither : (a b : Bool) → (a || b) ≡ false → (a ≡ false) × (b ≡ false)
+or-neither true b h = absurd (true≢false h)
+or-neither false b h = (refl, h)
+
+or-one : (a b : Bool) → (a || b) ≡ true → (a ≡ true) ⊎ (b ≡ true)
+or-one true b h = inl refl
+or-one false b h = inr h
+
+or-last : (a b : Bool) → b ≡ true → (a || b) ≡ true
+or-last true b h = refl
+or-last false b h = h
+
+cond-off : (a b : Bool) → cond a false b ≡ true → (a ≡ false) × (b ≡ true)
+cond-off true b h = absurd (false≢true h)
+cond-off false b h = (refl, h)
+
+-- a restart of the host is told as that
+restart-told : (s : State) (event : Event) → restarts_host event ≡ true → (share_of s event).told ≡ Some host.Restarted
+restart-told s RestartHost h = refl
+restart-told s event h = cc
+
+-- what a write that begins, and what no good answer of the cell, leave: no words are known
+abbrev NoWords : List Mark → Cell → Type 0
+NoWords ms cell = words_since ms cell ≡ None
+
+puts-none : (new ms : List Mark) → ArePuts new → (cell : Cell) → NoWords ms cell → NoWords (new ++ ms) cell
+puts-none new ms no_put cell none = none
+puts-none new ms (one_put c w) cell none = go (same_cell c cell) where
+  go : (b : Bool) → cond b (option_map (λ ws. w ∷ ws) (words_since ms cell)) (words_since ms cell) ≡ None
+  go true = ap (option_map (λ ws. w ∷ ws)) none
+  go false = none
+
+goods-none : (setup : host.Setup) (before : List host.Entry) (bytes : List ℕ) (new ms : List Mark) → AreGoods setup before bytes new → (cell : Cell) →
+    list_any (is_good_for cell) new ≡ false → NoWords ms cell → NoWords (new ++ ms) cell
+goods-none setup before bytes new ms no_good cell unread none = none
+goods-none setup before bytes new ms (one_good read w asked good) cell unread none = go (same_cell read cell) unread where
+  by_surprise : (b : Bool) → cond b (words_since ms cell) None ≡ None
+  by_surprise true = none
+  by_surprise false = refl
+
+  go : (b : Bool) → (b || false) ≡ false →
+      cond b (Some (w ∷ [])) (cond (is_possible w (possible_from (words_since ms read))) (words_since ms cell) None) ≡ None
+  go true h = cc
+  go false h = by_surprise (is_possible w (possible_from (words_since ms read)))
+
+told-none : (setup : host.Setup) (entries : List host.Entry) (cell : Cell) (told : Option host.Entry) → reads setup entries cell told ≡ false →
+    NoWords (marks setup entries) cell → NoWords (marks setup (option_to_list told ++ entries)) cell
+told-none setup entries cell None unread none = none
+told-none setup entries cell (Some (host.Accepted job)) unread none =
+    puts-none (puts setup (host.Accepted job ∷ entries)) (marks setup entries) (are-puts setup (host.Accepted job ∷ entries)) cell none
+told-none setup entries cell (Some (host.Finished acked)) unread none = none
+told-none setup entries cell (Some (host.Got bytes)) unread none =
+    puts-none (puts setup (host.Got bytes ∷ entries)) (goods setup entries bytes ++ marks setup entries) (are-puts setup (host.Got bytes ∷ entries)) cell
+    (goods-none setup entries bytes (goods setup entries bytes) (marks setup entries) (are-goods setup entries bytes) cell unread none)
+told-none setup entries cell (Some host.Restarted) unread none = refl
+
+-- where the host had no good answer since it started, no words are known
+first-none : (config : Config) (passes : ℕ) (cell : Cell) → NoWords (marks (setup_of config passes) (life config passes []).entries) cell
+unfolding life
+first-none config passes cell = refl
+
+unread-none : (config : Config) (passes : ℕ) (cell : Cell) (events : List Event) → has_read config passes cell events ≡ false →
+    NoWords (marks (setup_of config passes) (life config passes events).entries) cell
+unfolding has_read
+unread-none config passes cell [] unread = first-none config passes cell
+unread-none config passes cell (event ∷ before) unread =
+    subst (λ es. NoWords (marks (setup_of config passes) es) cell) (sym (entries-more config passes before event))
+    (go (restarts_host event) refl unread (unread-none config passes cell before))
+  where
+    go : (b : Bool) → restarts_host event ≡ b →
+        cond b false (reads_cell config passes cell before event || has_read config passes cell before) ≡ false →
+        (has_read config passes cell before ≡ false → NoWords (marks (setup_of config passes) (life config passes before).entries) cell) →
+        NoWords (marks (setup_of config passes) (option_to_list (share_of (now config passes before) event).told ++ (life config passes before).entries)) cell
+    go true e h older =
+        subst (λ o. NoWords (marks (setup_of config passes) (option_to_list o ++ (life config passes before).entries)) cell)
+        (sym (restart-told (now config passes before) event e)) refl
+    go false e h older =
+        let both = or-neither (reads_cell config passes cell before event) (has_read config passes cell before) h in
+        told-none (setup_of config passes) (life config passes before).entries cell (share_of (now config passes before) event).told both.0 (older both.1)
+
+-- so where words are listed, the cell was read
+listed-read : (config : Config) (passes : ℕ) (cell : Cell) (events : List Event) →
+    possible_of (marks (setup_of config passes) (life config passes events).entries) cell ≢ Any → has_read config passes cell events ≡ true
+unfolding possible_of
+listed-read config passes cell events listed =
+    elim (cases_Bool (has_read config passes cell events)) [
+      | inl read ↦ read
+      | inr unread ↦ absurd (listed (ap possible_from (unread-none config passes cell events unread)))
+    ]
+
+-- the bytes that came back
+abbrev got_bytes : host.Entry → List ℕ
+got_bytes (host.Got bytes) = bytes
+got_bytes _ = []
+
+-- what came back is true of the cell that is read, whichever event brought it
+got-true : Below → (s : State) (setup : host.Setup) (entries : List host.Entry) (event : Event) (bytes : List ℕ) → Knows s setup entries →
+    event_cause s event ≡ None → (share_of s event).told ≡ Some (host.Got bytes) → ReadsTrue setup entries bytes s.device.words
+got-true laws s setup entries event bytes knows free told = by_asked (asked s event) told where
+  by_sending : (arrival : Arrival) (back : Back) (sending : Option Message) → sending_in s.host ≡ sending → exchange_cause s arrival back sending ≡ None →
+      (exchanged s arrival back sending).told ≡ Some (host.Got bytes) → ReadsTrue setup entries bytes s.device.words
+  by_sending arrival back None e free told = λ read word asked good. cc
+  by_sending arrival back (Some message) e free told =
+      let is = same_Some _ (host.Got bytes) told in
+      subst (λ (entry : host.Entry). ReadsTrue setup entries (got_bytes entry) s.device.words) is
+      (reads-true laws s setup entries arrival back message knows e free)
+
+  beside : (event : Event) → event_cause s event ≡ None → (share_beside s event).told ≡ Some (host.Got bytes) → ReadsTrue setup entries bytes s.device.words
+  beside (Exchange arrival back) free told = by_sending arrival back (sending_in s.host) refl free told
+  beside (Deliver arrival) free told = absurd (none-some _ (sym (told-nothing s arrival (sending_in s.host)) ∙ told))
+  beside event free told = λ read word asked good. cc
+
+  by_asked : (o : Option host.Job) → (option_map_or (λ j. tells (host.Accepted j)) o (share_beside s event)).told ≡ Some (host.Got bytes) →
+      ReadsTrue setup entries bytes s.device.words
+  by_asked None told = beside event free told
+  by_asked (Some job) told = λ read word asked good. cc
+
+-- a surprising answer: one for a cell that was asked for, with the cell's word, which wasn't possible
+record Surprise (s : State) (setup : host.Setup) (entries : List host.Entry) (cell : Cell) : Type 0 where
+  there : IsCell s.device.config.count cell
+  impossible : is_possible (word_at s.device.words cell) (possible_of (marks setup entries) cell) ≡ false
+
+not-true : (b : Bool) → not b ≡ true → b ≡ false
+not-true true h = cc
+not-true false h = refl
+
+one-surprise : Below → (s : State) (setup : host.Setup) (entries : List host.Entry) (read : Cell) (word : ℕ) → Knows s setup entries →
+    read_by (host.open_job setup entries) (host.told_since entries) ≡ Some read → word_at s.device.words read ≡ word →
+    not (is_possible word (possible_of (marks setup entries) read)) ≡ true → Surprise s setup entries read
+one-surprise laws s setup entries read word knows asked is surprising = record {
+  there = (knows.asks read asked).1;
+  impossible = ap (λ w. is_possible w (possible_of (marks setup entries) read)) is ∙ not-true _ surprising;
+}
+
+goods-surprise : Below → (s : State) (setup : host.Setup) (entries : List host.Entry) (bytes : List ℕ) (new : List Mark) → AreGoods setup entries bytes new →
+    (cell : Cell) → Knows s setup entries → ReadsTrue setup entries bytes s.device.words →
+    list_any (is_surprise_for cell (marks setup entries)) new ≡ true → Surprise s setup entries cell
+goods-surprise laws s setup entries bytes new no_good cell knows is h = absurd (false≢true h)
+goods-surprise laws s setup entries bytes new (one_good read word asked good) cell knows is h =
+    let one = or-one (is_surprise_for cell (marks setup entries) (Good read word)) false h in
+    elim one [
+      | inl so ↦
+          (let both = and-both (same_cell read cell) (not (is_possible word (possible_of (marks setup entries) read))) so in
+          subst (Surprise s setup entries) (same-cells laws read cell both.0) (one-surprise laws s setup entries read word knows asked (is read word asked good) both.1))
+      | inr bad ↦ absurd (false≢true bad)
+    ]
+
+told-surprise : Below → (s : State) (setup : host.Setup) (entries : List host.Entry) (event : Event) (cell : Cell) (told : Option host.Entry) → Knows s setup entries →
+    event_cause s event ≡ None → (share_of s event).told ≡ told → surprises setup entries cell told ≡ true → Surprise s setup entries cell
+told-surprise laws s setup entries event cell (Some (host.Got bytes)) knows free told h =
+    goods-surprise laws s setup entries bytes (goods setup entries bytes) (are-goods setup entries bytes) cell knows
+    (got-true laws s setup entries event bytes knows free told) h
+told-surprise laws s setup entries event cell told knows free is h = absurd (false≢true h)
+
+-- a cell of the converter is one of its configuration
+count-is : (config : Config) (passes : ℕ) (events : List Event) (cell : Cell) → IsCell (now config passes events).device.config.count cell → IsCell config.count cell
+count-is config passes events cell there = subst (λ (k : Config). IsCell k.count cell) (now-config config passes events) there
+
+-- the converter restarted since the last good answer for its cell, which there was
+surprise-restarted : Below → (config : Config) (passes : ℕ) (before : List Event) (cell : Cell) → IsLived config passes before → Surprise (now config passes before) (setup_of config passes) (life config passes before).entries cell →
+    (has_read config passes cell before ≡ true) × (restarted_since config passes cell before ≡ true)
+unfolding now state_of
+surprise-restarted laws config passes before cell lived surprise = (
+  listed-read config passes cell before (λ any.
+      let both : true ≡ false = sym (ap (is_possible (word_at words cell)) any) ∙ surprise.impossible in cc),
+  elim (cases_Bool (restarted_since config passes cell before)) [
+    | inl restarted ↦ restarted
+    | inr fresh ↦ (let both : true ≡ false = sym ((life-known laws config passes before cell lived (count-is config passes before cell surprise.there)).among fresh) ∙ surprise.impossible in cc)
+  ],
+)
+  where
+    words : Words
+    words = (now config passes before).device.words
+
+event-surprise : Below → (config : Config) (passes : ℕ) (before : List Event) (event : Event) (cell : Cell) → IsLived config passes (event ∷ before) → surprises_by config passes cell before event ≡ true →
+    (has_read config passes cell before ≡ true) × (restarted_since config passes cell before ≡ true)
+event-surprise laws config passes before event cell lived h =
+    surprise-restarted laws config passes before cell (earlier lived)
+    (told-surprise laws (now config passes before) (setup_of config passes) (life config passes before).entries event cell _
+    (knows laws config passes before (earlier lived)) (newest lived) refl h)
+
+-- the restarts that the host saw: after a further entry one that it had seen before, or the entry surprises it
+record SurprisedBy (s : State) (setup : host.Setup) (entries : List host.Entry) (told : Option host.Entry) : Type 0 where
+  cell : Cell
+  there : IsCell s.device.config.count cell
+  read : reads setup entries cell told ≡ true
+  surprising : surprises setup entries cell told ≡ true
+
+puts-seen : (new ms : List Mark) → ArePuts new → restart_seen_of (new ++ ms) ≡ restart_seen_of ms
+puts-seen new ms no_put = refl
+puts-seen new ms (one_put c w) = refl
+
+goods-seen : Below → (s : State) (setup : host.Setup) (entries : List host.Entry) (bytes : List ℕ) (new : List Mark) → AreGoods setup entries bytes new →
+    Knows s setup entries → restart_seen_of (new ++ marks setup entries) ≡ true →
+    (restart_seen_of (marks setup entries) ≡ true)
+    ⊎ ((cell : Cell) × IsCell s.device.config.count cell × (list_any (is_good_for cell) new ≡ true) × (list_any (is_surprise_for cell (marks setup entries)) new ≡ true))
+goods-seen laws s setup entries bytes new no_good knows seen = inl seen
+goods-seen laws s setup entries bytes new (one_good read word asked good) knows seen =
+    elim (or-one (not (is_possible word (possible_of (marks setup entries) read))) (restart_seen_of (marks setup entries)) seen) [
+      | inl surprising ↦ inr (
+        read,
+        (knows.asks read asked).1,
+        ap (λ b. b || false) (same_cell-itself read),
+        ap (λ b. (b && not (is_possible word (possible_of (marks setup entries) read))) || false) (same_cell-itself read) ∙ ap (λ b. b || false) surprising,
+      )
+      | inr older ↦ inl older
+    ]
+
+told-seen : Below → (s : State) (setup : host.Setup) (entries : List host.Entry) (told : Option host.Entry) → Knows s setup entries →
+    restart_seen_of (marks setup (option_to_list told ++ entries)) ≡ true →
+    (restart_seen_of (marks setup entries) ≡ true) ⊎ SurprisedBy s setup entries told
+told-seen laws s setup entries None knows seen = inl seen
+told-seen laws s setup entries (Some (host.Accepted job)) knows seen =
+    inl (sym (puts-seen (puts setup (host.Accepted job ∷ entries)) (marks setup entries) (are-puts setup (host.Accepted job ∷ entries))) ∙ seen)
+told-seen laws s setup entries (Some (host.Finished acked)) knows seen = inl seen
+told-seen laws s setup entries (Some (host.Got bytes)) knows seen =
+    elim (goods-seen laws s setup entries bytes (goods setup entries bytes) (are-goods setup entries bytes) knows
+    (sym (puts-seen (puts setup (host.Got bytes ∷ entries)) (goods setup entries bytes ++ marks setup entries) (are-puts setup (host.Got bytes ∷ entries))) ∙ seen)) [
+      | inl older ↦ inl older
+      | inr (cell, there, read, surprising) ↦ inr (record { cell = cell; there = there; read = read; surprising = surprising })
+    ]
+told-seen laws s setup entries (Some host.Restarted) knows seen = absurd (false≢true seen)
+
+-- a restart that was seen lies between two good answers for a cell
+between-more : (config : Config) (passes : ℕ) (cell : Cell) (before : List Event) (event : Event) →
+    restarted_between config passes cell (event ∷ before)
+    ≡ cond (restarts_host event) false
+    ((reads_cell config passes cell before event && (has_read config passes cell before && restarted_since config passes cell before))
+    || restarted_between config passes cell before)
+unfolding restarted_between
+between-more config passes cell before event = refl
+
+first-unseen : (config : Config) (passes : ℕ) → restart_seen_of (marks (setup_of config passes) (life config passes []).entries) ≡ false
+unfolding life
+first-unseen config passes = refl
+
+life-seen : Below → (config : Config) (passes : ℕ) (events : List Event) → IsLived config passes events →
+    restart_seen_of (marks (setup_of config passes) (life config passes events).entries) ≡ true →
+    (cell : Cell) × IsCell config.count cell × (restarted_between config passes cell events ≡ true)
+life-seen laws config passes [] lived seen =
+    absurd (true≢false (sym seen ∙ first-unseen config passes))
+life-seen laws config passes (event ∷ before) lived seen =
+    go (restarts_host event) refl (life-seen laws config passes before (earlier lived))
+  where
+    after : restart_seen_of (marks (setup_of config passes) (option_to_list (share_of (now config passes before) event).told ++ (life config passes before).entries)) ≡ true
+    after = ap (λ es. restart_seen_of (marks (setup_of config passes) es)) (sym (entries-more config passes before event)) ∙ seen
+
+    here : (cell : Cell) → restarts_host event ≡ false →
+        ((reads_cell config passes cell before event && (has_read config passes cell before && restarted_since config passes cell before))
+        || restarted_between config passes cell before) ≡ true →
+        restarted_between config passes cell (event ∷ before) ≡ true
+    here cell e h =
+        between-more config passes cell before event
+        ∙ (ap (λ b. cond b false ((reads_cell config passes cell before event && (has_read config passes cell before && restarted_since config passes cell before))
+        || restarted_between config passes cell before)) e ∙ h)
+
+    newest : restarts_host event ≡ false → SurprisedBy (now config passes before) (setup_of config passes) (life config passes before).entries (share_of (now config passes before) event).told →
+        (cell : Cell) × IsCell config.count cell × (restarted_between config passes cell (event ∷ before) ≡ true)
+    newest e by =
+        let since = event-surprise laws config passes before event by.cell lived by.surprising in (
+          by.cell,
+          count-is config passes before by.cell by.there,
+          here by.cell e (rw (by.read, since.0, since.1) refl),
+        )
+
+    go : (b : Bool) → restarts_host event ≡ b →
+        (restart_seen_of (marks (setup_of config passes) (life config passes before).entries) ≡ true →
+        (cell : Cell) × IsCell config.count cell × (restarted_between config passes cell before ≡ true)) →
+        (cell : Cell) × IsCell config.count cell × (restarted_between config passes cell (event ∷ before) ≡ true)
+    go true e older =
+        absurd (false≢true (sym (ap (λ o. restart_seen_of (marks (setup_of config passes) (option_to_list o ++ (life config passes before).entries)))
+        (restart-told (now config passes before) event e)) ∙ after))
+    go false e older =
+        elim (told-seen laws (now config passes before) (setup_of config passes) (life config passes before).entries (share_of (now config passes before) event).told
+        (knows laws config passes before (earlier lived)) after) [
+          | inl seen ↦ (let o = older seen in (o.0, o.1, here o.0 e (or-last _ _ o.2)))
+          | inr by ↦ newest e by
+        ]
+
+-- and so since the host started
+since-started : (config : Config) (passes : ℕ) (cell : Cell) (events : List Event) → has_read config passes cell events ≡ true →
+    restarted_since config passes cell events ≡ true → restarted_since_host events ≡ true
+unfolding has_read restarted_since restarted_since_host
+since-started config passes cell [] read since = cc
+since-started config passes cell (event ∷ before) read since =
+    let running = cond-off (restarts_host event) _ read in
+    let unread = cond-off (reads_cell config passes cell before event) _ since in
+    rw running.0 (go (restarts_converter event) unread.1
+    (since-started config passes cell before (or-unread (reads_cell config passes cell before event) (has_read config passes cell before) unread.0 running.1)))
+  where
+    or-unread : (a b : Bool) → a ≡ false → (a || b) ≡ true → b ≡ true
+    or-unread true b e h = cc
+    or-unread false b e h = h
+
+    go : (b : Bool) → (b || restarted_since config passes cell before) ≡ true →
+        (restarted_since config passes cell before ≡ true → restarted_since_host before ≡ true) → (b || restarted_since_host before) ≡ true
+    go true h older = refl
+    go false h older = older h
+
+between-started : (config : Config) (passes : ℕ) (cell : Cell) (events : List Event) → restarted_between config passes cell events ≡ true →
+    restarted_since_host events ≡ true
+unfolding restarted_between restarted_since_host
+between-started config passes cell [] between = cc
+between-started config passes cell (event ∷ before) between =
+    let running = cond-off (restarts_host event) _ between in
+    rw running.0 (or-last (restarts_converter event) (restarted_since_host before)
+    (elim (or-one (reads_cell config passes cell before event && (has_read config passes cell before && restarted_since config passes cell before)) (restarted_between config passes cell before) running.1) [
+      | inl newest ↦
+          (let parts = and-both (has_read config passes cell before) (restarted_since config passes cell before)
+          (and-both (reads_cell config passes cell before event) _ newest).1 in
+          since-started config passes cell before parts.0 parts.1)
+      | inr older ↦ between-started config passes cell before older
+    ]))
+
+-- both promises
+pub possible-held : Below → (config : Config) (passes : ℕ) (events : List Event) → IsLived config passes events →
+    PossibleIsHeld config passes events (now config passes events)
+unfolding now state_of
+possible-held laws config passes events lived =
+    let possible = λ (cell : Cell) (there : IsCell config.count cell).
+    laws.transcripts_are_followed.possible (setup_of config passes) (life config passes events).entries cell (eight config.count cell lived.sound.few there) in
+    record {
+      possible = possible;
+      found = λ cell there listed. listed-read config passes cell events (λ any. listed (possible cell there ∙ any));
+      held = λ cell there fresh.
+          ap (is_possible (word_at (now config passes events).device.words cell)) (possible cell there)
+          ∙ (life-known laws config passes events cell lived there).among fresh;
+    }
+
+pub seen-true : Below → (config : Config) (passes : ℕ) (events : List Event) → IsLived config passes events →
+    SeenIsTrue config passes events (now config passes events)
+unfolding now state_of
+seen-true laws config passes events lived =
+    let seen = laws.transcripts_are_followed.seen (setup_of config passes) (life config passes events).entries in
+    let between = λ (h : (now config passes events).host.known.seen ≡ true). life-seen laws config passes events lived (sym seen ∙ h) in
+    record {
+      surprises = λ later before event cell is h.
+          event-surprise laws config passes before event cell (lived-before config passes later (event ∷ before) (subst (IsLived config passes) is lived)) h;
+      seen = seen;
+      between = between;
+      restarted = λ h. between-started config passes (between h).0 events (between h).2;
+    }

@@ -1,0 +1,10 @@
+use Rattle.pm_world.proofs.DamagedFrames.{heard-legal, return-legal}
+use Rattle.pm_world.proofs.DamagedRequests.{answered-legal}
+use Rattle.pm_world.proofs.laws.damage.betrayed_damage_is_legal.Goals as goal
+
+pub returns : goal.returns
+returns c = record {
+  heard = heard-legal c.lower_laws.ensures;
+  came_back = return-legal c.lower_laws.ensures;
+  answered = answered-legal c.lower_laws.ensures;
+}

@@ -1,0 +1,14 @@
+use Rattle.std.proofs.Common.{subst}
+use Rattle.pm_world.specs.Honest.{honest}
+use Rattle.pm_world.proofs.Lives.{IsLived, lived-before, lived-by}
+use Rattle.pm_world.proofs.TakenWhole.{taken-whole}
+use Rattle.pm_world.proofs.Undisturbed.{went-through}
+use Rattle.pm_world.proofs.laws.honest.honest_orders_go_through.Goals as goal
+
+pub returns : goal.returns
+returns c = record {
+  taken = taken-whole c.lower_laws.ensures;
+  through = λ config passes events sound made taken later before order cell word arrivals acked is.
+      went-through c.lower_laws.ensures config passes before order cell word arrivals acked
+      (lived-before config passes later (honest order arrivals acked before) (subst (IsLived config passes) is (lived-by config passes events sound made taken)));
+}

@@ -1,0 +1,151 @@
+-- The laws of a world, over the definitions alone. Events are newest first.
+use Rattle.std.specs.Prelude.{◌≡◌, ◌<◌, ◌≤◌, ◌+◌, ℕ, Bool, true, false, List, [], ◌∷◌, Some, length}
+use Rattle.pm_table.specs.declared.cell.Cell.{Cell}
+use Rattle.pm_table.specs.Cell.{IsCell}
+use Rattle.pm_frame.specs.declared.message.Message.{Message}
+use Rattle.pm_frame.specs.Damage.{DifferWithinEight}
+use Rattle.pm_frame.specs.Fault.{whole_answer}
+use Rattle.pm_frame.specs.Layout.{AreBytes, IsWrite, IsRequest, IsAnswer, is_read_message}
+use Rattle.pm_model.specs.Commanded.{commanded}
+use Rattle.pm_model.specs.Settings.{word_at}
+use Rattle.pm_device.specs.declared.config.Config.{Config}
+use Rattle.pm_device.specs.declared.heard.Ending.{Ending}
+use Rattle.pm_device.specs.declared.heard.Ending.TheVariants.{Restart}
+use Rattle.pm_device.specs.Held.{Held, value_for}
+use Rattle.pm_device.specs.Reply.{reply_of}
+use Rattle.pm_device.specs.Start.{IsSound}
+use Rattle.pm_host.specs.Now.{AreTold}
+use Rattle.pm_host.specs.Refusals.{IsSetup}
+use Rattle.pm_host.specs.Summary.{sending_in}
+use Rattle.pm_host.specs.Transcript.{Order}
+use Rattle.pm_world.specs.declared.event.Arrival.{Arrival}
+use Rattle.pm_world.specs.declared.event.Arrival.TheVariants as arrival
+use Rattle.pm_world.specs.declared.event.Back.TheVariants as back
+use Rattle.pm_world.specs.declared.event.Event.{Event}
+use Rattle.pm_world.specs.declared.event.Event.TheVariants.{Deliver, Exchange}
+use Rattle.pm_world.specs.Confirmed.{ConfirmedIsHeld}
+use Rattle.pm_world.specs.Damage.{AreOthers, IsBetrayedDamage}
+use Rattle.pm_world.specs.Honest.{AreFewFrames, FormatsAgree, IsSpelled, MicrosAreNearest, OrdersGoThrough, honest, sent_by}
+use Rattle.pm_world.specs.Legal.{answer_in, frame_of, is_legal_hearing, is_legal_return}
+use Rattle.pm_world.specs.Life.{AreTaken, AreTakenFrom, after_all, life, now}
+use Rattle.pm_world.specs.Possible.{PossibleIsHeld, SeenIsTrue}
+use Rattle.pm_world.specs.Retelling.{CommandsOwn, IsOrderRun, IsOwnWord}
+use Rattle.pm_world.specs.Setup.{setup_of, start}
+use Rattle.pm_world.specs.State.{IsTaken, answer_to, asked, event_limit, next}
+
+-- What a world holds after its life is what one event after another makes of its start: of no event, and of
+-- one more. What the host was told is a transcript that might come. Events that are taken one after another
+-- from the start are the life's.
+pub record LivesAreFollowed : Type 0 where
+  pub none : (config : Config) (passes : ℕ) → IsSetup (setup_of config passes) →
+      now config passes [] ≡ start config passes
+  pub more : (config : Config) (passes : ℕ) (events : List Event) (event : Event) →
+      IsSound config → IsSetup (setup_of config passes) → AreTaken config passes (event ∷ events) →
+      now config passes (event ∷ events) ≡ next (now config passes events) event
+  pub told : (config : Config) (passes : ℕ) (events : List Event) →
+      IsSound config → IsSetup (setup_of config passes) → AreTaken config passes events →
+      AreTold (setup_of config passes) (life config passes events).entries
+  pub from_start : (config : Config) (passes : ℕ) (events : List Event) →
+      IsSound config → IsSetup (setup_of config passes) → AreTakenFrom (start config passes) events →
+      AreTaken config passes events × (now config passes events ≡ after_all (start config passes) events)
+
+-- The converter's words are those of a run of the order machine that retells the events. Each cell has its
+-- start word, or that of an order for this very cell, and each output commands a value of its own.
+pub record LivesAreOrders : Type 0 where
+  pub orders : (config : Config) (passes : ℕ) (events : List Event) →
+      IsSound config → IsSetup (setup_of config passes) → AreTaken config passes events →
+      IsOrderRun config passes events (now config passes events).device.words
+  pub own : (config : Config) (passes : ℕ) (events : List Event) (cell : Cell) →
+      IsSound config → IsSetup (setup_of config passes) → AreTaken config passes events →
+      IsCell config.count cell →
+      IsOwnWord config passes events cell (word_at (now config passes events).device.words cell)
+  pub commanded : (config : Config) (passes : ℕ) (events : List Event) (output : ℕ) →
+      IsSound config → IsSetup (setup_of config passes) → AreTaken config passes events →
+      output < config.count → CommandsOwn config passes events output
+      (commanded (value_for (now config passes events).device.config output)
+      (now config passes events).device.words output)
+
+-- after each of the events, the last job has sent at most twice as many frames as a job has passes
+abbrev pub FramesAreFew : Type 0
+FramesAreFew = (config : Config) (passes : ℕ) (events : List Event) →
+    IsSound config → IsSetup (setup_of config passes) → AreTaken config passes events →
+    AreFewFrames config passes events
+
+-- An undisturbed order goes through. Once its deliveries were taken, so are the end of its write and its
+-- read, where the world has room for two more events.
+pub record HonestOrdersGoThrough : Type 0 where
+  pub taken : (config : Config) (passes : ℕ) (before : List Event) (order : Event) (cell : Cell) (word : ℕ)
+      (arrivals : List Arrival) (acked : Bool) →
+      IsSound config → IsSetup (setup_of config passes) →
+      AreTaken config passes (sent_by order arrivals before) →
+      asked (now config passes before) order ≡ Some (Order cell word) →
+      length (sent_by order arrivals before) + 2 ≤ event_limit →
+      AreTaken config passes (honest order arrivals acked before)
+  pub through : (config : Config) (passes : ℕ) (events : List Event) →
+      IsSound config → IsSetup (setup_of config passes) → AreTaken config passes events →
+      OrdersGoThrough config passes events
+
+-- A format that the host holds is the converter's, and an order in microvolts is that of the nearest word.
+pub record LearnedFormatsAreTrue : Type 0 where
+  pub agree : (config : Config) (passes : ℕ) (events : List Event) →
+      IsSound config → IsSpelled config → IsSetup (setup_of config passes) → AreTaken config passes events →
+      FormatsAgree config passes events
+  pub nearest : (config : Config) (passes : ℕ) (events : List Event) →
+      IsSound config → IsSpelled config → IsSetup (setup_of config passes) → AreTaken config passes events →
+      MicrosAreNearest config passes events
+
+-- A word that the host calls confirmed is the converter's, unless that restarted since the host read the cell.
+abbrev pub ConfirmedSettingsAreHeld : Type 0
+ConfirmedSettingsAreHeld = (config : Config) (passes : ℕ) (events : List Event) →
+    IsSound config → IsSetup (setup_of config passes) → AreTaken config passes events →
+    ConfirmedIsHeld config passes events (now config passes events)
+
+-- Where the host lists the words that are possible for a cell, the converter's is among them, unless that
+-- restarted since the host's last good answer for the cell. A restart that the host saw happened.
+pub record PossibleWordsAreHeld : Type 0 where
+  pub held : (config : Config) (passes : ℕ) (events : List Event) →
+      IsSound config → IsSetup (setup_of config passes) → AreTaken config passes events →
+      PossibleIsHeld config passes events (now config passes events)
+  pub seen : (config : Config) (passes : ℕ) (events : List Event) →
+      IsSound config → IsSetup (setup_of config passes) → AreTaken config passes events →
+      SeenIsTrue config passes events (now config passes events)
+
+-- Damage that the packet error code betrays is legal: of a write, of an answer, and of a request whose answer
+-- comes back whole.
+pub record BetrayedDamageIsLegal : Type 0 where
+  pub heard : (addr : ℕ) (message : Message) (frame bytes : List ℕ) (ending : Ending) →
+      IsWrite addr message frame → IsBetrayedDamage frame bytes →
+      is_legal_hearing frame bytes ending ≡ true
+  pub came_back : (addr : ℕ) (request : Message) (frame payload answer bytes : List ℕ) (whole : Bool) →
+      IsRequest addr request frame → IsAnswer addr request payload answer → IsBetrayedDamage answer bytes →
+      is_legal_return frame (whole_answer request) whole answer bytes ≡ true
+  pub answered : (held : Held) (request : Message) (frame heard : List ℕ) (whole : Bool) →
+      AreOthers frame heard → DifferWithinEight frame heard →
+      let answer = answer_in (reply_of held heard Restart) in AreBytes answer →
+      is_legal_return frame (whole_answer request) whole answer answer ≡ true
+
+-- So such damage stops no run: a world that isn't full takes the delivery, and the exchange.
+pub record BetrayedDamageIsTaken : Type 0 where
+  pub delivered : (config : Config) (passes : ℕ) (events : List Event) (message : Message)
+      (bytes : List ℕ) (ending : Ending) →
+      IsSound config → IsSetup (setup_of config passes) → AreTaken config passes events →
+      (now config passes events).taken < event_limit →
+      sending_in (now config passes events).host ≡ Some message →
+      is_read_message message ≡ false → IsBetrayedDamage (frame_of config.addr message) bytes →
+      IsTaken (now config passes events) (Deliver (arrival.Bytes (record { items = bytes }) ending))
+  pub exchanged : (config : Config) (passes : ℕ) (events : List Event) (request : Message)
+      (payload bytes : List ℕ) →
+      (now config passes events).taken < event_limit →
+      sending_in (now config passes events).host ≡ Some request →
+      let answer = answer_to (now config passes events).device config.addr request arrival.Whole in
+      IsAnswer config.addr request payload answer → IsBetrayedDamage answer bytes →
+      IsTaken (now config passes events)
+      (Exchange arrival.Whole (back.Bytes (record { items = bytes })))
+  pub misheard : (config : Config) (passes : ℕ) (events : List Event) (request : Message) (bytes : List ℕ) →
+      (now config passes events).taken < event_limit →
+      sending_in (now config passes events).host ≡ Some request →
+      is_read_message request ≡ true → AreOthers (frame_of config.addr request) bytes →
+      DifferWithinEight (frame_of config.addr request) bytes →
+      let heard = arrival.Bytes (record { items = bytes }) Restart in
+      AreBytes (answer_to (now config passes events).device config.addr request heard) →
+      IsTaken (now config passes events) (Exchange heard back.Whole)

@@ -1,0 +1,110 @@
+"""A copy of the crates to try changes on, with the work of earlier checks of one crate and of those below it."""
+import os
+import shutil
+import subprocess
+import sys
+import tempfile
+
+TESTS = ("pm_tests", "pm_text_tests")
+
+
+def run(folder, *words):
+    """The lines that a command prints."""
+    done = subprocess.run(words, cwd=folder, stdout=subprocess.PIPE, stderr=subprocess.STDOUT, text=True)
+    return done.stdout.rstrip().split("\n")
+
+
+def read(path):
+    with open(path, encoding="utf-8") as f:
+        return f.read()
+
+
+def write(path, text):
+    with open(path, "w", encoding="utf-8") as f:
+        f.write(text)
+
+
+def taken(words, flag):
+    """Takes a flag and the word after it from the words, and gives that word."""
+    if flag not in words:
+        return None
+    at = words.index(flag)
+    word = words[at + 1]
+    del words[at:at + 2]
+    return word
+
+
+def crates_below():
+    """Each crate of crates.txt, with the names of those that it stands on."""
+    uses = {}
+    for line in read("crates.txt").splitlines():
+        if ":" in line and not line.startswith("#"):
+            name, below = line.split(":", 1)
+            uses[name.split()[0]] = below.split()
+    return uses
+
+
+class CrateCopy:
+    """The copy, its crate's folder, and the crates whose tests are its: its own, and pm_tests or, where that
+    doesn't stand on the crate, pm_text_tests."""
+
+    def __init__(self, crate, jobs):
+        uses = crates_below()
+        self.crate, self.jobs = crate, jobs
+        self.tests = [crate] + [name for name in TESTS if crate in uses.get(name, [])][:1]
+        self.top = tempfile.mkdtemp(prefix="copy-")
+        self.home = os.path.join(self.top, "crates", crate)
+        checked, more = set(), [crate]
+        while more:
+            name = more.pop()
+            if name in uses and name not in checked:
+                checked.add(name)
+                more += uses[name]
+        for name in uses:
+            out = None if name in checked else shutil.ignore_patterns("out")
+            shutil.copytree(os.path.join("crates", name), os.path.join(self.top, "crates", name), symlinks=True, ignore=out)
+        shutil.rmtree(os.path.join(self.home, "must-fail"), ignore_errors=True)
+        for name in ("crates.txt", "HANDLES"):
+            if os.path.exists(name):
+                shutil.copy(name, self.top)
+
+    def drop(self):
+        shutil.rmtree(self.top, ignore_errors=True)
+
+    def write(self, texts):
+        """Writes these texts of the crate's files, and gives what stood there."""
+        kept = {}
+        for name, text in texts.items():
+            path = os.path.join(self.home, name)
+            kept[name] = read(path)
+            write(path, text)
+        return kept
+
+    def check(self, *flags):
+        """The lines of a check of the crate, and the crate's own verdict, which is the last one: each library that
+        is built on the way has one too. None where the crate doesn't compile. A check that says nothing, as where
+        memory is short, is made again."""
+        for _ in range(3):
+            lines = run(self.home, "rt", "check", "--jobs", self.jobs, *flags)
+            if any(line.startswith("crate %s: " % self.crate) for line in lines):
+                break
+            if any("error" in line for line in lines):
+                return lines, None
+        else:
+            sys.exit("rt check says nothing of %s: %s" % (self.crate, lines[-1]))
+        verdicts = [line for line in lines if line.startswith("logic=")]
+        return lines, verdicts[-1].split()[0] if verdicts else None
+
+    def failed_test(self):
+        """The first line of a test that fails, if one does."""
+        for name in self.tests:
+            for line in run(os.path.join(self.top, "crates", name), "rt", "try", "--test"):
+                if "FAILED" in line or "panicked" in line or (" failed" in line and " 0 failed" not in line):
+                    return line
+        return None
+
+
+def why_not(lines):
+    """The first line that says what isn't proved."""
+    told = [line for line in lines if " no proof" in line or ": error" in line or "error[" in line]
+    return (told or lines[-1:])[0]
