@@ -14,6 +14,7 @@ use Rattle.pm_lines.specs.Faults.{fault_line, fault_setup, fault_words}
 use Rattle.pm_lines.specs.Streams.{AppendsFront, Held, IsWholeText, max_text}
 use Rattle.pm_lines.specs.declared.fault.TextFault.{TextFault}
 use Rattle.pm_lines.specs.declared.fault.TextFault.TheVariants.{Syntax, BadHex, TooLong, Read, Write, Memory, Setup}
+use Rattle.pm_world.specs.FaultWords.{setup_fault_text}
 use Rattle.pm_world.specs.declared.stop.SetupFault.{SetupFault}
 use Rattle.pm_trace.specs.Counts.{counts_of}
 use Rattle.pm_trace.specs.Decoding.{said}
@@ -29,7 +30,6 @@ use Rattle.pm_tool.specs.Commandline.{Asks, pmb, status_by}
 use Rattle.pm_tool.specs.NumberFaults.{refusal_status, refusal_words}
 use Rattle.pm_tool.specs.NumberText.{IsNumberText, RefusesNumber}
 use Rattle.pm_tool.specs.Script.{printed_text}
-use Rattle.pm_tool.specs.SetupText.{setup_fault_words}
 use Rattle.pm_tool.specs.Question.{asked_by}
 use Rattle.pm_tool.specs.declared.commandline.choice.Chosen.{Chosen}
 use Rattle.pm_tool.specs.declared.commandline.choice.Chosen.TheVariants.{Hear, Replay, Decode, Number as NumberChosen}
@@ -103,7 +103,7 @@ line_words (Some line) = codes " line " ++ decimal line
 -- the same, where no world is made
 abbrev pub reason_words : Option SetupFault → List ℕ
 reason_words None = []
-reason_words (Some fault) = codes " " ++ setup_fault_words fault
+reason_words (Some fault) = codes " " ++ setup_fault_text fault
 
 abbrev pub text_refusal : TextFault → List ℕ
 text_refusal fault =
