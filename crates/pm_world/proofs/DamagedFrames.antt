@@ -51,6 +51,7 @@ damaged laws before bytes came good (few others short changed) =
 damaged laws before bytes came good (odd others changed) =
     laws.damage_is_betrayed.odd before bytes came others.were_bytes others.are_bytes good others.as_many changed
 
+-- such damage of a write is a legal hearing
 pub heard-legal : Below → (addr : ℕ) (message : Message) (frame bytes : List ℕ) (ending : Ending) → IsWrite addr message frame →
     IsBetrayedDamage frame bytes →
     is_legal_hearing frame bytes ending ≡ true
@@ -61,6 +62,7 @@ heard-legal laws addr message frame bytes ending is damage =
     or_right (is_restart ending) _
     (or_right (starts_with nat_eq frame bytes) (is_betrayed [] bytes) (damaged laws [] frame bytes good damage))
 
+-- such damage of an answer is a legal return
 pub return-legal : Below → (addr : ℕ) (request : Message) (frame payload answer bytes : List ℕ) (whole : Bool) →
     IsRequest addr request frame → IsAnswer addr request payload answer →
     IsBetrayedDamage answer bytes → is_legal_return frame (whole_answer request) whole answer bytes ≡ true
@@ -84,6 +86,7 @@ delivery-free laws s message bytes ending writes fits damage =
     ap₂ (λ b c. option_or (rule b WrongKind) (rule (not c) NotBetrayed)) writes
     (laws.heard addr message (frame_of addr message) bytes ending is damage)
 
+-- an exchange whose answer is damaged so has no cause
 exchange-free : BetrayedDamageIsLegal → (s : State) (request : Message) (payload bytes : List ℕ) →
     IsAnswer s.host.setup.addr request payload (answer_to s.device s.host.setup.addr request arrival.Whole) →
     IsBetrayedDamage (answer_to s.device s.host.setup.addr request arrival.Whole) bytes →
@@ -98,10 +101,12 @@ exchange-free laws s request payload bytes is damage =
     (laws.came_back addr request frame payload answer bytes (is_heard_whole frame frame (heard_ending request arrival.Whole))
     (is_request addr request is.reads is.fits) is damage)
 
+-- what a repeated start ends is legal
 restart-legal : (frame bytes : List ℕ) → is_legal_hearing frame bytes Restart ≡ true
 unfolding is_legal_hearing
 restart-legal frame bytes = refl
 
+-- an exchange whose request is damaged so has no cause
 misheard-free : BetrayedDamageIsLegal → (s : State) (request : Message) (bytes : List ℕ) → is_read_message request ≡ true →
     AreOthers (frame_of s.host.setup.addr request) bytes →
     DifferWithinEight (frame_of s.host.setup.addr request) bytes →
@@ -136,6 +141,7 @@ delivered-taken laws legal config passes events message bytes ending lived room 
       word = tt;
     }
 
+-- the exchange whose answer is damaged is taken
 pub exchanged-taken : BetrayedDamageIsLegal →
     (config : Config) (passes : ℕ) (events : List Event) (request : Message) (payload bytes : List ℕ) →
     (now config passes events).taken < event_limit →
@@ -155,6 +161,7 @@ exchanged-taken legal config passes events request payload bytes room sending is
       word = tt;
     }
 
+-- the exchange whose request is damaged is taken
 pub misheard-taken : BetrayedDamageIsLegal → (config : Config) (passes : ℕ) (events : List Event) (request : Message) (bytes : List ℕ) →
     (now config passes events).taken < event_limit →
     sending_in (now config passes events).host ≡ Some request → is_read_message request ≡ true →

@@ -34,6 +34,7 @@ bytes-append bytes rest first later place = elim (cases_lt place (length bytes))
   | inr past ↦ subst (λ n. n < 2 ^ 8) (sym (behind bytes rest place past)) (later (place - length bytes))
 ]
 
+-- a prefix of bytes is bytes
 bytes-front : (bytes rest : List ℕ) → AreBytes (bytes ++ rest) → AreBytes bytes
 bytes-front bytes rest are place = elim (cases_lt place (length bytes)) [
   | inl inside ↦ subst (λ n. n < 2 ^ 8) (get_or_append_left bytes rest 0 place inside) (are place)
@@ -53,6 +54,7 @@ bit-behind bytes others rest place long same = elim (cases_lt (place / 8) (lengt
       ∙ (ap (λ n. slice_index rest (place / 8 - n)) long ∙ sym (behind others rest (place / 8) (subst (λ n. n ≤ place / 8) long past))))
 ]
 
+-- a burst stays one where the same bytes follow
 burst-behind : (bytes others rest : List ℕ) → length bytes ≡ length others → DifferWithinEight bytes others →
     DifferWithinEight (bytes ++ rest) (others ++ rest)
 burst-behind bytes others rest long within = record {
@@ -76,6 +78,7 @@ betrayed-last before (x ∷ xs) last =
     (ap (λ n. get_or (x ∷ (xs ++ last ∷ [])) n 0) long ∙ get_or-append_seam (x ∷ xs) last [] 0)
     (ap (λ n. take n (x ∷ (xs ++ last ∷ []))) long ∙ take-append_seam (x ∷ xs) (last ∷ []))
 
+-- two numbers that differ aren't equal by the test
 not-equal : (a b : ℕ) → a ≢ b → not (eqb a b) ≡ true
 not-equal a b other = go (eqb a b) refl where
   go : (same : Bool) → eqb a b ≡ same → not same ≡ true
@@ -91,6 +94,7 @@ Bursts = (bytes others : List ℕ) → AreBytes bytes → AreBytes others → le
 abbrev EndsBehind : List ℕ → List ℕ → Type 0
 EndsBehind heard answer = (answer ≡ []) ⊎ ((body : List ℕ) × (answer ≡ body ++ pec_of (heard ++ body) ∷ []))
 
+-- an answer ends in the PEC of what was heard and of itself
 reply-ends : Below → (held : Held) (heard : List ℕ) → EndsBehind heard (answer_in (reply_of held heard Restart))
 reply-ends laws held heard = go (reply_of held heard Restart) refl where
   go : (reply : Heard) → reply_of held heard Restart ≡ reply → EndsBehind heard (answer_in reply)
@@ -126,6 +130,7 @@ changed-betrayed bursts frame heard answer body spelled others within are =
     (betrayed-last frame body (pec_of (heard ++ body))
     ∙ not-equal (pec_of (heard ++ body)) (pec_of (frame ++ body)) (λ same. codes (sym same)))
 
+-- so the answer to a damaged request is a legal return
 pub answered-legal : Below → (held : Held) (request : Message) (frame heard : List ℕ) (whole : Bool) → AreOthers frame heard →
     DifferWithinEight frame heard →
     AreBytes (answer_in (reply_of held heard Restart)) →

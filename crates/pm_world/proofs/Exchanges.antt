@@ -28,6 +28,7 @@ pub record Asks (s : State) (arrival : Arrival) (frame heard : List ℕ) (ending
   pub arrives : Arrives s true arrival frame heard ending
   pub needed_is : needed ≡ whole_answer arrives.message
 
+-- by what the host shows of the request
 pub arrives-request : (s : State) (arrival : Arrival) (frame heard : List ℕ) (ending : Ending) (needed : ℕ) →
     IsSomeAnd (sending_in s.host) (λ message. IsRequest s.host.setup.addr message frame)
     × IsSomeAnd (sending_in s.host) (λ message. needed ≡ whole_answer message) →
@@ -100,10 +101,12 @@ returns-answer {s = s} {arrival = arrival} r =
     let a = r.asks.arrives in
     r.answer_is ∙ ap₂ (λ b e. answer_in (reply_of s.device b e)) (a.heard_is ∙ ap (λ f. heard_bytes f arrival) a.frame_is) a.ending_is
 
+-- and of what comes back
 returns-came : {s : State} {arrival : Arrival} {back : Back} → (r : Returns s arrival back) →
     r.came ≡ back_bytes (answer_to s.device s.host.setup.addr r.asks.arrives.message arrival) back
 returns-came {back = back} r = r.came_is ∙ ap (λ a. back_bytes a back) (returns-answer r)
 
+-- and of the test of a return
 returns-legal : {s : State} {arrival : Arrival} {back : Back} → (r : Returns s arrival back) →
     let sent = frame_of s.host.setup.addr r.asks.arrives.message in
     let answer = answer_to s.device s.host.setup.addr r.asks.arrives.message arrival in

@@ -23,6 +23,7 @@ pub heard_ending-write : (message : Message) (arrival : Arrival) → is_read_mes
     ending_of Stop arrival ≡ heard_ending message arrival
 heard_ending-write message arrival writes = ap (λ b. ending_of (cond b Restart Stop) arrival) (sym writes)
 
+-- and of a request
 pub heard_ending-request : (message : Message) (arrival : Arrival) → is_read_message message ≡ true →
     ending_of Restart arrival ≡ heard_ending message arrival
 heard_ending-request message arrival reads = ap (λ b. ending_of (cond b Restart Stop) arrival) (sym reads)
@@ -36,6 +37,7 @@ pub record Arrives (s : State) (reads : Bool) (arrival : Arrival) (frame heard :
   pub heard_is : heard ≡ heard_bytes frame arrival
   pub ending_is : ending ≡ heard_ending message arrival
 
+-- by what the host shows of a write
 pub arrives-write : (s : State) (arrival : Arrival) (frame heard : List ℕ) (ending : Ending) →
     IsSomeAnd (sending_in s.host) (λ message. IsWrite s.host.setup.addr message frame) →
     heard ≡ heard_bytes frame arrival → ending ≡ ending_of Stop arrival → Arrives s false arrival frame heard ending

@@ -133,6 +133,7 @@ written-known laws s setup entries cell restarted order knows there pending so_f
         among = λ fresh. ap (λ w. is_possible w (possible_of (marks setup entries) cell)) left ∙ so_far.among fresh;
       }
 
+-- the open order takes, or nothing does
 taken-known : Below → (s : State) (setup : host.Setup) (entries : List host.Entry) (cell : Cell) (restarted : Bool) (words : Words)
     (order : Option PendingOrder) → Knows s setup entries → IsCell 8 cell →
     stage_order s.host.stage ≡ order → (words ≡ s.device.words) ⊎ (IsSome order × (words ≡ with_order s.device.words order)) →
@@ -144,6 +145,7 @@ taken-known laws s setup entries cell restarted words (Some order) knows there p
     subst (IsKnown (marks setup entries) cell restarted) (sym e)
     (written-known laws s setup entries cell restarted order knows there pending so_far)
 
+-- a delivery leaves what is known
 deliver-known : Below → (s : State) (setup : host.Setup) (entries : List host.Entry) (cell : Cell) (restarted : Bool)
     (arrival : Arrival) → Knows s setup entries → IsCell 8 cell →
     event_cause s (Deliver arrival) ≡ None → IsKnown (marks setup entries) cell restarted s.device.words →
@@ -221,6 +223,7 @@ stage-ordering s stage order is e = by_stage stage is e where
   by_stage (Some (Reads cell word pass)) is e = by_order cell word pass is e
   by_stage stage is e = absurd (none-some order e)
 
+-- what is known holds after each life
 pub knows : Below → (config : Config) (passes : ℕ) (events : List Event) → IsLived config passes events →
     Knows (now config passes events) (setup_of config passes) (life config passes events).entries
 unfolding now state_of host_now device_now stage_of
@@ -256,11 +259,13 @@ restarted-more : (config : Config) (passes : ℕ) (cell : Cell) (before : List E
 unfolding restarted_since
 restarted-more config passes cell before event = refl
 
+-- nothing is confirmed at the start, and any word is possible
 nothing-known : (config : Config) (passes : ℕ) (cell : Cell) (restarted : Bool) (words : Words) →
     IsKnown (marks (setup_of config passes) (life config passes []).entries) cell restarted words
 unfolding life possible_of
 nothing-known config passes cell restarted words = record { held = λ word confirmed fresh. cc; among = λ fresh. refl }
 
+-- what is known stays true over a life
 pub life-known : Below → (config : Config) (passes : ℕ) (events : List Event) (cell : Cell) → IsLived config passes events →
     IsCell config.count cell →
     IsKnown (marks (setup_of config passes) (life config passes events).entries) cell (restarted_since config passes cell events)
@@ -281,6 +286,7 @@ life-known laws config passes (event ∷ before) cell lived there =
     (subst (λ b. IsKnown (marks setup (option_to_list (share_of s event).told ++ entries)) cell b (next s event).device.words)
     (sym (restarted-more config passes cell before event)) after))
 
+-- the promise on confirmed words
 pub confirmed-held : Below → (config : Config) (passes : ℕ) (events : List Event) → IsLived config passes events →
     ConfirmedIsHeld config passes events (now config passes events)
 unfolding now state_of

@@ -49,11 +49,13 @@ good-free : (fault : Option FrameFault) (payload found : List ℕ) → cond (is_
 good-free None payload found h = refl
 good-free (Some fault) payload found h = cc
 
+-- the answer of which it is the payload
 pub good-faultless : (addr : ℕ) (request : Message) (bytes payload : List ℕ) → good_payload addr request bytes ≡ Some payload →
     answer_fault addr request bytes ≡ None
 unfolding good_payload
 good-faultless addr request bytes payload h = good-free (answer_fault addr request bytes) payload (answer_payload request bytes) h
 
+-- an ending is a repeated start by the test
 restart-is : (ending : Ending) → is_restart ending ≡ true → ending ≡ Restart
 restart-is Stop h = cc
 restart-is Restart h = refl
@@ -111,6 +113,7 @@ is-answer : Below → (held : Held) (addr : ℕ) (request : Message) (payload fr
 is-answer laws held addr request payload frame bytes found same is good =
     same_Some found payload (sym good ∙ (ap (good_payload addr request) same ∙ good-answer laws addr request payload frame is))
 
+-- the frame of a request is one
 pub is_request : (addr : ℕ) (request : Message) → is_read_message request ≡ true → fits_layout request ≡ true →
     IsRequest addr request (frame_of addr request)
 is_request addr request reads fits = record { reads = reads; fits = fits; spelled = frame-request addr request reads }
@@ -151,10 +154,12 @@ pub from_some : {A B : Type 0} (f : A → B) (o : Option A) (b : B) → option_m
 from_some f None b h = absurd (none-some b h)
 from_some f (Some a) b h = (a, refl, same_Some (f a) b h)
 
+-- a byte of VOUT_MODE is the word of its payload
 mode_word : (n : ℕ) → n < 2 ^ 8 → word_in (register_bytes command.vout_mode n) ≡ n
 unfolding line_of
 mode_word n below = omega arith
 
+-- a good answer to the read of VOUT_MODE is the converter's byte
 pub mode-true : Below → (held : Held) (setup : host.Setup) (output : ℕ) (bytes : List ℕ) (byte : ℕ) → IsSpelled held.config → output < 8 →
     output < held.config.count → output < setup.outputs →
     (good_mode held.config.addr output bytes ≡ Some byte →
@@ -169,6 +174,7 @@ mode-true laws held setup output bytes byte spelled eight below there same good 
     payload.0 (same good ∙ ap answer_in found.1) found.2 payload.1 in
     sym payload.2 ∙ (ap word_in is ∙ mode_word (mode_for held.config output) (spelled.modes output eight))
 
+-- a good answer to the read of COEFFICIENTS is the converter's
 pub coefficients-true : Below → (held : Held) (setup : host.Setup) (output : ℕ) (bytes : List ℕ) (k : Coefficients) →
     IsSpelled held.config → output < held.config.count →
     mode_of (mode_for held.config output) ≡ Ok Direct →

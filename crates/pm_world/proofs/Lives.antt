@@ -31,6 +31,7 @@ pub record IsLegal (s : State) (event : Event) : Type 0 where
   pub free : event_cause s event ≡ None
   pub word : HasWord s event
 
+-- each of the events is legal
 abbrev pub AreLegal : Config → ℕ → List Event → Type 0
 AreLegal config passes [] = Unit {0}
 AreLegal config passes (event ∷ before) = IsLegal (now config passes before) event × AreLegal config passes before
@@ -46,6 +47,7 @@ are-legal config passes [] taken = tt
 are-legal config passes (event ∷ before) (taken, all) =
     (record { free = taken-free (now config passes before) event taken; word = taken.word }, are-legal config passes before all)
 
+-- so events that were taken were lived through
 pub lived-by : (config : Config) (passes : ℕ) (events : List Event) → IsSound config → IsSetup (setup_of config passes) →
     AreTaken config passes events → IsLived config passes events
 lived-by config passes events sound made taken = record { sound = sound; made = made; legal = are-legal config passes events taken }
@@ -55,6 +57,7 @@ pub earlier : {config : Config} {passes : ℕ} {before : List Event} {event : Ev
     IsLived config passes before
 earlier lived = record { sound = lived.sound; made = lived.made; legal = lived.legal.1 }
 
+-- the newest event has no cause
 pub newest : {config : Config} {passes : ℕ} {before : List Event} {event : Event} → IsLived config passes (event ∷ before) →
     event_cause (now config passes before) event ≡ None
 newest lived = lived.legal.0.free
@@ -64,11 +67,13 @@ abbrev MayBeTold : Summary → Option host.Entry → Type 0
 MayBeTold s None = Unit {0}
 MayBeTold s (Some entry) = may_come s entry ≡ true
 
+-- the end of a write
 finish-may : (s : Summary) (sending : Option Message) → sending_in s ≡ sending → finish_cause sending ≡ None → sends_write s ≡ true
 finish-may s None e h = cc
 finish-may s (Some message) e h =
     ap (λ o. option_map_or (λ m. not (is_read_message m)) o false) e ∙ ap not (rule-none (is_read_message message) WrongKind h)
 
+-- an exchange
 exchange-may : (s : State) (arrival : Arrival) (back : Back) (sending : Option Message) → sending_in s.host ≡ sending →
     exchange_cause s arrival back sending ≡ None →
     MayBeTold s.host (exchanged s arrival back sending).told
@@ -78,6 +83,7 @@ exchange-may s arrival back (Some message) e h =
     ∙ not-false (is_read_message message)
     (rule-none (not (is_read_message message)) WrongKind (or-none (rule (not (is_read_message message)) WrongKind) _ h).0)
 
+-- a delivery
 deliver-may : (s : State) (arrival : Arrival) (sending : Option Message) → MayBeTold s.host (delivered s arrival sending).told
 deliver-may s arrival None = tt
 deliver-may s arrival (Some message) = tt
@@ -108,21 +114,25 @@ told-more : (setup : host.Setup) (entries : List host.Entry) (told : Option host
 told-more setup entries None before may = before
 told-more setup entries (Some entry) before may = (may, before)
 
+-- the converter after a share of a life
 device-part : Below → (config : Config) (past : List device.Event) (heard : Option device.Event) → IsSound config →
     device_now config (option_to_list heard ++ past) ≡ device_after (device_now config past) heard
 device-part laws config past None sound = refl
 device-part laws config past (Some event) sound = laws.pasts_are_followed.more config past event sound.some sound.few
 
+-- the host after it
 host-part : Below → (setup : host.Setup) (entries : List host.Entry) (told : Option host.Entry) → IsSetup setup → AreTold setup entries →
     MayBeTold (host_now setup entries) told →
     host_now setup (option_to_list told ++ entries) ≡ host_after (host_now setup entries) told
 host-part laws setup entries None good before may = refl
 host-part laws setup entries (Some entry) good before may = laws.transcripts_are_followed.more setup entries entry good (may, before)
 
+-- how a job stands is what the call answers
 end_by-step : (end : Option JobEnd) → end_by (step_by end) ≡ end
 end_by-step None = refl
 end_by-step (Some end) = refl
 
+-- how the last job stands after it
 end-part : Below → (setup : host.Setup) (entries : List host.Entry) (told : Option host.Entry) → IsSetup setup → AreTold setup entries →
     MayBeTold (host_now setup entries) told →
     host.end_of setup (option_to_list told ++ entries) ≡ end_after (host_now setup entries) (host.end_of setup entries) told
@@ -200,6 +210,7 @@ pub now-config : (config : Config) (passes : ℕ) (events : List Event) → (now
 unfolding now state_of device_now
 now-config config passes events = refl
 
+-- and the setup
 pub now-setup : (config : Config) (passes : ℕ) (events : List Event) → (now config passes events).host.setup ≡ setup_of config passes
 unfolding now state_of host_now
 now-setup config passes events = refl

@@ -28,6 +28,7 @@ use Rattle.pm_world.proofs.Sending.{eight}
 none : (x : Step) → Contains [] x → ⊥
 none x h = absurd (omega (arith, h.1))
 
+-- the one element
 single : (s x : Step) → Contains (s ∷ []) x → s ≡ x
 single s x (zero, below, e) = e
 single s x (suc k, below, e) = absurd (omega (arith, below))
@@ -72,6 +73,7 @@ later-ordered config passes event events cell word h = record {
   orders = h.orders;
 }
 
+-- an order that the steps accept
 retold : (config : Config) (passes : ℕ) (events : List Event) (steps : List Step) (cell : Cell) (word : ℕ) →
     Retells config passes events steps → Contains steps (Accept cell word) → WasOrdered config passes events cell word
 retold config passes events steps cell word nothing h = absurd (none (Accept cell word) h)
@@ -87,14 +89,17 @@ retold config passes events steps cell word (takes arrival before rest r) h =
       | inr earlier ↦ later-ordered config passes (Deliver arrival) before cell word (retold config passes before rest cell word r earlier)
     ]
 
+-- there is a start word for each cell
 full : Below → (config : Config) → AreWords (start_words config)
 unfolding start_words
 full laws config = (laws.settings_are_a_map.made (start_word config)).0
 
+-- which is the configuration's
 start-at : Below → (config : Config) (cell : Cell) → IsCell 8 cell → word_at (start_words config) cell ≡ start_word config cell
 unfolding start_words
 start-at laws config cell here = (laws.settings_are_a_map.made (start_word config)).1 cell here
 
+-- by the run of the order machine
 run-own : Below → (config : Config) (passes : ℕ) (events : List Event) (words : Words) (cell : Cell) → IsSound config →
     IsOrderRun config passes events words → IsCell config.count cell → IsOwnWord config passes events cell (word_at words cell)
 run-own laws config passes events words cell sound r here =
@@ -104,6 +109,7 @@ run-own laws config passes events words cell sound r here =
       | inr h ↦ inr (retold config passes events r.steps cell (word_at (machine_of (start_settings config) r.steps).words cell) r.retells h)
     ])
 
+-- by the life
 pub life-own : Below → (config : Config) (passes : ℕ) (events : List Event) (cell : Cell) → IsLived config passes events →
     IsCell config.count cell →
     IsOwnWord config passes events cell (word_at (now config passes events).device.words cell)

@@ -12,6 +12,7 @@ use Rattle.pm_world.specs.Life.{after_all, AreTakenFrom}
 abbrev pub past : ℕ → List Event → List Event
 past n events = reverse (take n events)
 
+-- one event more
 pub past-more : (n : ℕ) (events : List Event) (event : Event) → n < length events → event ≡ get_or events n event →
     past (n + 1) events ≡ event ∷ past n events
 past-more n events event inside is =

@@ -38,18 +38,22 @@ and-both : (a b : Bool) → (a && b) ≡ true → (a ≡ true) × (b ≡ true)
 and-both true b h = (refl, h)
 and-both false b h = absurd (false≢true h)
 
+-- neither of two
 or-neither : (a b : Bool) → (a || b) ≡ false → (a ≡ false) × (b ≡ false)
 or-neither true b h = absurd (true≢false h)
 or-neither false b h = (refl, h)
 
+-- one of two
 or-one : (a b : Bool) → (a || b) ≡ true → (a ≡ true) ⊎ (b ≡ true)
 or-one true b h = inl refl
 or-one false b h = inr h
 
+-- the last of two
 or-last : (a b : Bool) → b ≡ true → (a || b) ≡ true
 or-last true b h = refl
 or-last false b h = h
 
+-- the other case of a choice
 cond-off : (a b : Bool) → cond a false b ≡ true → (a ≡ false) × (b ≡ true)
 cond-off true b h = absurd (false≢true h)
 cond-off false b h = (refl, h)
@@ -63,6 +67,7 @@ restart-told s event h = cc
 abbrev NoWords : List Mark → Cell → Type 0
 NoWords ms cell = words_since ms cell ≡ None
 
+-- a write that begins leaves no words where there were none
 puts-none : (new ms : List Mark) → ArePuts new → (cell : Cell) → NoWords ms cell → NoWords (new ++ ms) cell
 puts-none new ms no_put cell none = none
 puts-none new ms (one_put c w) cell none = go (same_cell c cell) where
@@ -70,6 +75,7 @@ puts-none new ms (one_put c w) cell none = go (same_cell c cell) where
   go true = ap (option_map (λ ws. w ∷ ws)) none
   go false = none
 
+-- so does a good answer of another cell
 goods-none : (setup : host.Setup) (before : List host.Entry) (bytes : List ℕ) (new ms : List Mark) → AreGoods setup before bytes new →
     (cell : Cell) →
     list_any (is_good_for cell) new ≡ false → NoWords ms cell → NoWords (new ++ ms) cell
@@ -84,6 +90,7 @@ goods-none setup before bytes new ms (one_good read w asked good) cell unread no
   go true h = cc
   go false h = by_surprise (is_possible w (possible_from (words_since ms read)))
 
+-- so does an entry that reads another cell, or none
 told-none : (setup : host.Setup) (entries : List host.Entry) (cell : Cell) (told : Option host.Entry) →
     reads setup entries cell told ≡ false →
     NoWords (marks setup entries) cell → NoWords (marks setup (option_to_list told ++ entries)) cell
@@ -102,6 +109,7 @@ first-none : (config : Config) (passes : ℕ) (cell : Cell) → NoWords (marks (
 unfolding life
 first-none config passes cell = refl
 
+-- and so a life that doesn't read the cell
 unread-none : (config : Config) (passes : ℕ) (cell : Cell) (events : List Event) → has_read config passes cell events ≡ false →
     NoWords (marks (setup_of config passes) (life config passes events).entries) cell
 unfolding has_read
@@ -167,10 +175,12 @@ record Surprise (s : State) (setup : host.Setup) (entries : List host.Entry) (ce
   there : IsCell s.device.config.count cell
   impossible : is_possible (word_at s.device.words cell) (possible_of (marks setup entries) cell) ≡ false
 
+-- what isn't true is false
 not-true : (b : Bool) → not b ≡ true → b ≡ false
 not-true true h = cc
 not-true false h = refl
 
+-- by the good answer
 one-surprise : Below → (s : State) (setup : host.Setup) (entries : List host.Entry) (read : Cell) (word : ℕ) → Knows s setup entries →
     read_by (host.open_job setup entries) (host.told_since entries) ≡ Some read → word_at s.device.words read ≡ word →
     not (is_possible word (possible_of (marks setup entries) read)) ≡ true → Surprise s setup entries read
@@ -179,6 +189,7 @@ one-surprise laws s setup entries read word knows asked is surprising = record {
   impossible = ap (λ w. is_possible w (possible_of (marks setup entries) read)) is ∙ not-true _ surprising;
 }
 
+-- by the marks of what came back
 goods-surprise : Below → (s : State) (setup : host.Setup) (entries : List host.Entry) (bytes : List ℕ) (new : List Mark) →
     AreGoods setup entries bytes new →
     (cell : Cell) → Knows s setup entries → ReadsTrue setup entries bytes s.device.words →
@@ -194,6 +205,7 @@ goods-surprise laws s setup entries bytes new (one_good read word asked good) ce
       | inr bad ↦ absurd (false≢true bad)
     ]
 
+-- by what the host was told
 told-surprise : Below → (s : State) (setup : host.Setup) (entries : List host.Entry) (event : Event) (cell : Cell)
     (told : Option host.Entry) → Knows s setup entries →
     event_cause s event ≡ None → (share_of s event).told ≡ told → surprises setup entries cell told ≡ true → Surprise s setup entries cell
@@ -226,6 +238,7 @@ surprise-restarted laws config passes before cell lived surprise = (
     words : Words
     words = (now config passes before).device.words
 
+-- by the event
 event-surprise : Below → (config : Config) (passes : ℕ) (before : List Event) (event : Event) (cell : Cell) →
     IsLived config passes (event ∷ before) → surprises_by config passes cell before event ≡ true →
     (has_read config passes cell before ≡ true) × (restarted_since config passes cell before ≡ true)
@@ -241,10 +254,12 @@ record SurprisedBy (s : State) (setup : host.Setup) (entries : List host.Entry) 
   read : reads setup entries cell told ≡ true
   surprising : surprises setup entries cell told ≡ true
 
+-- a write that begins shows no restart
 puts-seen : (new ms : List Mark) → ArePuts new → restart_seen_of (new ++ ms) ≡ restart_seen_of ms
 puts-seen new ms no_put = refl
 puts-seen new ms (one_put c w) = refl
 
+-- a good answer shows one where it surprises
 goods-seen : Below → (s : State) (setup : host.Setup) (entries : List host.Entry) (bytes : List ℕ) (new : List Mark) →
     AreGoods setup entries bytes new →
     Knows s setup entries → restart_seen_of (new ++ marks setup entries) ≡ true →
@@ -264,6 +279,7 @@ goods-seen laws s setup entries bytes new (one_good read word asked good) knows 
       | inr older ↦ inl older
     ]
 
+-- so does an entry
 told-seen : Below → (s : State) (setup : host.Setup) (entries : List host.Entry) (told : Option host.Entry) → Knows s setup entries →
     restart_seen_of (marks setup (option_to_list told ++ entries)) ≡ true →
     (restart_seen_of (marks setup entries) ≡ true) ⊎ SurprisedBy s setup entries told
@@ -290,10 +306,12 @@ between-more : (config : Config) (passes : ℕ) (cell : Cell) (before : List Eve
 unfolding restarted_between
 between-more config passes cell before event = refl
 
+-- no restart was seen at the start
 first-unseen : (config : Config) (passes : ℕ) → restart_seen_of (marks (setup_of config passes) (life config passes []).entries) ≡ false
 unfolding life
 first-unseen config passes = refl
 
+-- by one event after another
 life-seen : Below → (config : Config) (passes : ℕ) (events : List Event) → IsLived config passes events →
     restart_seen_of (marks (setup_of config passes) (life config passes events).entries) ≡ true →
     (cell : Cell) × IsCell config.count cell × (restarted_between config passes cell events ≡ true)
@@ -365,6 +383,7 @@ since-started config passes cell (event ∷ before) read since =
     go true h older = refl
     go false h older = older h
 
+-- where it lies between two good answers
 between-started : (config : Config) (passes : ℕ) (cell : Cell) (events : List Event) → restarted_between config passes cell events ≡ true →
     restarted_since_host events ≡ true
 unfolding restarted_between restarted_since_host
@@ -398,6 +417,7 @@ possible-held laws config passes events lived =
           ∙ (life-known laws config passes events cell lived there).among fresh;
     }
 
+-- the promise on restarts that were seen
 pub seen-true : Below → (config : Config) (passes : ℕ) (events : List Event) → IsLived config passes events →
     SeenIsTrue config passes events (now config passes events)
 unfolding now state_of

@@ -80,6 +80,7 @@ put-from : (w x : ℕ) (found : Option (List ℕ)) → is_possible x (possible_f
 put-from w x None h = refl
 put-from w x (Some ws) h = listed-added w x ws ∙ ap (λ b. b || eqb w x) h
 
+-- by the marks
 put-possible : (ms : List Mark) (c cell : Cell) (w x : ℕ) → is_possible x (possible_of ms cell) ≡ true →
     is_possible x (possible_of (Put c w ∷ ms) cell) ≡ true
 unfolding possible_of
@@ -93,6 +94,7 @@ put-confirms : (b : Bool) (rest : Standing) (word : ℕ) → cond b Unknown rest
 put-confirms true rest word h = cc
 put-confirms false rest word h = h
 
+-- so what is known stays true
 put-known : (ms : List Mark) (c : Cell) (w : ℕ) (cell : Cell) (restarted : Bool) (words : Words) →
     IsKnown ms cell restarted words → IsKnown (Put c w ∷ ms) cell restarted words
 put-known ms c w cell restarted words known = record {
@@ -105,6 +107,7 @@ pub data ArePuts : List Mark → Type 0 where
   no_put : ArePuts []
   one_put : (cell : Cell) (word : ℕ) → ArePuts (Put cell word ∷ [])
 
+-- by the open job
 pub are-puts : (setup : Setup) (entries : List Entry) → ArePuts (puts setup entries)
 unfolding puts
 are-puts setup entries = go (open_job setup entries) where
@@ -117,6 +120,7 @@ are-puts setup entries = go (open_job setup entries) where
   go (Some (Order cell word)) = by_turn (is_write_turn (told_since entries)) cell word
   go (Some job) = no_put
 
+-- and stays true after each of them
 puts-known : (new ms : List Mark) → ArePuts new → (cell : Cell) (restarted : Bool) (words : Words) →
     IsKnown ms cell restarted words → IsKnown (new ++ ms) cell restarted words
 puts-known new ms no_put cell restarted words known = known
@@ -128,6 +132,7 @@ pub data AreGoods (setup : Setup) (before : List Entry) (bytes : List ℕ) : Lis
   one_good : (read : Cell) (word : ℕ) → read_by (open_job setup before) (told_since before) ≡ Some read →
       good_word setup.addr read bytes ≡ Some word → AreGoods setup before bytes (Good read word ∷ [])
 
+-- by what was asked for
 pub are-goods : (setup : Setup) (before : List Entry) (bytes : List ℕ) → AreGoods setup before bytes (goods setup before bytes)
 unfolding goods
 are-goods setup before bytes = go (read_by (open_job setup before) (told_since before)) refl where
@@ -151,6 +156,7 @@ ReadsTrue setup before bytes words =
 confirmed-is : (w word : ℕ) → Confirmed w ≡ Confirmed word → w ≡ word
 confirmed-is w word h = cc
 
+-- the words that are possible after a good answer
 good-possible : (ms : List Mark) (read cell : Cell) (w x : ℕ) → (same_cell read cell ≡ true → x ≡ w) →
     (same_cell read cell ≡ false → is_possible x (possible_of ms cell) ≡ true) →
     is_possible x (possible_of (Good read w ∷ ms) cell) ≡ true
@@ -167,6 +173,7 @@ good-possible ms read cell w x itself other = go (same_cell read cell) refl wher
   go true e = ap (λ b. b || false) (eq-eqb w x (sym (itself e)))
   go false e = by_surprise (is_possible w (possible_from (words_since ms read))) (other e)
 
+-- of one good answer
 good-known : Below → (ms : List Mark) (read : Cell) (w : ℕ) (cell : Cell) (restarted : Bool) (words : Words) →
     word_at words read ≡ w → IsKnown ms cell restarted words →
     IsKnown (Good read w ∷ ms) cell (cond (list_any (is_good_for cell) (Good read w ∷ [])) false restarted) words
@@ -186,6 +193,7 @@ good-known laws ms read w cell restarted words is known = record {
     not-read : same_cell read cell ≡ false → cond (same_cell read cell || false) false restarted ≡ false → restarted ≡ false
     not-read e fresh = sym (ap (λ b. cond (b || false) false restarted) e) ∙ fresh
 
+-- of none or one
 goods-known : Below → (setup : Setup) (before : List Entry) (bytes : List ℕ) (new ms : List Mark) → AreGoods setup before bytes new →
     (cell : Cell) (restarted : Bool) (words : Words) → ReadsTrue setup before bytes words → IsKnown ms cell restarted words →
     IsKnown (new ++ ms) cell (cond (list_any (is_good_for cell) new) false restarted) words
@@ -200,6 +208,7 @@ accepted-known setup entries cell restarted words job known =
     puts-known (puts setup (Accepted job ∷ entries)) (marks setup entries) (are-puts setup (Accepted job ∷ entries)) cell restarted words
     known
 
+-- bytes that came back
 pub got-known : Below → (setup : Setup) (entries : List Entry) (cell : Cell) (restarted : Bool) (words : Words) (bytes : List ℕ) →
     ReadsTrue setup entries bytes words → IsKnown (marks setup entries) cell restarted words →
     IsKnownAfter setup entries cell restarted (Some (Got bytes)) words
@@ -209,6 +218,7 @@ got-known laws setup entries cell restarted words bytes is known =
     (goods-known laws setup entries bytes (goods setup entries bytes) (marks setup entries) (are-goods setup entries bytes) cell restarted
     words is known)
 
+-- a restart of the host
 pub restarted-known : (setup : Setup) (entries : List Entry) (cell : Cell) (restarted : Bool) (words : Words) →
     IsKnownAfter setup entries cell restarted (Some Restarted) words
 unfolding possible_of

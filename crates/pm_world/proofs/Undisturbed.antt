@@ -76,10 +76,12 @@ pub record Ended (s : State) (cell : Cell) (word : ℕ) (event : Event) : Type 0
   pub confirmed : standing_at (next s event).host cell ≡ Confirmed word
   pub held : word_at (next s event).device.words cell ≡ word
 
+-- a repeated start ends the request of a cell's read
 pub read-restart : (cell : Cell) → heard_ending (cell_read cell) Whole ≡ Restart
 read-restart (Out output register) = refl
 read-restart Protect = refl
 
+-- what an undisturbed exchange tells the host
 exchange-told : (s : State) (message : Message) → sending_in s.host ≡ Some message → heard_ending message Whole ≡ Restart →
     (share_of s (Exchange Whole back.Whole)).told ≡ Some
     (host.Got (answer_in (reply_of s.device (frame_of s.host.setup.addr message) Restart)))
@@ -87,23 +89,27 @@ exchange-told s message sending ending =
     ap (λ o. (exchanged s Whole back.Whole o).told) sending
     ∙ ap (λ e. Some (host.Got (answer_in (reply_of s.device (frame_of s.host.setup.addr message) e)))) ending
 
+-- and the converter
 exchange-heard : (s : State) (message : Message) → sending_in s.host ≡ Some message → heard_ending message Whole ≡ Restart →
     (share_of s (Exchange Whole back.Whole)).heard ≡ Some (device.Hearing (frame_of s.host.setup.addr message) Restart)
 exchange-heard s message sending ending =
     ap (λ o. (exchanged s Whole back.Whole o).heard) sending
     ∙ ap (λ e. Some (device.Hearing (frame_of s.host.setup.addr message) e)) ending
 
+-- which leaves the words
 next-heard : Below → (s : State) (event : Event) (bytes : List ℕ) → (share_of s event).heard ≡ Some (device.Hearing bytes Restart) →
     (next s event).device.words ≡ s.device.words
 unfolding next device_next device_outcome
 next-heard laws s event bytes heard = ap (λ o. (device_after s.device o).words) heard
     ∙ (laws.writes_reach_one_cell.request s.device bytes).0
 
+-- the job is done
 next-done : (s : State) (event : Event) (cell : Cell) (word : ℕ) (bytes : List ℕ) → (share_of s event).told ≡ Some (host.Got bytes) →
     change s.host (host.Got bytes) ≡ ends (marked (idle s.host) (Good cell word)) Done → (next s event).end ≡ Some Done
 unfolding next step_of
 next-done s event cell word bytes told done = ap (end_after s.host s.end) told ∙ ap (λ (t : Change). end_by t.step) done
 
+-- the word is confirmed
 next-confirmed : Below → (s : State) (event : Event) (cell : Cell) (word : ℕ) (bytes : List ℕ) →
     (share_of s event).told ≡ Some (host.Got bytes) →
     change s.host (host.Got bytes) ≡ ends (marked (idle s.host) (Good cell word)) Done → length s.host.known.standing ≡ places →
@@ -116,6 +122,7 @@ next-confirmed laws s event cell word bytes told done long there =
     ∙ get_or-set_same s.host.known.standing (place_of cell) (Confirmed word) Unknown
     (let below = laws.cells_have_places.below cell there in omega arith))
 
+-- so ends an order that read its word back
 ended : Below → (s : State) (cell : Cell) (word : ℕ) → Fixed s cell word → s.host.stage ≡ Some (Reads cell word 0) →
     word_at s.device.words cell ≡ word →
     length s.host.known.standing ≡ places → Ended s cell word (Exchange Whole back.Whole)
@@ -144,6 +151,7 @@ now-are : Below → (config : Config) (passes : ℕ) (events : List Event) → A
 unfolding now state_of
 now-are laws config passes events = laws.pasts_are_followed.words config (life config passes events).past
 
+-- the host is sound
 pub now-sound : Below → (config : Config) (passes : ℕ) (events : List Event) → IsLived config passes events →
     IsSoundHost (now config passes events).host
 unfolding now state_of
@@ -157,6 +165,7 @@ pub order-stage : (s : State) (order : Event) (cell : Cell) (word : ℕ) → ask
 unfolding host_next
 order-stage s order cell word asks = ap (λ (t : State). t.host.stage) (asked-next s order (host.Order cell word) asks)
 
+-- and leaves the converter
 order-device : (s : State) (order : Event) (cell : Cell) (word : ℕ) → asked s order ≡ Some (host.Order cell word) →
     (next s order).device ≡ s.device
 order-device s order cell word asks = ap (λ (t : State). t.device) (asked-next s order (host.Order cell word) asks)
@@ -167,6 +176,7 @@ pub finish-stage : (s : State) (acked : Bool) (cell : Cell) (word : ℕ) → s.h
 unfolding next host_next
 finish-stage s acked cell word stage = ap (λ o. (finished (idle s.host) o acked).after.stage) stage
 
+-- and leaves the converter
 finish-device : (s : State) (acked : Bool) → (next s (Finish acked)).device ≡ s.device
 unfolding next
 finish-device s acked = refl
@@ -178,6 +188,7 @@ pub share-entries : (config : Config) (passes : ℕ) (before : List Event) (even
 unfolding life now
 share-entries config passes before event told is = ap (λ t. option_to_list t ++ (life config passes before).entries) is
 
+-- after the order
 order-entries : (config : Config) (passes : ℕ) (before : List Event) (order : Event) (cell : Cell) (word : ℕ) →
     asked (now config passes before) order ≡ Some (host.Order cell word) →
     (life config passes (order ∷ before)).entries ≡ host.Accepted (host.Order cell word) ∷ (life config passes before).entries
@@ -185,6 +196,7 @@ order-entries config passes before order cell word asks =
     share-entries config passes before order (Some (host.Accepted (host.Order cell word)))
     (ap (λ (share : Share). share.told) (asked-share (now config passes before) order (host.Order cell word) asks))
 
+-- after a delivery
 deliver-entries : (config : Config) (passes : ℕ) (before : List Event) (arrival : Arrival) →
     (life config passes (Deliver arrival ∷ before)).entries ≡ (life config passes before).entries
 deliver-entries config passes before arrival =
@@ -235,6 +247,7 @@ pub order-lived : (config : Config) (passes : ℕ) (before : List Event) (order 
 order-lived config passes before order [] lived = lived
 order-lived config passes before order (arrival ∷ arrivals) lived = order-lived config passes before order arrivals (earlier lived)
 
+-- by one delivery after another
 sent-so : Below → (config : Config) (passes : ℕ) (before : List Event) (order : Event) (cell : Cell) (word : ℕ) →
     Ordered config passes before order cell word →
     is_allowed (word_at (now config passes before).device.words Protect) (cell_code cell) ≡ true → (arrivals : List Arrival) →
@@ -269,6 +282,7 @@ sent-so laws config passes before order cell word o allowed (arrival ∷ arrival
       entries = deliver-entries config passes events arrival ∙ so_far.entries;
     }
 
+-- an undisturbed order goes through
 pub went-through : Below → (config : Config) (passes : ℕ) (before : List Event) (order : Event) (cell : Cell) (word : ℕ)
     (arrivals : List Arrival) (acked : Bool) →
     IsLived config passes (honest order arrivals acked before) → asked (now config passes before) order ≡ Some (host.Order cell word) →
