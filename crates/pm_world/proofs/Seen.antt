@@ -76,11 +76,12 @@ puts-none new ms (one_put c w) cell none = go (same_cell c cell) where
   go false = none
 
 -- so does a good answer of another cell
-goods-none : (setup : host.Setup) (before : List host.Entry) (bytes : List ℕ) (new ms : List Mark) → AreGoods setup before bytes new →
+goods-none : {setup : host.Setup} {before : List host.Entry} {bytes : List ℕ} {new : List Mark} (ms : List Mark) →
+    AreGoods setup before bytes new →
     (cell : Cell) →
     list_any (is_good_for cell) new ≡ false → NoWords ms cell → NoWords (new ++ ms) cell
-goods-none setup before bytes new ms no_good cell unread none = none
-goods-none setup before bytes new ms (one_good read w asked good) cell unread none = go (same_cell read cell) unread where
+goods-none ms no_good cell unread none = none
+goods-none ms (one_good read w asked good) cell unread none = go (same_cell read cell) unread where
   by_surprise : (b : Bool) → cond b (words_since ms cell) None ≡ None
   by_surprise true = none
   by_surprise false = refl
@@ -101,7 +102,7 @@ told-none setup entries cell (Some (host.Finished acked)) unread none = none
 told-none setup entries cell (Some (host.Got bytes)) unread none =
     puts-none (puts setup (host.Got bytes ∷ entries)) (goods setup entries bytes ++ marks setup entries)
     (are-puts setup (host.Got bytes ∷ entries)) cell
-    (goods-none setup entries bytes (goods setup entries bytes) (marks setup entries) (are-goods setup entries bytes) cell unread none)
+    (goods-none (marks setup entries) (are-goods setup entries bytes) cell unread none)
 told-none setup entries cell (Some host.Restarted) unread none = refl
 
 -- where the host had no good answer since it started, no words are known
@@ -147,9 +148,9 @@ got_bytes (host.Got bytes) = bytes
 got_bytes _ = []
 
 -- what came back is true of the cell that is read, whichever event brought it
-got-true : Below → (s : State) (setup : host.Setup) (entries : List host.Entry) (event : Event) (bytes : List ℕ) → Knows s setup entries →
+got-true : Below → {s : State} {setup : host.Setup} {entries : List host.Entry} (event : Event) (bytes : List ℕ) → Knows s setup entries →
     event_cause s event ≡ None → (share_of s event).told ≡ Some (host.Got bytes) → ReadsTrue setup entries bytes s.device.words
-got-true laws s setup entries event bytes knows free told = by_asked (asked s event) told where
+got-true laws {s = s} {setup = setup} {entries = entries} event bytes knows free told = by_asked (asked s event) told where
   by_sending : (arrival : Arrival) (back : Back) (sending : Option Message) → sending_in s.host ≡ sending →
       exchange_cause s arrival back sending ≡ None →
       (exchanged s arrival back sending).told ≡ Some (host.Got bytes) → ReadsTrue setup entries bytes s.device.words
@@ -157,7 +158,7 @@ got-true laws s setup entries event bytes knows free told = by_asked (asked s ev
   by_sending arrival back (Some message) e free told =
       let is = same_Some _ (host.Got bytes) told in
       subst (λ (entry : host.Entry). ReadsTrue setup entries (got_bytes entry) s.device.words) is
-      (reads-true laws s setup entries arrival back message knows e free)
+      (reads-true laws arrival back message knows e free)
 
   beside : (event : Event) → event_cause s event ≡ None → (share_beside s event).told ≡ Some (host.Got bytes) →
       ReadsTrue setup entries bytes s.device.words
@@ -181,38 +182,38 @@ not-true true h = cc
 not-true false h = refl
 
 -- by the good answer
-one-surprise : Below → (s : State) (setup : host.Setup) (entries : List host.Entry) (read : Cell) (word : ℕ) → Knows s setup entries →
+one-surprise : Below → {s : State} {setup : host.Setup} {entries : List host.Entry} (read : Cell) (word : ℕ) → Knows s setup entries →
     read_by (host.open_job setup entries) (host.told_since entries) ≡ Some read → word_at s.device.words read ≡ word →
     not (is_possible word (possible_of (marks setup entries) read)) ≡ true → Surprise s setup entries read
-one-surprise laws s setup entries read word knows asked is surprising = record {
+one-surprise laws {setup = setup} {entries = entries} read word knows asked is surprising = record {
   there = (knows.asks read asked).1;
   impossible = ap (λ w. is_possible w (possible_of (marks setup entries) read)) is ∙ not-true _ surprising;
 }
 
 -- by the marks of what came back
-goods-surprise : Below → (s : State) (setup : host.Setup) (entries : List host.Entry) (bytes : List ℕ) (new : List Mark) →
+goods-surprise : Below → {s : State} {setup : host.Setup} {entries : List host.Entry} {bytes : List ℕ} {new : List Mark} →
     AreGoods setup entries bytes new →
     (cell : Cell) → Knows s setup entries → ReadsTrue setup entries bytes s.device.words →
     list_any (is_surprise_for cell (marks setup entries)) new ≡ true → Surprise s setup entries cell
-goods-surprise laws s setup entries bytes new no_good cell knows is h = absurd (false≢true h)
-goods-surprise laws s setup entries bytes new (one_good read word asked good) cell knows is h =
+goods-surprise laws no_good cell knows is h = absurd (false≢true h)
+goods-surprise laws {s = s} {setup = setup} {entries = entries} (one_good read word asked good) cell knows is h =
     let one = or-one (is_surprise_for cell (marks setup entries) (Good read word)) false h in
     elim one [
       | inl so ↦
           (let both = and-both (same_cell read cell) (not (is_possible word (possible_of (marks setup entries) read))) so in
           subst (Surprise s setup entries) (same-cells laws read cell both.0)
-          (one-surprise laws s setup entries read word knows asked (is read word asked good) both.1))
+          (one-surprise laws read word knows asked (is read word asked good) both.1))
       | inr bad ↦ absurd (false≢true bad)
     ]
 
 -- by what the host was told
-told-surprise : Below → (s : State) (setup : host.Setup) (entries : List host.Entry) (event : Event) (cell : Cell)
+told-surprise : Below → {s : State} {setup : host.Setup} {entries : List host.Entry} (event : Event) (cell : Cell)
     (told : Option host.Entry) → Knows s setup entries →
     event_cause s event ≡ None → (share_of s event).told ≡ told → surprises setup entries cell told ≡ true → Surprise s setup entries cell
-told-surprise laws s setup entries event cell (Some (host.Got bytes)) knows free told h =
-    goods-surprise laws s setup entries bytes (goods setup entries bytes) (are-goods setup entries bytes) cell knows
-    (got-true laws s setup entries event bytes knows free told) h
-told-surprise laws s setup entries event cell told knows free is h = absurd (false≢true h)
+told-surprise laws {setup = setup} {entries = entries} event cell (Some (host.Got bytes)) knows free told h =
+    goods-surprise laws (are-goods setup entries bytes) cell knows
+    (got-true laws event bytes knows free told) h
+told-surprise laws event cell told knows free is h = absurd (false≢true h)
 
 -- a cell of the converter is one of its configuration
 count-is : (config : Config) (passes : ℕ) (events : List Event) (cell : Cell) →
@@ -244,7 +245,7 @@ event-surprise : Below → (config : Config) (passes : ℕ) (before : List Event
     (has_read config passes cell before ≡ true) × (restarted_since config passes cell before ≡ true)
 event-surprise laws config passes before event cell lived h =
     surprise-restarted laws config passes before cell (earlier lived)
-    (told-surprise laws (now config passes before) (setup_of config passes) (life config passes before).entries event cell _
+    (told-surprise laws event cell _
     (knows laws config passes before (earlier lived)) (newest lived) refl h)
 
 -- the restarts that the host saw: after a further entry one that it had seen before, or the entry surprises it
@@ -260,14 +261,14 @@ puts-seen new ms no_put = refl
 puts-seen new ms (one_put c w) = refl
 
 -- a good answer shows one where it surprises
-goods-seen : Below → (s : State) (setup : host.Setup) (entries : List host.Entry) (bytes : List ℕ) (new : List Mark) →
+goods-seen : Below → {s : State} {setup : host.Setup} {entries : List host.Entry} {bytes : List ℕ} {new : List Mark} →
     AreGoods setup entries bytes new →
     Knows s setup entries → restart_seen_of (new ++ marks setup entries) ≡ true →
     (restart_seen_of (marks setup entries) ≡ true)
     ⊎ ((cell : Cell) × IsCell s.device.config.count cell × (list_any (is_good_for cell) new ≡ true) ×
     (list_any (is_surprise_for cell (marks setup entries)) new ≡ true))
-goods-seen laws s setup entries bytes new no_good knows seen = inl seen
-goods-seen laws s setup entries bytes new (one_good read word asked good) knows seen =
+goods-seen laws no_good knows seen = inl seen
+goods-seen laws {setup = setup} {entries = entries} (one_good read word asked good) knows seen =
     elim (or-one (not (is_possible word (possible_of (marks setup entries) read))) (restart_seen_of (marks setup entries)) seen) [
       | inl surprising ↦ inr (
         read,
@@ -280,22 +281,22 @@ goods-seen laws s setup entries bytes new (one_good read word asked good) knows 
     ]
 
 -- so does an entry
-told-seen : Below → (s : State) (setup : host.Setup) (entries : List host.Entry) (told : Option host.Entry) → Knows s setup entries →
+told-seen : Below → {s : State} {setup : host.Setup} {entries : List host.Entry} (told : Option host.Entry) → Knows s setup entries →
     restart_seen_of (marks setup (option_to_list told ++ entries)) ≡ true →
     (restart_seen_of (marks setup entries) ≡ true) ⊎ SurprisedBy s setup entries told
-told-seen laws s setup entries None knows seen = inl seen
-told-seen laws s setup entries (Some (host.Accepted job)) knows seen =
+told-seen laws None knows seen = inl seen
+told-seen laws {setup = setup} {entries = entries} (Some (host.Accepted job)) knows seen =
     inl (sym (puts-seen (puts setup (host.Accepted job ∷ entries)) (marks setup entries) (are-puts setup (host.Accepted job ∷ entries)))
     ∙ seen)
-told-seen laws s setup entries (Some (host.Finished acked)) knows seen = inl seen
-told-seen laws s setup entries (Some (host.Got bytes)) knows seen =
-    elim (goods-seen laws s setup entries bytes (goods setup entries bytes) (are-goods setup entries bytes) knows
+told-seen laws (Some (host.Finished acked)) knows seen = inl seen
+told-seen laws {setup = setup} {entries = entries} (Some (host.Got bytes)) knows seen =
+    elim (goods-seen laws (are-goods setup entries bytes) knows
     (sym (puts-seen (puts setup (host.Got bytes ∷ entries)) (goods setup entries bytes ++ marks setup entries)
     (are-puts setup (host.Got bytes ∷ entries))) ∙ seen)) [
       | inl older ↦ inl older
       | inr (cell, there, read, surprising) ↦ inr (record { cell = cell; there = there; read = read; surprising = surprising })
     ]
-told-seen laws s setup entries (Some host.Restarted) knows seen = absurd (false≢true seen)
+told-seen laws (Some host.Restarted) knows seen = absurd (false≢true seen)
 
 -- a restart that was seen lies between two good answers for a cell
 between-more : (config : Config) (passes : ℕ) (cell : Cell) (before : List Event) (event : Event) →
@@ -355,7 +356,7 @@ life-seen laws config passes (event ∷ before) lived seen =
         (ap (λ o. restart_seen_of (marks (setup_of config passes) (option_to_list o ++ (life config passes before).entries)))
         (restart-told (now config passes before) event e)) ∙ after))
     go false e older =
-        elim (told-seen laws (now config passes before) (setup_of config passes) (life config passes before).entries
+        elim (told-seen laws
         (share_of (now config passes before) event).told
         (knows laws config passes before (earlier lived)) after) [
           | inl seen ↦ (let o = older seen in (o.0, o.1, here o.0 e (or-last _ _ o.2)))

@@ -174,10 +174,10 @@ good-possible ms read cell w x itself other = go (same_cell read cell) refl wher
   go false e = by_surprise (is_possible w (possible_from (words_since ms read))) (other e)
 
 -- of one good answer
-good-known : Below → (ms : List Mark) (read : Cell) (w : ℕ) (cell : Cell) (restarted : Bool) (words : Words) →
+good-known : Below → {ms : List Mark} (read : Cell) (w : ℕ) {cell : Cell} {restarted : Bool} {words : Words} →
     word_at words read ≡ w → IsKnown ms cell restarted words →
     IsKnown (Good read w ∷ ms) cell (cond (list_any (is_good_for cell) (Good read w ∷ [])) false restarted) words
-good-known laws ms read w cell restarted words is known = record {
+good-known laws {ms = ms} read w {cell = cell} {restarted = restarted} {words = words} is known = record {
   held = by_cell (same_cell read cell) refl;
   among = λ fresh. good-possible ms read cell w (word_at words cell) its_word (λ e. known.among (not-read e fresh));
 }
@@ -194,12 +194,12 @@ good-known laws ms read w cell restarted words is known = record {
     not-read e fresh = sym (ap (λ b. cond (b || false) false restarted) e) ∙ fresh
 
 -- of none or one
-goods-known : Below → (setup : Setup) (before : List Entry) (bytes : List ℕ) (new ms : List Mark) → AreGoods setup before bytes new →
-    (cell : Cell) (restarted : Bool) (words : Words) → ReadsTrue setup before bytes words → IsKnown ms cell restarted words →
+goods-known : Below → {setup : Setup} {before : List Entry} {bytes : List ℕ} {new ms : List Mark} → AreGoods setup before bytes new →
+    {cell : Cell} {restarted : Bool} {words : Words} → ReadsTrue setup before bytes words → IsKnown ms cell restarted words →
     IsKnown (new ++ ms) cell (cond (list_any (is_good_for cell) new) false restarted) words
-goods-known laws setup before bytes new ms no_good cell restarted words is known = known
-goods-known laws setup before bytes new ms (one_good read word asked good) cell restarted words is known =
-    good-known laws ms read word cell restarted words (is read word asked good) known
+goods-known laws no_good is known = known
+goods-known laws (one_good read word asked good) is known =
+    good-known laws read word (is read word asked good) known
 
 -- one more entry
 pub accepted-known : (setup : Setup) (entries : List Entry) (cell : Cell) (restarted : Bool) (words : Words) (job : Job) →
@@ -209,14 +209,13 @@ accepted-known setup entries cell restarted words job known =
     known
 
 -- bytes that came back
-pub got-known : Below → (setup : Setup) (entries : List Entry) (cell : Cell) (restarted : Bool) (words : Words) (bytes : List ℕ) →
+pub got-known : Below → (setup : Setup) (entries : List Entry) {cell : Cell} {restarted : Bool} {words : Words} (bytes : List ℕ) →
     ReadsTrue setup entries bytes words → IsKnown (marks setup entries) cell restarted words →
     IsKnownAfter setup entries cell restarted (Some (Got bytes)) words
-got-known laws setup entries cell restarted words bytes is known =
+got-known laws setup entries {cell = cell} {words = words} bytes is known =
     puts-known (puts setup (Got bytes ∷ entries)) (goods setup entries bytes ++ marks setup entries)
     (are-puts setup (Got bytes ∷ entries)) cell _ words
-    (goods-known laws setup entries bytes (goods setup entries bytes) (marks setup entries) (are-goods setup entries bytes) cell restarted
-    words is known)
+    (goods-known laws (are-goods setup entries bytes) is known)
 
 -- a restart of the host
 pub restarted-known : (setup : Setup) (entries : List Entry) (cell : Cell) (restarted : Bool) (words : Words) →
