@@ -63,11 +63,12 @@ heard-legal laws addr message frame bytes ending is damage =
     (or_right (starts_with nat_eq frame bytes) (is_betrayed [] bytes) (damaged laws [] frame bytes good damage))
 
 -- such damage of an answer is a legal return
-pub return-legal : Below → (addr : ℕ) (request : Message) (frame payload answer bytes : List ℕ) (whole : Bool) →
+pub return-legal : Below → {addr : ℕ} {request : Message} {frame payload answer bytes : List ℕ} (whole : Bool) →
     IsRequest addr request frame → IsAnswer addr request payload answer →
     IsBetrayedDamage answer bytes → is_legal_return frame (whole_answer request) whole answer bytes ≡ true
 unfolding is_legal_return
-return-legal laws addr request frame payload answer bytes whole asked is damage =
+return-legal laws {addr = addr} {request = request} {frame = frame} {payload = payload} {answer = answer} {bytes = bytes} whole asked is
+    damage =
     let good = is-false (is_betrayed (sent addr request) answer)
     (λ e. laws.betrayal_is_refused.answer addr request answer e (laws.answers_are_exact.spelled addr request payload answer is)) in
     let betrayed = subst (λ f. is_betrayed f bytes ≡ true) (sym asked.spelled) (damaged laws (sent addr request) answer bytes good damage)
@@ -119,13 +120,14 @@ misheard-free laws s request bytes asks others within are =
 
 -- such an event is taken
 pub delivered-taken : Below → BetrayedDamageIsLegal →
-    (config : Config) (passes : ℕ) (events : List Event) (message : Message) (bytes : List ℕ) (ending : Ending) →
+    {config : Config} {passes : ℕ} {events : List Event} {message : Message} {bytes : List ℕ} (ending : Ending) →
     IsLived config passes events → (now config passes events).taken < event_limit →
     sending_in (now config passes events).host ≡ Some message → is_read_message message ≡ false →
     IsBetrayedDamage (frame_of config.addr message) bytes →
     IsTaken (now config passes events) (Deliver (arrival.Bytes (record { items = bytes }) ending))
 unfolding now state_of
-delivered-taken laws legal config passes events message bytes ending lived room sending writes damage =
+delivered-taken laws legal {config = config} {passes = passes} {events = events} {message = message} {bytes = bytes} ending lived room
+    sending writes damage =
     let setup = setup_of config passes in
     let entries = (life config passes events).entries in
     let s = now config passes events in
@@ -143,13 +145,13 @@ delivered-taken laws legal config passes events message bytes ending lived room 
 
 -- the exchange whose answer is damaged is taken
 pub exchanged-taken : BetrayedDamageIsLegal →
-    (config : Config) (passes : ℕ) (events : List Event) (request : Message) (payload bytes : List ℕ) →
+    (config : Config) (passes : ℕ) (events : List Event) {request : Message} {payload bytes : List ℕ} →
     (now config passes events).taken < event_limit →
     sending_in (now config passes events).host ≡ Some request →
     IsAnswer config.addr request payload (answer_to (now config passes events).device config.addr request arrival.Whole) →
     IsBetrayedDamage (answer_to (now config passes events).device config.addr request arrival.Whole) bytes →
     IsTaken (now config passes events) (Exchange arrival.Whole (back.Bytes (record { items = bytes })))
-exchanged-taken legal config passes events request payload bytes room sending is damage =
+exchanged-taken legal config passes events {request = request} {payload = payload} {bytes = bytes} room sending is damage =
     let s = now config passes events in
     let setup = sym (now-setup config passes events) in
     record {
@@ -162,13 +164,13 @@ exchanged-taken legal config passes events request payload bytes room sending is
     }
 
 -- the exchange whose request is damaged is taken
-pub misheard-taken : BetrayedDamageIsLegal → (config : Config) (passes : ℕ) (events : List Event) (request : Message) (bytes : List ℕ) →
+pub misheard-taken : BetrayedDamageIsLegal → (config : Config) (passes : ℕ) (events : List Event) {request : Message} {bytes : List ℕ} →
     (now config passes events).taken < event_limit →
     sending_in (now config passes events).host ≡ Some request → is_read_message request ≡ true →
     AreOthers (frame_of config.addr request) bytes → DifferWithinEight (frame_of config.addr request) bytes →
     AreBytes (answer_to (now config passes events).device config.addr request (arrival.Bytes (record { items = bytes }) Restart)) →
     IsTaken (now config passes events) (Exchange (arrival.Bytes (record { items = bytes }) Restart) back.Whole)
-misheard-taken legal config passes events request bytes room sending asks others within are =
+misheard-taken legal config passes events {request = request} {bytes = bytes} room sending asks others within are =
     let s = now config passes events in
     let heard = arrival.Bytes (record { items = bytes }) Restart in
     let setup = sym (now-setup config passes events) in

@@ -107,10 +107,10 @@ exchange-legal s arrival back request free =
     (or-none (hearing_cause addr request arrival) (rule (not legal) NotBetrayed) past_kind).1)
 
 -- what the converter answers is its VOUT_MODE, and its coefficients
-is-answer : Below → (held : Held) (addr : ℕ) (request : Message) (payload frame bytes found : List ℕ) → bytes ≡ frame →
+is-answer : Below → (held : Held) {addr : ℕ} {request : Message} {payload frame bytes found : List ℕ} → bytes ≡ frame →
     IsAnswer addr request payload frame →
     good_payload addr request bytes ≡ Some found → found ≡ payload
-is-answer laws held addr request payload frame bytes found same is good =
+is-answer laws held {addr = addr} {request = request} {payload = payload} {frame = frame} {found = found} same is good =
     same_Some found payload (sym good ∙ (ap (good_payload addr request) same ∙ good-answer laws addr request payload frame is))
 
 -- the frame of a request is one
@@ -170,8 +170,7 @@ mode-true laws held setup output bytes byte spelled eight below there same good 
     let request = is_request addr (mode_read output) refl (laws.frames_are_named.fits setup (mode_read output) (reads_mode output there)) in
     let found = laws.reads_are_answered.mode held output (frame_of addr (mode_read output)) request below in
     let payload = from_some word_in (good_payload addr (mode_read output) bytes) byte good in
-    let is = is-answer laws held addr (mode_read output) (register_bytes command.vout_mode (mode_for held.config output)) found.0 bytes
-    payload.0 (same good ∙ ap answer_in found.1) found.2 payload.1 in
+    let is = is-answer laws held (same good ∙ ap answer_in found.1) found.2 payload.1 in
     sym payload.2 ∙ (ap word_in is ∙ mode_word (mode_for held.config output) (spelled.modes output eight))
 
 -- a good answer to the read of COEFFICIENTS is the converter's
@@ -187,6 +186,6 @@ coefficients-true laws held setup output bytes k spelled below direct same good 
     let found = laws.reads_are_answered.coefficients held (frame_of addr coefficients_read) request
     (direct-found held.config.starts held.config.count output below direct) in
     let payload = from_some coefficients_of (good_payload addr coefficients_read bytes) k good in
-    let is = is-answer laws held addr coefficients_read (coefficient_bytes held.config.coefficients) found.0 bytes payload.0
+    let is = is-answer laws held
     (same good ∙ ap answer_in found.1) found.2 payload.1 in
     sym payload.2 ∙ (ap coefficients_of is ∙ spelled.coefficients)

@@ -142,12 +142,13 @@ end-part laws setup entries (Some entry) good before may =
     ∙ end_by-step (host.end_of setup (entry ∷ entries)))
 
 -- the world after one more share
-lived-state : Below → (config : Config) (passes n : ℕ) (l : Life) (share : Share) → IsSound config → IsSetup (setup_of config passes) →
+lived-state : Below → {config : Config} {passes : ℕ} (n : ℕ) (l : Life) (share : Share) → IsSound config →
+    IsSetup (setup_of config passes) →
     AreTold (setup_of config passes) l.entries →
     MayBeTold (host_now (setup_of config passes) l.entries) share.told →
     state_of config passes (suc n) (lived l share) ≡ counted (shared (state_of config passes n l) share)
 unfolding state_of
-lived-state laws config passes n l share sound good before may =
+lived-state laws {config = config} {passes = passes} n l share sound good before may =
     ap (λ (d : Held). state d (host_now setup (option_to_list share.told ++ l.entries))
     (host.end_of setup (option_to_list share.told ++ l.entries)) (suc n)) (device-part laws config l.past share.heard sound)
     ∙ (ap (λ (h : Summary). state (device_after (device_now config l.past) share.heard) h
@@ -175,7 +176,7 @@ pub now-next : Below → (config : Config) (passes : ℕ) (events : List Event) 
 unfolding life now next state_of
 now-next laws config passes events event lived =
     let before_it = state_of config passes (length events) (life config passes events) in
-    lived-state laws config passes (length events) (life config passes events) (share_of before_it event) lived.sound lived.made
+    lived-state laws (length events) (life config passes events) (share_of before_it event) lived.sound lived.made
     (life-told config passes events lived.legal.1) (may-be-told before_it event lived.legal.0.free)
 
 -- no event

@@ -98,14 +98,14 @@ stays config passes before event f none words order = record {
 }
 
 -- an order is accepted
-accepted : Below → (config : Config) (passes : ℕ) (before : List Event) (event : Event) (cell : Cell) (word : ℕ) →
+accepted : Below → {config : Config} {passes : ℕ} {before : List Event} {event : Event} {cell : Cell} {word : ℕ} →
     (f : Follows config passes before event) → told config passes before event ≡ Accept cell word ∷ [] →
     (next (now config passes before) event).device.words ≡ (now config passes before).device.words →
     stage_order (next (now config passes before) event).host.stage ≡ Some (ordered cell word) →
     IsFree (now config passes before).host cell word →
     IsOrderRun config passes (event ∷ before) (now config passes (event ∷ before)).device.words
 unfolding machine_of
-accepted laws config passes before event cell word f is words order may =
+accepted laws {config = config} {passes = passes} {before = before} {event = event} {cell = cell} {word = word} f is words order may =
     let at_start = laws.orders_stay_in_their_cells.start (start_settings config) f.run.steps in
     let can : CanAccept (machine_of (start_settings config) f.run.steps) cell word = record {
       free = f.run.order_is ∙ (open_order-is config passes before ∙ may.free);
@@ -227,7 +227,7 @@ unfolding host_next
 one-asked laws config passes before event (host.Order cell word) f is =
     let s = now config passes before in
     let after = asked-next s event (host.Order cell word) is in
-    accepted laws config passes before event cell word f (asked-told config passes before event (host.Order cell word) is)
+    accepted laws f (asked-told config passes before event (host.Order cell word) is)
     (ap (λ (t : State). t.device.words) after) (ap (λ (t : State). stage_order t.host.stage) after)
     (order-free s.host cell word (job-free s event (host.Order cell word) is f.free))
 one-asked laws config passes before event job f is =

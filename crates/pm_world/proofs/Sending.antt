@@ -140,20 +140,20 @@ pub record Fixed (s : State) (cell : Cell) (word : ℕ) : Type 0 where
   pub are : AreWords s.device.words
 
 -- then the write is taken
-can-take : (s : State) (cell : Cell) (word : ℕ) (whole : Bool) → Fixed s cell word → Sends s cell word whole → CanTake s.device cell word
-can-take s cell word whole fixed sends = record
+can-take : {s : State} {cell : Cell} {word : ℕ} {whole : Bool} → Fixed s cell word → Sends s cell word whole → CanTake s.device cell word
+can-take fixed sends = record
     { there = fixed.there; accepted = fixed.accepted; allowed = sends.allowed; fits = fixed.write_fits }
 
 -- a delivery that leaves the words, or writes them
-sends-words : Below → (s t : State) (cell : Cell) (word : ℕ) (whole : Bool) → Fixed s cell word → Sends s cell word whole →
+sends-words : Below → {s : State} (t : State) {cell : Cell} {word : ℕ} {whole : Bool} → Fixed s cell word → Sends s cell word whole →
     t.host ≡ s.host →
     (t.device.words ≡ s.device.words) ⊎ (t.device.words ≡ with_word s.device.words cell word) → Sends t cell word whole
-sends-words laws s t cell word whole fixed sends host (inl same) = record {
+sends-words laws t {cell = cell} fixed sends host (inl same) = record {
   stage = ap (λ (h : Summary). h.stage) host ∙ sends.stage;
   allowed = ap (λ w. is_allowed (word_at w Protect) (cell_code cell)) same ∙ sends.allowed;
   held = λ h. ap (λ w. word_at w cell) same ∙ sends.held h;
 }
-sends-words laws s t cell word whole fixed sends host (inr wrote) = record {
+sends-words laws {s = s} t {cell = cell} {word = word} fixed sends host (inr wrote) = record {
   stage = ap (λ (h : Summary). h.stage) host ∙ sends.stage;
   allowed = ap (λ w. is_allowed (word_at w Protect) (cell_code cell)) wrote
       ∙ wrote-allowed laws s.device.words cell word fixed.are (eight s.device.config.count cell fixed.few fixed.there) fixed.accepted
@@ -163,10 +163,10 @@ sends-words laws s t cell word whole fixed sends host (inr wrote) = record {
 }
 
 -- a delivery that writes them
-sends-whole : Below → (s t : State) (cell : Cell) (word : ℕ) (whole : Bool) → Fixed s cell word → Sends s cell word whole →
+sends-whole : Below → {s : State} (t : State) {cell : Cell} {word : ℕ} {whole : Bool} → Fixed s cell word → Sends s cell word whole →
     t.host ≡ s.host →
     t.device.words ≡ with_word s.device.words cell word → Sends t cell word true
-sends-whole laws s t cell word whole fixed sends host wrote = record {
+sends-whole laws {s = s} t {cell = cell} {word = word} fixed sends host wrote = record {
   stage = ap (λ (h : Summary). h.stage) host ∙ sends.stage;
   allowed = ap (λ w. is_allowed (word_at w Protect) (cell_code cell)) wrote
       ∙ wrote-allowed laws s.device.words cell word fixed.are (eight s.device.config.count cell fixed.few fixed.there) fixed.accepted
@@ -181,11 +181,11 @@ sending-write : (s : State) (cell : Cell) (word : ℕ) → s.host.stage ≡ Some
 sending-write s cell word stage = ap (option_map stage_message) stage
 
 -- a delivery leaves the words or sets that one
-delivered-words : Below → (s : State) (cell : Cell) (word : ℕ) (whole : Bool) (arrival : Arrival) → Fixed s cell word →
+delivered-words : Below → {s : State} {cell : Cell} {word : ℕ} {whole : Bool} (arrival : Arrival) → Fixed s cell word →
     Sends s cell word whole → event_cause s (Deliver arrival) ≡ None →
     ((next s (Deliver arrival)).device.words ≡ s.device.words) ⊎
     ((next s (Deliver arrival)).device.words ≡ with_word s.device.words cell word)
-delivered-words laws s cell word whole arrival fixed sends free =
+delivered-words laws {s = s} {cell = cell} {word = word} arrival fixed sends free =
     let message = cell_write cell word in
     let sending = sending-write s cell word sends.stage in
     let legal = subst (λ a. is_legal_hearing (frame_of a message) (heard_bytes (frame_of a message) arrival)
@@ -193,17 +193,17 @@ delivered-words laws s cell word whole arrival fixed sends free =
     let after : (next s (Deliver arrival)).device.words ≡ words_after s.device (hearing s.device.config.addr message arrival) =
     next-deliver-words s arrival message sending ∙ ap (λ a. words_after s.device (hearing a message arrival)) fixed.addr in
     elim (legal-write laws s.device cell word (heard_bytes (frame_of s.device.config.addr message) arrival) (heard_ending message arrival)
-    (can-take s cell word whole fixed sends) legal) [
+    (can-take fixed sends) legal) [
       | inl same ↦ inl (after ∙ same)
       | inr wrote ↦ inr (after ∙ wrote)
     ]
 
 -- a delivery of the write, heard whole or not
-whole-words : Below → (s : State) (cell : Cell) (word : ℕ) (whole : Bool) (arrival : Arrival) → Fixed s cell word →
+whole-words : Below → {s : State} {cell : Cell} {word : ℕ} {whole : Bool} (arrival : Arrival) → Fixed s cell word →
     Sends s cell word whole →
     is_whole (frame_of s.device.config.addr (cell_write cell word)) arrival ≡ true →
     (next s (Deliver arrival)).device.words ≡ with_word s.device.words cell word
-whole-words laws s cell word whole arrival fixed sends is =
+whole-words laws {s = s} {cell = cell} {word = word} arrival fixed sends is =
     let message = cell_write cell word in
     let frame = frame_of s.device.config.addr message in
     let parts = and_parts (bytes_eq (heard_bytes frame arrival) frame) (not (is_restart (ending_of Stop arrival))) is in
@@ -211,20 +211,20 @@ whole-words laws s cell word whole arrival fixed sends is =
     next-deliver-words s arrival message (sending-write s cell word sends.stage)
     ∙ (ap (λ a. words_after s.device (hearing a message arrival)) fixed.addr
     ∙ (ap₂ (λ b e. words_after s.device (device.Hearing b e)) ((bytes_eq-Decides (heard_bytes frame arrival) frame).0 parts.0) ending
-    ∙ whole-write laws s.device cell word frame (can-take s cell word whole fixed sends)
+    ∙ whole-write laws s.device cell word frame (can-take fixed sends)
     (is_write s.device.config.addr cell word fixed.write_fits)))
 
 -- after one more delivery
-pub deliver-sends : Below → (s : State) (cell : Cell) (word : ℕ) (whole : Bool) (arrival : Arrival) → Fixed s cell word →
+pub deliver-sends : Below → {s : State} {cell : Cell} {word : ℕ} {whole : Bool} (arrival : Arrival) → Fixed s cell word →
     Sends s cell word whole →
     event_cause s (Deliver arrival) ≡ None →
     Sends (next s (Deliver arrival)) cell word (is_whole (frame_of s.device.config.addr (cell_write cell word)) arrival || whole)
-deliver-sends laws s cell word whole arrival fixed sends free =
+deliver-sends laws {s = s} {cell = cell} {word = word} {whole = whole} arrival fixed sends free =
     go (is_whole (frame_of s.device.config.addr (cell_write cell word)) arrival) refl
   where
     go : (b : Bool) → is_whole (frame_of s.device.config.addr (cell_write cell word)) arrival ≡ b →
         Sends (next s (Deliver arrival)) cell word (b || whole)
-    go true e = sends-whole laws s (next s (Deliver arrival)) cell word whole fixed sends (next-deliver-host s arrival)
-        (whole-words laws s cell word whole arrival fixed sends e)
-    go false e = sends-words laws s (next s (Deliver arrival)) cell word whole fixed sends (next-deliver-host s arrival)
-        (delivered-words laws s cell word whole arrival fixed sends free)
+    go true e = sends-whole laws (next s (Deliver arrival)) fixed sends (next-deliver-host s arrival)
+        (whole-words laws arrival fixed sends e)
+    go false e = sends-words laws (next s (Deliver arrival)) fixed sends (next-deliver-host s arrival)
+        (delivered-words laws arrival fixed sends free)

@@ -85,18 +85,18 @@ unfolding now state_of
 now-taken config passes events = refl
 
 -- after its deliveries the write is still being sent
-sent-stage : Below → (config : Config) (passes : ℕ) (before : List Event) (order : Event) (cell : Cell) (word : ℕ)
+sent-stage : Below → {config : Config} {passes : ℕ} (before : List Event) (order : Event) {cell : Cell} {word : ℕ}
     (arrivals : List Arrival) →
     IsLived config passes (sent_by order arrivals before) → asked (now config passes before) order ≡ Some (host.Order cell word) →
     (now config passes (sent_by order arrivals before)).host.stage ≡ Some (Writes cell word 0)
-sent-stage laws config passes before order cell word [] lived asks =
+sent-stage laws {config = config} {passes = passes} before order {cell = cell} {word = word} [] lived asks =
     ap (λ (s : State). s.host.stage) (now-next laws config passes before order lived)
     ∙ order-stage (now config passes before) order cell word asks
-sent-stage laws config passes before order cell word (arrival ∷ arrivals) lived asks =
+sent-stage laws {config = config} {passes = passes} before order (arrival ∷ arrivals) lived asks =
     let events = sent_by order arrivals before in
     ap (λ (s : State). s.host.stage) (now-next laws config passes events (Deliver arrival) lived)
     ∙ (ap (λ (h : Summary). h.stage) (next-deliver-host (now config passes events) arrival)
-    ∙ sent-stage laws config passes before order cell word arrivals (earlier lived) asks)
+    ∙ sent-stage laws before order arrivals (earlier lived) asks)
 
 -- so the end of the write and the read are taken
 pub taken-whole : Below → (config : Config) (passes : ℕ) (before : List Event) (order : Event) (cell : Cell) (word : ℕ)
@@ -107,7 +107,7 @@ pub taken-whole : Below → (config : Config) (passes : ℕ) (before : List Even
 taken-whole laws config passes before order cell word arrivals acked sound made taken asks room =
     let events = sent_by order arrivals before in
     let s = now config passes events in
-    let stage = sent-stage laws config passes before order cell word arrivals (lived-by config passes events sound made taken) asks in
+    let stage = sent-stage laws before order arrivals (lived-by config passes events sound made taken) asks in
     let sending : sending_in s.host ≡ Some (cell_write cell word) = ap (option_map stage_message) stage in
     let finish : IsTaken s (Finish acked) = record {
       free = free s (Finish acked) (let count = now-taken config passes events in omega arith)

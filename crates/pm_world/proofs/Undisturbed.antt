@@ -209,21 +209,21 @@ pub record Ordered (config : Config) (passes : ℕ) (before : List Event) (order
   pub asks : asked (now config passes before) order ≡ Some (host.Order cell word)
 
 -- what holds of it
-ordering : Below → (config : Config) (passes : ℕ) (before : List Event) (order : Event) (cell : Cell) (word : ℕ) →
+ordering : Below → {config : Config} {passes : ℕ} {before : List Event} {order : Event} {cell : Cell} {word : ℕ} →
     Ordered config passes before order cell word → IsOrdering (now config passes (order ∷ before)).host cell word 0
-ordering laws config passes before order cell word o =
+ordering laws {config = config} {passes = passes} {before = before} {order = order} {cell = cell} {word = word} o =
     subst (IsStage (now config passes (order ∷ before)).host)
     (ap (λ (s : State). s.host.stage) (now-next laws config passes before order o.lived)
     ∙ order-stage (now config passes before) order cell word o.asks)
     (now-sound laws config passes (order ∷ before) o.lived).stage
 
 -- what holds of a world while it is open
-fixed : Below → (config : Config) (passes : ℕ) (before : List Event) (order : Event) (cell : Cell) (word : ℕ) →
+fixed : Below → {config : Config} {passes : ℕ} {before : List Event} {order : Event} {cell : Cell} {word : ℕ} →
     Ordered config passes before order cell word → (events : List Event) → Fixed (now config passes events) cell word
-fixed laws config passes before order cell word o events =
+fixed laws {config = config} {passes = passes} {before = before} {order = order} {cell = cell} {word = word} o events =
     let setup = setup_of config passes in
     let same = sym (now-config config passes events) in
-    let is = ordering laws config passes before order cell word o in
+    let is = ordering laws o in
     let there : IsCell config.count cell = subst (λ (u : host.Setup). IsCell u.outputs cell) (now-setup config passes (order ∷ before))
     is.there in
     record {
@@ -248,13 +248,13 @@ order-lived config passes before order [] lived = lived
 order-lived config passes before order (arrival ∷ arrivals) lived = order-lived config passes before order arrivals (earlier lived)
 
 -- by one delivery after another
-sent-so : Below → (config : Config) (passes : ℕ) (before : List Event) (order : Event) (cell : Cell) (word : ℕ) →
+sent-so : Below → {config : Config} {passes : ℕ} {before : List Event} {order : Event} {cell : Cell} {word : ℕ} →
     Ordered config passes before order cell word →
     is_allowed (word_at (now config passes before).device.words Protect) (cell_code cell) ≡ true → (arrivals : List Arrival) →
     IsLived config passes (sent_by order arrivals before) →
     Sent config passes cell word before (sent_by order arrivals before)
     (list_any (is_whole (frame_of config.addr (cell_write cell word))) arrivals)
-sent-so laws config passes before order cell word o allowed [] lived =
+sent-so laws {config = config} {passes = passes} {before = before} {order = order} {cell = cell} {word = word} o allowed [] lived =
     let s = now config passes before in
     let after = now-next laws config passes before order o.lived in
     record {
@@ -266,12 +266,13 @@ sent-so laws config passes before order cell word o allowed [] lived =
       };
       entries = order-entries config passes before order cell word o.asks;
     }
-sent-so laws config passes before order cell word o allowed (arrival ∷ arrivals) lived =
+sent-so laws {config = config} {passes = passes} {before = before} {order = order} {cell = cell} {word = word} o allowed
+    (arrival ∷ arrivals) lived =
     let events = sent_by order arrivals before in
     let whole = list_any (is_whole (frame_of config.addr (cell_write cell word))) arrivals in
-    let so_far = sent-so laws config passes before order cell word o allowed arrivals (earlier lived) in
-    let after = deliver-sends laws (now config passes events) cell word whole arrival
-    (fixed laws config passes before order cell word o events)
+    let so_far = sent-so laws o allowed arrivals (earlier lived) in
+    let after = deliver-sends laws arrival
+    (fixed laws o events)
     so_far.sends (newest lived) in
     record {
       sends = subst (λ (s : State). Sends s cell word (is_whole (frame_of config.addr (cell_write cell word)) arrival || whole))
@@ -283,23 +284,24 @@ sent-so laws config passes before order cell word o allowed (arrival ∷ arrival
     }
 
 -- an undisturbed order goes through
-pub went-through : Below → (config : Config) (passes : ℕ) (before : List Event) (order : Event) (cell : Cell) (word : ℕ)
-    (arrivals : List Arrival) (acked : Bool) →
+pub went-through : Below → {config : Config} {passes : ℕ} (before : List Event) (order : Event) {cell : Cell} {word : ℕ}
+    (arrivals : List Arrival) {acked : Bool} →
     IsLived config passes (honest order arrivals acked before) → asked (now config passes before) order ≡ Some (host.Order cell word) →
     is_allowed (word_at (now config passes before).device.words Protect) (cell_code cell) ≡ true →
     list_any (is_whole (frame_of config.addr (cell_write cell word))) arrivals ≡ true →
     WentThrough config passes cell word acked before (honest order arrivals acked before)
-went-through laws config passes before order cell word arrivals acked lived asks allowed whole =
+went-through laws {config = config} {passes = passes} before order {cell = cell} {word = word} arrivals {acked = acked} lived asks allowed
+    whole =
     let events = sent_by order arrivals before in
     let read = Exchange Whole back.Whole in
     let o : Ordered config passes before order cell word = record {
       lived = order-lived config passes before order arrivals (earlier (earlier lived));
       asks = asks;
     } in
-    let so = sent-so laws config passes before order cell word o allowed arrivals (earlier (earlier lived)) in
+    let so = sent-so laws o allowed arrivals (earlier (earlier lived)) in
     let finish = now-next laws config passes events (Finish acked) (earlier lived) in
     let s = now config passes (Finish acked ∷ events) in
-    let e = ended laws s cell word (fixed laws config passes before order cell word o (Finish acked ∷ events))
+    let e = ended laws s cell word (fixed laws o (Finish acked ∷ events))
     (ap (λ (t : State). t.host.stage) finish ∙ finish-stage (now config passes events) acked cell word so.sends.stage)
     (ap (λ (h : Held). word_at h.words cell) (ap (λ (t : State). t.device) finish ∙ finish-device (now config passes events) acked)
     ∙ so.sends.held whole)
