@@ -111,29 +111,29 @@ written-known : Below → {s : State} {setup : host.Setup} {entries : List host.
     IsKnown (marks setup entries) cell restarted (with_word s.device.words order.cell order.word)
 written-known laws {s = s} {setup = setup} {entries = entries} {cell = cell} {restarted = restarted} order knows there pending so_far =
     by_cell (same_cell order.cell cell) refl where
-  is : IsPending setup entries order
-  is = knows.pending order pending
+      is : IsPending setup entries order
+      is = knows.pending order pending
 
-  has : word_at (with_word s.device.words order.cell order.word) cell
-      ≡ cond (same_cell order.cell cell) order.word (word_at s.device.words cell)
-  has = laws.settings_are_a_map.read s.device.words order.cell cell order.word knows.are is.there there
+      has : word_at (with_word s.device.words order.cell order.word) cell
+          ≡ cond (same_cell order.cell cell) order.word (word_at s.device.words cell)
+      has = laws.settings_are_a_map.read s.device.words order.cell cell order.word knows.are is.there there
 
-  by_cell : (b : Bool) → same_cell order.cell cell ≡ b →
-      IsKnown (marks setup entries) cell restarted (with_word s.device.words order.cell order.word)
-  by_cell true e = record {
-    held = λ word confirmed fresh.
-        let both : Unknown ≡ Confirmed word = sym is.unknown
-        ∙ (ap (standing_of (marks setup entries)) (same-cells laws order.cell cell e) ∙ confirmed) in cc;
-    among = λ fresh.
-        ap (λ w. is_possible w (possible_of (marks setup entries) cell)) (has ∙ ap (λ b. cond b order.word (word_at s.device.words cell)) e)
-        ∙ (ap (λ c. is_possible order.word (possible_of (marks setup entries) c)) (sym (same-cells laws order.cell cell e)) ∙ is.possible);
-  }
-  by_cell false e =
-      let left = has ∙ ap (λ b. cond b order.word (word_at s.device.words cell)) e in
-      record {
-        held = λ word confirmed fresh. left ∙ so_far.held word confirmed fresh;
-        among = λ fresh. ap (λ w. is_possible w (possible_of (marks setup entries) cell)) left ∙ so_far.among fresh;
+      by_cell : (b : Bool) → same_cell order.cell cell ≡ b →
+          IsKnown (marks setup entries) cell restarted (with_word s.device.words order.cell order.word)
+      by_cell true e = record {
+        held = λ word confirmed fresh.
+            let both : Unknown ≡ Confirmed word = sym is.unknown
+            ∙ (ap (standing_of (marks setup entries)) (same-cells laws order.cell cell e) ∙ confirmed) in cc;
+        among = λ fresh.
+            ap (λ w. is_possible w (possible_of (marks setup entries) cell)) (has ∙ ap (λ b. cond b order.word (word_at s.device.words cell)) e)
+            ∙ (ap (λ c. is_possible order.word (possible_of (marks setup entries) c)) (sym (same-cells laws order.cell cell e)) ∙ is.possible);
       }
+      by_cell false e =
+          let left = has ∙ ap (λ b. cond b order.word (word_at s.device.words cell)) e in
+          record {
+            held = λ word confirmed fresh. left ∙ so_far.held word confirmed fresh;
+            among = λ fresh. ap (λ w. is_possible w (possible_of (marks setup entries) cell)) left ∙ so_far.among fresh;
+          }
 
 -- the open order takes, or nothing does
 taken-known : Below → {s : State} {setup : host.Setup} {entries : List host.Entry} {cell : Cell} {restarted : Bool} (words : Words)
@@ -186,13 +186,13 @@ event-known : Below → {s : State} (event : Event) {setup : host.Setup} {entrie
 unfolding next
 event-known laws {s = s} event {setup = setup} {entries = entries} {cell = cell} {restarted = restarted} knows there free so_far =
     go (asked s event) refl where
-  go : (o : Option host.Job) → asked s event ≡ o →
-      let share = option_map_or (λ j. tells (host.Accepted j)) o (share_beside s event) in
-      IsKnownAfter setup entries cell (restarts_converter event || restarted) share.told (device_after s.device share.heard).words
-  go None is = beside-known laws event knows there free so_far
-  go (Some job) is =
-      subst (λ b. IsKnownAfter setup entries cell (b || restarted) (Some (host.Accepted job)) s.device.words)
-      (sym (asked-restarts s event job is)) (accepted-known setup entries cell restarted s.device.words job so_far)
+      go : (o : Option host.Job) → asked s event ≡ o →
+          let share = option_map_or (λ j. tells (host.Accepted j)) o (share_beside s event) in
+          IsKnownAfter setup entries cell (restarts_converter event || restarted) share.told (device_after s.device share.heard).words
+      go None is = beside-known laws event knows there free so_far
+      go (Some job) is =
+          subst (λ b. IsKnownAfter setup entries cell (b || restarted) (Some (host.Accepted job)) s.device.words)
+          (sym (asked-restarts s event job is)) (accepted-known setup entries cell restarted s.device.words job so_far)
 
 -- the read that an open job sends
 read-sent : (setup : host.Setup) (s : Summary) (job : Option host.Job) (told : List host.Entry) (read : Cell) →
