@@ -7,10 +7,10 @@ use Rattle.pm_table.specs.declared.cell.Cell.{Cell}
 use Rattle.pm_table.specs.Cell.{output_of}
 use Rattle.pm_host.specs.declared.fault.HostFault.{HostFault}
 use Rattle.pm_host.specs.Refusals.{job_fault, order_fault, micro_fault, micro_word, voltage_fault, range_fault}
-use Rattle.pm_host.specs.Summary.{Summary, format_at, next as host_next}
+use Rattle.pm_host.specs.Summary.{Summary, format_at}
 use Rattle.pm_host.specs.Transcript as host
 use Rattle.pm_world.specs.declared.event.Event.{Event}
-use Rattle.pm_world.specs.declared.event.Event.TheVariants.{OrderMicro, RestartDevice, RestartHost}
+use Rattle.pm_world.specs.declared.event.Event.TheVariants.{OrderMicro, RestartDevice}
 use Rattle.pm_world.specs.declared.stop.Cause.{Cause}
 use Rattle.pm_world.specs.declared.stop.Cause.TheVariants.{Full}
 use Rattle.pm_world.specs.Confirmed.{restarts_converter}

@@ -1,22 +1,19 @@
 -- Damage that the packet error code always betrays is legal, and so no cause against an event.
-use Rattle.std.proofs.Common.{◌≡◌, ◌≢◌, ℕ, ◌<◌, ◌≤◌, ◌%◌, Bool, true, false, not, ◌&&◌, List, [], length, Some, None, refl, sym, ◌∙◌, ap, ap₂, subst}
+use Rattle.std.proofs.Common.{◌≡◌, ℕ, ◌<◌, Bool, true, false, not, ◌&&◌, List, [], length, Some, None, refl, sym, ◌∙◌, ap, ap₂, subst}
 use Rattle.std.specs.Prelude.{bytes_eq, nat_lt, nat_eq}
 use Rattle.std.specs.List.{starts_with}
 use Rattle.std.specs.Option.{option_or}
 use Rattle.std.proofs.lemmas.Bool.{or_right}
 use Rattle.pm_frame.specs.declared.message.Message.{Message}
 use Rattle.pm_frame.specs.Betrayal.{is_betrayed}
-use Rattle.pm_frame.specs.Damage.{DifferWithinEight, changed_bits}
-use Rattle.pm_frame.specs.Fault.{write_fault, answer_fault, whole_answer}
+use Rattle.pm_frame.specs.Damage.{DifferWithinEight}
+use Rattle.pm_frame.specs.Fault.{whole_answer}
 use Rattle.pm_frame.specs.Layout.{AreBytes, IsWrite, IsRequest, IsAnswer, fits_layout, is_read_message, sent}
 use Rattle.pm_device.specs.declared.config.Config.{Config}
 use Rattle.pm_device.specs.declared.heard.Ending.{Ending}
 use Rattle.pm_device.specs.declared.heard.Ending.TheVariants.{Restart}
-use Rattle.pm_device.specs.Held.{Held}
-use Rattle.pm_device.specs.Reply.{reply_of}
-use Rattle.pm_host.specs.Now.{now as host_now, AreTold}
 use Rattle.pm_host.specs.Summary.{sending_in}
-use Rattle.pm_host.specs.Transcript.{Setup, Entry, sending_of}
+use Rattle.pm_host.specs.Transcript.{Setup}
 use Rattle.pm_world.specs.Below.{Below}
 use Rattle.pm_world.specs.declared.event.Arrival.TheVariants as arrival
 use Rattle.pm_world.specs.declared.event.Back.TheVariants as back
@@ -25,7 +22,7 @@ use Rattle.pm_world.specs.declared.event.Event.TheVariants.{Deliver, Exchange}
 use Rattle.pm_world.specs.declared.stop.Cause.TheVariants.{WrongKind, NotBetrayed}
 use Rattle.pm_world.specs.Damage.{AreOthers, IsBetrayedDamage, burst, few, odd}
 use Rattle.pm_world.specs.Laws.{BetrayedDamageIsLegal}
-use Rattle.pm_world.specs.Legal.{answer_in, frame_of, heard_ending, is_restart, is_heard_whole, is_legal_hearing, is_legal_return}
+use Rattle.pm_world.specs.Legal.{frame_of, heard_ending, is_restart, is_heard_whole, is_legal_hearing, is_legal_return}
 use Rattle.pm_world.specs.Life.{life, now, state_of}
 use Rattle.pm_world.specs.Setup.{setup_of}
 use Rattle.pm_world.specs.State.{State, delivery_cause, exchange_cause, answer_to, rule, IsTaken, event_limit}
@@ -97,7 +94,7 @@ exchange-free laws s request payload bytes is damage =
     let frame = frame_of addr request in
     let answer = answer_to s.device addr request arrival.Whole in
     let ends : heard_ending request arrival.Whole ≡ Restart = sym (heard_ending-request request arrival.Whole is.reads) in
-    exchange_cause-by s arrival.Whole (back.Bytes (record { items = bytes })) request true true is.reads
+    exchange_cause-by s arrival.Whole (back.Bytes (record { items = bytes })) request is.reads
     (ap (is_legal_hearing frame frame) ends ∙ whole-hearing frame)
     (laws.came_back addr request frame payload answer bytes (is_heard_whole frame frame (heard_ending request arrival.Whole))
     (is_request addr request is.reads is.fits) is damage)
@@ -115,7 +112,7 @@ misheard-free : BetrayedDamageIsLegal → (s : State) (request : Message) (bytes
     exchange_cause s (arrival.Bytes (record { items = bytes }) Restart) back.Whole (Some request) ≡ None
 misheard-free laws s request bytes asks others within are =
     let frame = frame_of s.host.setup.addr request in
-    exchange_cause-by s (arrival.Bytes (record { items = bytes }) Restart) back.Whole request true true asks (restart-legal frame bytes)
+    exchange_cause-by s (arrival.Bytes (record { items = bytes }) Restart) back.Whole request asks (restart-legal frame bytes)
     (laws.answered s.device request frame bytes (is_heard_whole frame bytes Restart) others within are)
 
 -- such an event is taken

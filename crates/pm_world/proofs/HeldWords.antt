@@ -11,7 +11,6 @@ use Rattle.pm_model.specs.declared.pending_order.PendingOrder.{PendingOrder}
 use Rattle.pm_model.specs.OrderMachine.{ordered, with_order}
 use Rattle.pm_model.specs.Settings.{Words, AreWords, word_at, with_word}
 use Rattle.pm_device.specs.declared.config.Config.{Config}
-use Rattle.pm_device.specs.Effect as device
 use Rattle.pm_device.specs.History.{now as device_now, next as device_next, after as device_by}
 use Rattle.pm_host.specs.declared.stage.Stage.{Stage}
 use Rattle.pm_host.specs.declared.stage.Stage.TheVariants.{Writes, Reads}
@@ -20,8 +19,8 @@ use Rattle.pm_host.specs.Answers.{good_payload, good_word, word_in}
 use Rattle.pm_host.specs.Marks.{read_by, marks}
 use Rattle.pm_host.specs.Messages.{cell_read}
 use Rattle.pm_host.specs.Now.{now as host_now, job_stage, stage_of}
-use Rattle.pm_host.specs.Possible.{is_possible, possible_of, restart_seen_of}
-use Rattle.pm_host.specs.Sound.{IsOrdering, IsStage, IsSound as IsSoundHost}
+use Rattle.pm_host.specs.Possible.{is_possible, possible_of}
+use Rattle.pm_host.specs.Sound.{IsOrdering, IsStage}
 use Rattle.pm_host.specs.Standing.{standing_of}
 use Rattle.pm_host.specs.Summary.{Summary, sending_in, stage_message, possible_at, standing_at}
 use Rattle.pm_host.specs.Transcript as host
@@ -125,8 +124,10 @@ written-known laws {s = s} {setup = setup} {entries = entries} {cell = cell} {re
             let both : Unknown ≡ Confirmed word = sym is.unknown
             ∙ (ap (standing_of (marks setup entries)) (same-cells laws order.cell cell e) ∙ confirmed) in cc;
         among = λ fresh.
-            ap (λ w. is_possible w (possible_of (marks setup entries) cell)) (has ∙ ap (λ b. cond b order.word (word_at s.device.words cell)) e)
-            ∙ (ap (λ c. is_possible order.word (possible_of (marks setup entries) c)) (sym (same-cells laws order.cell cell e)) ∙ is.possible);
+            ap (λ w. is_possible w (possible_of (marks setup entries) cell))
+            (has ∙ ap (λ b. cond b order.word (word_at s.device.words cell)) e)
+            ∙ (ap (λ c. is_possible order.word (possible_of (marks setup entries) c)) (sym (same-cells laws order.cell cell e))
+            ∙ is.possible);
       }
       by_cell false e =
           let left = has ∙ ap (λ b. cond b order.word (word_at s.device.words cell)) e in

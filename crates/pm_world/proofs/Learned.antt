@@ -1,5 +1,5 @@
 -- The formats that a host learns are the converter's.
-use Rattle.std.proofs.Common.{◌≡◌, ℕ, zero, suc, ◌^◌, ◌<◌, Bool, true, false, not, cond, ◌&&◌, ◌||◌, List, [], ◌∷◌, map, take, length, get_or, Option, Some, None, Ok, is_none, option_map, refl, sym, ◌∙◌, ap, subst, inl, inr, arith}
+use Rattle.std.proofs.Common.{◌≡◌, ℕ, zero, suc, ◌^◌, ◌<◌, true, not, cond, ◌&&◌, ◌||◌, List, [], ◌∷◌, map, take, length, get_or, Option, Some, None, Ok, is_none, option_map, refl, sym, ◌∙◌, ap, subst, inl, inr, arith}
 use Rattle.std.specs.Prelude.{bytes_eq, nat_lt, slice_index_or}
 use Rattle.std.specs.List.{list_any}
 use Rattle.std.specs.Option.{option_or}
@@ -9,7 +9,7 @@ use Rattle.std.proofs.lemmas.Slice.Eq.{bytes_eq-Decides}
 use Rattle.pm_num.specs.AnyFormat.{Shape}
 use Rattle.pm_table.specs.declared.coefficients.Coefficients.{Coefficients}
 use Rattle.pm_table.specs.declared.vout_mode.VoutMode.TheVariants.{Direct}
-use Rattle.pm_table.specs.Coefficients.{coefficients_of, coefficient_bytes}
+use Rattle.pm_table.specs.Coefficients.{coefficients_of}
 use Rattle.pm_table.specs.Codes as command
 use Rattle.pm_table.specs.Commands.{line_of}
 use Rattle.pm_table.specs.VoutMode.{mode_of}
@@ -17,7 +17,7 @@ use Rattle.pm_frame.specs.declared.fault.FrameFault.{FrameFault}
 use Rattle.pm_frame.specs.declared.message.Message.{Message}
 use Rattle.pm_frame.specs.Betrayal.{is_betrayed}
 use Rattle.pm_frame.specs.Fault.{answer_fault, whole_answer}
-use Rattle.pm_frame.specs.Layout.{IsRequest, IsAnswer, sent, with_pec, is_read_message, fits_layout}
+use Rattle.pm_frame.specs.Layout.{IsRequest, IsAnswer, is_read_message, fits_layout}
 use Rattle.pm_frame.specs.View.{answer_payload}
 use Rattle.pm_device.specs.declared.config.Config.{Config}
 use Rattle.pm_device.specs.declared.config.OutputStart.{OutputStart}
@@ -25,7 +25,7 @@ use Rattle.pm_device.specs.declared.heard.Ending.{Ending}
 use Rattle.pm_device.specs.declared.heard.Ending.TheVariants.{Stop, Restart}
 use Rattle.pm_device.specs.Held.{Held, mode_for, shape_for}
 use Rattle.pm_device.specs.Reply.{register_bytes, reply_of}
-use Rattle.pm_device.specs.Start.{has_direct, is_direct}
+use Rattle.pm_device.specs.Start.{is_direct}
 use Rattle.pm_host.specs.declared.stage.Stage.{Stage}
 use Rattle.pm_host.specs.declared.stage.Stage.TheVariants.{AsksMode, AsksCoefficients}
 use Rattle.pm_host.specs.Answers.{good_payload, good_mode, good_coefficients, word_in}

@@ -11,11 +11,9 @@ use Rattle.pm_frame.specs.declared.message.Message.{Message}
 use Rattle.pm_model.specs.Settings.{Words, word_at}
 use Rattle.pm_device.specs.declared.config.Config.{Config}
 use Rattle.pm_host.specs.declared.possible.Possible.TheVariants.{Any}
-use Rattle.pm_host.specs.Answers.{good_word}
-use Rattle.pm_host.specs.Marks.{Mark, Put, Good, Restart, read_by, puts, goods, marks}
+use Rattle.pm_host.specs.Marks.{Mark, Good, read_by, puts, goods, marks}
 use Rattle.pm_host.specs.Possible.{is_possible, possible_from, possible_of, words_since, restart_seen_of}
-use Rattle.pm_host.specs.Refusals.{IsSetup}
-use Rattle.pm_host.specs.Summary.{sending_in, possible_at}
+use Rattle.pm_host.specs.Summary.{sending_in}
 use Rattle.pm_host.specs.Transcript as host
 use Rattle.pm_world.specs.Below.{Below}
 use Rattle.pm_world.specs.declared.event.Arrival.{Arrival}
@@ -23,7 +21,7 @@ use Rattle.pm_world.specs.declared.event.Back.{Back}
 use Rattle.pm_world.specs.declared.event.Event.{Event}
 use Rattle.pm_world.specs.declared.event.Event.TheVariants.{Deliver, Exchange, RestartHost}
 use Rattle.pm_world.specs.Confirmed.{is_good_for, reads, reads_cell, restarts_converter, restarted_since}
-use Rattle.pm_world.specs.Life.{life, now, state_of, AreTaken}
+use Rattle.pm_world.specs.Life.{life, now, state_of}
 use Rattle.pm_world.specs.Possible.{restarts_host, has_read, is_surprise_for, surprises, surprises_by, restarted_between, restarted_since_host, PossibleIsHeld, SeenIsTrue}
 use Rattle.pm_world.specs.Setup.{setup_of}
 use Rattle.pm_world.specs.State.{State, asked, share_of, share_beside, exchanged, tells, event_cause, exchange_cause}
@@ -31,7 +29,6 @@ use Rattle.pm_world.proofs.HeldWords.{Knows, knows, reads-true, life-known}
 use Rattle.pm_world.proofs.Lives.{IsLived, earlier, newest, entries-more, lived-before, now-config}
 use Rattle.pm_world.proofs.Sending.{eight, same_cell-itself, told-nothing}
 use Rattle.pm_world.proofs.Standings.{ArePuts, no_put, one_put, are-puts, AreGoods, no_good, one_good, are-goods, ReadsTrue, same-cells}
-use Rattle.pm_device.specs.Start.{IsSound}
 
 -- of two, both; of two, neither; one of two
 and-both : (a b : Bool) → (a && b) ≡ true → (a ≡ true) × (b ≡ true)

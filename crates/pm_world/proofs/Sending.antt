@@ -23,7 +23,6 @@ use Rattle.pm_host.specs.Messages.{cell_write, cell_read}
 use Rattle.pm_host.specs.Summary.{Summary, sending_in, stage_message}
 use Rattle.pm_host.specs.Transcript as host
 use Rattle.pm_world.specs.Below.{Below}
-use Rattle.pm_world.specs.declared.event.Event.{Event}
 use Rattle.pm_world.specs.declared.event.Event.TheVariants.{Deliver}
 use Rattle.pm_world.specs.declared.event.Arrival.{Arrival}
 use Rattle.pm_world.specs.declared.stop.Cause.TheVariants.{WrongKind, NotBetrayed}

@@ -1,8 +1,8 @@
 -- What the host says of a cell after one more entry, and the word that the cell has then.
-use Rattle.std.proofs.Common.{◌≡◌, ◌⊎◌, inl, inr, ℕ, Bool, true, false, not, cond, eqb, ◌||◌, List, [], ◌∷◌, ◌++◌, filter, reverse, Option, Some, None, option_map, option_and_then, refl, sym, ◌∙◌, ap, subst}
+use Rattle.std.proofs.Common.{◌≡◌, inl, inr, ℕ, Bool, true, false, not, cond, eqb, ◌||◌, List, [], ◌∷◌, ◌++◌, filter, reverse, Option, Some, None, option_map, option_and_then, refl, sym, ◌∙◌, ap}
 use Rattle.std.specs.Prelude.{option_to_list}
 use Rattle.std.specs.List.{list_any}
-use Rattle.std.proofs.lemmas.Bool.{cases_eq, eq-eqb, ne_eqb, or_right}
+use Rattle.std.proofs.lemmas.Bool.{cases_eq, eq-eqb, ne_eqb}
 use Rattle.std.proofs.lemmas.List.{reverse-append}
 use Rattle.std.proofs.lemmas.List.Folds.{list_any-append}
 use Rattle.pm_table.specs.declared.cell.Cell.{Cell}
@@ -11,7 +11,7 @@ use Rattle.pm_model.specs.Settings.{Words, word_at}
 use Rattle.pm_host.specs.declared.standing.Standing.{Standing}
 use Rattle.pm_host.specs.declared.standing.Standing.TheVariants.{Confirmed, Unknown}
 use Rattle.pm_host.specs.Answers.{good_word}
-use Rattle.pm_host.specs.Marks.{Mark, Put, Good, Restart, put_by, read_by, puts, goods, marks}
+use Rattle.pm_host.specs.Marks.{Mark, Put, Good, put_by, read_by, puts, goods, marks}
 use Rattle.pm_host.specs.Possible.{is_listed, is_possible, once, possible_from, words_since, possible_of}
 use Rattle.pm_host.specs.Standing.{standing_of}
 use Rattle.pm_host.specs.Transcript.{Setup, Job, Order, Entry, Accepted, Got, Restarted, open_job, told_since, is_write_turn}

@@ -211,38 +211,38 @@ good-same laws s arrival back request bytes payload addr reads free is good =
     ∙ ap (λ x. answer_in (reply_of s.device (frame_of x request) Restart)) addr)
 
 -- what a stage is told is true
-told-true : Below → (s : State) (arrival : Arrival) (back : Back) (stage : Stage) → Stands s → AsksSo s.device.config (Some stage) →
+told-true : Below → {s : State} (arrival : Arrival) (back : Back) (stage : Stage) → Stands s → AsksSo s.device.config (Some stage) →
     Inside s.device.config.count (Some stage) →
     exchange_cause s arrival back (Some (stage_message stage)) ≡ None →
     ToldTrue s.device.config s.device.config.addr (Some stage)
     (back_bytes (answer_to s.device s.host.setup.addr (stage_message stage) arrival) back)
-told-true laws s arrival back (AsksMode output tries) stands asks inside free = λ byte good.
+told-true laws {s = s} arrival back (AsksMode output tries) stands asks inside free = λ byte good.
     mode-true laws s.device s.host.setup output _ byte stands.spelled (let few = stands.sound.few in omega arith) inside
     (subst (λ n. output < n) (sym stands.outputs) inside)
     (λ g. good-same laws s arrival back (mode_read output) _
     (from_some word_in (good_payload s.device.config.addr (mode_read output) _) byte g).0 stands.addr refl free refl
     (from_some word_in (good_payload s.device.config.addr (mode_read output) _) byte g).1) good
-told-true laws s arrival back (AsksCoefficients output tries) stands asks inside free = λ k good.
+told-true laws {s = s} arrival back (AsksCoefficients output tries) stands asks inside free = λ k good.
     coefficients-true laws s.device s.host.setup output _ k stands.spelled inside asks
     (λ g. good-same laws s arrival back coefficients_read _
     (from_some coefficients_of (good_payload s.device.config.addr coefficients_read _) k g).0 stands.addr refl free refl
     (from_some coefficients_of (good_payload s.device.config.addr coefficients_read _) k g).1) good
-told-true laws s arrival back stage stands asks inside free = tt
+told-true laws arrival back stage stands asks inside free = tt
 
 -- an exchange
-exchange-true : Below → (s : State) (arrival : Arrival) (back : Back) (stage : Option Stage) → Stands s →
+exchange-true : Below → {s : State} (arrival : Arrival) (back : Back) (stage : Option Stage) → Stands s →
     IsTrueHost s.device.config s.host → s.host.stage ≡ stage →
     exchange_cause s arrival back (option_map stage_message stage) ≡ None →
     IsTrueHost s.device.config (host_after s.host (exchanged s arrival back (option_map stage_message stage)).told)
 unfolding host_next
-exchange-true laws s arrival back None stands is e free = cc
-exchange-true laws s arrival back (Some stage) stands is e free =
+exchange-true laws arrival back None stands is e free = cc
+exchange-true laws {s = s} arrival back (Some stage) stands is e free =
     let inside : Inside s.device.config.count (Some stage) =
     subst (λ (o : Option Stage). Inside s.device.config.count o) e
     (subst (λ n. Inside n s.host.stage) stands.outputs (stage-inside s.host s.host.stage stands.host.stage)) in
     let asks : AsksSo s.device.config (Some stage) = subst (AsksSo s.device.config) e is.asks in
     let bytes = back_bytes (answer_to s.device s.host.setup.addr (stage_message stage) arrival) back in
-    let told = told-true laws s arrival back stage stands asks inside free in
+    let told = told-true laws arrival back stage stands asks inside free in
     subst (λ (o : Option Stage). IsTrueHost s.device.config (answered (idle s.host) o bytes).after) (sym e)
     (answered-true s.device.config (idle s.host) (Some stage) bytes stands.sound stands.host.formats is.formats asks inside
     (subst (λ a. ToldTrue s.device.config a (Some stage) bytes) (sym stands.addr) told))
@@ -262,7 +262,7 @@ unfolding host_next
 beside-true laws s (Deliver arrival) stands is free =
     subst (λ told. IsTrueHost s.device.config (host_after s.host told)) (sym (told-nothing s arrival (sending_in s.host))) is
 beside-true laws s (Finish acked) stands is free = finished-true s.device.config (idle s.host) s.host.stage acked is.formats is.asks
-beside-true laws s (Exchange arrival back) stands is free = exchange-true laws s arrival back s.host.stage stands is refl free
+beside-true laws s (Exchange arrival back) stands is free = exchange-true laws arrival back s.host.stage stands is refl free
 beside-true laws s RestartHost stands is free = record { formats = agree-none s.device.config; asks = tt }
 beside-true laws s _ stands is free = is
 

@@ -1,5 +1,5 @@
 -- An order whose write is delivered whole, and whose read nothing disturbs.
-use Rattle.std.proofs.Common.{◌≡◌, ℕ, ◌<◌, ◌≤◌, Bool, true, ◌||◌, eqb, List, [], ◌∷◌, ◌++◌, length, Option, Some, None, option_map, refl, sym, ◌∙◌, ap, subst, arith}
+use Rattle.std.proofs.Common.{◌≡◌, ℕ, ◌≤◌, Bool, true, ◌||◌, eqb, List, [], ◌∷◌, ◌++◌, length, Option, Some, None, option_map, refl, sym, ◌∙◌, ap, subst, arith}
 use Rattle.std.specs.Prelude.{option_to_list}
 use Rattle.std.specs.List.{list_any}
 use Rattle.std.proofs.lemmas.Bool.{eq-eqb, cond-true}
@@ -10,15 +10,13 @@ use Rattle.pm_table.specs.declared.cell.Cell.TheVariants.{Out, Protect}
 use Rattle.pm_table.specs.Cell.{cell_accepts, cell_code, cell_in, place_of, places, IsCell}
 use Rattle.pm_table.specs.Protection.{is_allowed}
 use Rattle.pm_frame.specs.declared.message.Message.{Message}
-use Rattle.pm_frame.specs.Layout.{fits_layout}
 use Rattle.pm_model.specs.Settings.{AreWords, word_at}
 use Rattle.pm_device.specs.declared.config.Config.{Config}
 use Rattle.pm_device.specs.declared.heard.Ending.TheVariants.{Restart}
 use Rattle.pm_device.specs.Held.{Held}
-use Rattle.pm_device.specs.Start.{IsSound}
 use Rattle.pm_device.specs.Effect as device
 use Rattle.pm_device.specs.Effect.{words_after}
-use Rattle.pm_device.specs.History.{now as device_now, next as device_next, after as device_outcome}
+use Rattle.pm_device.specs.History.{next as device_next, after as device_outcome}
 use Rattle.pm_device.specs.Reply.{reply_of}
 use Rattle.pm_host.specs.declared.stage.Stage.TheVariants.{Writes, Reads}
 use Rattle.pm_host.specs.declared.standing.Standing.{Standing}
@@ -26,12 +24,10 @@ use Rattle.pm_host.specs.declared.standing.Standing.TheVariants.{Confirmed, Unkn
 use Rattle.pm_host.specs.declared.job_end.JobEnd.TheVariants.{Done}
 use Rattle.pm_host.specs.Answers.{good_word}
 use Rattle.pm_host.specs.Cells.{table}
-use Rattle.pm_host.specs.Frames.{CanSend}
 use Rattle.pm_host.specs.Known.{known_now}
 use Rattle.pm_host.specs.Marks.{Good, marks}
 use Rattle.pm_host.specs.Messages.{cell_write, cell_read}
-use Rattle.pm_host.specs.Now.{now as host_now, AreTold}
-use Rattle.pm_host.specs.Refusals.{IsSetup}
+use Rattle.pm_host.specs.Now.{now as host_now}
 use Rattle.pm_host.specs.Sound.{IsOrdering, IsStage, IsSound as IsSoundHost}
 use Rattle.pm_host.specs.Summary.{Summary, Change, next as host_next, step_of, change, finished, answered, read_back, idle, marked, ends, sending_in, stage_message, standing_at}
 use Rattle.pm_host.specs.Standing.{standing_of}
@@ -44,11 +40,11 @@ use Rattle.pm_world.specs.declared.event.Arrival.TheVariants.{Whole}
 use Rattle.pm_world.specs.declared.event.Back.TheVariants as back
 use Rattle.pm_world.specs.Honest.{honest, is_whole, WentThrough, sent_by}
 use Rattle.pm_world.specs.Legal.{frame_of, heard_ending, answer_in}
-use Rattle.pm_world.specs.Life.{life, now, state_of, AreTaken}
+use Rattle.pm_world.specs.Life.{life, now, state_of}
 use Rattle.pm_world.specs.Setup.{setup_of}
 use Rattle.pm_world.specs.State.{State, Share, asked, share_of, exchanged, next, device_after, host_after, end_after, end_by}
 use Rattle.pm_world.proofs.Causes.{asked-next, asked-share}
-use Rattle.pm_world.proofs.Lives.{IsLived, earlier, newest, now-config, now-setup, now-next, life-told, lived-by}
+use Rattle.pm_world.proofs.Lives.{IsLived, earlier, newest, now-config, now-setup, now-next, life-told}
 use Rattle.pm_world.proofs.ReadBack.{read-word}
 use Rattle.pm_world.proofs.Sending.{Fixed, Sends, deliver-sends, eight, read-fits, told-nothing, write-fits}
 

@@ -6,5 +6,5 @@ pub returns : goal.returns
 returns c = record {
   heard = heard-legal c.lower_laws.ensures;
   came_back = λ addr request frame payload answer bytes whole asked is damage. return-legal c.lower_laws.ensures whole asked is damage;
-  answered = answered-legal c.lower_laws.ensures;
+  answered = λ held request frame heard whole others within are. answered-legal c.lower_laws.ensures held request whole others within are;
 }
