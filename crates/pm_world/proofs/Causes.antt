@@ -7,10 +7,10 @@ use Rattle.pm_table.specs.declared.cell.Cell.{Cell}
 use Rattle.pm_table.specs.Cell.{output_of}
 use Rattle.pm_host.specs.declared.fault.HostFault.{HostFault}
 use Rattle.pm_host.specs.Refusals.{job_fault, order_fault, micro_fault, micro_word, voltage_fault, range_fault}
-use Rattle.pm_host.specs.Summary.{Summary, format_at, next as host_next}
+use Rattle.pm_host.specs.Summary.{Summary, format_at}
 use Rattle.pm_host.specs.Transcript as host
 use Rattle.pm_world.specs.declared.event.Event.{Event}
-use Rattle.pm_world.specs.declared.event.Event.TheVariants.{OrderMicro, RestartDevice, RestartHost}
+use Rattle.pm_world.specs.declared.event.Event.TheVariants.{OrderMicro, RestartDevice}
 use Rattle.pm_world.specs.declared.stop.Cause.{Cause}
 use Rattle.pm_world.specs.declared.stop.Cause.TheVariants.{Full}
 use Rattle.pm_world.specs.Confirmed.{restarts_converter}
@@ -26,6 +26,7 @@ pub rule-none : (b : Bool) (cause : Cause) → rule b cause ≡ None → b ≡ f
 rule-none false cause h = refl
 rule-none true cause h = cc
 
+-- what isn't false is true
 pub not-false : (b : Bool) → not b ≡ false → b ≡ true
 not-false true h = refl
 not-false false h = cc
@@ -47,6 +48,7 @@ word-free : (s : Summary) (cell : Cell) (word : Option ℕ) (job : host.Job) →
 word-free s cell None job is h = cc
 word-free s cell (Some word) job is h = subst (λ j. job_fault s j ≡ None) (same_Some (host.Order cell word) job is) h
 
+-- the same of a number of microvolts
 micro-free : (s : Summary) (cell : Cell) (x : ℤ) (job : host.Job) →
     option_map (λ w. host.Order cell w) (micro_word s cell x) ≡ Some job → micro_fault s cell x ≡ None →
     job_fault s job ≡ None
@@ -62,6 +64,7 @@ fault-none : (s : Summary) (o : Option host.Job) (beside : Option Cause) (job : 
 fault-none s None beside job is h = cc
 fault-none s (Some j) beside job is h = subst (λ k. job_fault s k ≡ None) (same_Some j job is) (refused-none _ h)
 
+-- and so of each event
 pub job-free : (s : State) (event : Event) (job : host.Job) → asked s event ≡ Some job → event_cause s event ≡ None →
     job_fault s.host job ≡ None
 job-free s (OrderMicro cell x) job is h = micro-free s.host cell x job is (refused-none _ h)
@@ -72,6 +75,7 @@ pub asked-share : (s : State) (event : Event) (job : host.Job) → asked s event
     share_of s event ≡ tells (host.Accepted job)
 asked-share s event job is = ap (λ o. option_map_or (λ j. tells (host.Accepted j)) o (share_beside s event)) is
 
+-- and this is all that it does
 pub asked-next : (s : State) (event : Event) (job : host.Job) → asked s event ≡ Some job →
     next s event ≡ counted (shared s (tells (host.Accepted job)))
 unfolding next

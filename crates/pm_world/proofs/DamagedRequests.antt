@@ -1,6 +1,6 @@
 -- The answer to a request that was damaged: its packet error code (PEC) covers other bytes than the
 -- host sent.
-use Rattle.std.proofs.Common.{◌≡◌, ◌≢◌, ◌⊎◌, inl, inr, ℕ, ◌+◌, ◌-◌, ◌/◌, ◌%◌, ◌^◌, ◌<◌, ◌≤◌, Bool, true, false, not, eqb, ◌&&◌, List, [], ◌∷◌, ◌++◌, length, take, get_or, cond, Option, Some, None, refl, sym, ◌∙◌, ap, ap₂, subst, arith, length-append}
+use Rattle.std.proofs.Common.{◌≡◌, ◌≢◌, ◌⊎◌, inl, inr, ℕ, ◌+◌, ◌-◌, ◌/◌, ◌%◌, ◌^◌, ◌<◌, ◌≤◌, Bool, true, false, not, eqb, ◌&&◌, List, [], ◌∷◌, ◌++◌, length, take, get_or, refl, sym, ◌∙◌, ap, ap₂, subst, arith, length-append}
 use Rattle.std.specs.Prelude.{bytes_eq, nat_lt, slice_index}
 use Rattle.std.specs.Int.{bit_at}
 use Rattle.std.proofs.lemmas.Bool.{cases_lt, eqb-true, lt-ltb, or_left, or_right}
@@ -34,6 +34,7 @@ bytes-append bytes rest first later place = elim (cases_lt place (length bytes))
   | inr past ↦ subst (λ n. n < 2 ^ 8) (sym (behind bytes rest place past)) (later (place - length bytes))
 ]
 
+-- a prefix of bytes is bytes
 bytes-front : (bytes rest : List ℕ) → AreBytes (bytes ++ rest) → AreBytes bytes
 bytes-front bytes rest are place = elim (cases_lt place (length bytes)) [
   | inl inside ↦ subst (λ n. n < 2 ^ 8) (get_or_append_left bytes rest 0 place inside) (are place)
@@ -53,6 +54,7 @@ bit-behind bytes others rest place long same = elim (cases_lt (place / 8) (lengt
       ∙ (ap (λ n. slice_index rest (place / 8 - n)) long ∙ sym (behind others rest (place / 8) (subst (λ n. n ≤ place / 8) long past))))
 ]
 
+-- a burst stays one where the same bytes follow
 burst-behind : (bytes others rest : List ℕ) → length bytes ≡ length others → DifferWithinEight bytes others →
     DifferWithinEight (bytes ++ rest) (others ++ rest)
 burst-behind bytes others rest long within = record {
@@ -76,6 +78,7 @@ betrayed-last before (x ∷ xs) last =
     (ap (λ n. get_or (x ∷ (xs ++ last ∷ [])) n 0) long ∙ get_or-append_seam (x ∷ xs) last [] 0)
     (ap (λ n. take n (x ∷ (xs ++ last ∷ []))) long ∙ take-append_seam (x ∷ xs) (last ∷ []))
 
+-- two numbers that differ aren't equal by the test
 not-equal : (a b : ℕ) → a ≢ b → not (eqb a b) ≡ true
 not-equal a b other = go (eqb a b) refl where
   go : (same : Bool) → eqb a b ≡ same → not same ≡ true
@@ -91,6 +94,7 @@ Bursts = (bytes others : List ℕ) → AreBytes bytes → AreBytes others → le
 abbrev EndsBehind : List ℕ → List ℕ → Type 0
 EndsBehind heard answer = (answer ≡ []) ⊎ ((body : List ℕ) × (answer ≡ body ++ pec_of (heard ++ body) ∷ []))
 
+-- an answer ends in the PEC of what was heard and of itself
 reply-ends : Below → (held : Held) (heard : List ℕ) → EndsBehind heard (answer_in (reply_of held heard Restart))
 reply-ends laws held heard = go (reply_of held heard Restart) refl where
   go : (reply : Heard) → reply_of held heard Restart ≡ reply → EndsBehind heard (answer_in reply)
@@ -111,10 +115,11 @@ not-whole (PagePlusRead page code) = lt-ltb 0 (whole_answer (PagePlusRead page c
 not-whole (ReadCoefficients code side) = refl
 
 -- the answer to a request that eight neighbouring bits changed
-changed-betrayed : Bursts → (frame heard answer body : List ℕ) → answer ≡ body ++ pec_of (heard ++ body) ∷ [] → AreOthers frame heard →
+changed-betrayed : Bursts → {frame heard answer : List ℕ} (body : List ℕ) → answer ≡ body ++ pec_of (heard ++ body) ∷ [] →
+    AreOthers frame heard →
     DifferWithinEight frame heard → AreBytes answer →
     is_betrayed frame answer ≡ true
-changed-betrayed bursts frame heard answer body spelled others within are =
+changed-betrayed bursts {frame = frame} {heard = heard} body spelled others within are =
     let body_bytes : AreBytes body = bytes-front body (pec_of (heard ++ body) ∷ []) (subst AreBytes spelled are) in
     let long : length (frame ++ body) ≡ length (heard ++ body) =
     length-append frame body ∙ (ap (λ n. n + length body) others.as_many ∙ sym (length-append heard body)) in
@@ -126,17 +131,18 @@ changed-betrayed bursts frame heard answer body spelled others within are =
     (betrayed-last frame body (pec_of (heard ++ body))
     ∙ not-equal (pec_of (heard ++ body)) (pec_of (frame ++ body)) (λ same. codes (sym same)))
 
-pub answered-legal : Below → (held : Held) (request : Message) (frame heard : List ℕ) (whole : Bool) → AreOthers frame heard →
+-- so the answer to a damaged request is a legal return
+pub answered-legal : Below → (held : Held) (request : Message) {frame heard : List ℕ} (whole : Bool) → AreOthers frame heard →
     DifferWithinEight frame heard →
     AreBytes (answer_in (reply_of held heard Restart)) →
     is_legal_return frame (whole_answer request) whole (answer_in (reply_of held heard Restart))
     (answer_in (reply_of held heard Restart)) ≡ true
 unfolding is_legal_return
-answered-legal laws held request frame heard whole others within are =
+answered-legal laws held request {frame = frame} {heard = heard} whole others within are =
     let answer : List ℕ = answer_in (reply_of held heard Restart) in
     or_right (whole && bytes_eq answer answer) _ (elim (reply-ends laws held heard) [
       | inl none ↦ or_left (nat_lt (length answer) (whole_answer request)) (is_betrayed frame answer)
           (ap (λ (bytes : List ℕ). nat_lt (length bytes) (whole_answer request)) none ∙ not-whole request)
       | inr ends ↦ or_right (nat_lt (length answer) (whole_answer request)) (is_betrayed frame answer)
-          (changed-betrayed laws.bursts_are_betrayed.code frame heard answer ends.0 ends.1 others within are)
+          (changed-betrayed laws.bursts_are_betrayed.code ends.0 ends.1 others within are)
     ])

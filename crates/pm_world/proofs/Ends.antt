@@ -1,25 +1,17 @@
 -- A world whose ends were told something.
 use Rattle.std.proofs.Common.{◌≡◌, ℕ, Option, Some, None, Ok, refl, sym, ◌∙◌, ap, subst}
-use Rattle.pm_device.specs.declared.config.Config.{Config}
 use Rattle.pm_device.specs.Held.{Held}
-use Rattle.pm_device.specs.Effect as device
-use Rattle.pm_device.specs.History.{next as device_next, after as device_after}
 use Rattle.pm_host.specs.declared.job_end.JobEnd.{JobEnd}
 use Rattle.pm_host.specs.Summary.{Summary, next as host_next, step_of}
 use Rattle.pm_host.specs.declared.step.Step.TheVariants.{Next}
 use Rattle.pm_host.specs.Transcript.{Entry, Accepted, Job, Order}
 use Rattle.pm_world.specs.declared.event.Event.{Event}
-use Rattle.pm_world.specs.State.{State, Share, host_after, Acts, HasWord, asked, event_cause, shared, tells, hears, end_by}
+use Rattle.pm_world.specs.State.{State, Share, host_after, Acts, HasWord, asked, event_cause, shared, tells, end_by}
 use Rattle.pm_world.proofs.Causes.{asked-share}
 
 -- the parts of a world, put together
 abbrev pub state : Held → Summary → Option JobEnd → ℕ → State
 state device host end taken = record { device = device; host = host; end = end; taken = taken }
-
--- a converter keeps its configuration
-pub config-kept : (held new : Held) (event : device.Event) → new ≡ device_next held event → held.config ≡ new.config
-unfolding device_next device_after
-config-kept held new event is = sym (ap (λ (x : Held). x.config) is)
 
 -- the world after the host was told
 pub host-told : (s : State) (device : Held) (host new : Summary) (end after : Option JobEnd) (taken : ℕ) (entry : Entry) →

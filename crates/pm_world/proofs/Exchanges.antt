@@ -1,5 +1,5 @@
 -- A request that is being sent, as it arrives, and what comes back.
-use Rattle.std.proofs.Common.{◌≡◌, ℕ, Bool, true, false, not, List, Option, Some, None, Ok, refl, sym, ◌∙◌, ap, ap₂, subst}
+use Rattle.std.proofs.Common.{◌≡◌, ℕ, Bool, true, false, not, List, Option, Some, None, Ok, refl, sym, ◌∙◌, ap, ap₂}
 use Rattle.std.specs.Prelude.{IsSomeAnd}
 use Rattle.std.specs.Option.{option_or}
 use Rattle.pm_frame.specs.declared.message.Message.{Message}
@@ -11,7 +11,7 @@ use Rattle.pm_device.specs.Held.{Held}
 use Rattle.pm_device.specs.Effect.{Hearing}
 use Rattle.pm_device.specs.History.{next as device_next}
 use Rattle.pm_device.specs.Reply.{reply_of}
-use Rattle.pm_host.specs.Summary.{Summary, sending_in}
+use Rattle.pm_host.specs.Summary.{sending_in}
 use Rattle.pm_host.specs.Transcript.{Got}
 use Rattle.pm_world.specs.declared.event.Arrival.{Arrival}
 use Rattle.pm_world.specs.declared.event.Back.{Back}
@@ -28,6 +28,7 @@ pub record Asks (s : State) (arrival : Arrival) (frame heard : List ℕ) (ending
   pub arrives : Arrives s true arrival frame heard ending
   pub needed_is : needed ≡ whole_answer arrives.message
 
+-- by what the host shows of the request
 pub arrives-request : (s : State) (arrival : Arrival) (frame heard : List ℕ) (ending : Ending) (needed : ℕ) →
     IsSomeAnd (sending_in s.host) (λ message. IsRequest s.host.setup.addr message frame)
     × IsSomeAnd (sending_in s.host) (λ message. needed ≡ whole_answer message) →
@@ -65,7 +66,7 @@ pub record Returns (s : State) (arrival : Arrival) (back : Back) : Type 0 where
   pub whole_is : whole ≡ is_heard_whole frame heard ending
 
 -- the cause against an exchange, by the two tests
-pub exchange_cause-by : (s : State) (arrival : Arrival) (back : Back) (message : Message) (legal returned : Bool) →
+pub exchange_cause-by : (s : State) (arrival : Arrival) (back : Back) (message : Message) {legal returned : Bool} →
     is_read_message message ≡ true →
     is_legal_hearing (frame_of s.host.setup.addr message) (heard_bytes (frame_of s.host.setup.addr message) arrival)
     (heard_ending message arrival) ≡ legal →
@@ -75,7 +76,7 @@ pub exchange_cause-by : (s : State) (arrival : Arrival) (back : Back) (message :
     (answer_to s.device s.host.setup.addr message arrival)
     (back_bytes (answer_to s.device s.host.setup.addr message arrival) back) ≡ returned →
     exchange_cause s arrival back (Some message) ≡ option_or (rule (not legal) NotBetrayed) (rule (not returned) NotBetrayed)
-exchange_cause-by s arrival back message legal returned reads hears returns =
+exchange_cause-by s arrival back message {legal = legal} reads hears returns =
     ap₂ (λ x y. option_or (rule (not x) WrongKind)
     (option_or (rule (not y) NotBetrayed) (rule (not (is_legal_return (frame_of s.host.setup.addr message)
     (whole_answer message)
@@ -91,7 +92,7 @@ pub exchange-betrayed : {s : State} {arrival : Arrival} {frame heard : List ℕ}
     event_cause s (Exchange arrival back) ≡ Some NotBetrayed
 exchange-betrayed {s = s} {arrival = arrival} back a illegal =
     ap (exchange_cause s arrival back) a.arrives.sending
-    ∙ exchange_cause-by s arrival back a.arrives.message false _ a.arrives.kind (sym (legal-is a.arrives) ∙ illegal) refl
+    ∙ exchange_cause-by s arrival back a.arrives.message a.arrives.kind (sym (legal-is a.arrives) ∙ illegal) refl
 
 -- what the test of a return says of the message's frame
 returns-answer : {s : State} {arrival : Arrival} {back : Back} → (r : Returns s arrival back) →
@@ -100,10 +101,12 @@ returns-answer {s = s} {arrival = arrival} r =
     let a = r.asks.arrives in
     r.answer_is ∙ ap₂ (λ b e. answer_in (reply_of s.device b e)) (a.heard_is ∙ ap (λ f. heard_bytes f arrival) a.frame_is) a.ending_is
 
+-- and of what comes back
 returns-came : {s : State} {arrival : Arrival} {back : Back} → (r : Returns s arrival back) →
     r.came ≡ back_bytes (answer_to s.device s.host.setup.addr r.asks.arrives.message arrival) back
 returns-came {back = back} r = r.came_is ∙ ap (λ a. back_bytes a back) (returns-answer r)
 
+-- and of the test of a return
 returns-legal : {s : State} {arrival : Arrival} {back : Back} → (r : Returns s arrival back) →
     let sent = frame_of s.host.setup.addr r.asks.arrives.message in
     let answer = answer_to s.device s.host.setup.addr r.asks.arrives.message arrival in
@@ -128,7 +131,7 @@ pub exchange-cause : {s : State} {arrival : Arrival} {back : Back} (returned : B
 exchange-cause {s = s} {arrival = arrival} {back = back} returned r legal is =
     let a = r.asks.arrives in
     ap (exchange_cause s arrival back) a.sending
-    ∙ exchange_cause-by s arrival back a.message true returned a.kind (sym (legal-is a) ∙ legal) (sym (returns-legal r) ∙ is)
+    ∙ exchange_cause-by s arrival back a.message a.kind (sym (legal-is a) ∙ legal) (sym (returns-legal r) ∙ is)
 
 -- an exchange that comes back
 pub exchange-acts : {s : State} {arrival : Arrival} {back : Back} (new : Held) (after : State) → (r : Returns s arrival back) →

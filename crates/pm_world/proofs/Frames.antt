@@ -1,28 +1,29 @@
 -- A frame that is being sent, as it arrives.
-use Rattle.std.proofs.Common.{◌≡◌, ℕ, Bool, true, false, not, cond, List, Option, Some, None, Ok, refl, sym, ◌∙◌, ap, ap₂, subst}
+use Rattle.std.proofs.Common.{◌≡◌, ℕ, Bool, true, false, not, cond, List, Option, Some, None, Ok, refl, sym, ◌∙◌, ap, ap₂}
 use Rattle.std.specs.Prelude.{IsSomeAnd}
 use Rattle.std.specs.Option.{option_or}
 use Rattle.pm_frame.specs.declared.message.Message.{Message}
-use Rattle.pm_frame.specs.Layout.{IsWrite, IsRequest, is_read_message}
+use Rattle.pm_frame.specs.Layout.{IsWrite, is_read_message}
 use Rattle.pm_device.specs.declared.heard.Ending.{Ending}
 use Rattle.pm_device.specs.declared.heard.Ending.TheVariants.{Stop, Restart}
 use Rattle.pm_device.specs.Held.{Held}
 use Rattle.pm_device.specs.Effect.{Hearing}
 use Rattle.pm_device.specs.History.{next as device_next}
-use Rattle.pm_host.specs.Summary.{Summary, sending_in}
+use Rattle.pm_host.specs.Summary.{sending_in}
 use Rattle.pm_world.specs.declared.event.Arrival.{Arrival}
 use Rattle.pm_world.specs.declared.event.Event.TheVariants.{Deliver}
 use Rattle.pm_world.specs.declared.stop.Cause.TheVariants.{WrongKind, NotBetrayed}
 use Rattle.pm_world.specs.Legal.{frame_of, heard_bytes, ending_of, heard_ending, is_legal_hearing}
-use Rattle.pm_world.specs.State.{State, Acts, shared, delivered, hears, delivery_cause, event_cause, hearing, rule}
+use Rattle.pm_world.specs.State.{State, Acts, shared, delivered, delivery_cause, event_cause, hearing, rule}
 use Rattle.pm_world.proofs.Ends.{state}
-use Rattle.pm_world.proofs.Hearings.{frame-write, frame-request}
+use Rattle.pm_world.proofs.Hearings.{frame-write}
 
 -- how a write is heard that a stop ends, and a request that a repeated start ends
 pub heard_ending-write : (message : Message) (arrival : Arrival) → is_read_message message ≡ false →
     ending_of Stop arrival ≡ heard_ending message arrival
 heard_ending-write message arrival writes = ap (λ b. ending_of (cond b Restart Stop) arrival) (sym writes)
 
+-- and of a request
 pub heard_ending-request : (message : Message) (arrival : Arrival) → is_read_message message ≡ true →
     ending_of Restart arrival ≡ heard_ending message arrival
 heard_ending-request message arrival reads = ap (λ b. ending_of (cond b Restart Stop) arrival) (sym reads)
@@ -36,6 +37,7 @@ pub record Arrives (s : State) (reads : Bool) (arrival : Arrival) (frame heard :
   pub heard_is : heard ≡ heard_bytes frame arrival
   pub ending_is : ending ≡ heard_ending message arrival
 
+-- by what the host shows of a write
 pub arrives-write : (s : State) (arrival : Arrival) (frame heard : List ℕ) (ending : Ending) →
     IsSomeAnd (sending_in s.host) (λ message. IsWrite s.host.setup.addr message frame) →
     heard ≡ heard_bytes frame arrival → ending ≡ ending_of Stop arrival → Arrives s false arrival frame heard ending

@@ -1,6 +1,6 @@
 -- What a legal hearing of a frame that the host sends makes of the converter's words: nothing, or what a
 -- whole write asks for.
-use Rattle.std.proofs.Common.{◌≡◌, ◌⊎◌, inl, inr, ℕ, Bool, true, false, cond, eqb, ◌||◌, ◌&&◌, List, [], ◌∷◌, ◌++◌, length, drop, Some, None, refl, sym, ◌∙◌, ap, subst}
+use Rattle.std.proofs.Common.{◌≡◌, ◌⊎◌, inl, inr, ℕ, Bool, true, false, cond, eqb, ◌&&◌, List, [], ◌∷◌, ◌++◌, length, drop, None, refl, ◌∙◌, ap, subst}
 use Rattle.std.specs.List.{starts_with}
 use Rattle.std.proofs.lemmas.Bool.{lt-ltb, or_cases}
 use Rattle.std.proofs.lemmas.Bool.Decides.{Decides-eqb}
@@ -34,6 +34,7 @@ pub frame-write : (addr : ℕ) (message : Message) → is_read_message message �
 unfolding frame_of
 frame-write addr message writes = ap (λ b. cond b (sent addr message) (with_pec [] (sent addr message))) writes
 
+-- and of a request
 pub frame-request : (addr : ℕ) (message : Message) → is_read_message message ≡ true → frame_of addr message ≡ sent addr message
 unfolding frame_of
 frame-request addr message reads = ap (λ b. cond b (sent addr message) (with_pec [] (sent addr message))) reads
@@ -98,6 +99,7 @@ either : (b : Bool) (words new old : Words) → words ≡ cond b new old → (wo
 either true words new old e = inr e
 either false words new old e = inl e
 
+-- by either way of writing a cell
 pub cell-reached : Below → (held : Held) (cell : Cell) (word : ℕ) (bytes : List ℕ) → IsWrite held.config.addr (cell_write cell word) bytes →
     (words_after held (Hearing bytes Stop) ≡ held.words) ⊎ (words_after held (Hearing bytes Stop) ≡ with_word held.words cell word)
 cell-reached laws held (Out output register) word bytes is =
@@ -121,9 +123,11 @@ pub record CanTake (held : Held) (cell : Cell) (word : ℕ) : Type 0 where
 all_three : {X : Type 0} (a b c : Bool) (x y : X) → a ≡ true → b ≡ true → c ≡ true → cond (a && b && c) x y ≡ x
 all_three a b c x y p q r = rw (p, q, r) refl
 
+-- of two tests
 both : {X : Type 0} (a b : Bool) (x y : X) → a ≡ true → b ≡ true → cond (a && b) x y ≡ x
 both a b x y p q = rw (p, q) refl
 
+-- by either way of writing a cell
 pub whole-write : Below → (held : Held) (cell : Cell) (word : ℕ) (bytes : List ℕ) → CanTake held cell word →
     IsWrite held.config.addr (cell_write cell word) bytes → words_after held (Hearing bytes Stop) ≡ with_word held.words cell word
 whole-write laws held (Out output register) word bytes can is =
@@ -142,6 +146,7 @@ pub write-kind : (cell : Cell) (word : ℕ) → is_read_message (cell_write cell
 write-kind (Out output register) word = refl
 write-kind Protect word = refl
 
+-- its frame is one of a write
 pub is_write : (addr : ℕ) (cell : Cell) (word : ℕ) → fits_layout (cell_write cell word) ≡ true →
     IsWrite addr (cell_write cell word) (frame_of addr (cell_write cell word))
 is_write addr cell word fits =

@@ -11,7 +11,6 @@ use Rattle.pm_model.specs.declared.pending_order.PendingOrder.{PendingOrder}
 use Rattle.pm_model.specs.OrderMachine.{ordered, with_order}
 use Rattle.pm_model.specs.Settings.{Words, AreWords, word_at, with_word}
 use Rattle.pm_device.specs.declared.config.Config.{Config}
-use Rattle.pm_device.specs.Effect as device
 use Rattle.pm_device.specs.History.{now as device_now, next as device_next, after as device_by}
 use Rattle.pm_host.specs.declared.stage.Stage.{Stage}
 use Rattle.pm_host.specs.declared.stage.Stage.TheVariants.{Writes, Reads}
@@ -20,8 +19,8 @@ use Rattle.pm_host.specs.Answers.{good_payload, good_word, word_in}
 use Rattle.pm_host.specs.Marks.{read_by, marks}
 use Rattle.pm_host.specs.Messages.{cell_read}
 use Rattle.pm_host.specs.Now.{now as host_now, job_stage, stage_of}
-use Rattle.pm_host.specs.Possible.{is_possible, possible_of, restart_seen_of}
-use Rattle.pm_host.specs.Sound.{IsOrdering, IsStage, IsSound as IsSoundHost}
+use Rattle.pm_host.specs.Possible.{is_possible, possible_of}
+use Rattle.pm_host.specs.Sound.{IsOrdering, IsStage}
 use Rattle.pm_host.specs.Standing.{standing_of}
 use Rattle.pm_host.specs.Summary.{Summary, sending_in, stage_message, possible_at, standing_at}
 use Rattle.pm_host.specs.Transcript as host
@@ -77,11 +76,11 @@ good-read laws s arrival back read word addr there accepted fits free good =
     (sym (read-word laws s.device read there accepted fits) ∙ (ap (good_word s.device.config.addr read) (sym same) ∙ good))
 
 -- what comes back is true of the cell that is read
-pub reads-true : Below → (s : State) (setup : host.Setup) (entries : List host.Entry) (arrival : Arrival) (back : Back)
+pub reads-true : Below → {s : State} {setup : host.Setup} {entries : List host.Entry} (arrival : Arrival) (back : Back)
     (message : Message) → Knows s setup entries →
     sending_in s.host ≡ Some message → exchange_cause s arrival back (Some message) ≡ None →
     ReadsTrue setup entries (back_bytes (answer_to s.device s.host.setup.addr message arrival) back) s.device.words
-reads-true laws s setup entries arrival back message knows sending free = λ read word asked good.
+reads-true laws {s = s} {setup = setup} arrival back message knows sending free = λ read word asked good.
     let asks = knows.asks read asked in
     let is : message ≡ cell_read read = same_Some message (cell_read read) (sym sending ∙ asks.0) in
     good-read laws s arrival back read word knows.addr asks.1 (knows.accepted read asks.1) (knows.fits (cell_read read) asks.0)
@@ -90,103 +89,111 @@ reads-true laws s setup entries arrival back message knows sending free = λ rea
     (subst (λ a. good_word a read (back_bytes (answer_to s.device s.host.setup.addr message arrival) back) ≡ Some word) knows.address good))
 
 -- an exchange
-exchange-known : Below → (s : State) (setup : host.Setup) (entries : List host.Entry) (cell : Cell) (restarted : Bool) (arrival : Arrival)
+exchange-known : Below → {s : State} {setup : host.Setup} {entries : List host.Entry} {cell : Cell} {restarted : Bool} (arrival : Arrival)
     (back : Back) (sending : Option Message) →
     Knows s setup entries → sending_in s.host ≡ sending → exchange_cause s arrival back sending ≡ None →
     IsKnown (marks setup entries) cell restarted s.device.words →
     IsKnownAfter setup entries cell restarted (exchanged s arrival back sending).told
     (device_after s.device (exchanged s arrival back sending).heard).words
-exchange-known laws s setup entries cell restarted arrival back None knows e free so_far = cc
-exchange-known laws s setup entries cell restarted arrival back (Some message) knows e free so_far =
+exchange-known laws arrival back None knows e free so_far = cc
+exchange-known laws {s = s} {setup = setup} {entries = entries} {cell = cell} {restarted = restarted} arrival back (Some message) knows e
+    free so_far =
     subst (λ (w : Words). IsKnownAfter setup entries cell restarted (exchanged s arrival back (Some message)).told w)
     (sym (exchanged-words laws s arrival back (Some message) (λ m is. knows.fits m (e ∙ is)) free))
-    (got-known laws setup entries cell restarted s.device.words (back_bytes (answer_to s.device s.host.setup.addr message arrival) back)
-    (reads-true laws s setup entries arrival back message knows e free) so_far)
+    (got-known laws setup entries (back_bytes (answer_to s.device s.host.setup.addr message arrival) back)
+    (reads-true laws arrival back message knows e free) so_far)
 
 -- a delivery: the words stay, or the open order's cell gets its word, which is possible and not confirmed
-written-known : Below → (s : State) (setup : host.Setup) (entries : List host.Entry) (cell : Cell) (restarted : Bool)
+written-known : Below → {s : State} {setup : host.Setup} {entries : List host.Entry} {cell : Cell} {restarted : Bool}
     (order : PendingOrder) → Knows s setup entries → IsCell 8 cell →
     stage_order s.host.stage ≡ Some order → IsKnown (marks setup entries) cell restarted s.device.words →
     IsKnown (marks setup entries) cell restarted (with_word s.device.words order.cell order.word)
-written-known laws s setup entries cell restarted order knows there pending so_far = by_cell (same_cell order.cell cell) refl where
-  is : IsPending setup entries order
-  is = knows.pending order pending
+written-known laws {s = s} {setup = setup} {entries = entries} {cell = cell} {restarted = restarted} order knows there pending so_far =
+    by_cell (same_cell order.cell cell) refl where
+      is : IsPending setup entries order
+      is = knows.pending order pending
 
-  has : word_at (with_word s.device.words order.cell order.word) cell
-      ≡ cond (same_cell order.cell cell) order.word (word_at s.device.words cell)
-  has = laws.settings_are_a_map.read s.device.words order.cell cell order.word knows.are is.there there
+      has : word_at (with_word s.device.words order.cell order.word) cell
+          ≡ cond (same_cell order.cell cell) order.word (word_at s.device.words cell)
+      has = laws.settings_are_a_map.read s.device.words order.cell cell order.word knows.are is.there there
 
-  by_cell : (b : Bool) → same_cell order.cell cell ≡ b →
-      IsKnown (marks setup entries) cell restarted (with_word s.device.words order.cell order.word)
-  by_cell true e = record {
-    held = λ word confirmed fresh.
-        let both : Unknown ≡ Confirmed word = sym is.unknown
-        ∙ (ap (standing_of (marks setup entries)) (same-cells laws order.cell cell e) ∙ confirmed) in cc;
-    among = λ fresh.
-        ap (λ w. is_possible w (possible_of (marks setup entries) cell)) (has ∙ ap (λ b. cond b order.word (word_at s.device.words cell)) e)
-        ∙ (ap (λ c. is_possible order.word (possible_of (marks setup entries) c)) (sym (same-cells laws order.cell cell e)) ∙ is.possible);
-  }
-  by_cell false e =
-      let left = has ∙ ap (λ b. cond b order.word (word_at s.device.words cell)) e in
-      record {
-        held = λ word confirmed fresh. left ∙ so_far.held word confirmed fresh;
-        among = λ fresh. ap (λ w. is_possible w (possible_of (marks setup entries) cell)) left ∙ so_far.among fresh;
+      by_cell : (b : Bool) → same_cell order.cell cell ≡ b →
+          IsKnown (marks setup entries) cell restarted (with_word s.device.words order.cell order.word)
+      by_cell true e = record {
+        held = λ word confirmed fresh.
+            let both : Unknown ≡ Confirmed word = sym is.unknown
+            ∙ (ap (standing_of (marks setup entries)) (same-cells laws order.cell cell e) ∙ confirmed) in cc;
+        among = λ fresh.
+            ap (λ w. is_possible w (possible_of (marks setup entries) cell))
+            (has ∙ ap (λ b. cond b order.word (word_at s.device.words cell)) e)
+            ∙ (ap (λ c. is_possible order.word (possible_of (marks setup entries) c)) (sym (same-cells laws order.cell cell e))
+            ∙ is.possible);
       }
+      by_cell false e =
+          let left = has ∙ ap (λ b. cond b order.word (word_at s.device.words cell)) e in
+          record {
+            held = λ word confirmed fresh. left ∙ so_far.held word confirmed fresh;
+            among = λ fresh. ap (λ w. is_possible w (possible_of (marks setup entries) cell)) left ∙ so_far.among fresh;
+          }
 
-taken-known : Below → (s : State) (setup : host.Setup) (entries : List host.Entry) (cell : Cell) (restarted : Bool) (words : Words)
+-- the open order takes, or nothing does
+taken-known : Below → {s : State} {setup : host.Setup} {entries : List host.Entry} {cell : Cell} {restarted : Bool} (words : Words)
     (order : Option PendingOrder) → Knows s setup entries → IsCell 8 cell →
     stage_order s.host.stage ≡ order → (words ≡ s.device.words) ⊎ (IsSome order × (words ≡ with_order s.device.words order)) →
     IsKnown (marks setup entries) cell restarted s.device.words → IsKnown (marks setup entries) cell restarted words
-taken-known laws s setup entries cell restarted words order knows there pending (inl e) so_far =
+taken-known laws {setup = setup} {entries = entries} {cell = cell} {restarted = restarted} words order knows there pending (inl e) so_far =
     subst (IsKnown (marks setup entries) cell restarted) (sym e) so_far
-taken-known laws s setup entries cell restarted words None knows there pending (inr (some, e)) so_far = cc
-taken-known laws s setup entries cell restarted words (Some order) knows there pending (inr (some, e)) so_far =
+taken-known laws words None knows there pending (inr (some, e)) so_far = cc
+taken-known laws {setup = setup} {entries = entries} {cell = cell} {restarted = restarted} words (Some order) knows there pending
+    (inr (some, e)) so_far =
     subst (IsKnown (marks setup entries) cell restarted) (sym e)
-    (written-known laws s setup entries cell restarted order knows there pending so_far)
+    (written-known laws order knows there pending so_far)
 
-deliver-known : Below → (s : State) (setup : host.Setup) (entries : List host.Entry) (cell : Cell) (restarted : Bool)
+-- a delivery leaves what is known
+deliver-known : Below → {s : State} {setup : host.Setup} {entries : List host.Entry} {cell : Cell} {restarted : Bool}
     (arrival : Arrival) → Knows s setup entries → IsCell 8 cell →
     event_cause s (Deliver arrival) ≡ None → IsKnown (marks setup entries) cell restarted s.device.words →
     IsKnownAfter setup entries cell restarted (delivered s arrival (sending_in s.host)).told
     (device_after s.device (delivered s arrival (sending_in s.host)).heard).words
-deliver-known laws s setup entries cell restarted arrival knows there free so_far =
+deliver-known laws {s = s} {setup = setup} {entries = entries} {cell = cell} {restarted = restarted} arrival knows there free so_far =
     subst (λ told. IsKnownAfter setup entries cell restarted told
     (device_after s.device (delivered s arrival (sending_in s.host)).heard).words)
     (sym (told-nothing s arrival (sending_in s.host)))
-    (taken-known laws s setup entries cell restarted _ (stage_order s.host.stage) knows there refl
+    (taken-known laws _ (stage_order s.host.stage) knows there refl
     (delivered-words laws s arrival (sending_in s.host) knows.addr refl knows.fits free) so_far)
 
 -- one event that asks for no job
-beside-known : Below → (s : State) (event : Event) (setup : host.Setup) (entries : List host.Entry) (cell : Cell) (restarted : Bool) →
+beside-known : Below → {s : State} (event : Event) {setup : host.Setup} {entries : List host.Entry} {cell : Cell} {restarted : Bool} →
     Knows s setup entries → IsCell 8 cell →
     event_cause s event ≡ None → IsKnown (marks setup entries) cell restarted s.device.words →
     IsKnownAfter setup entries cell (restarts_converter event || restarted) (share_beside s event).told
     (device_after s.device (share_beside s event).heard).words
 unfolding device_next device_by
-beside-known laws s (Deliver arrival) setup entries cell restarted knows there free so_far =
-    deliver-known laws s setup entries cell restarted arrival knows there free so_far
-beside-known laws s (Exchange arrival back) setup entries cell restarted knows there free so_far =
-    exchange-known laws s setup entries cell restarted arrival back (sending_in s.host) knows refl free so_far
-beside-known laws s RestartDevice setup entries cell restarted knows there free so_far =
+beside-known laws (Deliver arrival) knows there free so_far =
+    deliver-known laws arrival knows there free so_far
+beside-known laws {s = s} (Exchange arrival back) knows there free so_far =
+    exchange-known laws arrival back (sending_in s.host) knows refl free so_far
+beside-known laws RestartDevice knows there free so_far =
     record { held = λ word confirmed fresh. cc; among = λ fresh. cc }
-beside-known laws s RestartHost setup entries cell restarted knows there free so_far =
+beside-known laws {s = s} RestartHost {setup = setup} {entries = entries} {cell = cell} {restarted = restarted} knows there free so_far =
     restarted-known setup entries cell restarted s.device.words
-beside-known laws s _ setup entries cell restarted knows there free so_far = so_far
+beside-known laws _ knows there free so_far = so_far
 
 -- one event
-event-known : Below → (s : State) (event : Event) (setup : host.Setup) (entries : List host.Entry) (cell : Cell) (restarted : Bool) →
+event-known : Below → {s : State} (event : Event) {setup : host.Setup} {entries : List host.Entry} {cell : Cell} {restarted : Bool} →
     Knows s setup entries → IsCell 8 cell →
     event_cause s event ≡ None → IsKnown (marks setup entries) cell restarted s.device.words →
     IsKnownAfter setup entries cell (restarts_converter event || restarted) (share_of s event).told (next s event).device.words
 unfolding next
-event-known laws s event setup entries cell restarted knows there free so_far = go (asked s event) refl where
-  go : (o : Option host.Job) → asked s event ≡ o →
-      let share = option_map_or (λ j. tells (host.Accepted j)) o (share_beside s event) in
-      IsKnownAfter setup entries cell (restarts_converter event || restarted) share.told (device_after s.device share.heard).words
-  go None is = beside-known laws s event setup entries cell restarted knows there free so_far
-  go (Some job) is =
-      subst (λ b. IsKnownAfter setup entries cell (b || restarted) (Some (host.Accepted job)) s.device.words)
-      (sym (asked-restarts s event job is)) (accepted-known setup entries cell restarted s.device.words job so_far)
+event-known laws {s = s} event {setup = setup} {entries = entries} {cell = cell} {restarted = restarted} knows there free so_far =
+    go (asked s event) refl where
+      go : (o : Option host.Job) → asked s event ≡ o →
+          let share = option_map_or (λ j. tells (host.Accepted j)) o (share_beside s event) in
+          IsKnownAfter setup entries cell (restarts_converter event || restarted) share.told (device_after s.device share.heard).words
+      go None is = beside-known laws event knows there free so_far
+      go (Some job) is =
+          subst (λ b. IsKnownAfter setup entries cell (b || restarted) (Some (host.Accepted job)) s.device.words)
+          (sym (asked-restarts s event job is)) (accepted-known setup entries cell restarted s.device.words job so_far)
 
 -- the read that an open job sends
 read-sent : (setup : host.Setup) (s : Summary) (job : Option host.Job) (told : List host.Entry) (read : Cell) →
@@ -221,6 +228,7 @@ stage-ordering s stage order is e = by_stage stage is e where
   by_stage (Some (Reads cell word pass)) is e = by_order cell word pass is e
   by_stage stage is e = absurd (none-some order e)
 
+-- what is known holds after each life
 pub knows : Below → (config : Config) (passes : ℕ) (events : List Event) → IsLived config passes events →
     Knows (now config passes events) (setup_of config passes) (life config passes events).entries
 unfolding now state_of host_now device_now stage_of
@@ -256,11 +264,13 @@ restarted-more : (config : Config) (passes : ℕ) (cell : Cell) (before : List E
 unfolding restarted_since
 restarted-more config passes cell before event = refl
 
+-- nothing is confirmed at the start, and any word is possible
 nothing-known : (config : Config) (passes : ℕ) (cell : Cell) (restarted : Bool) (words : Words) →
     IsKnown (marks (setup_of config passes) (life config passes []).entries) cell restarted words
 unfolding life possible_of
 nothing-known config passes cell restarted words = record { held = λ word confirmed fresh. cc; among = λ fresh. refl }
 
+-- what is known stays true over a life
 pub life-known : Below → (config : Config) (passes : ℕ) (events : List Event) (cell : Cell) → IsLived config passes events →
     IsCell config.count cell →
     IsKnown (marks (setup_of config passes) (life config passes events).entries) cell (restarted_since config passes cell events)
@@ -270,7 +280,7 @@ life-known laws config passes (event ∷ before) cell lived there =
     let s = now config passes before in
     let setup = setup_of config passes in
     let entries = (life config passes before).entries in
-    let after = event-known laws s event setup entries cell (restarted_since config passes cell before)
+    let after = event-known laws event
     (knows laws config passes before (earlier lived))
     (eight config.count cell lived.sound.few there) (newest lived) (life-known laws config passes before cell (earlier lived) there) in
     subst (λ (t : State). IsKnown (marks setup (life config passes (event ∷ before)).entries) cell
@@ -281,6 +291,7 @@ life-known laws config passes (event ∷ before) cell lived there =
     (subst (λ b. IsKnown (marks setup (option_to_list (share_of s event).told ++ entries)) cell b (next s event).device.words)
     (sym (restarted-more config passes cell before event)) after))
 
+-- the promise on confirmed words
 pub confirmed-held : Below → (config : Config) (passes : ℕ) (events : List Event) → IsLived config passes events →
     ConfirmedIsHeld config passes events (now config passes events)
 unfolding now state_of

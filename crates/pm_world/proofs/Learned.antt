@@ -1,5 +1,5 @@
 -- The formats that a host learns are the converter's.
-use Rattle.std.proofs.Common.{◌≡◌, ℕ, zero, suc, ◌^◌, ◌<◌, Bool, true, false, not, cond, ◌&&◌, ◌||◌, List, [], ◌∷◌, map, take, length, get_or, Option, Some, None, Ok, is_none, option_map, refl, sym, ◌∙◌, ap, subst, inl, inr, arith}
+use Rattle.std.proofs.Common.{◌≡◌, ℕ, zero, suc, ◌^◌, ◌<◌, true, not, cond, ◌&&◌, ◌||◌, List, [], ◌∷◌, map, take, length, get_or, Option, Some, None, Ok, is_none, option_map, refl, sym, ◌∙◌, ap, subst, inl, inr, arith}
 use Rattle.std.specs.Prelude.{bytes_eq, nat_lt, slice_index_or}
 use Rattle.std.specs.List.{list_any}
 use Rattle.std.specs.Option.{option_or}
@@ -9,7 +9,7 @@ use Rattle.std.proofs.lemmas.Slice.Eq.{bytes_eq-Decides}
 use Rattle.pm_num.specs.AnyFormat.{Shape}
 use Rattle.pm_table.specs.declared.coefficients.Coefficients.{Coefficients}
 use Rattle.pm_table.specs.declared.vout_mode.VoutMode.TheVariants.{Direct}
-use Rattle.pm_table.specs.Coefficients.{coefficients_of, coefficient_bytes}
+use Rattle.pm_table.specs.Coefficients.{coefficients_of}
 use Rattle.pm_table.specs.Codes as command
 use Rattle.pm_table.specs.Commands.{line_of}
 use Rattle.pm_table.specs.VoutMode.{mode_of}
@@ -17,7 +17,7 @@ use Rattle.pm_frame.specs.declared.fault.FrameFault.{FrameFault}
 use Rattle.pm_frame.specs.declared.message.Message.{Message}
 use Rattle.pm_frame.specs.Betrayal.{is_betrayed}
 use Rattle.pm_frame.specs.Fault.{answer_fault, whole_answer}
-use Rattle.pm_frame.specs.Layout.{IsRequest, IsAnswer, sent, with_pec, is_read_message, fits_layout}
+use Rattle.pm_frame.specs.Layout.{IsRequest, IsAnswer, is_read_message, fits_layout}
 use Rattle.pm_frame.specs.View.{answer_payload}
 use Rattle.pm_device.specs.declared.config.Config.{Config}
 use Rattle.pm_device.specs.declared.config.OutputStart.{OutputStart}
@@ -25,7 +25,7 @@ use Rattle.pm_device.specs.declared.heard.Ending.{Ending}
 use Rattle.pm_device.specs.declared.heard.Ending.TheVariants.{Stop, Restart}
 use Rattle.pm_device.specs.Held.{Held, mode_for, shape_for}
 use Rattle.pm_device.specs.Reply.{register_bytes, reply_of}
-use Rattle.pm_device.specs.Start.{has_direct, is_direct}
+use Rattle.pm_device.specs.Start.{is_direct}
 use Rattle.pm_host.specs.declared.stage.Stage.{Stage}
 use Rattle.pm_host.specs.declared.stage.Stage.TheVariants.{AsksMode, AsksCoefficients}
 use Rattle.pm_host.specs.Answers.{good_payload, good_mode, good_coefficients, word_in}
@@ -49,11 +49,13 @@ good-free : (fault : Option FrameFault) (payload found : List ℕ) → cond (is_
 good-free None payload found h = refl
 good-free (Some fault) payload found h = cc
 
+-- the answer of which it is the payload
 pub good-faultless : (addr : ℕ) (request : Message) (bytes payload : List ℕ) → good_payload addr request bytes ≡ Some payload →
     answer_fault addr request bytes ≡ None
 unfolding good_payload
 good-faultless addr request bytes payload h = good-free (answer_fault addr request bytes) payload (answer_payload request bytes) h
 
+-- an ending is a repeated start by the test
 restart-is : (ending : Ending) → is_restart ending ≡ true → ending ≡ Restart
 restart-is Stop h = cc
 restart-is Restart h = refl
@@ -105,12 +107,13 @@ exchange-legal s arrival back request free =
     (or-none (hearing_cause addr request arrival) (rule (not legal) NotBetrayed) past_kind).1)
 
 -- what the converter answers is its VOUT_MODE, and its coefficients
-is-answer : Below → (held : Held) (addr : ℕ) (request : Message) (payload frame bytes found : List ℕ) → bytes ≡ frame →
+is-answer : Below → (held : Held) {addr : ℕ} {request : Message} {payload frame bytes found : List ℕ} → bytes ≡ frame →
     IsAnswer addr request payload frame →
     good_payload addr request bytes ≡ Some found → found ≡ payload
-is-answer laws held addr request payload frame bytes found same is good =
+is-answer laws held {addr = addr} {request = request} {payload = payload} {frame = frame} {found = found} same is good =
     same_Some found payload (sym good ∙ (ap (good_payload addr request) same ∙ good-answer laws addr request payload frame is))
 
+-- the frame of a request is one
 pub is_request : (addr : ℕ) (request : Message) → is_read_message request ≡ true → fits_layout request ≡ true →
     IsRequest addr request (frame_of addr request)
 is_request addr request reads fits = record { reads = reads; fits = fits; spelled = frame-request addr request reads }
@@ -151,10 +154,12 @@ pub from_some : {A B : Type 0} (f : A → B) (o : Option A) (b : B) → option_m
 from_some f None b h = absurd (none-some b h)
 from_some f (Some a) b h = (a, refl, same_Some (f a) b h)
 
+-- a byte of VOUT_MODE is the word of its payload
 mode_word : (n : ℕ) → n < 2 ^ 8 → word_in (register_bytes command.vout_mode n) ≡ n
 unfolding line_of
 mode_word n below = omega arith
 
+-- a good answer to the read of VOUT_MODE is the converter's byte
 pub mode-true : Below → (held : Held) (setup : host.Setup) (output : ℕ) (bytes : List ℕ) (byte : ℕ) → IsSpelled held.config → output < 8 →
     output < held.config.count → output < setup.outputs →
     (good_mode held.config.addr output bytes ≡ Some byte →
@@ -165,10 +170,10 @@ mode-true laws held setup output bytes byte spelled eight below there same good 
     let request = is_request addr (mode_read output) refl (laws.frames_are_named.fits setup (mode_read output) (reads_mode output there)) in
     let found = laws.reads_are_answered.mode held output (frame_of addr (mode_read output)) request below in
     let payload = from_some word_in (good_payload addr (mode_read output) bytes) byte good in
-    let is = is-answer laws held addr (mode_read output) (register_bytes command.vout_mode (mode_for held.config output)) found.0 bytes
-    payload.0 (same good ∙ ap answer_in found.1) found.2 payload.1 in
+    let is = is-answer laws held (same good ∙ ap answer_in found.1) found.2 payload.1 in
     sym payload.2 ∙ (ap word_in is ∙ mode_word (mode_for held.config output) (spelled.modes output eight))
 
+-- a good answer to the read of COEFFICIENTS is the converter's
 pub coefficients-true : Below → (held : Held) (setup : host.Setup) (output : ℕ) (bytes : List ℕ) (k : Coefficients) →
     IsSpelled held.config → output < held.config.count →
     mode_of (mode_for held.config output) ≡ Ok Direct →
@@ -181,6 +186,6 @@ coefficients-true laws held setup output bytes k spelled below direct same good 
     let found = laws.reads_are_answered.coefficients held (frame_of addr coefficients_read) request
     (direct-found held.config.starts held.config.count output below direct) in
     let payload = from_some coefficients_of (good_payload addr coefficients_read bytes) k good in
-    let is = is-answer laws held addr coefficients_read (coefficient_bytes held.config.coefficients) found.0 bytes payload.0
+    let is = is-answer laws held
     (same good ∙ ap answer_in found.1) found.2 payload.1 in
     sym payload.2 ∙ (ap coefficients_of is ∙ spelled.coefficients)

@@ -1,5 +1,5 @@
 -- The formats that a host learns in a life.
-use Rattle.std.proofs.Common.{◌≡◌, ℕ, ℤ, ◌<◌, List, [], ◌∷◌, Option, Some, None, IsSome, option_and_then, option_map, refl, sym, ◌∙◌, ap, subst, arith}
+use Rattle.std.proofs.Common.{◌≡◌, ℕ, ℤ, List, [], ◌∷◌, Option, Some, None, IsSome, option_and_then, option_map, refl, sym, ◌∙◌, ap, subst, arith}
 use Rattle.std.specs.Option.{option_map_or}
 use Rattle.pm_num.specs.AnyFormat.{Shape, shape_value, shape_rank}
 use Rattle.pm_num.specs.NearestWord.{nearest_word}
@@ -24,6 +24,7 @@ use Rattle.pm_world.proofs.Lives.{IsLived, earlier, newest, lived-before, now-co
 use Rattle.pm_world.proofs.TrueHost.{Stands, agree-none, next-true}
 use Rattle.pm_world.proofs.Undisturbed.{now-sound, share-entries}
 
+-- what holds of a world throughout holds after each life
 stands : Below → (config : Config) (passes : ℕ) (events : List Event) → IsLived config passes events → IsSpelled config →
     Stands (now config passes events)
 stands laws config passes events lived spelled =
@@ -37,10 +38,12 @@ stands laws config passes events lived spelled =
       spelled = subst IsSpelled same spelled;
     }
 
+-- no format is known at the start
 true-start : (config : Config) (passes : ℕ) → IsTrueHost config (start config passes).host
 unfolding start
 true-start config passes = record { formats = agree-none config; asks = tt }
 
+-- the known formats are true after each life
 pub true-host : Below → (config : Config) (passes : ℕ) (events : List Event) → IsLived config passes events → IsSpelled config →
     IsTrueHost config (now config passes events).host
 true-host laws config passes [] lived spelled =
@@ -54,6 +57,7 @@ true-host laws config passes (event ∷ before) lived spelled =
     (next-true laws s event (stands laws config passes before (earlier lived) spelled)
     (subst (λ (k : Config). IsTrueHost k s.host) same so_far) (newest lived)))
 
+-- the promise on formats
 pub formats-agree : Below → (config : Config) (passes : ℕ) (events : List Event) → IsLived config passes events → IsSpelled config →
     FormatsAgree config passes events
 unfolding now state_of
@@ -68,6 +72,7 @@ some-of : (o : Option ℕ) → IsSome o → (word : ℕ) × (o ≡ Some word)
 some-of None h = cc
 some-of (Some word) h = (word, refl)
 
+-- the nearest word in a format that is the converter's
 nearest-found : (config : Config) (output : ℕ) (x : ℤ) (format : Option Shape) →
     ((shape : Shape) → format ≡ Some shape → shape ≡ shape_for config output) →
     IsSome (option_and_then (λ shape. nearest_word (shape_value shape) (shape_rank shape) (micros x)) format) →
@@ -82,6 +87,7 @@ nearest-found config output x (Some shape) agree some =
           found.1,
     )
 
+-- one order in microvolts
 orders-nearest : Below → (config : Config) (passes : ℕ) (before : List Event) (cell : Cell) (x : ℤ) →
     IsLived config passes (OrderMicro cell x ∷ before) → IsSpelled config → OrdersNearest config passes cell x before
 orders-nearest laws config passes before cell x lived spelled =
@@ -96,6 +102,7 @@ orders-nearest laws config passes before cell x lived spelled =
           found.1);
     }
 
+-- the promise on orders in microvolts
 pub micros-nearest : Below → (config : Config) (passes : ℕ) (events : List Event) → IsLived config passes events → IsSpelled config →
     MicrosAreNearest config passes events
 micros-nearest laws config passes events lived spelled = record {

@@ -1,5 +1,5 @@
 -- The life of a world, event by event.
-use Rattle.std.proofs.Common.{◌≡◌, ℕ, suc, ◌≤◌, true, false, not, List, [], ◌∷◌, ◌++◌, length, Option, Some, None, is_none, refl, sym, ◌∙◌, ap, ap₂, subst, add-one}
+use Rattle.std.proofs.Common.{◌≡◌, ℕ, suc, true, false, not, List, [], ◌∷◌, ◌++◌, length, Option, Some, None, is_none, refl, sym, ◌∙◌, ap, ap₂, subst, add-one}
 use Rattle.std.specs.Prelude.{option_to_list}
 use Rattle.std.specs.Option.{option_map_or}
 use Rattle.pm_frame.specs.declared.message.Message.{Message}
@@ -7,12 +7,12 @@ use Rattle.pm_frame.specs.Layout.{is_read_message}
 use Rattle.pm_device.specs.declared.config.Config.{Config}
 use Rattle.pm_device.specs.Held.{Held}
 use Rattle.pm_device.specs.Effect as device
-use Rattle.pm_device.specs.History.{now as device_now, next as device_next, start_of}
+use Rattle.pm_device.specs.History.{now as device_now}
 use Rattle.pm_device.specs.Start.{IsSound}
 use Rattle.pm_host.specs.declared.job_end.JobEnd.{JobEnd}
 use Rattle.pm_host.specs.Now.{now as host_now, AreTold}
 use Rattle.pm_host.specs.Refusals.{IsSetup, job_fault, may_come, sends_write}
-use Rattle.pm_host.specs.Summary.{Summary, start as host_start, next as host_next, step_of, step_by, sending_in}
+use Rattle.pm_host.specs.Summary.{Summary, step_by, sending_in}
 use Rattle.pm_host.specs.Transcript as host
 use Rattle.pm_world.specs.Below.{Below}
 use Rattle.pm_world.specs.declared.event.Event.{Event}
@@ -31,6 +31,7 @@ pub record IsLegal (s : State) (event : Event) : Type 0 where
   pub free : event_cause s event ≡ None
   pub word : HasWord s event
 
+-- each of the events is legal
 abbrev pub AreLegal : Config → ℕ → List Event → Type 0
 AreLegal config passes [] = Unit {0}
 AreLegal config passes (event ∷ before) = IsLegal (now config passes before) event × AreLegal config passes before
@@ -46,6 +47,7 @@ are-legal config passes [] taken = tt
 are-legal config passes (event ∷ before) (taken, all) =
     (record { free = taken-free (now config passes before) event taken; word = taken.word }, are-legal config passes before all)
 
+-- so events that were taken were lived through
 pub lived-by : (config : Config) (passes : ℕ) (events : List Event) → IsSound config → IsSetup (setup_of config passes) →
     AreTaken config passes events → IsLived config passes events
 lived-by config passes events sound made taken = record { sound = sound; made = made; legal = are-legal config passes events taken }
@@ -55,6 +57,7 @@ pub earlier : {config : Config} {passes : ℕ} {before : List Event} {event : Ev
     IsLived config passes before
 earlier lived = record { sound = lived.sound; made = lived.made; legal = lived.legal.1 }
 
+-- the newest event has no cause
 pub newest : {config : Config} {passes : ℕ} {before : List Event} {event : Event} → IsLived config passes (event ∷ before) →
     event_cause (now config passes before) event ≡ None
 newest lived = lived.legal.0.free
@@ -64,11 +67,13 @@ abbrev MayBeTold : Summary → Option host.Entry → Type 0
 MayBeTold s None = Unit {0}
 MayBeTold s (Some entry) = may_come s entry ≡ true
 
+-- the end of a write
 finish-may : (s : Summary) (sending : Option Message) → sending_in s ≡ sending → finish_cause sending ≡ None → sends_write s ≡ true
 finish-may s None e h = cc
 finish-may s (Some message) e h =
     ap (λ o. option_map_or (λ m. not (is_read_message m)) o false) e ∙ ap not (rule-none (is_read_message message) WrongKind h)
 
+-- an exchange
 exchange-may : (s : State) (arrival : Arrival) (back : Back) (sending : Option Message) → sending_in s.host ≡ sending →
     exchange_cause s arrival back sending ≡ None →
     MayBeTold s.host (exchanged s arrival back sending).told
@@ -78,6 +83,7 @@ exchange-may s arrival back (Some message) e h =
     ∙ not-false (is_read_message message)
     (rule-none (not (is_read_message message)) WrongKind (or-none (rule (not (is_read_message message)) WrongKind) _ h).0)
 
+-- a delivery
 deliver-may : (s : State) (arrival : Arrival) (sending : Option Message) → MayBeTold s.host (delivered s arrival sending).told
 deliver-may s arrival None = tt
 deliver-may s arrival (Some message) = tt
@@ -108,21 +114,25 @@ told-more : (setup : host.Setup) (entries : List host.Entry) (told : Option host
 told-more setup entries None before may = before
 told-more setup entries (Some entry) before may = (may, before)
 
+-- the converter after a share of a life
 device-part : Below → (config : Config) (past : List device.Event) (heard : Option device.Event) → IsSound config →
     device_now config (option_to_list heard ++ past) ≡ device_after (device_now config past) heard
 device-part laws config past None sound = refl
 device-part laws config past (Some event) sound = laws.pasts_are_followed.more config past event sound.some sound.few
 
+-- the host after it
 host-part : Below → (setup : host.Setup) (entries : List host.Entry) (told : Option host.Entry) → IsSetup setup → AreTold setup entries →
     MayBeTold (host_now setup entries) told →
     host_now setup (option_to_list told ++ entries) ≡ host_after (host_now setup entries) told
 host-part laws setup entries None good before may = refl
 host-part laws setup entries (Some entry) good before may = laws.transcripts_are_followed.more setup entries entry good (may, before)
 
+-- how a job stands is what the call answers
 end_by-step : (end : Option JobEnd) → end_by (step_by end) ≡ end
 end_by-step None = refl
 end_by-step (Some end) = refl
 
+-- how the last job stands after it
 end-part : Below → (setup : host.Setup) (entries : List host.Entry) (told : Option host.Entry) → IsSetup setup → AreTold setup entries →
     MayBeTold (host_now setup entries) told →
     host.end_of setup (option_to_list told ++ entries) ≡ end_after (host_now setup entries) (host.end_of setup entries) told
@@ -132,12 +142,13 @@ end-part laws setup entries (Some entry) good before may =
     ∙ end_by-step (host.end_of setup (entry ∷ entries)))
 
 -- the world after one more share
-lived-state : Below → (config : Config) (passes n : ℕ) (l : Life) (share : Share) → IsSound config → IsSetup (setup_of config passes) →
+lived-state : Below → {config : Config} {passes : ℕ} (n : ℕ) (l : Life) (share : Share) → IsSound config →
+    IsSetup (setup_of config passes) →
     AreTold (setup_of config passes) l.entries →
     MayBeTold (host_now (setup_of config passes) l.entries) share.told →
     state_of config passes (suc n) (lived l share) ≡ counted (shared (state_of config passes n l) share)
 unfolding state_of
-lived-state laws config passes n l share sound good before may =
+lived-state laws {config = config} {passes = passes} n l share sound good before may =
     ap (λ (d : Held). state d (host_now setup (option_to_list share.told ++ l.entries))
     (host.end_of setup (option_to_list share.told ++ l.entries)) (suc n)) (device-part laws config l.past share.heard sound)
     ∙ (ap (λ (h : Summary). state (device_after (device_now config l.past) share.heard) h
@@ -165,7 +176,7 @@ pub now-next : Below → (config : Config) (passes : ℕ) (events : List Event) 
 unfolding life now next state_of
 now-next laws config passes events event lived =
     let before_it = state_of config passes (length events) (life config passes events) in
-    lived-state laws config passes (length events) (life config passes events) (share_of before_it event) lived.sound lived.made
+    lived-state laws (length events) (life config passes events) (share_of before_it event) lived.sound lived.made
     (life-told config passes events lived.legal.1) (may-be-told before_it event lived.legal.0.free)
 
 -- no event
@@ -200,6 +211,7 @@ pub now-config : (config : Config) (passes : ℕ) (events : List Event) → (now
 unfolding now state_of device_now
 now-config config passes events = refl
 
+-- and the setup
 pub now-setup : (config : Config) (passes : ℕ) (events : List Event) → (now config passes events).host.setup ≡ setup_of config passes
 unfolding now state_of host_now
 now-setup config passes events = refl

@@ -34,6 +34,7 @@ stage_order (Some (Writes cell word pass)) = Some (ordered cell word)
 stage_order (Some (Reads cell word pass)) = Some (ordered cell word)
 stage_order stage = None
 
+-- it is the order of the open job
 order-of_stage : (setup : host.Setup) (entries : List host.Entry) →
     stage_order (host_now setup entries).stage ≡ option_and_then order_of (host.open_job setup entries)
 unfolding host_now stage_of
@@ -54,6 +55,7 @@ order-of_stage setup entries = go (host.open_job setup entries) where
   go (Some (host.Check cell)) = refl
   go job = refl
 
+-- and so the open order of a life
 pub open_order-is : (config : Config) (passes : ℕ) (events : List Event) →
     open_order config passes events ≡ stage_order (now config passes events).host.stage
 unfolding open_order now state_of
@@ -73,6 +75,7 @@ finished-order s stage acked = refl
 abbrev pub Goes : Option PendingOrder → Option PendingOrder → Type 0
 Goes before after = (after ≡ before) ⊎ (after ≡ None)
 
+-- another try of a job that is no order
 another-order : (s : Summary) (tries : ℕ) (stage : Stage) → stage_order (Some stage) ≡ None →
     stage_order (another s tries stage).after.stage ≡ None
 another-order s tries stage none = go (eqb (tries + 1) s.setup.passes) where

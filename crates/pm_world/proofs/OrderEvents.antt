@@ -34,10 +34,12 @@ use Rattle.pm_world.proofs.Causes.{or-none, rule-none, not-false}
 use Rattle.pm_world.proofs.Hearings.{hears-write, hears-request, cell-reached}
 use Rattle.pm_world.proofs.OpenOrders.{stage_order, Goes, answered-order}
 
+-- a rule of the host that names no fault doesn't apply
 host_rule-none : (b : Bool) (fault : HostFault) → host_rule b fault ≡ None → b ≡ false
 host_rule-none false fault h = refl
 host_rule-none true fault h = cc
 
+-- the message that is there
 some-is : (a b : Message) → Some a ≡ Some b → a ≡ b
 some-is a b e = ap (λ o. unwrap_or o a) e
 
@@ -46,6 +48,7 @@ reads : (request message : Message) → is_read_message request ≡ true → Som
 reads request message is e writes =
     let both : true ≡ false = sym is ∙ (ap is_read_message (some-is request message e) ∙ writes) in cc
 
+-- nor is the read of a cell
 reads-cell : (cell : Cell) (message : Message) → Some (cell_read cell) ≡ Some message → is_read_message message ≡ false → ⊥
 reads-cell (Out output register) message e writes = reads (cell_read (Out output register)) message refl e writes
 reads-cell Protect message e writes = reads (cell_read Protect) message refl e writes
@@ -86,6 +89,7 @@ abbrev pub Takes : State → Words → Type 0
 Takes s words = (words ≡ s.device.words) ⊎
     (IsSome (stage_order s.host.stage) × (words ≡ with_order s.device.words (stage_order s.host.stage)))
 
+-- by the legal hearing of what is being sent
 pub delivered-words : Below → (s : State) (arrival : Arrival) (sending : Option Message) → s.host.setup.addr ≡ s.device.config.addr →
     sending_in s.host ≡ sending →
     ((message : Message) → sending ≡ Some message → fits_layout message ≡ true) → delivery_cause s arrival sending ≡ None →
@@ -168,9 +172,11 @@ idle-order s free = go s.stage free where
   go None h = refl
   go (Some stage) h = cc
 
+-- by the first fault of a job
 asking-order : (s : Summary) (there : Bool) → asking_fault s there ≡ None → stage_order s.stage ≡ None
 asking-order s there h = idle-order s (host_rule-none (is_busy s) _ (or-none (host_rule (is_busy s) _) _ h).0)
 
+-- and of each job
 pub job-order : (s : Summary) (job : host.Job) → job_fault s job ≡ None → stage_order s.stage ≡ None
 job-order s (host.Order cell word) h = asking-order s _ (or-none (cell_fault s cell) _ h).0
 job-order s (host.Check cell) h = asking-order s _ h
@@ -188,6 +194,7 @@ pub record IsFree (s : Summary) (cell : Cell) (word : ℕ) : Type 0 where
   pub there : IsCell s.setup.outputs cell
   pub fits : cell_accepts cell word ≡ true
 
+-- by the faults of an order
 pub order-free : (s : Summary) (cell : Cell) (word : ℕ) → order_fault s cell word ≡ None → IsFree s cell word
 order-free s cell word h =
     let first = or-none (cell_fault s cell) _ h in

@@ -1,15 +1,15 @@
 -- Each cell's word is its own: the start word, or that of an order for this very cell.
-use Rattle.std.proofs.Common.{◌≡◌, inl, inr, ℕ, zero, suc, ◌<◌, ◌≤◌, Bool, true, false, ◌&&◌, cond, List, [], ◌∷◌, Option, Some, None, is_some, is_none, refl, ◌∙◌, ap, subst, arith}
+use Rattle.std.proofs.Common.{◌≡◌, inl, inr, ℕ, zero, suc, ◌<◌, Bool, true, false, ◌&&◌, cond, List, [], ◌∷◌, Option, Some, None, is_some, is_none, refl, ◌∙◌, ap, subst, arith}
 use Rattle.std.specs.List.{Contains}
 use Rattle.std.specs.Option.{option_map_or}
 use Rattle.std.proofs.lemmas.List.Elements.{Contains-append_cases}
 use Rattle.pm_table.specs.declared.cell.Cell.{Cell}
-use Rattle.pm_table.specs.declared.cell.Cell.TheVariants.{Out, Protect}
+use Rattle.pm_table.specs.declared.cell.Cell.TheVariants.{Out}
 use Rattle.pm_table.specs.declared.cell.Reg.TheVariants.{Operation, VoutMax}
 use Rattle.pm_table.specs.Cell.{IsCell}
 use Rattle.pm_model.specs.Commanded.{selected_register, selected, is_cut, commanded}
-use Rattle.pm_model.specs.OrderMachine.{Step, Accept, Take, End, Back, IsRun, IsOwnWord as IsOwnOfRun, machine_of}
-use Rattle.pm_model.specs.Settings.{Settings, Words, AreWords, word_at, words_of}
+use Rattle.pm_model.specs.OrderMachine.{Step, Accept, Take, End, Back, machine_of}
+use Rattle.pm_model.specs.Settings.{Words, AreWords, word_at}
 use Rattle.pm_device.specs.declared.config.Config.{Config}
 use Rattle.pm_device.specs.Held.{value_for}
 use Rattle.pm_device.specs.Start.{IsSound, start_word, start_words}
@@ -28,6 +28,7 @@ use Rattle.pm_world.proofs.Sending.{eight}
 none : (x : Step) → Contains [] x → ⊥
 none x h = absurd (omega (arith, h.1))
 
+-- the one element
 single : (s x : Step) → Contains (s ∷ []) x → s ≡ x
 single s x (zero, below, e) = e
 single s x (suc k, below, e) = absurd (omega (arith, below))
@@ -72,6 +73,7 @@ later-ordered config passes event events cell word h = record {
   orders = h.orders;
 }
 
+-- an order that the steps accept
 retold : (config : Config) (passes : ℕ) (events : List Event) (steps : List Step) (cell : Cell) (word : ℕ) →
     Retells config passes events steps → Contains steps (Accept cell word) → WasOrdered config passes events cell word
 retold config passes events steps cell word nothing h = absurd (none (Accept cell word) h)
@@ -87,28 +89,32 @@ retold config passes events steps cell word (takes arrival before rest r) h =
       | inr earlier ↦ later-ordered config passes (Deliver arrival) before cell word (retold config passes before rest cell word r earlier)
     ]
 
+-- there is a start word for each cell
 full : Below → (config : Config) → AreWords (start_words config)
 unfolding start_words
 full laws config = (laws.settings_are_a_map.made (start_word config)).0
 
+-- which is the configuration's
 start-at : Below → (config : Config) (cell : Cell) → IsCell 8 cell → word_at (start_words config) cell ≡ start_word config cell
 unfolding start_words
 start-at laws config cell here = (laws.settings_are_a_map.made (start_word config)).1 cell here
 
-run-own : Below → (config : Config) (passes : ℕ) (events : List Event) (words : Words) (cell : Cell) → IsSound config →
+-- by the run of the order machine
+run-own : Below → {config : Config} {passes : ℕ} {events : List Event} {words : Words} (cell : Cell) → IsSound config →
     IsOrderRun config passes events words → IsCell config.count cell → IsOwnWord config passes events cell (word_at words cell)
-run-own laws config passes events words cell sound r here =
+run-own laws {config = config} {passes = passes} {events = events} {words = words} cell sound r here =
     subst (λ (w : Words). IsOwnWord config passes events cell (word_at w cell)) r.words_are
     (elim (laws.orders_stay_in_their_cells.own (start_settings config) r.steps cell sound.few (full laws config) r.run here) [
       | inl e ↦ inl (e ∙ start-at laws config cell (eight config.count cell sound.few here))
       | inr h ↦ inr (retold config passes events r.steps cell (word_at (machine_of (start_settings config) r.steps).words cell) r.retells h)
     ])
 
+-- by the life
 pub life-own : Below → (config : Config) (passes : ℕ) (events : List Event) (cell : Cell) → IsLived config passes events →
     IsCell config.count cell →
     IsOwnWord config passes events cell (word_at (now config passes events).device.words cell)
 life-own laws config passes events cell lived here =
-    run-own laws config passes events (now config passes events).device.words cell lived.sound (life-run laws config passes events lived)
+    run-own laws cell lived.sound (life-run laws config passes events lived)
     here
 
 -- so each output commands a value of its own

@@ -1,15 +1,13 @@
 -- What comes back of an undisturbed read of a cell.
-use Rattle.std.proofs.Common.{◌≡◌, ℕ, ◌<◌, true, cond, List, [], ◌∷◌, Some, None, is_none, option_map, refl, ◌∙◌, ap}
+use Rattle.std.proofs.Common.{◌≡◌, ℕ, true, cond, List, [], ◌∷◌, Some, None, is_none, option_map, refl, ◌∙◌, ap}
 use Rattle.pm_table.specs.declared.cell.Cell.{Cell}
 use Rattle.pm_table.specs.declared.cell.Cell.TheVariants.{Out, Protect}
-use Rattle.pm_table.specs.Cell.{cell_at, cell_accepts, cell_code, register_code, IsCell}
+use Rattle.pm_table.specs.Cell.{cell_accepts, cell_code, register_code, IsCell}
 use Rattle.pm_frame.specs.declared.message.Message.{Message}
-use Rattle.pm_frame.specs.Fault.{answer_fault}
 use Rattle.pm_frame.specs.Layout.{IsRequest, IsAnswer, fits_layout, is_read_message}
 use Rattle.pm_frame.specs.View.{answer_payload, payload_in}
 use Rattle.pm_model.specs.Settings.{word_at}
 use Rattle.pm_device.specs.declared.heard.Ending.TheVariants.{Restart}
-use Rattle.pm_device.specs.declared.heard.Heard.TheVariants.{Answer}
 use Rattle.pm_device.specs.Held.{Held}
 use Rattle.pm_device.specs.Reply.{register_bytes, reply_of}
 use Rattle.pm_device.specs.Verdict.{payload_word}
@@ -24,6 +22,7 @@ pub reads-cell : (cell : Cell) → is_read_message (cell_read cell) ≡ true
 reads-cell (Out output register) = refl
 reads-cell Protect = refl
 
+-- and it is a request
 is_request : (addr : ℕ) (cell : Cell) → fits_layout (cell_read cell) ≡ true →
     IsRequest addr (cell_read cell) (frame_of addr (cell_read cell))
 is_request addr cell fits =

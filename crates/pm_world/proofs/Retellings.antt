@@ -46,6 +46,7 @@ same-addr : (config : Config) (passes : ℕ) (events : List Event) →
 unfolding now state_of host_now device_now
 same-addr config passes events = refl
 
+-- the outputs
 same-outputs : (config : Config) (passes : ℕ) (events : List Event) → (now config passes events).host.setup.outputs ≡ config.count
 unfolding now state_of host_now
 same-outputs config passes events = refl
@@ -97,14 +98,14 @@ stays config passes before event f none words order = record {
 }
 
 -- an order is accepted
-accepted : Below → (config : Config) (passes : ℕ) (before : List Event) (event : Event) (cell : Cell) (word : ℕ) →
+accepted : Below → {config : Config} {passes : ℕ} {before : List Event} {event : Event} {cell : Cell} {word : ℕ} →
     (f : Follows config passes before event) → told config passes before event ≡ Accept cell word ∷ [] →
     (next (now config passes before) event).device.words ≡ (now config passes before).device.words →
     stage_order (next (now config passes before) event).host.stage ≡ Some (ordered cell word) →
     IsFree (now config passes before).host cell word →
     IsOrderRun config passes (event ∷ before) (now config passes (event ∷ before)).device.words
 unfolding machine_of
-accepted laws config passes before event cell word f is words order may =
+accepted laws {config = config} {passes = passes} {before = before} {event = event} {cell = cell} {word = word} f is words order may =
     let at_start = laws.orders_stay_in_their_cells.start (start_settings config) f.run.steps in
     let can : CanAccept (machine_of (start_settings config) f.run.steps) cell word = record {
       free = f.run.order_is ∙ (open_order-is config passes before ∙ may.free);
@@ -171,10 +172,12 @@ ends-same : (p q : Option PendingOrder) → q ≡ p → ends_between p q ≡ []
 ends-same None q e = refl
 ends-same (Some order) q e = ap (λ o. ends_between (Some order) o) e
 
+-- an order that isn't open any more
 ends-none : (p q : Option PendingOrder) → q ≡ None → IsSome p → ends_between p q ≡ End ∷ []
 ends-none None q e some = cc
 ends-none (Some order) q e some = ap (λ o. ends_between (Some order) o) e
 
+-- the run goes on over an exchange
 exchanged-on : (config : Config) (passes : ℕ) (before : List Event) (arrival : Arrival) (back : Return) →
     (f : Follows config passes before (Exchange arrival back)) →
     (next (now config passes before) (Exchange arrival back)).device.words ≡ (now config passes before).device.words →
@@ -205,6 +208,7 @@ exchanged-on config passes before arrival back f words (inr over) = go (open_ord
       (ap is_some e))
       words over
 
+-- and over a delivery
 delivered-on : (config : Config) (passes : ℕ) (before : List Event) (arrival : Arrival) →
     (f : Follows config passes before (Deliver arrival)) →
     Takes (now config passes before) (next (now config passes before) (Deliver arrival)).device.words →
@@ -223,7 +227,7 @@ unfolding host_next
 one-asked laws config passes before event (host.Order cell word) f is =
     let s = now config passes before in
     let after = asked-next s event (host.Order cell word) is in
-    accepted laws config passes before event cell word f (asked-told config passes before event (host.Order cell word) is)
+    accepted laws f (asked-told config passes before event (host.Order cell word) is)
     (ap (λ (t : State). t.device.words) after) (ap (λ (t : State). stage_order t.host.stage) after)
     (order-free s.host cell word (job-free s event (host.Order cell word) is f.free))
 one-asked laws config passes before event job f is =
@@ -263,6 +267,7 @@ one-beside laws config passes before event lived f is =
     (ap (λ (t : State). t.device.words) (beside-next (now config passes before) event is))
     (ap (λ (t : State). stage_order t.host.stage) (beside-next (now config passes before) event is))
 
+-- and any event
 one : Below → (config : Config) (passes : ℕ) (before : List Event) (event : Event) → IsLived config passes before →
     (f : Follows config passes before event) → IsOrderRun config passes (event ∷ before) (now config passes (event ∷ before)).device.words
 one laws config passes before event lived f = go (asked (now config passes before) event) refl where

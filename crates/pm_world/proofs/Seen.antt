@@ -11,11 +11,9 @@ use Rattle.pm_frame.specs.declared.message.Message.{Message}
 use Rattle.pm_model.specs.Settings.{Words, word_at}
 use Rattle.pm_device.specs.declared.config.Config.{Config}
 use Rattle.pm_host.specs.declared.possible.Possible.TheVariants.{Any}
-use Rattle.pm_host.specs.Answers.{good_word}
-use Rattle.pm_host.specs.Marks.{Mark, Put, Good, Restart, read_by, puts, goods, marks}
+use Rattle.pm_host.specs.Marks.{Mark, Good, read_by, puts, goods, marks}
 use Rattle.pm_host.specs.Possible.{is_possible, possible_from, possible_of, words_since, restart_seen_of}
-use Rattle.pm_host.specs.Refusals.{IsSetup}
-use Rattle.pm_host.specs.Summary.{sending_in, possible_at}
+use Rattle.pm_host.specs.Summary.{sending_in}
 use Rattle.pm_host.specs.Transcript as host
 use Rattle.pm_world.specs.Below.{Below}
 use Rattle.pm_world.specs.declared.event.Arrival.{Arrival}
@@ -23,7 +21,7 @@ use Rattle.pm_world.specs.declared.event.Back.{Back}
 use Rattle.pm_world.specs.declared.event.Event.{Event}
 use Rattle.pm_world.specs.declared.event.Event.TheVariants.{Deliver, Exchange, RestartHost}
 use Rattle.pm_world.specs.Confirmed.{is_good_for, reads, reads_cell, restarts_converter, restarted_since}
-use Rattle.pm_world.specs.Life.{life, now, state_of, AreTaken}
+use Rattle.pm_world.specs.Life.{life, now, state_of}
 use Rattle.pm_world.specs.Possible.{restarts_host, has_read, is_surprise_for, surprises, surprises_by, restarted_between, restarted_since_host, PossibleIsHeld, SeenIsTrue}
 use Rattle.pm_world.specs.Setup.{setup_of}
 use Rattle.pm_world.specs.State.{State, asked, share_of, share_beside, exchanged, tells, event_cause, exchange_cause}
@@ -31,25 +29,28 @@ use Rattle.pm_world.proofs.HeldWords.{Knows, knows, reads-true, life-known}
 use Rattle.pm_world.proofs.Lives.{IsLived, earlier, newest, entries-more, lived-before, now-config}
 use Rattle.pm_world.proofs.Sending.{eight, same_cell-itself, told-nothing}
 use Rattle.pm_world.proofs.Standings.{ArePuts, no_put, one_put, are-puts, AreGoods, no_good, one_good, are-goods, ReadsTrue, same-cells}
-use Rattle.pm_device.specs.Start.{IsSound}
 
 -- of two, both; of two, neither; one of two
 and-both : (a b : Bool) → (a && b) ≡ true → (a ≡ true) × (b ≡ true)
 and-both true b h = (refl, h)
 and-both false b h = absurd (false≢true h)
 
+-- neither of two
 or-neither : (a b : Bool) → (a || b) ≡ false → (a ≡ false) × (b ≡ false)
 or-neither true b h = absurd (true≢false h)
 or-neither false b h = (refl, h)
 
+-- one of two
 or-one : (a b : Bool) → (a || b) ≡ true → (a ≡ true) ⊎ (b ≡ true)
 or-one true b h = inl refl
 or-one false b h = inr h
 
+-- the last of two
 or-last : (a b : Bool) → b ≡ true → (a || b) ≡ true
 or-last true b h = refl
 or-last false b h = h
 
+-- the other case of a choice
 cond-off : (a b : Bool) → cond a false b ≡ true → (a ≡ false) × (b ≡ true)
 cond-off true b h = absurd (false≢true h)
 cond-off false b h = (refl, h)
@@ -63,6 +64,7 @@ restart-told s event h = cc
 abbrev NoWords : List Mark → Cell → Type 0
 NoWords ms cell = words_since ms cell ≡ None
 
+-- a write that begins leaves no words where there were none
 puts-none : (new ms : List Mark) → ArePuts new → (cell : Cell) → NoWords ms cell → NoWords (new ++ ms) cell
 puts-none new ms no_put cell none = none
 puts-none new ms (one_put c w) cell none = go (same_cell c cell) where
@@ -70,11 +72,13 @@ puts-none new ms (one_put c w) cell none = go (same_cell c cell) where
   go true = ap (option_map (λ ws. w ∷ ws)) none
   go false = none
 
-goods-none : (setup : host.Setup) (before : List host.Entry) (bytes : List ℕ) (new ms : List Mark) → AreGoods setup before bytes new →
+-- so does a good answer of another cell
+goods-none : {setup : host.Setup} {before : List host.Entry} {bytes : List ℕ} {new : List Mark} (ms : List Mark) →
+    AreGoods setup before bytes new →
     (cell : Cell) →
     list_any (is_good_for cell) new ≡ false → NoWords ms cell → NoWords (new ++ ms) cell
-goods-none setup before bytes new ms no_good cell unread none = none
-goods-none setup before bytes new ms (one_good read w asked good) cell unread none = go (same_cell read cell) unread where
+goods-none ms no_good cell unread none = none
+goods-none ms (one_good read w asked good) cell unread none = go (same_cell read cell) unread where
   by_surprise : (b : Bool) → cond b (words_since ms cell) None ≡ None
   by_surprise true = none
   by_surprise false = refl
@@ -84,6 +88,7 @@ goods-none setup before bytes new ms (one_good read w asked good) cell unread no
   go true h = cc
   go false h = by_surprise (is_possible w (possible_from (words_since ms read)))
 
+-- so does an entry that reads another cell, or none
 told-none : (setup : host.Setup) (entries : List host.Entry) (cell : Cell) (told : Option host.Entry) →
     reads setup entries cell told ≡ false →
     NoWords (marks setup entries) cell → NoWords (marks setup (option_to_list told ++ entries)) cell
@@ -94,7 +99,7 @@ told-none setup entries cell (Some (host.Finished acked)) unread none = none
 told-none setup entries cell (Some (host.Got bytes)) unread none =
     puts-none (puts setup (host.Got bytes ∷ entries)) (goods setup entries bytes ++ marks setup entries)
     (are-puts setup (host.Got bytes ∷ entries)) cell
-    (goods-none setup entries bytes (goods setup entries bytes) (marks setup entries) (are-goods setup entries bytes) cell unread none)
+    (goods-none (marks setup entries) (are-goods setup entries bytes) cell unread none)
 told-none setup entries cell (Some host.Restarted) unread none = refl
 
 -- where the host had no good answer since it started, no words are known
@@ -102,6 +107,7 @@ first-none : (config : Config) (passes : ℕ) (cell : Cell) → NoWords (marks (
 unfolding life
 first-none config passes cell = refl
 
+-- and so a life that doesn't read the cell
 unread-none : (config : Config) (passes : ℕ) (cell : Cell) (events : List Event) → has_read config passes cell events ≡ false →
     NoWords (marks (setup_of config passes) (life config passes events).entries) cell
 unfolding has_read
@@ -139,9 +145,9 @@ got_bytes (host.Got bytes) = bytes
 got_bytes _ = []
 
 -- what came back is true of the cell that is read, whichever event brought it
-got-true : Below → (s : State) (setup : host.Setup) (entries : List host.Entry) (event : Event) (bytes : List ℕ) → Knows s setup entries →
+got-true : Below → {s : State} {setup : host.Setup} {entries : List host.Entry} (event : Event) (bytes : List ℕ) → Knows s setup entries →
     event_cause s event ≡ None → (share_of s event).told ≡ Some (host.Got bytes) → ReadsTrue setup entries bytes s.device.words
-got-true laws s setup entries event bytes knows free told = by_asked (asked s event) told where
+got-true laws {s = s} {setup = setup} {entries = entries} event bytes knows free told = by_asked (asked s event) told where
   by_sending : (arrival : Arrival) (back : Back) (sending : Option Message) → sending_in s.host ≡ sending →
       exchange_cause s arrival back sending ≡ None →
       (exchanged s arrival back sending).told ≡ Some (host.Got bytes) → ReadsTrue setup entries bytes s.device.words
@@ -149,7 +155,7 @@ got-true laws s setup entries event bytes knows free told = by_asked (asked s ev
   by_sending arrival back (Some message) e free told =
       let is = same_Some _ (host.Got bytes) told in
       subst (λ (entry : host.Entry). ReadsTrue setup entries (got_bytes entry) s.device.words) is
-      (reads-true laws s setup entries arrival back message knows e free)
+      (reads-true laws arrival back message knows e free)
 
   beside : (event : Event) → event_cause s event ≡ None → (share_beside s event).told ≡ Some (host.Got bytes) →
       ReadsTrue setup entries bytes s.device.words
@@ -167,40 +173,44 @@ record Surprise (s : State) (setup : host.Setup) (entries : List host.Entry) (ce
   there : IsCell s.device.config.count cell
   impossible : is_possible (word_at s.device.words cell) (possible_of (marks setup entries) cell) ≡ false
 
+-- what isn't true is false
 not-true : (b : Bool) → not b ≡ true → b ≡ false
 not-true true h = cc
 not-true false h = refl
 
-one-surprise : Below → (s : State) (setup : host.Setup) (entries : List host.Entry) (read : Cell) (word : ℕ) → Knows s setup entries →
+-- by the good answer
+one-surprise : Below → {s : State} {setup : host.Setup} {entries : List host.Entry} (read : Cell) (word : ℕ) → Knows s setup entries →
     read_by (host.open_job setup entries) (host.told_since entries) ≡ Some read → word_at s.device.words read ≡ word →
     not (is_possible word (possible_of (marks setup entries) read)) ≡ true → Surprise s setup entries read
-one-surprise laws s setup entries read word knows asked is surprising = record {
+one-surprise laws {setup = setup} {entries = entries} read word knows asked is surprising = record {
   there = (knows.asks read asked).1;
   impossible = ap (λ w. is_possible w (possible_of (marks setup entries) read)) is ∙ not-true _ surprising;
 }
 
-goods-surprise : Below → (s : State) (setup : host.Setup) (entries : List host.Entry) (bytes : List ℕ) (new : List Mark) →
+-- by the marks of what came back
+goods-surprise : Below → {s : State} {setup : host.Setup} {entries : List host.Entry} {bytes : List ℕ} {new : List Mark} →
     AreGoods setup entries bytes new →
     (cell : Cell) → Knows s setup entries → ReadsTrue setup entries bytes s.device.words →
     list_any (is_surprise_for cell (marks setup entries)) new ≡ true → Surprise s setup entries cell
-goods-surprise laws s setup entries bytes new no_good cell knows is h = absurd (false≢true h)
-goods-surprise laws s setup entries bytes new (one_good read word asked good) cell knows is h =
+goods-surprise laws no_good cell knows is h = absurd (false≢true h)
+goods-surprise laws {s = s} {setup = setup} {entries = entries} (one_good read word asked good) cell knows is h =
     let one = or-one (is_surprise_for cell (marks setup entries) (Good read word)) false h in
     elim one [
       | inl so ↦
           (let both = and-both (same_cell read cell) (not (is_possible word (possible_of (marks setup entries) read))) so in
           subst (Surprise s setup entries) (same-cells laws read cell both.0)
-          (one-surprise laws s setup entries read word knows asked (is read word asked good) both.1))
+          (one-surprise laws read word knows asked (is read word asked good) both.1))
       | inr bad ↦ absurd (false≢true bad)
     ]
 
-told-surprise : Below → (s : State) (setup : host.Setup) (entries : List host.Entry) (event : Event) (cell : Cell)
+-- by what the host was told
+told-surprise : Below → {s : State} {setup : host.Setup} {entries : List host.Entry} (event : Event) (cell : Cell)
     (told : Option host.Entry) → Knows s setup entries →
     event_cause s event ≡ None → (share_of s event).told ≡ told → surprises setup entries cell told ≡ true → Surprise s setup entries cell
-told-surprise laws s setup entries event cell (Some (host.Got bytes)) knows free told h =
-    goods-surprise laws s setup entries bytes (goods setup entries bytes) (are-goods setup entries bytes) cell knows
-    (got-true laws s setup entries event bytes knows free told) h
-told-surprise laws s setup entries event cell told knows free is h = absurd (false≢true h)
+told-surprise laws {setup = setup} {entries = entries} event cell (Some (host.Got bytes)) knows free told h =
+    goods-surprise laws (are-goods setup entries bytes) cell knows
+    (got-true laws event bytes knows free told) h
+told-surprise laws event cell told knows free is h = absurd (false≢true h)
 
 -- a cell of the converter is one of its configuration
 count-is : (config : Config) (passes : ℕ) (events : List Event) (cell : Cell) →
@@ -226,12 +236,13 @@ surprise-restarted laws config passes before cell lived surprise = (
     words : Words
     words = (now config passes before).device.words
 
+-- by the event
 event-surprise : Below → (config : Config) (passes : ℕ) (before : List Event) (event : Event) (cell : Cell) →
     IsLived config passes (event ∷ before) → surprises_by config passes cell before event ≡ true →
     (has_read config passes cell before ≡ true) × (restarted_since config passes cell before ≡ true)
 event-surprise laws config passes before event cell lived h =
     surprise-restarted laws config passes before cell (earlier lived)
-    (told-surprise laws (now config passes before) (setup_of config passes) (life config passes before).entries event cell _
+    (told-surprise laws event cell _
     (knows laws config passes before (earlier lived)) (newest lived) refl h)
 
 -- the restarts that the host saw: after a further entry one that it had seen before, or the entry surprises it
@@ -241,18 +252,20 @@ record SurprisedBy (s : State) (setup : host.Setup) (entries : List host.Entry) 
   read : reads setup entries cell told ≡ true
   surprising : surprises setup entries cell told ≡ true
 
+-- a write that begins shows no restart
 puts-seen : (new ms : List Mark) → ArePuts new → restart_seen_of (new ++ ms) ≡ restart_seen_of ms
 puts-seen new ms no_put = refl
 puts-seen new ms (one_put c w) = refl
 
-goods-seen : Below → (s : State) (setup : host.Setup) (entries : List host.Entry) (bytes : List ℕ) (new : List Mark) →
+-- a good answer shows one where it surprises
+goods-seen : Below → {s : State} {setup : host.Setup} {entries : List host.Entry} {bytes : List ℕ} {new : List Mark} →
     AreGoods setup entries bytes new →
     Knows s setup entries → restart_seen_of (new ++ marks setup entries) ≡ true →
     (restart_seen_of (marks setup entries) ≡ true)
     ⊎ ((cell : Cell) × IsCell s.device.config.count cell × (list_any (is_good_for cell) new ≡ true) ×
     (list_any (is_surprise_for cell (marks setup entries)) new ≡ true))
-goods-seen laws s setup entries bytes new no_good knows seen = inl seen
-goods-seen laws s setup entries bytes new (one_good read word asked good) knows seen =
+goods-seen laws no_good knows seen = inl seen
+goods-seen laws {setup = setup} {entries = entries} (one_good read word asked good) knows seen =
     elim (or-one (not (is_possible word (possible_of (marks setup entries) read))) (restart_seen_of (marks setup entries)) seen) [
       | inl surprising ↦ inr (
         read,
@@ -264,22 +277,23 @@ goods-seen laws s setup entries bytes new (one_good read word asked good) knows 
       | inr older ↦ inl older
     ]
 
-told-seen : Below → (s : State) (setup : host.Setup) (entries : List host.Entry) (told : Option host.Entry) → Knows s setup entries →
+-- so does an entry
+told-seen : Below → {s : State} {setup : host.Setup} {entries : List host.Entry} (told : Option host.Entry) → Knows s setup entries →
     restart_seen_of (marks setup (option_to_list told ++ entries)) ≡ true →
     (restart_seen_of (marks setup entries) ≡ true) ⊎ SurprisedBy s setup entries told
-told-seen laws s setup entries None knows seen = inl seen
-told-seen laws s setup entries (Some (host.Accepted job)) knows seen =
+told-seen laws None knows seen = inl seen
+told-seen laws {setup = setup} {entries = entries} (Some (host.Accepted job)) knows seen =
     inl (sym (puts-seen (puts setup (host.Accepted job ∷ entries)) (marks setup entries) (are-puts setup (host.Accepted job ∷ entries)))
     ∙ seen)
-told-seen laws s setup entries (Some (host.Finished acked)) knows seen = inl seen
-told-seen laws s setup entries (Some (host.Got bytes)) knows seen =
-    elim (goods-seen laws s setup entries bytes (goods setup entries bytes) (are-goods setup entries bytes) knows
+told-seen laws (Some (host.Finished acked)) knows seen = inl seen
+told-seen laws {setup = setup} {entries = entries} (Some (host.Got bytes)) knows seen =
+    elim (goods-seen laws (are-goods setup entries bytes) knows
     (sym (puts-seen (puts setup (host.Got bytes ∷ entries)) (goods setup entries bytes ++ marks setup entries)
     (are-puts setup (host.Got bytes ∷ entries))) ∙ seen)) [
       | inl older ↦ inl older
       | inr (cell, there, read, surprising) ↦ inr (record { cell = cell; there = there; read = read; surprising = surprising })
     ]
-told-seen laws s setup entries (Some host.Restarted) knows seen = absurd (false≢true seen)
+told-seen laws (Some host.Restarted) knows seen = absurd (false≢true seen)
 
 -- a restart that was seen lies between two good answers for a cell
 between-more : (config : Config) (passes : ℕ) (cell : Cell) (before : List Event) (event : Event) →
@@ -290,10 +304,12 @@ between-more : (config : Config) (passes : ℕ) (cell : Cell) (before : List Eve
 unfolding restarted_between
 between-more config passes cell before event = refl
 
+-- no restart was seen at the start
 first-unseen : (config : Config) (passes : ℕ) → restart_seen_of (marks (setup_of config passes) (life config passes []).entries) ≡ false
 unfolding life
 first-unseen config passes = refl
 
+-- by one event after another
 life-seen : Below → (config : Config) (passes : ℕ) (events : List Event) → IsLived config passes events →
     restart_seen_of (marks (setup_of config passes) (life config passes events).entries) ≡ true →
     (cell : Cell) × IsCell config.count cell × (restarted_between config passes cell events ≡ true)
@@ -337,7 +353,7 @@ life-seen laws config passes (event ∷ before) lived seen =
         (ap (λ o. restart_seen_of (marks (setup_of config passes) (option_to_list o ++ (life config passes before).entries)))
         (restart-told (now config passes before) event e)) ∙ after))
     go false e older =
-        elim (told-seen laws (now config passes before) (setup_of config passes) (life config passes before).entries
+        elim (told-seen laws
         (share_of (now config passes before) event).told
         (knows laws config passes before (earlier lived)) after) [
           | inl seen ↦ (let o = older seen in (o.0, o.1, here o.0 e (or-last _ _ o.2)))
@@ -365,6 +381,7 @@ since-started config passes cell (event ∷ before) read since =
     go true h older = refl
     go false h older = older h
 
+-- where it lies between two good answers
 between-started : (config : Config) (passes : ℕ) (cell : Cell) (events : List Event) → restarted_between config passes cell events ≡ true →
     restarted_since_host events ≡ true
 unfolding restarted_between restarted_since_host
@@ -398,6 +415,7 @@ possible-held laws config passes events lived =
           ∙ (life-known laws config passes events cell lived there).among fresh;
     }
 
+-- the promise on restarts that were seen
 pub seen-true : Below → (config : Config) (passes : ℕ) (events : List Event) → IsLived config passes events →
     SeenIsTrue config passes events (now config passes events)
 unfolding now state_of

@@ -23,7 +23,6 @@ use Rattle.pm_host.specs.Messages.{cell_write, cell_read}
 use Rattle.pm_host.specs.Summary.{Summary, sending_in, stage_message}
 use Rattle.pm_host.specs.Transcript as host
 use Rattle.pm_world.specs.Below.{Below}
-use Rattle.pm_world.specs.declared.event.Event.{Event}
 use Rattle.pm_world.specs.declared.event.Event.TheVariants.{Deliver}
 use Rattle.pm_world.specs.declared.event.Arrival.{Arrival}
 use Rattle.pm_world.specs.declared.stop.Cause.TheVariants.{WrongKind, NotBetrayed}
@@ -42,10 +41,12 @@ four a true false false h = refl
 four true false false false h = refl
 four false false false false h = cc
 
+-- so the cell of WRITE_PROTECT may be written again
 protect-allowed : (word : ℕ) → is_protection word ≡ true → is_allowed word command.write_protect ≡ true
 unfolding line_of
 protect-allowed word h = four (eqb word 0x00) (eqb word 0x20) (eqb word 0x40) (eqb word 0x80) h
 
+-- a cell is itself by the test
 pub same_cell-itself : (cell : Cell) → same_cell cell cell ≡ true
 same_cell-itself (Out output register) = rw (eq-eqb output output refl, eq-eqb (register_code register) (register_code register) refl) refl
 same_cell-itself Protect = refl
@@ -56,6 +57,7 @@ wrote-held : Below → (words : Words) (cell : Cell) (word : ℕ) → AreWords w
 wrote-held laws words cell word are there = laws.settings_are_a_map.read words cell cell word are there there
     ∙ cond-true (same_cell cell cell) word (word_at words cell) (same_cell-itself cell)
 
+-- and its code stays allowed
 wrote-allowed : Below → (words : Words) (cell : Cell) (word : ℕ) → AreWords words → IsCell 8 cell → cell_accepts cell word ≡ true →
     is_allowed (word_at words Protect) (cell_code cell) ≡ true →
     is_allowed (word_at (with_word words cell word) Protect) (cell_code cell) ≡ true
@@ -66,16 +68,19 @@ wrote-allowed laws words Protect word are there accepted allowed =
     ap (λ p. is_allowed p (cell_code Protect)) (laws.settings_are_a_map.read words Protect Protect word are tt tt)
     ∙ protect-allowed word accepted
 
+-- a cell that exists is one of eight outputs
 pub eight : (count : ℕ) (cell : Cell) → count ≤ 8 → IsCell count cell → IsCell 8 cell
 eight count (Out output register) few there = omega (arith, few, there)
 eight count Protect few there = tt
 
+-- the write of a cell fits its layout
 pub write-fits : Below → (setup : host.Setup) (cell : Cell) (word : ℕ) → IsCell setup.outputs cell → cell_accepts cell word ≡ true →
     fits_layout (cell_write cell word) ≡ true
 write-fits laws setup (Out output register) word there accepted =
     laws.frames_are_named.fits setup _ (writes_output output register word there accepted)
 write-fits laws setup Protect word there accepted = laws.frames_are_named.fits setup _ (writes_protect word accepted)
 
+-- and so does its read
 pub read-fits : Below → (setup : host.Setup) (cell : Cell) → IsCell setup.outputs cell → fits_layout (cell_read cell) ≡ true
 read-fits laws setup (Out output register) there = laws.frames_are_named.fits setup _ (reads_output output register there)
 read-fits laws setup Protect there = laws.frames_are_named.fits setup _ reads_protect
@@ -92,14 +97,17 @@ delivery-legal s arrival message sending free =
     not-false legal (rule-none (not legal) NotBetrayed
     (or-none (rule (is_read_message message) WrongKind) (rule (not legal) NotBetrayed) none).1)
 
+-- a delivery tells the host nothing
 pub told-nothing : (s : State) (arrival : Arrival) (sending : Option Message) → (delivered s arrival sending).told ≡ None
 told-nothing s arrival None = refl
 told-nothing s arrival (Some message) = refl
 
+-- and leaves it
 pub next-deliver-host : (s : State) (arrival : Arrival) → (next s (Deliver arrival)).host ≡ s.host
 unfolding next
 next-deliver-host s arrival = ap (host_after s.host) (told-nothing s arrival (sending_in s.host))
 
+-- the words are those after the hearing
 next-deliver-words : (s : State) (arrival : Arrival) (message : Message) → sending_in s.host ≡ Some message →
     (next s (Deliver arrival)).device.words ≡ words_after s.device (hearing s.host.setup.addr message arrival)
 unfolding next device_next device_outcome
@@ -109,6 +117,7 @@ next-deliver-words s arrival message sending = ap (λ o. (device_after s.device 
 write-ending : (cell : Cell) (word : ℕ) (arrival : Arrival) → heard_ending (cell_write cell word) arrival ≡ ending_of Stop arrival
 write-ending cell word arrival = sym (heard_ending-write (cell_write cell word) arrival (write-kind cell word))
 
+-- an ending is a stop by the test
 stop-is : (ending : Ending) → not (is_restart ending) ≡ true → ending ≡ Stop
 stop-is Stop h = refl
 stop-is Restart h = cc
@@ -129,19 +138,21 @@ pub record Fixed (s : State) (cell : Cell) (word : ℕ) : Type 0 where
   pub read_fits : fits_layout (cell_read cell) ≡ true
   pub are : AreWords s.device.words
 
-can-take : (s : State) (cell : Cell) (word : ℕ) (whole : Bool) → Fixed s cell word → Sends s cell word whole → CanTake s.device cell word
-can-take s cell word whole fixed sends = record
+-- then the write is taken
+can-take : {s : State} {cell : Cell} {word : ℕ} {whole : Bool} → Fixed s cell word → Sends s cell word whole → CanTake s.device cell word
+can-take fixed sends = record
     { there = fixed.there; accepted = fixed.accepted; allowed = sends.allowed; fits = fixed.write_fits }
 
-sends-words : Below → (s t : State) (cell : Cell) (word : ℕ) (whole : Bool) → Fixed s cell word → Sends s cell word whole →
+-- a delivery that leaves the words, or writes them
+sends-words : Below → {s : State} (t : State) {cell : Cell} {word : ℕ} {whole : Bool} → Fixed s cell word → Sends s cell word whole →
     t.host ≡ s.host →
     (t.device.words ≡ s.device.words) ⊎ (t.device.words ≡ with_word s.device.words cell word) → Sends t cell word whole
-sends-words laws s t cell word whole fixed sends host (inl same) = record {
+sends-words laws t {cell = cell} fixed sends host (inl same) = record {
   stage = ap (λ (h : Summary). h.stage) host ∙ sends.stage;
   allowed = ap (λ w. is_allowed (word_at w Protect) (cell_code cell)) same ∙ sends.allowed;
   held = λ h. ap (λ w. word_at w cell) same ∙ sends.held h;
 }
-sends-words laws s t cell word whole fixed sends host (inr wrote) = record {
+sends-words laws {s = s} t {cell = cell} {word = word} fixed sends host (inr wrote) = record {
   stage = ap (λ (h : Summary). h.stage) host ∙ sends.stage;
   allowed = ap (λ w. is_allowed (word_at w Protect) (cell_code cell)) wrote
       ∙ wrote-allowed laws s.device.words cell word fixed.are (eight s.device.config.count cell fixed.few fixed.there) fixed.accepted
@@ -150,10 +161,11 @@ sends-words laws s t cell word whole fixed sends host (inr wrote) = record {
       ∙ wrote-held laws s.device.words cell word fixed.are (eight s.device.config.count cell fixed.few fixed.there);
 }
 
-sends-whole : Below → (s t : State) (cell : Cell) (word : ℕ) (whole : Bool) → Fixed s cell word → Sends s cell word whole →
+-- a delivery that writes them
+sends-whole : Below → {s : State} (t : State) {cell : Cell} {word : ℕ} {whole : Bool} → Fixed s cell word → Sends s cell word whole →
     t.host ≡ s.host →
     t.device.words ≡ with_word s.device.words cell word → Sends t cell word true
-sends-whole laws s t cell word whole fixed sends host wrote = record {
+sends-whole laws {s = s} t {cell = cell} {word = word} fixed sends host wrote = record {
   stage = ap (λ (h : Summary). h.stage) host ∙ sends.stage;
   allowed = ap (λ w. is_allowed (word_at w Protect) (cell_code cell)) wrote
       ∙ wrote-allowed laws s.device.words cell word fixed.are (eight s.device.config.count cell fixed.few fixed.there) fixed.accepted
@@ -162,16 +174,17 @@ sends-whole laws s t cell word whole fixed sends host wrote = record {
       ∙ wrote-held laws s.device.words cell word fixed.are (eight s.device.config.count cell fixed.few fixed.there);
 }
 
+-- its write is being sent
 sending-write : (s : State) (cell : Cell) (word : ℕ) → s.host.stage ≡ Some (Writes cell word 0) →
     sending_in s.host ≡ Some (cell_write cell word)
 sending-write s cell word stage = ap (option_map stage_message) stage
 
 -- a delivery leaves the words or sets that one
-delivered-words : Below → (s : State) (cell : Cell) (word : ℕ) (whole : Bool) (arrival : Arrival) → Fixed s cell word →
+delivered-words : Below → {s : State} {cell : Cell} {word : ℕ} {whole : Bool} (arrival : Arrival) → Fixed s cell word →
     Sends s cell word whole → event_cause s (Deliver arrival) ≡ None →
     ((next s (Deliver arrival)).device.words ≡ s.device.words) ⊎
     ((next s (Deliver arrival)).device.words ≡ with_word s.device.words cell word)
-delivered-words laws s cell word whole arrival fixed sends free =
+delivered-words laws {s = s} {cell = cell} {word = word} arrival fixed sends free =
     let message = cell_write cell word in
     let sending = sending-write s cell word sends.stage in
     let legal = subst (λ a. is_legal_hearing (frame_of a message) (heard_bytes (frame_of a message) arrival)
@@ -179,17 +192,17 @@ delivered-words laws s cell word whole arrival fixed sends free =
     let after : (next s (Deliver arrival)).device.words ≡ words_after s.device (hearing s.device.config.addr message arrival) =
     next-deliver-words s arrival message sending ∙ ap (λ a. words_after s.device (hearing a message arrival)) fixed.addr in
     elim (legal-write laws s.device cell word (heard_bytes (frame_of s.device.config.addr message) arrival) (heard_ending message arrival)
-    (can-take s cell word whole fixed sends) legal) [
+    (can-take fixed sends) legal) [
       | inl same ↦ inl (after ∙ same)
       | inr wrote ↦ inr (after ∙ wrote)
     ]
 
 -- a delivery of the write, heard whole or not
-whole-words : Below → (s : State) (cell : Cell) (word : ℕ) (whole : Bool) (arrival : Arrival) → Fixed s cell word →
+whole-words : Below → {s : State} {cell : Cell} {word : ℕ} {whole : Bool} (arrival : Arrival) → Fixed s cell word →
     Sends s cell word whole →
     is_whole (frame_of s.device.config.addr (cell_write cell word)) arrival ≡ true →
     (next s (Deliver arrival)).device.words ≡ with_word s.device.words cell word
-whole-words laws s cell word whole arrival fixed sends is =
+whole-words laws {s = s} {cell = cell} {word = word} arrival fixed sends is =
     let message = cell_write cell word in
     let frame = frame_of s.device.config.addr message in
     let parts = and_parts (bytes_eq (heard_bytes frame arrival) frame) (not (is_restart (ending_of Stop arrival))) is in
@@ -197,19 +210,20 @@ whole-words laws s cell word whole arrival fixed sends is =
     next-deliver-words s arrival message (sending-write s cell word sends.stage)
     ∙ (ap (λ a. words_after s.device (hearing a message arrival)) fixed.addr
     ∙ (ap₂ (λ b e. words_after s.device (device.Hearing b e)) ((bytes_eq-Decides (heard_bytes frame arrival) frame).0 parts.0) ending
-    ∙ whole-write laws s.device cell word frame (can-take s cell word whole fixed sends)
+    ∙ whole-write laws s.device cell word frame (can-take fixed sends)
     (is_write s.device.config.addr cell word fixed.write_fits)))
 
-pub deliver-sends : Below → (s : State) (cell : Cell) (word : ℕ) (whole : Bool) (arrival : Arrival) → Fixed s cell word →
+-- after one more delivery
+pub deliver-sends : Below → {s : State} {cell : Cell} {word : ℕ} {whole : Bool} (arrival : Arrival) → Fixed s cell word →
     Sends s cell word whole →
     event_cause s (Deliver arrival) ≡ None →
     Sends (next s (Deliver arrival)) cell word (is_whole (frame_of s.device.config.addr (cell_write cell word)) arrival || whole)
-deliver-sends laws s cell word whole arrival fixed sends free =
+deliver-sends laws {s = s} {cell = cell} {word = word} {whole = whole} arrival fixed sends free =
     go (is_whole (frame_of s.device.config.addr (cell_write cell word)) arrival) refl
   where
     go : (b : Bool) → is_whole (frame_of s.device.config.addr (cell_write cell word)) arrival ≡ b →
         Sends (next s (Deliver arrival)) cell word (b || whole)
-    go true e = sends-whole laws s (next s (Deliver arrival)) cell word whole fixed sends (next-deliver-host s arrival)
-        (whole-words laws s cell word whole arrival fixed sends e)
-    go false e = sends-words laws s (next s (Deliver arrival)) cell word whole fixed sends (next-deliver-host s arrival)
-        (delivered-words laws s cell word whole arrival fixed sends free)
+    go true e = sends-whole laws (next s (Deliver arrival)) fixed sends (next-deliver-host s arrival)
+        (whole-words laws arrival fixed sends e)
+    go false e = sends-words laws (next s (Deliver arrival)) fixed sends (next-deliver-host s arrival)
+        (delivered-words laws arrival fixed sends free)

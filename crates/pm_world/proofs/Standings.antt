@@ -1,8 +1,8 @@
 -- What the host says of a cell after one more entry, and the word that the cell has then.
-use Rattle.std.proofs.Common.{◌≡◌, ◌⊎◌, inl, inr, ℕ, Bool, true, false, not, cond, eqb, ◌||◌, List, [], ◌∷◌, ◌++◌, filter, reverse, Option, Some, None, option_map, option_and_then, refl, sym, ◌∙◌, ap, subst}
+use Rattle.std.proofs.Common.{◌≡◌, inl, inr, ℕ, Bool, true, false, not, cond, eqb, ◌||◌, List, [], ◌∷◌, ◌++◌, filter, reverse, Option, Some, None, option_map, option_and_then, refl, sym, ◌∙◌, ap}
 use Rattle.std.specs.Prelude.{option_to_list}
 use Rattle.std.specs.List.{list_any}
-use Rattle.std.proofs.lemmas.Bool.{cases_eq, eq-eqb, ne_eqb, or_right}
+use Rattle.std.proofs.lemmas.Bool.{cases_eq, eq-eqb, ne_eqb}
 use Rattle.std.proofs.lemmas.List.{reverse-append}
 use Rattle.std.proofs.lemmas.List.Folds.{list_any-append}
 use Rattle.pm_table.specs.declared.cell.Cell.{Cell}
@@ -11,7 +11,7 @@ use Rattle.pm_model.specs.Settings.{Words, word_at}
 use Rattle.pm_host.specs.declared.standing.Standing.{Standing}
 use Rattle.pm_host.specs.declared.standing.Standing.TheVariants.{Confirmed, Unknown}
 use Rattle.pm_host.specs.Answers.{good_word}
-use Rattle.pm_host.specs.Marks.{Mark, Put, Good, Restart, put_by, read_by, puts, goods, marks}
+use Rattle.pm_host.specs.Marks.{Mark, Put, Good, put_by, read_by, puts, goods, marks}
 use Rattle.pm_host.specs.Possible.{is_listed, is_possible, once, possible_from, words_since, possible_of}
 use Rattle.pm_host.specs.Standing.{standing_of}
 use Rattle.pm_host.specs.Transcript.{Setup, Job, Order, Entry, Accepted, Got, Restarted, open_job, told_since, is_write_turn}
@@ -80,6 +80,7 @@ put-from : (w x : ℕ) (found : Option (List ℕ)) → is_possible x (possible_f
 put-from w x None h = refl
 put-from w x (Some ws) h = listed-added w x ws ∙ ap (λ b. b || eqb w x) h
 
+-- by the marks
 put-possible : (ms : List Mark) (c cell : Cell) (w x : ℕ) → is_possible x (possible_of ms cell) ≡ true →
     is_possible x (possible_of (Put c w ∷ ms) cell) ≡ true
 unfolding possible_of
@@ -93,6 +94,7 @@ put-confirms : (b : Bool) (rest : Standing) (word : ℕ) → cond b Unknown rest
 put-confirms true rest word h = cc
 put-confirms false rest word h = h
 
+-- so what is known stays true
 put-known : (ms : List Mark) (c : Cell) (w : ℕ) (cell : Cell) (restarted : Bool) (words : Words) →
     IsKnown ms cell restarted words → IsKnown (Put c w ∷ ms) cell restarted words
 put-known ms c w cell restarted words known = record {
@@ -105,6 +107,7 @@ pub data ArePuts : List Mark → Type 0 where
   no_put : ArePuts []
   one_put : (cell : Cell) (word : ℕ) → ArePuts (Put cell word ∷ [])
 
+-- by the open job
 pub are-puts : (setup : Setup) (entries : List Entry) → ArePuts (puts setup entries)
 unfolding puts
 are-puts setup entries = go (open_job setup entries) where
@@ -117,6 +120,7 @@ are-puts setup entries = go (open_job setup entries) where
   go (Some (Order cell word)) = by_turn (is_write_turn (told_since entries)) cell word
   go (Some job) = no_put
 
+-- and stays true after each of them
 puts-known : (new ms : List Mark) → ArePuts new → (cell : Cell) (restarted : Bool) (words : Words) →
     IsKnown ms cell restarted words → IsKnown (new ++ ms) cell restarted words
 puts-known new ms no_put cell restarted words known = known
@@ -128,6 +132,7 @@ pub data AreGoods (setup : Setup) (before : List Entry) (bytes : List ℕ) : Lis
   one_good : (read : Cell) (word : ℕ) → read_by (open_job setup before) (told_since before) ≡ Some read →
       good_word setup.addr read bytes ≡ Some word → AreGoods setup before bytes (Good read word ∷ [])
 
+-- by what was asked for
 pub are-goods : (setup : Setup) (before : List Entry) (bytes : List ℕ) → AreGoods setup before bytes (goods setup before bytes)
 unfolding goods
 are-goods setup before bytes = go (read_by (open_job setup before) (told_since before)) refl where
@@ -151,6 +156,7 @@ ReadsTrue setup before bytes words =
 confirmed-is : (w word : ℕ) → Confirmed w ≡ Confirmed word → w ≡ word
 confirmed-is w word h = cc
 
+-- the words that are possible after a good answer
 good-possible : (ms : List Mark) (read cell : Cell) (w x : ℕ) → (same_cell read cell ≡ true → x ≡ w) →
     (same_cell read cell ≡ false → is_possible x (possible_of ms cell) ≡ true) →
     is_possible x (possible_of (Good read w ∷ ms) cell) ≡ true
@@ -167,10 +173,11 @@ good-possible ms read cell w x itself other = go (same_cell read cell) refl wher
   go true e = ap (λ b. b || false) (eq-eqb w x (sym (itself e)))
   go false e = by_surprise (is_possible w (possible_from (words_since ms read))) (other e)
 
-good-known : Below → (ms : List Mark) (read : Cell) (w : ℕ) (cell : Cell) (restarted : Bool) (words : Words) →
+-- of one good answer
+good-known : Below → {ms : List Mark} (read : Cell) (w : ℕ) {cell : Cell} {restarted : Bool} {words : Words} →
     word_at words read ≡ w → IsKnown ms cell restarted words →
     IsKnown (Good read w ∷ ms) cell (cond (list_any (is_good_for cell) (Good read w ∷ [])) false restarted) words
-good-known laws ms read w cell restarted words is known = record {
+good-known laws {ms = ms} read w {cell = cell} {restarted = restarted} {words = words} is known = record {
   held = by_cell (same_cell read cell) refl;
   among = λ fresh. good-possible ms read cell w (word_at words cell) its_word (λ e. known.among (not-read e fresh));
 }
@@ -186,12 +193,13 @@ good-known laws ms read w cell restarted words is known = record {
     not-read : same_cell read cell ≡ false → cond (same_cell read cell || false) false restarted ≡ false → restarted ≡ false
     not-read e fresh = sym (ap (λ b. cond (b || false) false restarted) e) ∙ fresh
 
-goods-known : Below → (setup : Setup) (before : List Entry) (bytes : List ℕ) (new ms : List Mark) → AreGoods setup before bytes new →
-    (cell : Cell) (restarted : Bool) (words : Words) → ReadsTrue setup before bytes words → IsKnown ms cell restarted words →
+-- of none or one
+goods-known : Below → {setup : Setup} {before : List Entry} {bytes : List ℕ} {new ms : List Mark} → AreGoods setup before bytes new →
+    {cell : Cell} {restarted : Bool} {words : Words} → ReadsTrue setup before bytes words → IsKnown ms cell restarted words →
     IsKnown (new ++ ms) cell (cond (list_any (is_good_for cell) new) false restarted) words
-goods-known laws setup before bytes new ms no_good cell restarted words is known = known
-goods-known laws setup before bytes new ms (one_good read word asked good) cell restarted words is known =
-    good-known laws ms read word cell restarted words (is read word asked good) known
+goods-known laws no_good is known = known
+goods-known laws (one_good read word asked good) is known =
+    good-known laws read word (is read word asked good) known
 
 -- one more entry
 pub accepted-known : (setup : Setup) (entries : List Entry) (cell : Cell) (restarted : Bool) (words : Words) (job : Job) →
@@ -200,15 +208,16 @@ accepted-known setup entries cell restarted words job known =
     puts-known (puts setup (Accepted job ∷ entries)) (marks setup entries) (are-puts setup (Accepted job ∷ entries)) cell restarted words
     known
 
-pub got-known : Below → (setup : Setup) (entries : List Entry) (cell : Cell) (restarted : Bool) (words : Words) (bytes : List ℕ) →
+-- bytes that came back
+pub got-known : Below → (setup : Setup) (entries : List Entry) {cell : Cell} {restarted : Bool} {words : Words} (bytes : List ℕ) →
     ReadsTrue setup entries bytes words → IsKnown (marks setup entries) cell restarted words →
     IsKnownAfter setup entries cell restarted (Some (Got bytes)) words
-got-known laws setup entries cell restarted words bytes is known =
+got-known laws setup entries {cell = cell} {words = words} bytes is known =
     puts-known (puts setup (Got bytes ∷ entries)) (goods setup entries bytes ++ marks setup entries)
     (are-puts setup (Got bytes ∷ entries)) cell _ words
-    (goods-known laws setup entries bytes (goods setup entries bytes) (marks setup entries) (are-goods setup entries bytes) cell restarted
-    words is known)
+    (goods-known laws (are-goods setup entries bytes) is known)
 
+-- a restart of the host
 pub restarted-known : (setup : Setup) (entries : List Entry) (cell : Cell) (restarted : Bool) (words : Words) →
     IsKnownAfter setup entries cell restarted (Some Restarted) words
 unfolding possible_of

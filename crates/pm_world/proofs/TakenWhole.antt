@@ -5,7 +5,6 @@ use Rattle.std.specs.Option.{option_or}
 use Rattle.std.proofs.lemmas.Bool.{lt-leb}
 use Rattle.std.proofs.lemmas.Slice.Eq.{bytes_eq-Decides}
 use Rattle.pm_table.specs.declared.cell.Cell.{Cell}
-use Rattle.pm_table.specs.declared.cell.Cell.TheVariants.{Out, Protect}
 use Rattle.pm_frame.specs.declared.message.Message.{Message}
 use Rattle.pm_frame.specs.Fault.{whole_answer}
 use Rattle.pm_frame.specs.Layout.{is_read_message}
@@ -37,9 +36,11 @@ use Rattle.pm_world.proofs.ReadBack.{reads-cell}
 use Rattle.pm_world.proofs.Undisturbed.{finish-stage, order-stage, read-restart}
 use Rattle.pm_world.proofs.Sending.{next-deliver-host}
 
+-- bytes are themselves by the test
 same_bytes : (bytes : List ℕ) → bytes_eq bytes bytes ≡ true
 same_bytes bytes = (bytes_eq-Decides bytes bytes).1 refl
 
+-- a rule that doesn't apply names no cause
 off : (applies : Bool) (cause : Cause) → applies ≡ false → rule applies cause ≡ None
 off applies cause e = ap (λ b. rule b cause) e
 
@@ -48,11 +49,13 @@ pub whole-hearing : (frame : List ℕ) → is_legal_hearing frame frame Restart 
 unfolding is_legal_hearing
 whole-hearing frame = refl
 
+-- the whole answer to a whole request is legal
 whole-return : (frame answer : List ℕ) (needed : ℕ) → is_legal_return frame needed (is_heard_whole frame frame Restart) answer answer ≡ true
 unfolding is_legal_return
 whole-return frame answer needed = ap₂ (λ b c. (true && b) && c || (nat_lt (length answer) needed || is_betrayed frame answer))
     (same_bytes frame) (same_bytes answer)
 
+-- so an undisturbed exchange has no cause
 exchange-free : (s : State) (message : Message) → is_read_message message ≡ true → heard_ending message Whole ≡ Restart →
     exchange_cause s Whole back.Whole (Some message) ≡ None
 exchange-free s message reads ending =
@@ -70,28 +73,31 @@ exchange-free s message reads ending =
     NotBetrayed))) reads
     ∙ ap₂ (λ h r. option_or (rule (not h) NotBetrayed) (rule (not r) NotBetrayed)) heard returned
 
+-- in a world with room nothing else is against it
 pub free : (s : State) (event : Event) → s.taken < event_limit → event_cause s event ≡ None → cause_of s event ≡ None
 unfolding cause_of
 free s event room none = ap (λ b. option_or (rule b Full) (event_cause s event)) (lt-leb event_limit s.taken room) ∙ none
 
+-- how many events were taken
 now-taken : (config : Config) (passes : ℕ) (events : List Event) → (now config passes events).taken ≡ length events
 unfolding now state_of
 now-taken config passes events = refl
 
 -- after its deliveries the write is still being sent
-sent-stage : Below → (config : Config) (passes : ℕ) (before : List Event) (order : Event) (cell : Cell) (word : ℕ)
+sent-stage : Below → {config : Config} {passes : ℕ} (before : List Event) (order : Event) {cell : Cell} {word : ℕ}
     (arrivals : List Arrival) →
     IsLived config passes (sent_by order arrivals before) → asked (now config passes before) order ≡ Some (host.Order cell word) →
     (now config passes (sent_by order arrivals before)).host.stage ≡ Some (Writes cell word 0)
-sent-stage laws config passes before order cell word [] lived asks =
+sent-stage laws {config = config} {passes = passes} before order {cell = cell} {word = word} [] lived asks =
     ap (λ (s : State). s.host.stage) (now-next laws config passes before order lived)
     ∙ order-stage (now config passes before) order cell word asks
-sent-stage laws config passes before order cell word (arrival ∷ arrivals) lived asks =
+sent-stage laws {config = config} {passes = passes} before order (arrival ∷ arrivals) lived asks =
     let events = sent_by order arrivals before in
     ap (λ (s : State). s.host.stage) (now-next laws config passes events (Deliver arrival) lived)
     ∙ (ap (λ (h : Summary). h.stage) (next-deliver-host (now config passes events) arrival)
-    ∙ sent-stage laws config passes before order cell word arrivals (earlier lived) asks)
+    ∙ sent-stage laws before order arrivals (earlier lived) asks)
 
+-- so the end of the write and the read are taken
 pub taken-whole : Below → (config : Config) (passes : ℕ) (before : List Event) (order : Event) (cell : Cell) (word : ℕ)
     (arrivals : List Arrival) (acked : Bool) →
     IsSound config → IsSetup (setup_of config passes) → AreTaken config passes (sent_by order arrivals before) →
@@ -100,7 +106,7 @@ pub taken-whole : Below → (config : Config) (passes : ℕ) (before : List Even
 taken-whole laws config passes before order cell word arrivals acked sound made taken asks room =
     let events = sent_by order arrivals before in
     let s = now config passes events in
-    let stage = sent-stage laws config passes before order cell word arrivals (lived-by config passes events sound made taken) asks in
+    let stage = sent-stage laws before order arrivals (lived-by config passes events sound made taken) asks in
     let sending : sending_in s.host ≡ Some (cell_write cell word) = ap (option_map stage_message) stage in
     let finish : IsTaken s (Finish acked) = record {
       free = free s (Finish acked) (let count = now-taken config passes events in omega arith)

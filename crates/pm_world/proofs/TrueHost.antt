@@ -53,6 +53,7 @@ agree-set config formats output shape agree inside is other found h =
       | inr apart ↦ agree other found (sym (get_or-set_other formats output other (Some shape) None apart) ∙ h)
     ]
 
+-- no format
 pub agree-none : (config : Config) → Agree config no_formats
 unfolding no_formats
 agree-none config other found h =
@@ -61,17 +62,20 @@ agree-none config other found h =
       | inr past ↦ absurd (none-some found (sym (get_or_past {X = Option Shape} (replicate 8 None) other None past) ∙ h))
     ]
 
+-- either of two changes
 either : (config : Config) (b : Bool) (t u : Change) → IsTrueHost config t.after → IsTrueHost config u.after →
     IsTrueHost config (cond b t u).after
 either config true t u p q = p
 either config false t u p q = q
 
+-- another try
 another-true : (config : Config) (s : Summary) (tries : ℕ) (stage : Stage) → Agree config s.formats → AsksSo config (Some stage) →
     IsTrueHost config (another s tries stage).after
 another-true config s tries stage agree asks =
     either config (eqb (tries + 1) s.setup.passes) (ends s job_end.Unknown) (goes_on s stage) (record { formats = agree; asks = tt })
     (record { formats = agree; asks = asks })
 
+-- an order that read its cell back
 read_back-true : (config : Config) (s : Summary) (cell : Cell) (word pass : ℕ) (read : Option ℕ) → Agree config s.formats →
     IsTrueHost config (read_back s cell word pass read).after
 read_back-true config s cell word pass None agree =
@@ -85,11 +89,13 @@ read_back-true config s cell word pass (Some read) agree =
     (either config (eqb (pass + 1) s.setup.passes) (ends after (job_end.Differs read)) (writes after cell word (pass + 1))
     (record { formats = agree; asks = tt }) (record { formats = agree; asks = tt }))
 
+-- a check that read its cell
 checked-true : (config : Config) (s : Summary) (cell : Cell) (tries : ℕ) (read : Option ℕ) → Agree config s.formats →
     IsTrueHost config (checked s cell tries read).after
 checked-true config s cell tries None agree = another-true config s tries (Checks cell (tries + 1)) agree tt
 checked-true config s cell tries (Some read) agree = record { formats = agree; asks = tt }
 
+-- a learn that ends
 learned-true : (config : Config) (s : Summary) (output : ℕ) (shape : Option Shape) → Agree config s.formats → output < length s.formats →
     ((found : Shape) → shape ≡ Some found → found ≡ shape_for config output) → IsTrueHost config (learned s output shape).after
 learned-true config s output None agree inside is = record { formats = agree; asks = tt }
@@ -104,6 +110,7 @@ mode-shape config output mode shape made is found =
     same_Some shape (shape_for config output)
     (sym found ∙ (ap (λ m. option_and_then (λ (v : VoutMode). result_ok (shape_in v config.coefficients)) (result_ok m)) (sym is) ∙ made))
 
+-- a learn that read VOUT_MODE
 mode_taken-true : (config : Config) (s : Summary) (output : ℕ) (mode : Result VoutMode TableFault) → Agree config s.formats →
     output < length s.formats →
     shape_made config output ≡ Some (shape_for config output) → mode_of (mode_for config output) ≡ mode →
@@ -115,6 +122,7 @@ mode_taken-true config s output (Ok (Linear exponent)) agree inside made is =
     (λ found h. mode-shape config output (Linear exponent) found made is h)
 mode_taken-true config s output (Ok Direct) agree inside made is = record { formats = agree; asks = is }
 
+-- well or not
 mode_answered-true : (config : Config) (s : Summary) (output tries : ℕ) (byte : Option ℕ) → Agree config s.formats →
     output < length s.formats →
     shape_made config output ≡ Some (shape_for config output) → ((b : ℕ) → byte ≡ Some b → b ≡ mode_for config output) →
@@ -123,6 +131,7 @@ mode_answered-true config s output tries None agree inside made is = another-tru
 mode_answered-true config s output tries (Some byte) agree inside made is =
     mode_taken-true config s output (mode_of byte) agree inside made (ap mode_of (sym (is byte refl)))
 
+-- a learn that read COEFFICIENTS
 coefficients_answered-true : (config : Config) (s : Summary) (output tries : ℕ) (k : Option Coefficients) → Agree config s.formats →
     output < length s.formats →
     shape_made config output ≡ Some (shape_for config output) → mode_of (mode_for config output) ≡ Ok Direct →
@@ -141,6 +150,7 @@ Inside count (Some (AsksMode output tries)) = output < count
 Inside count (Some (AsksCoefficients output tries)) = output < count
 Inside count stage = Unit {0}
 
+-- by the stage of a sound host
 stage-inside : (s : Summary) (stage : Option Stage) → IsStage s stage → Inside s.setup.outputs stage
 stage-inside s (Some (AsksMode output tries)) is = is.there
 stage-inside s (Some (AsksCoefficients output tries)) is = is.there
@@ -162,6 +172,7 @@ answered-true config s (Some (AsksCoefficients output tries)) bytes sound long a
     (sound.formats output inside) asks told
 answered-true config s stage bytes sound long agree asks inside told = record { formats = agree; asks = tt }
 
+-- the end of a write
 finished-true : (config : Config) (s : Summary) (stage : Option Stage) (acked : Bool) → Agree config s.formats → AsksSo config stage →
     IsTrueHost config (finished s stage acked).after
 finished-true config s (Some (AsksCoefficients output tries)) acked agree asks = record { formats = agree; asks = asks }
@@ -170,6 +181,7 @@ finished-true config s (Some (Sends sent tries)) acked agree asks =
     (another-true config s tries (Sends sent (tries + 1)) agree tt)
 finished-true config s stage acked agree asks = record { formats = agree; asks = tt }
 
+-- a job that begins
 begins-true : (config : Config) (s : Summary) (job : host.Job) → Agree config s.formats → IsTrueHost config (begins s job).after
 begins-true config s (host.Order cell word) agree = record { formats = agree; asks = tt }
 begins-true config s job agree = record { formats = agree; asks = tt }
@@ -182,6 +194,7 @@ pub record Stands (s : State) : Type 0 where
   pub host : IsSoundHost s.host
   pub spelled : IsSpelled s.device.config
 
+-- a good answer that is legal is the converter's to the whole request
 pub good-same : Below → (s : State) (arrival : Arrival) (back : Back) (request : Message) (bytes payload : List ℕ) →
     s.host.setup.addr ≡ s.device.config.addr → is_read_message request ≡ true →
     exchange_cause s arrival back (Some request) ≡ None → bytes ≡ back_bytes (answer_to s.device s.host.setup.addr request arrival) back →
@@ -197,37 +210,39 @@ good-same laws s arrival back request bytes payload addr reads free is good =
     (subst (λ b. good_payload a request b ≡ Some payload) is (ap (λ x. good_payload x request bytes) addr ∙ good)))
     ∙ ap (λ x. answer_in (reply_of s.device (frame_of x request) Restart)) addr)
 
-told-true : Below → (s : State) (arrival : Arrival) (back : Back) (stage : Stage) → Stands s → AsksSo s.device.config (Some stage) →
+-- what a stage is told is true
+told-true : Below → {s : State} (arrival : Arrival) (back : Back) (stage : Stage) → Stands s → AsksSo s.device.config (Some stage) →
     Inside s.device.config.count (Some stage) →
     exchange_cause s arrival back (Some (stage_message stage)) ≡ None →
     ToldTrue s.device.config s.device.config.addr (Some stage)
     (back_bytes (answer_to s.device s.host.setup.addr (stage_message stage) arrival) back)
-told-true laws s arrival back (AsksMode output tries) stands asks inside free = λ byte good.
+told-true laws {s = s} arrival back (AsksMode output tries) stands asks inside free = λ byte good.
     mode-true laws s.device s.host.setup output _ byte stands.spelled (let few = stands.sound.few in omega arith) inside
     (subst (λ n. output < n) (sym stands.outputs) inside)
     (λ g. good-same laws s arrival back (mode_read output) _
     (from_some word_in (good_payload s.device.config.addr (mode_read output) _) byte g).0 stands.addr refl free refl
     (from_some word_in (good_payload s.device.config.addr (mode_read output) _) byte g).1) good
-told-true laws s arrival back (AsksCoefficients output tries) stands asks inside free = λ k good.
+told-true laws {s = s} arrival back (AsksCoefficients output tries) stands asks inside free = λ k good.
     coefficients-true laws s.device s.host.setup output _ k stands.spelled inside asks
     (λ g. good-same laws s arrival back coefficients_read _
     (from_some coefficients_of (good_payload s.device.config.addr coefficients_read _) k g).0 stands.addr refl free refl
     (from_some coefficients_of (good_payload s.device.config.addr coefficients_read _) k g).1) good
-told-true laws s arrival back stage stands asks inside free = tt
+told-true laws arrival back stage stands asks inside free = tt
 
-exchange-true : Below → (s : State) (arrival : Arrival) (back : Back) (stage : Option Stage) → Stands s →
+-- an exchange
+exchange-true : Below → {s : State} (arrival : Arrival) (back : Back) (stage : Option Stage) → Stands s →
     IsTrueHost s.device.config s.host → s.host.stage ≡ stage →
     exchange_cause s arrival back (option_map stage_message stage) ≡ None →
     IsTrueHost s.device.config (host_after s.host (exchanged s arrival back (option_map stage_message stage)).told)
 unfolding host_next
-exchange-true laws s arrival back None stands is e free = cc
-exchange-true laws s arrival back (Some stage) stands is e free =
+exchange-true laws arrival back None stands is e free = cc
+exchange-true laws {s = s} arrival back (Some stage) stands is e free =
     let inside : Inside s.device.config.count (Some stage) =
     subst (λ (o : Option Stage). Inside s.device.config.count o) e
     (subst (λ n. Inside n s.host.stage) stands.outputs (stage-inside s.host s.host.stage stands.host.stage)) in
     let asks : AsksSo s.device.config (Some stage) = subst (AsksSo s.device.config) e is.asks in
     let bytes = back_bytes (answer_to s.device s.host.setup.addr (stage_message stage) arrival) back in
-    let told = told-true laws s arrival back stage stands asks inside free in
+    let told = told-true laws arrival back stage stands asks inside free in
     subst (λ (o : Option Stage). IsTrueHost s.device.config (answered (idle s.host) o bytes).after) (sym e)
     (answered-true s.device.config (idle s.host) (Some stage) bytes stands.sound stands.host.formats is.formats asks inside
     (subst (λ a. ToldTrue s.device.config a (Some stage) bytes) (sym stands.addr) told))
@@ -240,16 +255,18 @@ begun-true s event job is e =
     subst (λ (t : State). IsTrueHost s.device.config t.host) (sym (asked-next s event job e))
     (begins-true s.device.config s.host job is.formats)
 
+-- an event that asks for no job
 beside-true : Below → (s : State) (event : Event) → Stands s → IsTrueHost s.device.config s.host → event_cause s event ≡ None →
     IsTrueHost s.device.config (host_after s.host (share_beside s event).told)
 unfolding host_next
 beside-true laws s (Deliver arrival) stands is free =
     subst (λ told. IsTrueHost s.device.config (host_after s.host told)) (sym (told-nothing s arrival (sending_in s.host))) is
 beside-true laws s (Finish acked) stands is free = finished-true s.device.config (idle s.host) s.host.stage acked is.formats is.asks
-beside-true laws s (Exchange arrival back) stands is free = exchange-true laws s arrival back s.host.stage stands is refl free
+beside-true laws s (Exchange arrival back) stands is free = exchange-true laws arrival back s.host.stage stands is refl free
 beside-true laws s RestartHost stands is free = record { formats = agree-none s.device.config; asks = tt }
 beside-true laws s _ stands is free = is
 
+-- any event
 pub next-true : Below → (s : State) (event : Event) → Stands s → IsTrueHost s.device.config s.host → event_cause s event ≡ None →
     IsTrueHost s.device.config (next s event).host
 next-true laws s event stands is free = go (asked s event) refl where

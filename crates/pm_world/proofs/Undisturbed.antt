@@ -1,5 +1,5 @@
 -- An order whose write is delivered whole, and whose read nothing disturbs.
-use Rattle.std.proofs.Common.{◌≡◌, ℕ, ◌<◌, ◌≤◌, Bool, true, ◌||◌, eqb, List, [], ◌∷◌, ◌++◌, length, Option, Some, None, option_map, refl, sym, ◌∙◌, ap, subst, arith}
+use Rattle.std.proofs.Common.{◌≡◌, ℕ, ◌≤◌, Bool, true, ◌||◌, eqb, List, [], ◌∷◌, ◌++◌, length, Option, Some, None, option_map, refl, sym, ◌∙◌, ap, subst, arith}
 use Rattle.std.specs.Prelude.{option_to_list}
 use Rattle.std.specs.List.{list_any}
 use Rattle.std.proofs.lemmas.Bool.{eq-eqb, cond-true}
@@ -10,15 +10,13 @@ use Rattle.pm_table.specs.declared.cell.Cell.TheVariants.{Out, Protect}
 use Rattle.pm_table.specs.Cell.{cell_accepts, cell_code, cell_in, place_of, places, IsCell}
 use Rattle.pm_table.specs.Protection.{is_allowed}
 use Rattle.pm_frame.specs.declared.message.Message.{Message}
-use Rattle.pm_frame.specs.Layout.{fits_layout}
 use Rattle.pm_model.specs.Settings.{AreWords, word_at}
 use Rattle.pm_device.specs.declared.config.Config.{Config}
 use Rattle.pm_device.specs.declared.heard.Ending.TheVariants.{Restart}
 use Rattle.pm_device.specs.Held.{Held}
-use Rattle.pm_device.specs.Start.{IsSound}
 use Rattle.pm_device.specs.Effect as device
 use Rattle.pm_device.specs.Effect.{words_after}
-use Rattle.pm_device.specs.History.{now as device_now, next as device_next, after as device_outcome}
+use Rattle.pm_device.specs.History.{next as device_next, after as device_outcome}
 use Rattle.pm_device.specs.Reply.{reply_of}
 use Rattle.pm_host.specs.declared.stage.Stage.TheVariants.{Writes, Reads}
 use Rattle.pm_host.specs.declared.standing.Standing.{Standing}
@@ -26,12 +24,10 @@ use Rattle.pm_host.specs.declared.standing.Standing.TheVariants.{Confirmed, Unkn
 use Rattle.pm_host.specs.declared.job_end.JobEnd.TheVariants.{Done}
 use Rattle.pm_host.specs.Answers.{good_word}
 use Rattle.pm_host.specs.Cells.{table}
-use Rattle.pm_host.specs.Frames.{CanSend}
 use Rattle.pm_host.specs.Known.{known_now}
 use Rattle.pm_host.specs.Marks.{Good, marks}
 use Rattle.pm_host.specs.Messages.{cell_write, cell_read}
-use Rattle.pm_host.specs.Now.{now as host_now, AreTold}
-use Rattle.pm_host.specs.Refusals.{IsSetup}
+use Rattle.pm_host.specs.Now.{now as host_now}
 use Rattle.pm_host.specs.Sound.{IsOrdering, IsStage, IsSound as IsSoundHost}
 use Rattle.pm_host.specs.Summary.{Summary, Change, next as host_next, step_of, change, finished, answered, read_back, idle, marked, ends, sending_in, stage_message, standing_at}
 use Rattle.pm_host.specs.Standing.{standing_of}
@@ -44,11 +40,11 @@ use Rattle.pm_world.specs.declared.event.Arrival.TheVariants.{Whole}
 use Rattle.pm_world.specs.declared.event.Back.TheVariants as back
 use Rattle.pm_world.specs.Honest.{honest, is_whole, WentThrough, sent_by}
 use Rattle.pm_world.specs.Legal.{frame_of, heard_ending, answer_in}
-use Rattle.pm_world.specs.Life.{life, now, state_of, AreTaken}
+use Rattle.pm_world.specs.Life.{life, now, state_of}
 use Rattle.pm_world.specs.Setup.{setup_of}
 use Rattle.pm_world.specs.State.{State, Share, asked, share_of, exchanged, next, device_after, host_after, end_after, end_by}
 use Rattle.pm_world.proofs.Causes.{asked-next, asked-share}
-use Rattle.pm_world.proofs.Lives.{IsLived, earlier, newest, now-config, now-setup, now-next, life-told, lived-by}
+use Rattle.pm_world.proofs.Lives.{IsLived, earlier, newest, now-config, now-setup, now-next, life-told}
 use Rattle.pm_world.proofs.ReadBack.{read-word}
 use Rattle.pm_world.proofs.Sending.{Fixed, Sends, deliver-sends, eight, read-fits, told-nothing, write-fits}
 
@@ -76,10 +72,12 @@ pub record Ended (s : State) (cell : Cell) (word : ℕ) (event : Event) : Type 0
   pub confirmed : standing_at (next s event).host cell ≡ Confirmed word
   pub held : word_at (next s event).device.words cell ≡ word
 
+-- a repeated start ends the request of a cell's read
 pub read-restart : (cell : Cell) → heard_ending (cell_read cell) Whole ≡ Restart
 read-restart (Out output register) = refl
 read-restart Protect = refl
 
+-- what an undisturbed exchange tells the host
 exchange-told : (s : State) (message : Message) → sending_in s.host ≡ Some message → heard_ending message Whole ≡ Restart →
     (share_of s (Exchange Whole back.Whole)).told ≡ Some
     (host.Got (answer_in (reply_of s.device (frame_of s.host.setup.addr message) Restart)))
@@ -87,23 +85,27 @@ exchange-told s message sending ending =
     ap (λ o. (exchanged s Whole back.Whole o).told) sending
     ∙ ap (λ e. Some (host.Got (answer_in (reply_of s.device (frame_of s.host.setup.addr message) e)))) ending
 
+-- and the converter
 exchange-heard : (s : State) (message : Message) → sending_in s.host ≡ Some message → heard_ending message Whole ≡ Restart →
     (share_of s (Exchange Whole back.Whole)).heard ≡ Some (device.Hearing (frame_of s.host.setup.addr message) Restart)
 exchange-heard s message sending ending =
     ap (λ o. (exchanged s Whole back.Whole o).heard) sending
     ∙ ap (λ e. Some (device.Hearing (frame_of s.host.setup.addr message) e)) ending
 
+-- which leaves the words
 next-heard : Below → (s : State) (event : Event) (bytes : List ℕ) → (share_of s event).heard ≡ Some (device.Hearing bytes Restart) →
     (next s event).device.words ≡ s.device.words
 unfolding next device_next device_outcome
 next-heard laws s event bytes heard = ap (λ o. (device_after s.device o).words) heard
     ∙ (laws.writes_reach_one_cell.request s.device bytes).0
 
+-- the job is done
 next-done : (s : State) (event : Event) (cell : Cell) (word : ℕ) (bytes : List ℕ) → (share_of s event).told ≡ Some (host.Got bytes) →
     change s.host (host.Got bytes) ≡ ends (marked (idle s.host) (Good cell word)) Done → (next s event).end ≡ Some Done
 unfolding next step_of
 next-done s event cell word bytes told done = ap (end_after s.host s.end) told ∙ ap (λ (t : Change). end_by t.step) done
 
+-- the word is confirmed
 next-confirmed : Below → (s : State) (event : Event) (cell : Cell) (word : ℕ) (bytes : List ℕ) →
     (share_of s event).told ≡ Some (host.Got bytes) →
     change s.host (host.Got bytes) ≡ ends (marked (idle s.host) (Good cell word)) Done → length s.host.known.standing ≡ places →
@@ -116,6 +118,7 @@ next-confirmed laws s event cell word bytes told done long there =
     ∙ get_or-set_same s.host.known.standing (place_of cell) (Confirmed word) Unknown
     (let below = laws.cells_have_places.below cell there in omega arith))
 
+-- so ends an order that read its word back
 ended : Below → (s : State) (cell : Cell) (word : ℕ) → Fixed s cell word → s.host.stage ≡ Some (Reads cell word 0) →
     word_at s.device.words cell ≡ word →
     length s.host.known.standing ≡ places → Ended s cell word (Exchange Whole back.Whole)
@@ -144,6 +147,7 @@ now-are : Below → (config : Config) (passes : ℕ) (events : List Event) → A
 unfolding now state_of
 now-are laws config passes events = laws.pasts_are_followed.words config (life config passes events).past
 
+-- the host is sound
 pub now-sound : Below → (config : Config) (passes : ℕ) (events : List Event) → IsLived config passes events →
     IsSoundHost (now config passes events).host
 unfolding now state_of
@@ -157,6 +161,7 @@ pub order-stage : (s : State) (order : Event) (cell : Cell) (word : ℕ) → ask
 unfolding host_next
 order-stage s order cell word asks = ap (λ (t : State). t.host.stage) (asked-next s order (host.Order cell word) asks)
 
+-- and leaves the converter
 order-device : (s : State) (order : Event) (cell : Cell) (word : ℕ) → asked s order ≡ Some (host.Order cell word) →
     (next s order).device ≡ s.device
 order-device s order cell word asks = ap (λ (t : State). t.device) (asked-next s order (host.Order cell word) asks)
@@ -167,6 +172,7 @@ pub finish-stage : (s : State) (acked : Bool) (cell : Cell) (word : ℕ) → s.h
 unfolding next host_next
 finish-stage s acked cell word stage = ap (λ o. (finished (idle s.host) o acked).after.stage) stage
 
+-- and leaves the converter
 finish-device : (s : State) (acked : Bool) → (next s (Finish acked)).device ≡ s.device
 unfolding next
 finish-device s acked = refl
@@ -178,6 +184,7 @@ pub share-entries : (config : Config) (passes : ℕ) (before : List Event) (even
 unfolding life now
 share-entries config passes before event told is = ap (λ t. option_to_list t ++ (life config passes before).entries) is
 
+-- after the order
 order-entries : (config : Config) (passes : ℕ) (before : List Event) (order : Event) (cell : Cell) (word : ℕ) →
     asked (now config passes before) order ≡ Some (host.Order cell word) →
     (life config passes (order ∷ before)).entries ≡ host.Accepted (host.Order cell word) ∷ (life config passes before).entries
@@ -185,6 +192,7 @@ order-entries config passes before order cell word asks =
     share-entries config passes before order (Some (host.Accepted (host.Order cell word)))
     (ap (λ (share : Share). share.told) (asked-share (now config passes before) order (host.Order cell word) asks))
 
+-- after a delivery
 deliver-entries : (config : Config) (passes : ℕ) (before : List Event) (arrival : Arrival) →
     (life config passes (Deliver arrival ∷ before)).entries ≡ (life config passes before).entries
 deliver-entries config passes before arrival =
@@ -197,21 +205,21 @@ pub record Ordered (config : Config) (passes : ℕ) (before : List Event) (order
   pub asks : asked (now config passes before) order ≡ Some (host.Order cell word)
 
 -- what holds of it
-ordering : Below → (config : Config) (passes : ℕ) (before : List Event) (order : Event) (cell : Cell) (word : ℕ) →
+ordering : Below → {config : Config} {passes : ℕ} {before : List Event} {order : Event} {cell : Cell} {word : ℕ} →
     Ordered config passes before order cell word → IsOrdering (now config passes (order ∷ before)).host cell word 0
-ordering laws config passes before order cell word o =
+ordering laws {config = config} {passes = passes} {before = before} {order = order} {cell = cell} {word = word} o =
     subst (IsStage (now config passes (order ∷ before)).host)
     (ap (λ (s : State). s.host.stage) (now-next laws config passes before order o.lived)
     ∙ order-stage (now config passes before) order cell word o.asks)
     (now-sound laws config passes (order ∷ before) o.lived).stage
 
 -- what holds of a world while it is open
-fixed : Below → (config : Config) (passes : ℕ) (before : List Event) (order : Event) (cell : Cell) (word : ℕ) →
+fixed : Below → {config : Config} {passes : ℕ} {before : List Event} {order : Event} {cell : Cell} {word : ℕ} →
     Ordered config passes before order cell word → (events : List Event) → Fixed (now config passes events) cell word
-fixed laws config passes before order cell word o events =
+fixed laws {config = config} {passes = passes} {before = before} {order = order} {cell = cell} {word = word} o events =
     let setup = setup_of config passes in
     let same = sym (now-config config passes events) in
-    let is = ordering laws config passes before order cell word o in
+    let is = ordering laws o in
     let there : IsCell config.count cell = subst (λ (u : host.Setup). IsCell u.outputs cell) (now-setup config passes (order ∷ before))
     is.there in
     record {
@@ -235,13 +243,14 @@ pub order-lived : (config : Config) (passes : ℕ) (before : List Event) (order 
 order-lived config passes before order [] lived = lived
 order-lived config passes before order (arrival ∷ arrivals) lived = order-lived config passes before order arrivals (earlier lived)
 
-sent-so : Below → (config : Config) (passes : ℕ) (before : List Event) (order : Event) (cell : Cell) (word : ℕ) →
+-- by one delivery after another
+sent-so : Below → {config : Config} {passes : ℕ} {before : List Event} {order : Event} {cell : Cell} {word : ℕ} →
     Ordered config passes before order cell word →
     is_allowed (word_at (now config passes before).device.words Protect) (cell_code cell) ≡ true → (arrivals : List Arrival) →
     IsLived config passes (sent_by order arrivals before) →
     Sent config passes cell word before (sent_by order arrivals before)
     (list_any (is_whole (frame_of config.addr (cell_write cell word))) arrivals)
-sent-so laws config passes before order cell word o allowed [] lived =
+sent-so laws {config = config} {passes = passes} {before = before} {order = order} {cell = cell} {word = word} o allowed [] lived =
     let s = now config passes before in
     let after = now-next laws config passes before order o.lived in
     record {
@@ -253,12 +262,13 @@ sent-so laws config passes before order cell word o allowed [] lived =
       };
       entries = order-entries config passes before order cell word o.asks;
     }
-sent-so laws config passes before order cell word o allowed (arrival ∷ arrivals) lived =
+sent-so laws {config = config} {passes = passes} {before = before} {order = order} {cell = cell} {word = word} o allowed
+    (arrival ∷ arrivals) lived =
     let events = sent_by order arrivals before in
     let whole = list_any (is_whole (frame_of config.addr (cell_write cell word))) arrivals in
-    let so_far = sent-so laws config passes before order cell word o allowed arrivals (earlier lived) in
-    let after = deliver-sends laws (now config passes events) cell word whole arrival
-    (fixed laws config passes before order cell word o events)
+    let so_far = sent-so laws o allowed arrivals (earlier lived) in
+    let after = deliver-sends laws arrival
+    (fixed laws o events)
     so_far.sends (newest lived) in
     record {
       sends = subst (λ (s : State). Sends s cell word (is_whole (frame_of config.addr (cell_write cell word)) arrival || whole))
@@ -269,23 +279,25 @@ sent-so laws config passes before order cell word o allowed (arrival ∷ arrival
       entries = deliver-entries config passes events arrival ∙ so_far.entries;
     }
 
-pub went-through : Below → (config : Config) (passes : ℕ) (before : List Event) (order : Event) (cell : Cell) (word : ℕ)
-    (arrivals : List Arrival) (acked : Bool) →
+-- an undisturbed order goes through
+pub went-through : Below → {config : Config} {passes : ℕ} (before : List Event) (order : Event) {cell : Cell} {word : ℕ}
+    (arrivals : List Arrival) {acked : Bool} →
     IsLived config passes (honest order arrivals acked before) → asked (now config passes before) order ≡ Some (host.Order cell word) →
     is_allowed (word_at (now config passes before).device.words Protect) (cell_code cell) ≡ true →
     list_any (is_whole (frame_of config.addr (cell_write cell word))) arrivals ≡ true →
     WentThrough config passes cell word acked before (honest order arrivals acked before)
-went-through laws config passes before order cell word arrivals acked lived asks allowed whole =
+went-through laws {config = config} {passes = passes} before order {cell = cell} {word = word} arrivals {acked = acked} lived asks allowed
+    whole =
     let events = sent_by order arrivals before in
     let read = Exchange Whole back.Whole in
     let o : Ordered config passes before order cell word = record {
       lived = order-lived config passes before order arrivals (earlier (earlier lived));
       asks = asks;
     } in
-    let so = sent-so laws config passes before order cell word o allowed arrivals (earlier (earlier lived)) in
+    let so = sent-so laws o allowed arrivals (earlier (earlier lived)) in
     let finish = now-next laws config passes events (Finish acked) (earlier lived) in
     let s = now config passes (Finish acked ∷ events) in
-    let e = ended laws s cell word (fixed laws config passes before order cell word o (Finish acked ∷ events))
+    let e = ended laws s cell word (fixed laws o (Finish acked ∷ events))
     (ap (λ (t : State). t.host.stage) finish ∙ finish-stage (now config passes events) acked cell word so.sends.stage)
     (ap (λ (h : Held). word_at h.words cell) (ap (λ (t : State). t.device) finish ∙ finish-device (now config passes events) acked)
     ∙ so.sends.held whole)

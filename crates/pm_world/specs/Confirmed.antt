@@ -47,7 +47,7 @@ restarted_since config passes cell (event ∷ before) =
     if reads_cell config passes cell before event then false
     else (restarts_converter event || restarted_since config passes cell before)
 
--- What the host says of each cell that is there is what its marks come to (`standing`), and a word that
+-- What the host says of each cell is what its marks result in (`standing`), and a word that
 -- it calls confirmed is the one that the converter holds, unless that restarted since the host read
 -- the cell (`held`).
 pub record ConfirmedIsHeld (config : Config) (passes : ℕ) (events : List Event) (s : State) : Type 0 where

@@ -1,6 +1,6 @@
 -- What undisturbed frames come to in a world: this project's own choice of how an order, a check, a
 -- learn and a clear go.
-use Rattle.std.specs.Prelude.{◌≡◌, ◌<◌, ◌≤◌, ◌*◌, ◌^◌, ℕ, ℤ, Bool, true, ◌&&◌, not, bytes_eq, List, [], ◌∷◌, ◌++◌, map, Some}
+use Rattle.std.specs.Prelude.{◌≡◌, ◌<◌, ◌≤◌, ◌*◌, ◌^◌, ℕ, ℤ, Bool, true, ◌&&◌, not, bytes_eq, List, ◌∷◌, ◌++◌, map, Some}
 use Rattle.std.specs.List.{list_any}
 use Rattle.pm_num.specs.AnyFormat.{Shape, shape_rank}
 use Rattle.pm_num.specs.NearestWord.{nearest_word}

@@ -43,7 +43,7 @@ abbrev pub is_restart : Ending → Bool
 is_restart Stop = false
 is_restart Restart = true
 
--- A hearing is legal where a repeated start ended it, where the bytes are those sent or a front of
+-- A hearing is legal where a repeated start ended it, where the bytes are those sent or a prefix of
 -- them, or where their PEC betrays them.
 unfoldable pub is_legal_hearing : List ℕ → List ℕ → Ending → Bool
 is_legal_hearing frame bytes ending =
@@ -66,7 +66,7 @@ back_bytes answer (back.Bytes bytes) = bytes.items
 abbrev pub is_heard_whole : List ℕ → List ℕ → Ending → Bool
 is_heard_whole frame bytes ending = is_restart ending && bytes_eq bytes frame
 
--- A return for a request of these bytes, whose whole answer has so many, is legal where the request
+-- A return for a request, whose whole answer has this number of bytes, is legal where the request
 -- was heard whole and the bytes are the converter's answer, where they are fewer than a whole answer
 -- has, or where their PEC betrays them over that request.
 unfoldable pub is_legal_return : List ℕ → ℕ → Bool → List ℕ → List ℕ → Bool

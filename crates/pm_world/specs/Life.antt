@@ -16,7 +16,7 @@ pub record Life : Type 0 where
   pub past : List device.Event
   pub entries : List host.Entry
 
--- what a world holds after a life of so many events
+-- what a world holds after a life of this number of events
 unfoldable pub state_of : Config → ℕ → ℕ → Life → State
 state_of config passes taken life = record {
   device = device_now config life.past;

@@ -1,7 +1,7 @@
 -- What the words that the host calls possible are worth, and the restarts that it saw. This project's own
 -- choice: looks back over the events and over the marks of what the host did and learned. Lists are newest
 -- first.
-use Rattle.std.specs.Prelude.{◌≡◌, ◌≢◌, ℕ, Bool, true, false, not, ◌||◌, ◌&&◌, if◌then◌else◌, List, [], ◌∷◌, ◌++◌, Option, Some, None}
+use Rattle.std.specs.Prelude.{◌≡◌, ◌≢◌, ℕ, Bool, true, false, not, ◌||◌, ◌&&◌, if◌then◌else◌, List, [], ◌∷◌, ◌++◌, Option, Some}
 use Rattle.std.specs.List.{list_any}
 use Rattle.pm_table.specs.declared.cell.Cell.{Cell}
 use Rattle.pm_table.specs.Cell.{IsCell, same_cell}
@@ -65,7 +65,7 @@ restarted_since_host [] = false
 restarted_since_host (event ∷ before) =
     if restarts_host event then false else (restarts_converter event || restarted_since_host before)
 
--- The words that the host calls possible for a cell are what its marks come to (`possible`). It names
+-- The words that the host calls possible for a cell are what its marks result in (`possible`). It names
 -- words only where it had a good answer for the cell since it started (`found`), and then the word that the
 -- converter holds is one of them, unless that restarted since the last good answer for the cell (`held`).
 pub record PossibleIsHeld (config : Config) (passes : ℕ) (events : List Event) (s : State) : Type 0 where
@@ -80,7 +80,7 @@ pub record PossibleIsHeld (config : Config) (passes : ℕ) (events : List Event)
 
 -- A good answer that the host didn't think possible comes only where it had one for the same cell before,
 -- and the converter restarted since that (`surprises`). What the host says of restarts that it saw is
--- what its marks come to (`seen`): where it saw one, the converter restarted between two neighbouring good
+-- what its marks result in (`seen`): where it saw one, the converter restarted between two neighbouring good
 -- answers for a cell (`between`), and so since the host started (`restarted`).
 pub record SeenIsTrue (config : Config) (passes : ℕ) (events : List Event) (s : State) : Type 0 where
   pub surprises : (later before : List Event) (event : Event) (cell : Cell) →

@@ -1,7 +1,6 @@
 -- What a world holds, and what an event makes of it: this project's own choice.
-use Rattle.std.specs.Prelude.{ℕ, ℤ, ◌+◌, ◌^◌, Bool, not, nat_le, if◌then◌else◌, List, Option, Some, None, IsSome, option_map, Result, Ok, Err, ◌≡◌}
+use Rattle.std.specs.Prelude.{ℕ, ◌+◌, ◌^◌, Bool, not, nat_le, if◌then◌else◌, List, Option, Some, None, IsSome, option_map, Result, Ok, Err, ◌≡◌}
 use Rattle.std.specs.Option.{option_or, option_map_or}
-use Rattle.pm_table.specs.declared.cell.Cell.{Cell}
 use Rattle.pm_frame.specs.declared.message.Message.{Message}
 use Rattle.pm_frame.specs.Layout.{is_read_message}
 use Rattle.pm_frame.specs.Fault.{whole_answer}

@@ -9,17 +9,20 @@
 //! betray, and that no cut explains, stop a run as [`Cause::NotBetrayed`]. Time, voltages between frames and
 //! more than one converter are no part of a world.
 //!
-//! ```text
-//! let cell = Cell::Out(0, Reg::VoutCommand);
-//! let events = [
-//!     Event::Order(cell, 0x34CD),
-//!     Event::Deliver(Arrival::Cut(3)),
-//!     Event::Deliver(Arrival::Whole),
-//!     Event::Finish(false),
-//!     Event::Exchange(Arrival::Whole, Back::Whole),
-//! ];
-//! let (world, stop) = World::run(config, 2, &events)?;
-//! // stop is None, world.last_end() is Some(JobEnd::Done), and the host calls 34CDh confirmed.
+//! An order whose write is cut, repeated and not acknowledged:
+//!
+//! ```
+//! fn ordered(config: Config) -> Result<Option<JobEnd>, SetupFault> {
+//!     let events = [
+//!         Event::Order(Cell::Out(0, Reg::VoutCommand), 0x34CD),
+//!         Event::Deliver(Arrival::Cut(3)), // lost but for three bytes
+//!         Event::Deliver(Arrival::Whole), // and repeated, whole
+//!         Event::Finish(false), // its acknowledgement is lost
+//!         Event::Exchange(Arrival::Whole, Back::Whole), // the cell is read back
+//!     ];
+//!     let (world, _) = World::run(config, 2, &events)?; // no stop: all are taken
+//!     Ok(world.last_end()) // JobEnd::Done: the host calls 34CDh confirmed, and the converter holds it
+//! }
 //! ```
 #![tactic(auto)]
 

@@ -59,7 +59,7 @@ pub enum SetupFault {
     /// V1 to V5: the converter can't be made of this configuration.
     #[error("the device: {0}")]
     Device(ConfigFault),
-    /// H2: the host can't have so many passes.
+    /// H2: the host can't have that number of passes.
     #[error("the host: {0}")]
     Host(HostFault),
 }

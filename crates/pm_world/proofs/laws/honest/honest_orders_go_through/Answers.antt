@@ -10,7 +10,7 @@ returns c = record {
   taken = taken-whole c.lower_laws.ensures;
   through = λ config passes events sound made taken. record {
     through = λ later before order cell word arrivals acked is.
-        went-through c.lower_laws.ensures config passes before order cell word arrivals acked
+        went-through c.lower_laws.ensures before order arrivals
         (lived-before config passes later (honest order arrivals acked before)
         (subst (IsLived config passes) is (lived-by config passes events sound made taken)));
   };

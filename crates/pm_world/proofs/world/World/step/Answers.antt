@@ -1,4 +1,4 @@
-use Rattle.std.proofs.Common.{sym, ◌∙◌, ap}
+use Rattle.std.proofs.Common.{◌∙◌, ap}
 use Rattle.pm_world.specs.State.{State, share_of}
 use Rattle.pm_world.proofs.Ends.{event-kept}
 use Rattle.pm_world.proofs.world.World.step.Goals as goal
