@@ -15,7 +15,8 @@ pub record IsLater (a b c : Option (List ℕ)) (before part later all : List ℕ
   pub parts : all ≡ before ++ (part ++ later)
 
 -- so a prefix of the whole was written
-pub AppendsFront-later : (a b c : Option (List ℕ)) (before part later all : List ℕ) → IsLater a b c before part later all → AppendsFront a c all
+pub AppendsFront-later : (a b c : Option (List ℕ)) (before part later all : List ℕ) → IsLater a b c before part later all
+    → AppendsFront a c all
 AppendsFront-later a b c before part later all is =
     let (front, rest, split, some, appended) = is.short in
     let whole : all ≡ (before ++ front) ++ (rest ++ later) =
