@@ -82,7 +82,7 @@ unskipped-skipped first text some skipped = rw (lines-first text some) (rw skipp
 -- a first line that is not skipped
 pub unskipped-first : (first : ℕ) (text : List ℕ) → 0 < length text → is_skipped (without_return (before_first is_line_feed text)) ≡ false
     → unskipped_from first text ≡ (first, without_return (before_first is_line_feed text))
-        ∷ unskipped_from (first + 1) (after_first is_line_feed text)
+    ∷ unskipped_from (first + 1) (after_first is_line_feed text)
 unfolding unskipped_from
 unskipped-first first text some unskipped = rw (lines-first text some) (rw unskipped refl)
 

@@ -59,7 +59,7 @@ module _ (x y : ℕ) (rest : List ℕ)
   abbrev Reads : Bool → Bool → Bool → Type 0
   Reads first second pair =
       bytes_of (cond first ([] ∷ slice_split is_space (y ∷ rest))
-          (onto_first x (cond second ([] ∷ slice_split is_space rest) (onto_first y (slice_split is_space rest)))))
+      (onto_first x (cond second ([] ∷ slice_split is_space rest) (onto_first y (slice_split is_space rest)))))
       ≡ nothing_behind (cond first (behind_pairs (y ∷ rest)) (cond pair (behind_pairs rest) (x ∷ y ∷ rest)))
       (cond first (paired_bytes (y ∷ rest)) (cond pair (byte_of x y ∷ paired_bytes rest) []))
 
@@ -71,7 +71,7 @@ module _ (x y : ℕ) (rest : List ℕ)
   two_read false true false other space hex too = refl
   two_read false false true true space hex too =
       pair_onto x y (slice_split is_space rest) (omega (arith, length-slice_split is_space rest))
-          ∙ rw (hex, too, last) (front_kept (byte_of x y) (behind_pairs rest) (paired_bytes rest))
+      ∙ rw (hex, too, last) (front_kept (byte_of x y) (behind_pairs rest) (paired_bytes rest))
   two_read false false true false space hex too =
       pair_onto x y (slice_split is_space rest) (omega (arith, length-slice_split is_space rest)) ∙ rw (hex, too) refl
   two_read false false false other space hex too =

@@ -102,7 +102,7 @@ module _ {E : Type 0} (w : Width) (bits : ℕ) (same : hbits w ≡ bits - 1) (r 
       (λ e. let p = both (nat_lt 0 (length rest) && are_digits 10 rest) _ e in let q = both (nat_lt 0 (length rest)) _ p.0 in
       (q.1, ltb-true _ _ q.0, subst (λ k. place_sum 10 rest ≤ 2 ^ k) (sym same) (fits_minus bits (place_sum 10 rest) p.1)))
       (λ h. ap₂ (λ x y. x && y) (ap₂ (λ x y. x && y) (lt-ltb _ _ h.1) h.0)
-          (minus_fits bits (place_sum 10 rest) (subst (λ k. place_sum 10 rest ≤ 2 ^ k) same h.2)))
+      (minus_fits bits (place_sum 10 rest) (subst (λ k. place_sum 10 rest ≤ 2 ^ k) same h.2)))
       ∙ sym (nested _ (place_sum 10 rest) (λ n. neg_ℤ (pos n)) bits)
 
   -- what `parse` reads is the number of the text
@@ -112,7 +112,7 @@ module _ {E : Type 0} (w : Width) (bits : ℕ) (same : hbits w ≡ bits - 1) (r 
     where
       go : (b : Bool) → Decides b (c ≡ 45)
           → result_ok r ≡ option_and_then (λ z. cond (fits bits z) (Some z) None)
-              (cond b (option_map (λ n. neg_ℤ (pos n)) (natural_of 10 rest)) (option_map (λ n. pos n) (natural_of 10 (c ∷ rest))))
+          (cond b (option_map (λ n. neg_ℤ (pos n)) (natural_of 10 rest)) (option_map (λ n. pos n) (natural_of 10 (c ∷ rest))))
       go true d = signed_minus c rest h (d.0 refl)
       go false d = signed_plain (c ∷ rest) h plus (λ e. true≢false (sym (d.1 e)))
 
@@ -146,9 +146,9 @@ pairs_are a b c d = by (nat_lt (digit a) 16) (nat_lt (digit b) 16) (nat_lt (digi
   where
     by : (p q r s : Bool)
         → cond (p && (q && (r && (s && true)))) (Some (digit a * 16 ^ 3 + (digit b * 16 ^ 2 + (digit c * 16 ^ 1 + (digit d * 16 ^ 0 + 0)))))
-            None
+        None
         ≡ word_of (cond (p && (q && true)) (Some (digit a * 16 ^ 1 + (digit b * 16 ^ 0 + 0))) None)
-            (cond (r && (s && true)) (Some (digit c * 16 ^ 1 + (digit d * 16 ^ 0 + 0))) None)
+        (cond (r && (s && true)) (Some (digit c * 16 ^ 1 + (digit d * 16 ^ 0 + 0))) None)
     by true true true true = ap Some (omega arith)
     by true true true false = refl
     by true true false s = refl

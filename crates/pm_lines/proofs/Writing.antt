@@ -15,12 +15,13 @@ pub record IsLater (a b c : Option (List ℕ)) (before part later all : List ℕ
   pub parts : all ≡ before ++ (part ++ later)
 
 -- so a prefix of the whole was written
-pub AppendsFront-later : (a b c : Option (List ℕ)) (before part later all : List ℕ) → IsLater a b c before part later all → AppendsFront a c all
+pub AppendsFront-later : (a b c : Option (List ℕ)) (before part later all : List ℕ) → IsLater a b c before part later all
+    → AppendsFront a c all
 AppendsFront-later a b c before part later all is =
     let (front, rest, split, some, appended) = is.short in
     let whole : all ≡ (before ++ front) ++ (rest ++ later) =
-        is.parts ∙ ap (λ p. before ++ (p ++ later)) split ∙ ap (λ q. before ++ q) (append_assoc front rest later)
-        ∙ sym (append_assoc before front (rest ++ later)) in
+    is.parts ∙ ap (λ p. before ++ (p ++ later)) split ∙ ap (λ q. before ++ q) (append_assoc front rest later)
+    ∙ sym (append_assoc before front (rest ++ later)) in
     (before ++ front, rest ++ later, whole, omega (arith, length-append rest later), Appends-trans a b c before front is.written appended)
 
 -- pieces one after another, at one of them

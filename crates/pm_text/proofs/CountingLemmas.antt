@@ -13,7 +13,7 @@ numbered-more f n i within =
     let here : get_or xs i 0 ≡ i = get_or-range_with_len 0 n i 0 within ∙ zero-add i in
     let more : take (i + 1) xs ≡ take i xs ++ get_or xs i 0 ∷ [] = take_more xs i 0 (omega (arith, length-range_with_len 0 n)) in
     sym (ap (flat_map f) more ∙ flat_map-append f (take i xs) (get_or xs i 0 ∷ [])
-        ∙ ap (λ l. flat_map f (take i xs) ++ l) (append-nil (f (get_or xs i 0)))
+    ∙ ap (λ l. flat_map f (take i xs) ++ l) (append-nil (f (get_or xs i 0)))
     ∙ ap (λ k. flat_map f (take i xs) ++ f k) here)
 
 -- all of them

@@ -54,7 +54,7 @@ module _ (word digits frame : List ℕ) (all : option_map (λ more. frame ++ mor
 
       by : (left : List ℕ) → 2 ≤ length left → pair_of (get_or left 0 0) (get_or left 1 0) ≡ Some byte
           → option_map (λ more. (frame ++ byte ∷ []) ++ more) (word_bytes (take (length left - 2) (drop 2 left)))
-              ≡ option_map (λ more. frame ++ more) (word_bytes left)
+          ≡ option_map (λ more. frame ++ more) (word_bytes left)
       by [] two pair = absurd (omega arith)
       by (x ∷ []) two pair = absurd (omega arith)
       by (x ∷ y ∷ rest) two pair = rw (take_rest (x ∷ y ∷ rest) 2, pair) (at (word_bytes rest))

@@ -75,7 +75,8 @@ same-refused old new text handed fault whole same (inr wrong) =
     same-by old (Err fault) (end_alone (replay_of text)) (λ settled. sym (ap end_alone right)) (same-whole old new text whole)
 
 -- what a text that was read whole, and then reported, comes to
-pub same-reported : (old new : Option (List ℕ)) (text out : List ℕ) (end : ReplayEnd) → IsWholeText old new text → replay_of text ≡ Ok (out, end)
+pub same-reported : (old new : Option (List ℕ)) (text out : List ℕ) (end : ReplayEnd) → IsWholeText old new text
+    → replay_of text ≡ Ok (out, end)
     → IfSome old (λ input. IsSettled (Ok end) → Ok end ≡ outcome_of input)
 same-reported old new text out end whole told =
     same-by old (Ok end) (end_alone (replay_of text)) (λ settled. sym (ap end_alone told)) (same-whole old new text whole)

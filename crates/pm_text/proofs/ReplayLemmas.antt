@@ -49,7 +49,7 @@ module _ (config : Config) (passes : ℕ) where
   stop-none [] taken are = refl
   stop-none (event ∷ events) taken are =
       let more : AreTaken config passes (reverse events ++ event ∷ taken) =
-          subst (AreTaken config passes) (reversed event events taken) are in
+      subst (AreTaken config passes) (reversed event events taken) are in
       rw (taken-free (reverse events) event taken more) (stop-none events (event ∷ taken) more)
 
   -- the events before a place were taken, and the one there has a cause against it

@@ -5,8 +5,8 @@ ghost use Rattle.pm_text.specs.Kinds.{frame_bytes as frame_bytes_of};
 ghost use Rattle.pm_text.specs.Readers.{Reads, field};
 ghost use Rattle.pm_text.specs.declared.scenario.fault.ScenarioFault.TheVariants.{Syntax, BadHex};
 
-use crate::scenario::fields::Fields;
 use crate::scenario::fault::ScenarioFault;
+use crate::scenario::fields::Fields;
 use pm_device::Ending;
 use pm_frame::Frame;
 use pm_lines::pair_of;

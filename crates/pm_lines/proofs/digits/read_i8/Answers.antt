@@ -7,4 +7,4 @@ pub returns : goal.returns
 returns c =
     let plain = c.in_ok-plain_text.ensures in
     c.ok.ensures.value ∙ signed_read w8 8 refl c.parse.result c.in_ok-plain_text.field-0.now c.parse.ensures.value.0 plain.plain
-        ∙ ap (signed_of 8) plain.text
+    ∙ ap (signed_of 8) plain.text

@@ -13,7 +13,7 @@ pub returns-in_err-scenario-clause-faults : goal.returns-in_err-scenario-clause-
 returns-in_err-scenario-clause-faults c =
     let p = err_from_is_err_and c.from_residual.result c.from_residual.ensures.1 in
     rw (p.1, p.2) (replay-faults c.args.input.now _ (search rules) c.in_err-scenario.ensures.faults
-        (λ e. c.in_err-scenario.ensures.too_long (ap Err e)))
+    (λ e. c.in_err-scenario.ensures.too_long (ap Err e)))
 
 pub returns-in_err-text-clause-memory : goal.returns-in_err-text-clause-memory
 returns-in_err-text-clause-memory c = λ is. read-some c.args.input.now _ c.in_ok-scenario.ensures.scenario

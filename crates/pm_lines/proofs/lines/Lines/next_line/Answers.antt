@@ -7,7 +7,7 @@ pub returns-then-not-is_skipped_line-clause-unskipped : goal.returns-then-not-is
 returns-then-not-is_skipped_line-clause-unskipped c =
     c.lines.invariant.unskipped
     ∙ unskipped-after _ c.lines.self-inside.rest.now _ _
-        (c.without_carriage_return-text.ensures ∙ ap without_return c.cut_at.ensures.before)
+    (c.without_carriage_return-text.ensures ∙ ap without_return c.cut_at.ensures.before)
     c.cut_at.ensures.after (sym c.is_empty.ensures ∙ c.lines-test.true) (sym c.is_skipped_line.ensures ∙ c.if-not-is_skipped_line.true)
 
 pub returns-then-not-is_skipped_line-clause-count : goal.returns-then-not-is_skipped_line-clause-count
@@ -23,7 +23,7 @@ lines-preserved c = record {
   unskipped =
       c.lines.invariant.unskipped
       ∙ unskipped-after_skipped _ c.lines.self-inside.rest.now _ _
-          (c.without_carriage_return-text.ensures ∙ ap without_return c.cut_at.ensures.before)
+      (c.without_carriage_return-text.ensures ∙ ap without_return c.cut_at.ensures.before)
       c.cut_at.ensures.after (sym c.is_empty.ensures ∙ c.lines-test.true) (sym c.is_skipped_line.ensures ∙ c.if-not-is_skipped_line.false);
   counted =
       omega (

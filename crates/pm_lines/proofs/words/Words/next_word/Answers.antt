@@ -11,7 +11,7 @@ pub spaces-preserved : goal.spaces-preserved
 spaces-preserved c = record {
   words =
       c.spaces.invariant.words ∙ words-after_empty c.spaces.self-inside.rest.now _ _ c.cut_at_space.ensures.before
-          c.cut_at_space.ensures.after
+      c.cut_at_space.ensures.after
       (sym c.is_empty-in-spaces.ensures ∙ c.if-not-is_empty.false);
   line = c.spaces.invariant.line;
 }

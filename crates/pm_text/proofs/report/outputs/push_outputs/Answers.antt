@@ -12,7 +12,7 @@ loop-output-preserved c =
           ∙ ap (λ t. t ++ output_lines c.args.form world c.loop-output.output) c.loop-output.invariant.written
           ∙ append_assoc (string_bytes c.args.text.now) _ _
           ∙ ap (λ l. string_bytes c.args.text.now ++ l)
-              (numbered-more (output_lines c.args.form world) world.device.config.count c.loop-output.output there);
+          (numbered-more (output_lines c.args.form world) world.device.config.count c.loop-output.output there);
       within = omega (arith, there);
     }
 
@@ -21,4 +21,4 @@ returns c =
     let world = c.args.world.now in
     c.loop-output.invariant.written
     ∙ ap (λ l. string_bytes c.args.text.now ++ l)
-        (numbered-all (output_lines c.args.form world) world.device.config.count c.loop-output.output (search rules))
+    (numbered-all (output_lines c.args.form world) world.device.config.count c.loop-output.output (search rules))

@@ -22,7 +22,7 @@ returns-in_err-start c =
     let (given, same, read) = c.outputs.invariant in
     let row = c.in_ok-row.ensures in
     rw p.1 (read ∙ behind-fault c.args.form given c.outputs.rows c.row.new.self _ row.lines row.count p.0
-        (sym c.output_line.ensures ∙ c.in_err-start.was ∙ ap Err (sym p.2)))
+    (sym c.output_line.ensures ∙ c.in_err-start.was ∙ ap Err (sym p.2)))
 
 pub outputs-smaller : goal.outputs-smaller
 outputs-smaller c = omega (arith, ap length c.in_ok-row.ensures.lines)
@@ -41,6 +41,9 @@ pub returns : goal.returns
 unfolding outputs
 returns c =
     let (given, same, read) = c.outputs.invariant in
-    let row = c.in_ok-row.ensures in
-    (given, same, read ∙ behind-begin c.args.form given c.outputs.rows c.row.new.self _ row.lines row.count
-        (sym c.output_line.ensures ∙ c.in_ok-start.was ∙ ap Ok c.in_default.is))
+    let row = c.in_ok-row.ensures in (
+      given,
+      same,
+      read ∙ behind-begin c.args.form given c.outputs.rows c.row.new.self _ row.lines row.count
+          (sym c.output_line.ensures ∙ c.in_ok-start.was ∙ ap Ok c.in_default.is),
+    )

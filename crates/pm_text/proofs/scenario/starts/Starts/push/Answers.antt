@@ -19,9 +19,9 @@ returns c = λ given same.
       | else-place-lt8 w ↦
           let past : length (first_eight given) ≤ length given = omega (arith, before, length-first_eight given) in
           ap (λ (s : Starts). s.starts) w.self-is ∙ held ∙ sym (set_past (first_eight given) (length given) start past)
-              ∙ first_eight-push given start
+          ∙ first_eight-push given start
     ] in
     let kept : c.if-place-lt8.self.count ≡ c.args.self.now.count =
     elim c.if-place-lt8.branch
-        [ then-place-lt8 w ↦ ap (λ (s : Starts). s.count) w.self-is | else-place-lt8 w ↦ ap (λ (s : Starts). s.count) w.self-is ] in
+    [ then-place-lt8 w ↦ ap (λ (s : Starts). s.count) w.self-is | else-place-lt8 w ↦ ap (λ (s : Starts). s.count) w.self-is ] in
     starts-made _ _ (given ++ start ∷ []) (omega (arith, kept, before, length-append given (start ∷ []))) starts
