@@ -21,7 +21,7 @@ import sys
 from crate_copy import crates_below, read
 
 REGISTERS = ("Operation", "VoutCommand", "VoutMax", "MarginHigh", "MarginLow")
-NEAR = 8
+NEAR = 5
 LETTER = re.compile(r'"([FHKNSTVX][1-9][0-9]?)(?: [A-Z][A-Za-z]+)?[" ]')
 HEX = re.compile(r"0x[0-9A-F]{2}(?![0-9A-Fa-f_])")
 # Bytes that are often no code: a value of WRITE_PROTECT or of a side, a space, a digit.

@@ -2,6 +2,7 @@
 import os
 import shutil
 import subprocess
+import sys
 import tempfile
 
 TESTS = ("pm_tests", "pm_text_tests")
@@ -81,10 +82,16 @@ class CrateCopy:
 
     def check(self, *flags):
         """The lines of a check of the crate, and the crate's own verdict, which is the last one: each library that
-        is built on the way has one too. None where the crate has none."""
-        lines = run(self.home, "rt", "check", "--jobs", self.jobs, *flags)
-        if not any(line.startswith("crate %s: " % self.crate) for line in lines):
-            return lines, None
+        is built on the way has one too. None where the crate doesn't compile. A check that says nothing, as where
+        memory is short, is made again."""
+        for _ in range(3):
+            lines = run(self.home, "rt", "check", "--jobs", self.jobs, *flags)
+            if any(line.startswith("crate %s: " % self.crate) for line in lines):
+                break
+            if any("error" in line for line in lines):
+                return lines, None
+        else:
+            sys.exit("rt check says nothing of %s: %s" % (self.crate, lines[-1]))
         verdicts = [line for line in lines if line.startswith("logic=")]
         return lines, verdicts[-1].split()[0] if verdicts else None
 

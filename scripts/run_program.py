@@ -75,6 +75,77 @@ def stopped(words):
             f"status 00 0000 00\ncml 00\nrestart seen no\njob {job}\n").encode()
 
 
+# A trace of each code that is counted, once, and what it says.
+CODES = [
+    ("B0 00 01 ED", "PAGE", "write 01"), ("B0 01 00 FF", "OPERATION", "write 00"),
+    ("B0 10 00 BD", "WRITE_PROTECT", "write 00"), ("B0 7A 00 CA", "STATUS_VOUT", "write 00"),
+    ("B0 7E 00 9E", "STATUS_CML", "write 00"), ("B0 03 46", "CLEAR_FAULTS", "send"),
+    ("B0 21 00 10 C0", "VOUT_COMMAND", "write 1000"), ("B0 24 00 10 00", "VOUT_MAX", "write 1000"),
+    ("B0 25 00 10 6B", "VOUT_MARGIN_HIGH", "write 1000"),
+    ("B0 26 00 20 46", "VOUT_MARGIN_LOW", "write 2000"), ("B0 19 / B1 00 5A", "CAPABILITY", "read 00"),
+    ("B0 20 / B1 14 ED", "VOUT_MODE", "read 14"),
+    ("B0 30 02 21 00 / B1 05 01 00 00 00 03 6B", "COEFFICIENTS", "of 21 side 0 read m 1 b 0 r 3"),
+    ("B0 78 / B1 00 F4", "STATUS_BYTE", "read 00"), ("B0 79 / B1 01 80 48", "STATUS_WORD", "read 8001"),
+    ("B0 88 / B1 00 00 C1", "READ_VIN", "read 0000"), ("B0 8B / B1 00 00 FB", "READ_VOUT", "read 0000"),
+    ("B0 8C / B1 00 00 99", "READ_IOUT", "read 0000"),
+    ("B0 8D / B1 00 00 8F", "READ_TEMPERATURE_1", "read 0000"), ("B0 98 / B1 33 A3", "PMBUS_REVISION", "read 33"),
+]
+
+
+def codes():
+    """The run of the trace of each code, in either order."""
+    for rows in CODES, CODES[::-1]:
+        said = [f"{number} 58 {name} {words}" for number, (_, name, words) in enumerate(rows, 1)]
+        said += [f"count {name} 1" for _, name, _ in rows] + ["lines 20 accepted 20 faults 0 bad 0"]
+        yield ["decode"], "\n".join(row[0] for row in rows).encode(), 0, ("\n".join(said) + "\n").encode(), b""
+
+
+# Each line that is faulty by itself in the scenario of one order: its place, the line, what is said.
+FAULTY_LINES = [
+    (1, "scenario 2", "X1 Syntax"), (3, "passes 256", "X1 Syntax"), (4, "protect 0", "X2 BadHex"),
+    (6, "output 14 8Z 1000", "X2 BadHex"), (7, "output 14 80 1000 4000 1100", "X1 Syntax"),
+    (9, "order 0 OPERATION 34CD", "X2 BadHex"), (9, "order 0 WRITE_PROTECT 40", "X1 Syntax"),
+    (9, "order - VOUT_COMMAND 34CD", "X1 Syntax"),
+    (9, "volts 0 VOUT_COMMAND 9223372036854775808", "X1 Syntax"),
+    (10, "deliver bytes B0050 stop", "X2 BadHex"),
+    (10, "deliver bytes 000102030405060708090A0B0C0D0E0F10 stop", "X2 BadHex"), (11, "finish", "X1 Syntax"),
+]
+
+
+def faulty_lines():
+    for number, line, words in FAULTY_LINES:
+        lines = scenario([OUTPUT] * 2, ORDER).decode().splitlines()
+        lines[number - 1] = line
+        yield faulty(f"{words} line {number}", "\n".join(lines).encode())
+
+
+# A restart of either end before an event of one order: the place, the first line, output 0's word and what
+# the host knows of it, the job.
+RESTARTS = [
+    ("device", 0, "ran 5", "34CD host confirmed 34CD", "done"),
+    ("device", 1, "ran 5", "34CD host confirmed 34CD", "done"),
+    ("device", 2, "ran 5", "1000 host unknown", "pending"),
+    ("device", 3, "ran 5", "1000 host unknown", "pending"),
+    ("device", 4, "ran 5", "1000 host confirmed 34CD", "done"),
+    ("host", 0, "ran 5", "34CD host confirmed 34CD", "done"),
+    ("host", 1, "stopped 2 S2 NothingSent", "1000 host unknown", "none"),
+    ("host", 2, "stopped 3 S2 NothingSent", "34CD host unknown", "none"),
+    ("host", 3, "stopped 4 S2 NothingSent", "34CD host unknown", "none"),
+    ("host", 4, "ran 5", "34CD host unknown", "none"),
+]
+
+
+def restarts():
+    for end, place, first, word, job in RESTARTS:
+        events = [*ORDER[:place], f"restart {end}", *ORDER[place:]]
+        report = stopped("").replace(b"stopped \n", first.encode() + b"\n")
+        report = report.replace(b"1000 host unknown", word.encode(), 1)
+        if word.startswith("34CD"):
+            report = report.replace(b"4096/4096 1000000", b"13517/4096 3300048")
+        report = report.replace(b"job none", b"job " + job.encode())
+        yield ["replay"], scenario([OUTPUT], events), int(first.startswith("stopped")), report, b""
+
+
 # The arguments, the standard input, the status, standard output, standard error. None for a text
 # that is the parser's own, and isn't empty.
 RUNS = [
@@ -96,13 +167,23 @@ RUNS = [
     (["replay"], scenario([OUTPUT], ORDER[:1] + ["deliver bytes B01000BD stop"]), 1,
      stopped("1 S1 NotBetrayed"), b""),
     (["replay"], scenario([OUTPUT], ["learn 1"]), 1, stopped("0 S4 Host H4 UnknownOutput"), b""),
+    (["replay"], scenario([OUTPUT], ["volts 0 OPERATION 5"]), 1, stopped("0 S4 Host H5 BadWord"), b""),
+    (["replay"], scenario([OUTPUT], ["volts 0 VOUT_MAX 5"]), 1, stopped("0 S4 Host H7 FormatUnknown"), b""),
+    (["replay"], scenario([OUTPUT], ["check 0 VOUT_MAX", "clear 0"]), 1, stopped("1 S4 Host H3 Busy"), b""),
+    *codes(),
+    *faulty_lines(),
+    *restarts(),
     (["decode"], b"", 0, b"lines 0 accepted 0 faults 0 bad 0\n", b""),
     (["decode"], b"B0 03 47\n/\n", 0,
      b"1 58 write F5 WrongPec 2\n2 -- write F1 NotOurs\nlines 2 accepted 0 faults 2 bad 0\n", b""),
     (["decode"], b"B0 03 46\n#\n/ /\n0\n", 1, b"1 58 CLEAR_FAULTS send\n3 X1 Syntax\n4 X2 BadHex\n"
      b"count CLEAR_FAULTS 1\nlines 3 accepted 1 faults 0 bad 2\n", b""),
+    (["decode"], b"B0 / B1 / B2\nB0 / B1 / B\n", 1,
+     b"1 X1 Syntax\n2 X2 BadHex\nlines 2 accepted 0 faults 0 bad 2\n", b""),
     (["decode"], b"/\n" + b"#" * 1_048_575, 1, b"1 -- write F1 NotOurs\n", b"pmb: X3 TooLong\n"),
     (LINEAR11 + ["--word=87FF"], b"", 0, b"word 87FF value -1/65536 micro -16\n", b""),
+    (["number", DIRECT + "1:-32768:-12", "--word=7FFF"], b"", 0,
+     b"word 7FFF value 32767000000032768/1 micro 32767000000032768000000\n", b""),
     (["number", DIRECT + "0:5:3", "--word=0001"], b"", 1, b"", b"pmb: N1 ZeroSlope\n"),
     (["number", DIRECT + "1:5:13", "--word=0001"], b"", 1, b"", b"pmb: N2 ExponentRange\n"),
     (["number", "--format=ulinear16:0", "--micro=-1"], b"", 1, b"", b"pmb: N3 BelowLeast\n"),

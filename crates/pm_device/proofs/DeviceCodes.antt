@@ -17,12 +17,15 @@ use Rattle.pm_device.specs.declared.act.Act.{Act}
 use Rattle.pm_device.specs.declared.act.Act.TheVariants.{Put, Select, ClearFaults, ClearVout, ClearCml}
 use Rattle.pm_device.specs.declared.config.Config.{Config}
 use Rattle.pm_device.specs.declared.fault.DeviceFault.TheVariants.{UnsupportedCode, UnsupportedData, BadPage, Protected}
+use Rattle.pm_device.specs.declared.verdict.Verdict.{Verdict}
 use Rattle.pm_device.specs.declared.verdict.Verdict.TheVariants.{Refuses, Takes}
 use Rattle.pm_device.specs.Held.{Held}
 use Rattle.pm_device.specs.Laws.{is_device_code}
-use Rattle.pm_device.specs.Verdict.{act_in, act_verdict, is_accepted, output_in, payload_word, selects_no_output, write_verdict, written_word}
+use Rattle.pm_device.specs.Verdict.{act_in, act_verdict, is_accepted, output_in, payload_word, selects_no_output, write_verdict}
+use Rattle.pm_device.specs.Verdict.{written_word}
 use Rattle.pm_device.specs.Reply.{plain_register, register_word}
-use Rattle.pm_device.proofs.Replies.{line-passes, or-false, not-true}
+use Rattle.pm_device.proofs.Replies.{line-passes}
+use Rattle.pm_device.proofs.TakenActs.{or-false}
 
 -- a code is one of those that act on an output, or read something of one
 is_of_output : ℕ → Bool
@@ -46,10 +49,12 @@ record IsOfDevice (code : ℕ) : Type 0 where
   current : eqb code command.read_iout ≡ false
   register : register_of code ≡ None
 
+-- what isn't some is none
 no-register : (found : Option Reg) → is_some found ≡ false → found ≡ None
 no-register None e = refl
 no-register (Some register) e = cc
 
+-- so a code of the device is none of them
 of-device : (code : ℕ) → is_device_code code ≡ true → IsOfDevice code
 unfolding line_of is_told is_of_output
 of-device code e = parts (go (line_of code) refl e) where
@@ -111,40 +116,42 @@ plain-alike config words page other message device =
     (act-alike (message_code message) (output_in page message) (output_in other message) (written_word message)
     (of-device (message_code message) device))
 
--- an act of a message that names an output which is there
-carried-there : (config : Config) (words : Words) (page output code : ℕ) (payload : Payload) → output < config.count →
-    write_verdict config words page (PagePlusWrite output code payload)
-    ≡ option_map_or (λ act.
-    cond (selects_no_output config.count act) (Refuses BadPage)
-    (cond (not (is_allowed (word_at words Protect) code)) (Refuses Protected)
-    (cond (not (is_accepted act)) (Refuses UnsupportedData) (Takes act))))
-    (act_in code output (payload_word payload)) (Refuses UnsupportedCode)
-carried-there config words page output code payload here =
-    ap (λ b. option_map_or (λ act.
-    cond (not b || selects_no_output config.count act) (Refuses BadPage)
-    (cond (not (is_allowed (word_at words Protect) code)) (Refuses Protected)
-    (cond (not (is_accepted act)) (Refuses UnsupportedData) (Takes act))))
-    (act_in code output (payload_word payload)) (Refuses UnsupportedCode)) (lt-ltb output config.count here)
+module _ (config : Config) (words : Words) (page : ℕ) where
+  -- what the act of a carried write comes to whose page is there
+  come : ℕ → Act → Verdict
+  come code act =
+      cond (selects_no_output config.count act) (Refuses BadPage)
+      (cond (not (is_allowed (word_at words Protect) code)) (Refuses Protected)
+      (cond (not (is_accepted act)) (Refuses UnsupportedData) (Takes act)))
 
-pub carried-alike : (config : Config) (words : Words) (page output other code : ℕ) (payload : Payload) →
-    is_device_code code ≡ true → output < config.count → other < config.count →
-    write_verdict config words page (PagePlusWrite output code payload)
-    ≡ write_verdict config words page (PagePlusWrite other code payload)
-carried-alike config words page output other code payload device here there =
-    carried-there config words page output code payload here
-    ∙ (ap (λ found. option_map_or (λ act.
-    cond (selects_no_output config.count act) (Refuses BadPage)
-    (cond (not (is_allowed (word_at words Protect) code)) (Refuses Protected)
-    (cond (not (is_accepted act)) (Refuses UnsupportedData) (Takes act))))
-    found (Refuses UnsupportedCode)) (act-alike code output other (payload_word payload) (of-device code device))
-    ∙ sym (carried-there config words page other code payload there))
+  -- so a carried write whose page is there comes to that
+  carried-there : (output code : ℕ) (payload : Payload) → output < config.count →
+      write_verdict config words page (PagePlusWrite output code payload)
+      ≡ option_map_or (come code) (act_in code output (payload_word payload)) (Refuses UnsupportedCode)
+  unfolding come
+  carried-there output code payload here =
+      ap (λ b. option_map_or (λ act.
+      cond (not b || selects_no_output config.count act) (Refuses BadPage)
+      (cond (not (is_allowed (word_at words Protect) code)) (Refuses Protected)
+      (cond (not (is_accepted act)) (Refuses UnsupportedData) (Takes act))))
+      (act_in code output (payload_word payload)) (Refuses UnsupportedCode)) (lt-ltb output config.count here)
+
+  -- a carried write of a code of the device acts alike on two outputs that are there
+  pub carried-alike : (output other code : ℕ) (payload : Payload) →
+      is_device_code code ≡ true → output < config.count → other < config.count →
+      write_verdict config words page (PagePlusWrite output code payload)
+      ≡ write_verdict config words page (PagePlusWrite other code payload)
+  carried-alike output other code payload device here there =
+      carried-there output code payload here
+      ∙ (ap (λ found. option_map_or (come code) found (Refuses UnsupportedCode))
+      (act-alike code output other (payload_word payload) (of-device code device))
+      ∙ sym (carried-there other code payload there))
 
 -- what such a code reads as
 pub read-alike : (held : Held) (output other code : ℕ) → is_device_code code ≡ true →
     register_word held output code ≡ register_word held other code
 read-alike held output other code device =
     let h = of-device code device in
-    let clears = h.clears in
     let vout = h.vout in
     let mode = h.mode in
     let byte = h.byte in

@@ -1,5 +1,6 @@
 -- What a converter holds after its past is what one event after another makes of its start.
-use Rattle.std.proofs.Common.{◌≡◌, ◌≢◌, inl, inr, ℕ, ◌<◌, ◌≤◌, Bool, true, false, cond, eqb, ltb, ◌||◌, ◌&&◌, List, [], ◌∷◌, length, get_or, set, refl, sym, ◌∙◌, ap, subst, arith}
+use Rattle.std.proofs.Common.{◌≡◌, ◌≢◌, inl, inr, ℕ, ◌<◌, ◌≤◌, Bool, true, false, cond, eqb, ltb, ◌||◌, ◌&&◌, List, [], ◌∷◌, length, get_or}
+use Rattle.std.proofs.Common.{set, refl, sym, ◌∙◌, ap, subst, arith}
 use Rattle.std.proofs.lemmas.Bool.{cases_eq, cond-false, eq-eqb, ne_eqb}
 use Rattle.std.proofs.lemmas.List.{get_or-set_same, get_or-set_other, length-set}
 use Rattle.std.proofs.Math.Bool.{or_comm}
@@ -18,9 +19,12 @@ use Rattle.pm_device.specs.declared.verdict.Verdict.TheVariants.{Ignores, Refuse
 use Rattle.pm_device.specs.Held.{Held, Measured, CmlFaults, value_for}
 use Rattle.pm_device.specs.Start.{start_word, start_words}
 use Rattle.pm_device.specs.Verdict.{verdict_of, CanAct}
-use Rattle.pm_device.specs.Effect.{Event, Hearing, Restarted, Reading, Kept, Outcome, Heard, Restarts, Measures, outcome_of, kept_by, kept_by_act, restart_words}
-use Rattle.pm_device.specs.Status.{CmlBit, Command, Data, Pec, Other, Moment, has_bit, kept, moments, from_last, act_clears_vout, act_clears_cml, clears, sets_cml, is_output_cut, cut_at, vout_in, cml_in}
-use Rattle.pm_device.specs.History.{each_output, readings_in, readings_by, now, start_of, cleared, cut_by_act, cut_by, fault_by, faults_by, after, next}
+use Rattle.pm_device.specs.Effect.{Event, Hearing, Restarted, Reading, Kept, Outcome, Heard, Restarts, Measures, outcome_of, kept_by}
+use Rattle.pm_device.specs.Effect.{kept_by_act, restart_words}
+use Rattle.pm_device.specs.Status.{CmlBit, Command, Data, Pec, Other, Moment, has_bit, kept, moments, from_last, act_clears_vout}
+use Rattle.pm_device.specs.Status.{act_clears_cml, clears, sets_cml, is_output_cut, cut_at, vout_in, cml_in}
+use Rattle.pm_device.specs.History.{each_output, readings_in, readings_by, now, start_of, cleared, cut_by_act, cut_by, fault_by, faults_by}
+use Rattle.pm_device.specs.History.{after, next}
 use Rattle.pm_device.proofs.CutLemmas.{each_output-by, length-each_output, cut_at-each_output}
 use Rattle.pm_device.proofs.TakenActs.{verdict-can}
 
@@ -35,6 +39,7 @@ held-of config after readings cut faults = record {
   faults = faults;
 }
 
+-- and what is held by the same parts
 held-same : (config : Config) (after : Kept) {readings readings' : Measured} {cut cut' : List Bool} {faults faults' : CmlFaults} →
     readings ≡ readings' → cut ≡ cut' → faults ≡ faults' →
     held-of config after readings cut faults ≡ held-of config after readings' cut' faults'
@@ -86,6 +91,7 @@ or-fails : (b : Bool) → (b || false) ≡ b
 or-fails true = refl
 or-fails false = refl
 
+-- and with a bit
 and-fails : (b : Bool) → (b && false) ≡ false
 and-fails true = refl
 and-fails false = refl
@@ -140,6 +146,7 @@ start-words : SettingsAreAMap → (config : Config) → AreWords (start_words co
 unfolding start_words
 start-words map config = (map.made (start_word config)).0
 
+-- and after what an event came to
 words-kept : SettingsAreAMap → (config : Config) (before : Kept) (outcome : Outcome) →
     AreWords before.words → AreWords (kept_by config before outcome).words
 words-kept map config before (Heard (Takes (Put cell word))) are = map.kept before.words cell word are
@@ -153,6 +160,7 @@ words-kept map config before (Heard (Answers request)) are = are
 words-kept map config before Restarts are = start-words map config
 words-kept map config before (Measures output code word) are = are
 
+-- so there is one for each after any past
 pub kept-words : SettingsAreAMap → (config : Config) (past : List Event) → AreWords (kept config past).words
 unfolding kept came
 kept-words map config [] = start-words map config
@@ -183,6 +191,7 @@ page-kept config before (Heard (Answers request)) can some there = there
 page-kept config before Restarts can some there = omega arith
 page-kept config before (Measures output code word) can some there = there
 
+-- so it does after any past
 pub kept-page : (config : Config) (past : List Event) → 1 ≤ config.count → (kept config past).page < config.count
 unfolding kept came
 kept-page config [] some = omega arith
@@ -317,7 +326,8 @@ module _ (map : SettingsAreAMap) (alone : OutputsStandAlone) (config : Config) (
 
   -- the latches after one more event
   vout-table : (event : Event) → each_output (vout_in config (event ∷ past))
-      ≡ cut_by config (kept_by config (kept config past) (came config past event)).words (each_output (vout_in config past)) (came config past event)
+      ≡ cut_by config (kept_by config (kept config past) (came config past event)).words (each_output (vout_in config past))
+      (came config past event)
   unfolding found before kept came
   vout-table event =
       each_output-same (vout_in config (event ∷ past)) (found (came config past event))

@@ -1,19 +1,18 @@
 -- What a request is answered.
-use Rattle.std.proofs.Common.{◌≡◌, ℕ, zero, suc, ◌+◌, ◌*◌, ◌/◌, ◌%◌, ◌<◌, ◌≤◌, Bool, true, false, cond, ltb, ◌||◌, Option, Some, None, List, [], ◌∷◌, length, take, refl, sym, ◌∙◌, ap, ap₂, subst, arith}
+use Rattle.std.proofs.Common.{◌≡◌, ℕ, zero, suc, ◌+◌, ◌*◌, ◌/◌, ◌%◌, ◌<◌, ◌≤◌, Bool, true, false, cond, ltb, ◌||◌, Option, Some, None, List}
+use Rattle.std.proofs.Common.{[], ◌∷◌, length, take, refl, sym, ◌∙◌, ap, ap₂, subst, arith}
 use Rattle.std.proofs.lemmas.Bool.{cond-true, lt-ltb}
 use Rattle.std.proofs.lemmas.Bool.Decides.{nat_tests}
 use Rattle.std.specs.Option.{option_map_or}
 use Rattle.pm_table.specs.declared.cell.Cell.{Cell}
 use Rattle.pm_table.specs.declared.cell.Cell.TheVariants.{Out, Protect}
 use Rattle.pm_table.specs.Cell.{cell_at, cell_accepts, cell_code, is_operation, is_protection, is_voltage, register_code}
-use Rattle.pm_table.specs.Codes as command
 use Rattle.pm_table.specs.Commands.{line_of, payload_length}
-use Rattle.pm_table.specs.Coefficients.{coefficient_bytes}
 use Rattle.pm_table.specs.Laws.{PayloadsAreShort, RegistersAreInTheTable}
 use Rattle.pm_frame.specs.declared.fault.FrameFault.{FrameFault}
-use Rattle.pm_frame.specs.declared.fault.FrameFault.TheVariants as frame
 use Rattle.pm_frame.specs.declared.message.Message.{Message}
-use Rattle.pm_frame.specs.declared.message.Message.TheVariants.{SendByte, WriteByte, WriteWord, PagePlusWrite, ReadCommand, PagePlusRead, ReadCoefficients}
+use Rattle.pm_frame.specs.declared.message.Message.TheVariants.{SendByte, WriteByte, WriteWord, PagePlusWrite, ReadCommand, PagePlusRead}
+use Rattle.pm_frame.specs.declared.message.Message.TheVariants.{ReadCoefficients}
 use Rattle.pm_frame.specs.Fault.{request_fault}
 use Rattle.pm_frame.specs.Laws.{RequestsAreExact}
 use Rattle.pm_frame.specs.Layout.{IsRequest, IsAnswer, sent, answered, with_pec, answer_length, is_read_message}
@@ -24,10 +23,11 @@ use Rattle.pm_device.specs.declared.heard.Ending.TheVariants.{Restart}
 use Rattle.pm_device.specs.declared.heard.Heard.{Heard}
 use Rattle.pm_device.specs.declared.heard.Heard.TheVariants.{Silent, Taken, Answer, Refused}
 use Rattle.pm_device.specs.declared.verdict.Verdict.TheVariants.{Refuses, Answers}
-use Rattle.pm_device.specs.Held.{Held, mode_for}
-use Rattle.pm_device.specs.Start.{has_direct}
+use Rattle.pm_device.specs.Held.{Held}
+use Rattle.pm_device.specs.Laws.{AnswersWith}
 use Rattle.pm_device.specs.Verdict.{payload_word, answers_coefficients, fault_verdict, is_answered, read_verdict, unless_faulty, verdict_of}
 use Rattle.pm_device.specs.Reply.{answer_bytes, plain_register, register_bytes, register_word, payload_for, reply_to, reply_of}
+use Rattle.pm_device.proofs.Replies.{fault-not_answer}
 
 -- a word's bytes are as many as its code has
 register_bytes-length : (code word : ℕ) → payload_length code ≤ 2 → length (register_bytes code word) ≡ payload_length code
@@ -82,10 +82,10 @@ verdict-answers held (WriteByte code byte) e = cc
 verdict-answers held (WriteWord code word) e = cc
 verdict-answers held (PagePlusWrite page code payload) e = cc
 
+-- so it is answered
 pub request-answered : RequestsAreExact → PayloadsAreShort → (held : Held) (request : Message) (bytes : List ℕ) →
     IsRequest held.config.addr request bytes → is_answered held.config request ≡ true →
-    (frame : List ℕ) × (reply_of held bytes Restart ≡ Answer (record { items = frame }))
-    × IsAnswer held.config.addr request (payload_for held request) frame
+    AnswersWith held bytes request (payload_for held request)
 unfolding reply_of
 request-answered exact short held request bytes h can = (
   answer_bytes held request,
@@ -93,23 +93,12 @@ request-answered exact short held request bytes h can = (
   answer-fits short held request bytes h,
 )
 
--- no fault is answered
-faulty-answer : (held : Held) (fault : FrameFault) (frame : List ℕ) →
-    reply_to held (fault_verdict fault) ≡ Answer (record { items = frame }) → ⊥
-faulty-answer held frame.NotOurs items e = cc
-faulty-answer held (frame.Short place) items e = cc
-faulty-answer held (frame.Long place) items e = cc
-faulty-answer held (frame.WrongCount place) items e = cc
-faulty-answer held (frame.WrongPec place) items e = cc
-faulty-answer held (frame.UnknownCode place) items e = cc
-faulty-answer held (frame.WrongDirection place) items e = cc
-faulty-answer held (frame.Nested place) items e = cc
-
--- two answers that are one have the same bytes
+-- the bytes of an answer
 bytes_in : Heard → List ℕ
 bytes_in (Answer frame) = frame.items
 bytes_in _ = []
 
+-- so two answers that are one have the same bytes
 answer-one : (items others : List ℕ) → Answer (record { items = items }) ≡ Answer (record { items = others }) → others ≡ items
 unfolding bytes_in
 answer-one items others e = sym (ap bytes_in e)
@@ -124,7 +113,8 @@ verdict-answer held (PagePlusRead page code) items e = go (ltb page held.config.
   go true h = answer-one (answer_bytes held (PagePlusRead page code)) items h
   go false h = cc
 verdict-answer held (ReadCoefficients code side) items e = go (answers_coefficients held.config code side) e where
-  go : (b : Bool) → reply_to held (cond b (Answers (ReadCoefficients code side)) (Refuses UnsupportedData)) ≡ Answer (record { items = items }) →
+  go : (b : Bool) → reply_to held (cond b (Answers (ReadCoefficients code side)) (Refuses UnsupportedData)) ≡ Answer
+      (record { items = items }) →
       items ≡ answer_bytes held (ReadCoefficients code side)
   go true h = answer-one (answer_bytes held (ReadCoefficients code side)) items h
   go false h = cc
@@ -144,64 +134,44 @@ answer-is exact short held bytes items e = go (request_fault held.config.addr by
       reply_to held (unless_faulty fault (read_verdict held.config (message_in bytes))) ≡ Answer (record { items = items }) →
       (request : Message) × IsRequest held.config.addr request bytes
       × IsAnswer held.config.addr request (payload_for held request) items
-  go (Some fault) is h = absurd (faulty-answer held fault items h)
+  go (Some fault) is h = absurd (fault-not_answer held fault items h)
   go None is h =
       let some = exact.faultless held.config.addr bytes is in
       let places = exact.places held.config.addr some.0 bytes some.1 in
-      let same = verdict-answer held some.0 items (subst (λ m. reply_to held (read_verdict held.config m) ≡ Answer (record { items = items })) places h) in
-      (some.0, some.1, subst (IsAnswer held.config.addr some.0 (payload_for held some.0)) (sym same) (answer-fits short held some.0 bytes some.1))
+      let same = verdict-answer held some.0 items
+      (subst (λ m. reply_to held (read_verdict held.config m) ≡ Answer (record { items = items })) places h) in (
+        some.0,
+        some.1,
+        subst (IsAnswer held.config.addr some.0 (payload_for held some.0)) (sym same)
+            (answer-fits short held some.0 bytes some.1),
+      )
 
--- a cell's word
+-- what a cell's code is answered
 pub cell-answered : RequestsAreExact → PayloadsAreShort → (held : Held) (output code : ℕ) (cell : Cell) (bytes : List ℕ) →
-    IsRequest held.config.addr (PagePlusRead output code) bytes → output < held.config.count →
-    cell_at code output ≡ Some cell →
-    (frame : List ℕ) × (reply_of held bytes Restart ≡ Answer (record { items = frame }))
-    × IsAnswer held.config.addr (PagePlusRead output code) (register_bytes code (word_at held.words cell)) frame
-cell-answered exact short held output code cell bytes h there names =
-    let one = request-answered exact short held (PagePlusRead output code) bytes h (lt-ltb output held.config.count there) in (
-      one.0,
-      one.1,
-      subst (λ payload. IsAnswer held.config.addr (PagePlusRead output code) payload one.0)
-          (ap (λ found. register_bytes code (option_map_or (λ c. word_at held.words c) found (plain_register held output code))) names) one.2,
-    )
-
--- the words of WRITE_PROTECT and of VOUT_MODE, and the coefficients
-pub protect-answered : RequestsAreExact → PayloadsAreShort → (held : Held) (bytes : List ℕ) →
-    IsRequest held.config.addr (ReadCommand command.write_protect) bytes →
-    (frame : List ℕ) × (reply_of held bytes Restart ≡ Answer (record { items = frame }))
-    × IsAnswer held.config.addr (ReadCommand command.write_protect)
-    (register_bytes command.write_protect (word_at held.words Protect)) frame
-protect-answered exact short held bytes h =
-    request-answered exact short held (ReadCommand command.write_protect) bytes h refl
-
-pub mode-answered : RequestsAreExact → PayloadsAreShort → (held : Held) (output : ℕ) (bytes : List ℕ) →
-    IsRequest held.config.addr (PagePlusRead output command.vout_mode) bytes → output < held.config.count →
-    (frame : List ℕ) × (reply_of held bytes Restart ≡ Answer (record { items = frame }))
-    × IsAnswer held.config.addr (PagePlusRead output command.vout_mode)
-    (register_bytes command.vout_mode (mode_for held.config output)) frame
-mode-answered exact short held output bytes h there =
-    request-answered exact short held (PagePlusRead output command.vout_mode) bytes h (lt-ltb output held.config.count there)
-
-pub coefficients-answered : RequestsAreExact → PayloadsAreShort → (held : Held) (bytes : List ℕ) →
-    IsRequest held.config.addr (ReadCoefficients command.vout_command 0x00) bytes → has_direct held.config ≡ true →
-    (frame : List ℕ) × (reply_of held bytes Restart ≡ Answer (record { items = frame }))
-    × IsAnswer held.config.addr (ReadCoefficients command.vout_command 0x00) (coefficient_bytes held.config.coefficients) frame
-coefficients-answered exact short held bytes h direct =
-    request-answered exact short held (ReadCoefficients command.vout_command 0x00) bytes h direct
+    IsRequest held.config.addr (PagePlusRead output code) bytes × (output < held.config.count) × (cell_at code output ≡ Some cell) →
+    AnswersWith held bytes (PagePlusRead output code) (register_bytes code (word_at held.words cell))
+cell-answered exact short held output code cell bytes (h, there, names) =
+    subst (AnswersWith held bytes (PagePlusRead output code))
+    (ap (λ found. register_bytes code (option_map_or (λ c. word_at held.words c) found (plain_register held output code))) names)
+    (request-answered exact short held (PagePlusRead output code) bytes h (lt-ltb output held.config.count there))
 
 -- an accepted word is read back from its bytes
 operation-byte : (word : ℕ) → is_operation word ≡ true → word < 256
 operation-byte word e = grind (arith, nat_tests, e)
 
+-- a word of WRITE_PROTECT is a byte
 protection-byte : (word : ℕ) → is_protection word ≡ true → word < 256
 protection-byte word e = grind (arith, nat_tests, e)
 
+-- a byte is read from its one byte
 one-byte : (word : ℕ) → word < 256 → word % 256 ≡ word
 one-byte word h = omega (arith, h)
 
+-- a word is read from its two bytes
 two-bytes : (word : ℕ) → word % 256 + 256 * (word / 256) ≡ word
 two-bytes word = omega arith
 
+-- so each accepted word is read back
 pub read-back : RegistersAreInTheTable → (cell : Cell) (word : ℕ) → cell_accepts cell word ≡ true →
     payload_word (payload_in (register_bytes (cell_code cell) word)) ≡ word
 unfolding line_of

@@ -15,32 +15,40 @@ use Rattle.pm_device.specs.Held.{Held, CmlFaults, value_for}
 use Rattle.pm_device.specs.Verdict.{verdict_of}
 use Rattle.pm_device.specs.Effect.{Event, Hearing, Outcome}
 use Rattle.pm_device.specs.Effect as effect
-use Rattle.pm_device.specs.Status.{CmlBit, Command, Data, Pec, Other, fault_bit, cml_at, with_bit, act_clears_cml, is_output_cut, marked, status_vout, kept, vout_in, cml_in}
+use Rattle.pm_device.specs.Status.{CmlBit, Command, Data, Pec, Other, fault_bit, cml_at, with_bit, act_clears_cml, is_output_cut, marked}
+use Rattle.pm_device.specs.Status.{status_vout, kept, vout_in, cml_in}
 use Rattle.pm_device.specs.Reply.{reply_to, reply_of}
 use Rattle.pm_device.specs.History.{faults_by, after, next, now}
 use Rattle.pm_device.proofs.CutLemmas.{cut_at-each_output}
 use Rattle.pm_device.proofs.Follow.{vout-shows}
 
 -- a refusal sets the bit of its kind
-noted : (faults : CmlFaults) (fault : DeviceFault) (bit : CmlBit) → fault_bit fault ≡ bit → faults_by faults (effect.Heard (Refuses fault)) ≡ with_bit faults bit
+noted : (faults : CmlFaults) (fault : DeviceFault) (bit : CmlBit) → fault_bit fault ≡ bit
+    → faults_by faults (effect.Heard (Refuses fault)) ≡ with_bit faults bit
 noted faults fault Command e = rw e refl
 noted faults fault Data e = rw e refl
 noted faults fault Pec e = rw e refl
 noted faults fault Other e = rw e refl
 
-after-refused : (held : Held) (verdict : Verdict) (fault : DeviceFault) → reply_to held verdict ≡ Refused fault → after held (effect.Heard verdict) ≡ record held { faults = with_bit held.faults (fault_bit fault) }
+-- so a refusal changes that bit alone
+after-refused : (held : Held) (verdict : Verdict) (fault : DeviceFault) → reply_to held verdict ≡ Refused fault
+    → after held (effect.Heard verdict) ≡ record held { faults = with_bit held.faults (fault_bit fault) }
 unfolding after
 after-refused held Ignores fault e = cc
 after-refused held (Takes act) fault e = cc
 after-refused held (Answers request) fault e = cc
 after-refused held (Refuses found) fault e =
     let same : found ≡ fault = cc in
-    ap (λ f. record held { faults = f }) (noted held.faults found (fault_bit found) refl ∙ ap (λ f. with_bit held.faults (fault_bit f)) same)
+    ap (λ f. record held { faults = f })
+    (noted held.faults found (fault_bit found) refl ∙ ap (λ f. with_bit held.faults (fault_bit f)) same)
 
-pub next-refused : (held : Held) (bytes : List ℕ) (ending : Ending) (fault : DeviceFault) → reply_of held bytes ending ≡ Refused fault → next held (Hearing bytes ending) ≡ record held { faults = with_bit held.faults (fault_bit fault) }
+-- the same of what was heard
+pub next-refused : (held : Held) (bytes : List ℕ) (ending : Ending) (fault : DeviceFault) → reply_of held bytes ending ≡ Refused fault
+    → next held (Hearing bytes ending) ≡ record held { faults = with_bit held.faults (fault_bit fault) }
 unfolding reply_of next
 next-refused held bytes ending fault e = after-refused held (verdict_of held.config held.words held.page bytes ending) fault e
 
+-- silence changes nothing
 after-silent : (held : Held) (verdict : Verdict) → reply_to held verdict ≡ Silent → after held (effect.Heard verdict) ≡ held
 unfolding after
 after-silent held Ignores e = refl
@@ -48,22 +56,30 @@ after-silent held (Takes act) e = cc
 after-silent held (Answers request) e = cc
 after-silent held (Refuses found) e = cc
 
-pub next-silent : (held : Held) (bytes : List ℕ) (ending : Ending) → reply_of held bytes ending ≡ Silent → next held (Hearing bytes ending) ≡ held
+-- the same of what was heard
+pub next-silent : (held : Held) (bytes : List ℕ) (ending : Ending) → reply_of held bytes ending ≡ Silent
+    → next held (Hearing bytes ending) ≡ held
 unfolding reply_of next
 next-silent held bytes ending e = after-silent held (verdict_of held.config held.words held.page bytes ending) e
 
-after-answered : (held : Held) (verdict : Verdict) (request : Message) → verdict ≡ Answers request → after held (effect.Heard verdict) ≡ held
+-- an answer changes nothing
+after-answered : (held : Held) (verdict : Verdict) (request : Message) → verdict ≡ Answers request
+    → after held (effect.Heard verdict) ≡ held
 unfolding after
 after-answered held verdict request e = ap (λ v. after held (effect.Heard v)) e
 
 -- a read changes nothing
-read-answered : (held : Held) (verdict : Verdict) (answer : Heard) → reply_to held verdict ≡ answer → (answer ≡ Silent → ⊥) → (answer ≡ Taken → ⊥) → ((fault : DeviceFault) → answer ≡ Refused fault → ⊥) → (request : Message) × (verdict ≡ Answers request)
+read-answered : (held : Held) (verdict : Verdict) (answer : Heard) → reply_to held verdict ≡ answer → (answer ≡ Silent → ⊥)
+    → (answer ≡ Taken → ⊥) → ((fault : DeviceFault) → answer ≡ Refused fault → ⊥) → (request : Message) × (verdict ≡ Answers request)
 read-answered held Ignores answer e silent taken refused = absurd (silent (sym e))
 read-answered held (Takes act) answer e silent taken refused = absurd (taken (sym e))
 read-answered held (Refuses fault) answer e silent taken refused = absurd (refused fault (sym e))
 read-answered held (Answers request) answer e silent taken refused = (request, refl)
 
-pub next-answered : (held : Held) (bytes : List ℕ) (ending : Ending) → (reply_of held bytes ending ≡ Silent → ⊥) → (reply_of held bytes ending ≡ Taken → ⊥) → ((fault : DeviceFault) → reply_of held bytes ending ≡ Refused fault → ⊥) → next held (Hearing bytes ending) ≡ held
+-- so what is neither silence, taken nor refused changes nothing
+pub next-answered : (held : Held) (bytes : List ℕ) (ending : Ending) → (reply_of held bytes ending ≡ Silent → ⊥)
+    → (reply_of held bytes ending ≡ Taken → ⊥) → ((fault : DeviceFault) → reply_of held bytes ending ≡ Refused fault → ⊥)
+    → next held (Hearing bytes ending) ≡ held
 unfolding reply_of next
 next-answered held bytes ending silent taken refused =
     let verdict = verdict_of held.config held.words held.page bytes ending in
@@ -75,7 +91,9 @@ unset : (b before : Bool) → cond b false before ≡ true → before ≡ true
 unset true before e = cc
 unset false before e = e
 
-after-taken : (held : Held) (verdict : Verdict) (bit : CmlBit) → reply_to held verdict ≡ Taken → cml_at (after held (effect.Heard verdict)).faults bit ≡ true → cml_at held.faults bit ≡ true
+-- so a bit that is set after it was set before
+after-taken : (held : Held) (verdict : Verdict) (bit : CmlBit) → reply_to held verdict ≡ Taken
+    → cml_at (after held (effect.Heard verdict)).faults bit ≡ true → cml_at held.faults bit ≡ true
 unfolding after
 after-taken held Ignores bit e h = cc
 after-taken held (Answers request) bit e h = cc
@@ -85,15 +103,19 @@ after-taken held (Takes act) Data e h = unset (act_clears_cml Data act) held.fau
 after-taken held (Takes act) Pec e h = unset (act_clears_cml Pec act) held.faults.pec h
 after-taken held (Takes act) Other e h = unset (act_clears_cml Other act) held.faults.other h
 
-pub next-taken : (held : Held) (bytes : List ℕ) (ending : Ending) (bit : CmlBit) → reply_of held bytes ending ≡ Taken → cml_at (next held (Hearing bytes ending)).faults bit ≡ true → cml_at held.faults bit ≡ true
+-- the same of what was heard
+pub next-taken : (held : Held) (bytes : List ℕ) (ending : Ending) (bit : CmlBit) → reply_of held bytes ending ≡ Taken
+    → cml_at (next held (Hearing bytes ending)).faults bit ≡ true → cml_at held.faults bit ≡ true
 unfolding reply_of next
 next-taken held bytes ending bit e h = after-taken held (verdict_of held.config held.words held.page bytes ending) bit e h
 
 -- the status registers look back
-pub vout-looked_up : (config : Config) (past : List Event) (output : ℕ) → output < 8 → status_vout (now config past) output ≡ marked 0x08 (vout_in config past output)
+pub vout-looked_up : (config : Config) (past : List Event) (output : ℕ) → output < 8
+    → status_vout (now config past) output ≡ marked 0x08 (vout_in config past output)
 unfolding now
 vout-looked_up config past output there = ap (λ b. marked 0x08 b) (cut_at-each_output (vout_in config past) output there)
 
+-- and those of STATUS_CML
 pub cml-looked_up : (config : Config) (past : List Event) (bit : CmlBit) → cml_at (now config past).faults bit ≡ cml_in config past bit
 unfolding now
 cml-looked_up config past Command = refl
@@ -102,11 +124,15 @@ cml-looked_up config past Pec = refl
 cml-looked_up config past Other = refl
 
 -- what is above VOUT_MAX now shows
-cut-now : (config : Config) (words : Words) (output : ℕ) → output < config.count → is_cut (value_for config output) words output ≡ true → is_output_cut config words output ≡ true
+cut-now : (config : Config) (words : Words) (output : ℕ) → output < config.count → is_cut (value_for config output) words output ≡ true
+    → is_output_cut config words output ≡ true
 unfolding is_output_cut
-cut-now config words output there cut = ap (λ b. b && is_cut (value_for config output) words output) (lt-ltb output config.count there) ∙ cut
+cut-now config words output there cut = ap (λ b. b && is_cut (value_for config output) words output) (lt-ltb output config.count there)
+    ∙ cut
 
-pub now-shows : (config : Config) (past : List Event) (output : ℕ) → config.count ≤ 8 → output < config.count → is_cut (value_for config output) (now config past).words output ≡ true → status_vout (now config past) output ≡ 0x08
+-- so STATUS_VOUT shows it
+pub now-shows : (config : Config) (past : List Event) (output : ℕ) → config.count ≤ 8 → output < config.count
+    → is_cut (value_for config output) (now config past).words output ≡ true → status_vout (now config past) output ≡ 0x08
 unfolding now
 now-shows config past output few there cut =
     ap (λ b. marked 0x08 b) (cut_at-each_output (vout_in config past) output (omega (arith, few, there))

@@ -1,20 +1,19 @@
 -- Which replies come after which endings, and for which codes.
-use Rattle.std.proofs.Common.{◌≡◌, ◌≢◌, ◌⊎◌, inl, inr, ℕ, ◌<◌, Bool, true, false, cond, eqb, ltb, not, ◌||◌, ◌&&◌, is_some, Option, Some, None, List, [], ◌∷◌, refl, sym, ◌∙◌, ap, subst}
+use Rattle.std.proofs.Common.{◌≡◌, ◌≢◌, ◌⊎◌, inl, inr, ℕ, ◌<◌, Bool, true, false, cond, eqb, ltb, not, ◌||◌, ◌&&◌, is_some, Option, Some}
+use Rattle.std.proofs.Common.{None, List, [], ◌∷◌, refl, sym, ◌∙◌, ap, subst}
 use Rattle.std.proofs.lemmas.Bool.{and_parts, eqb-true, lt-ltb}
 use Rattle.std.specs.List.{list_all}
 use Rattle.std.specs.Option.{option_map, option_map_or}
 use Rattle.pm_table.specs.declared.cell.Cell.{Cell}
 use Rattle.pm_table.specs.declared.cell.Cell.TheVariants.{Protect}
-use Rattle.pm_table.specs.declared.cell.Reg.{Reg}
-use Rattle.pm_table.specs.declared.cell.Cell.TheVariants.{Out}
-use Rattle.pm_table.specs.Cell.{register_of}
 use Rattle.pm_table.specs.Codes as command
 use Rattle.pm_table.specs.Commands.{Line, Row, rows, line_among, line_of, is_written}
 use Rattle.pm_table.specs.Protection.{is_allowed}
 use Rattle.pm_frame.specs.declared.fault.FrameFault.{FrameFault}
 use Rattle.pm_frame.specs.declared.fault.FrameFault.TheVariants as frame
 use Rattle.pm_frame.specs.declared.message.Message.{Message}
-use Rattle.pm_frame.specs.declared.message.Message.TheVariants.{SendByte, WriteByte, WriteWord, PagePlusWrite, ReadCommand, PagePlusRead, ReadCoefficients}
+use Rattle.pm_frame.specs.declared.message.Message.TheVariants.{SendByte, WriteByte, WriteWord, PagePlusWrite, ReadCommand, PagePlusRead}
+use Rattle.pm_frame.specs.declared.message.Message.TheVariants.{ReadCoefficients}
 use Rattle.pm_frame.specs.declared.message.Payload.{Payload}
 use Rattle.pm_frame.specs.Fault.{write_fault, request_fault}
 use Rattle.pm_frame.specs.Laws.{WritesAreExact, RequestsAreExact}
@@ -31,9 +30,10 @@ use Rattle.pm_device.specs.declared.heard.Heard.TheVariants.{Taken, Answer, Refu
 use Rattle.pm_device.specs.declared.verdict.Verdict.{Verdict}
 use Rattle.pm_device.specs.declared.verdict.Verdict.TheVariants.{Ignores, Refuses, Takes, Answers}
 use Rattle.pm_device.specs.Held.{Held}
-use Rattle.pm_device.specs.Verdict.{act_in, act_verdict, answers_coefficients, fault_verdict, is_accepted, names_no_output, output_in, read_verdict, selects_no_output, unless_faulty, verdict_of, write_verdict, written_word}
+use Rattle.pm_device.specs.Verdict.{act_in, act_verdict, answers_coefficients, fault_verdict, is_accepted, names_no_output, output_in}
+use Rattle.pm_device.specs.Verdict.{read_verdict, selects_no_output, unless_faulty, verdict_of, write_verdict, written_word}
 use Rattle.pm_device.specs.Reply.{reply_to, reply_of}
-use Rattle.pm_device.proofs.TakenActs.{request-not_taken}
+use Rattle.pm_device.proofs.TakenActs.{or-false, request-not_taken}
 
 -- what passes for every row of the command table passes for the line of a code
 pub line-passes : (test : ℕ → Line → Bool) (among : List Row) (code : ℕ) (line : Line) →
@@ -55,6 +55,7 @@ line-passes test (row ∷ others) code line all is =
 has-act : ℕ → ℕ → ℕ → Line → Bool
 has-act output word code line = not line.writes || (eqb code command.page_plus_write || is_some (act_in code output word))
 
+-- so a code that is written has an act
 written-act : (code output word : ℕ) → is_written code ≡ true → eqb code command.page_plus_write ≡ false →
     act_in code output word ≡ None → ⊥
 unfolding line_of has-act
@@ -72,19 +73,16 @@ written-act code output word written plain none = go (line_of code) refl written
       let not_some : is_some (act_in code output word) ≡ false = ap (λ a. is_some a) none in
       cc
 
--- `not`, `or` and `and` by their parts
+-- what `not` of it holds of doesn't
 pub not-true : (b : Bool) → not b ≡ true → b ≡ false
 not-true false e = refl
 not-true true e = cc
-
-pub or-false : (a b : Bool) → (a || b) ≡ false → (a ≡ false) × (b ≡ false)
-or-false false b e = (refl, e)
-or-false true b e = cc
 
 -- the code of a message that writes is written, and isn't PAGE_PLUS_WRITE
 IsWrittenCode : ℕ → Type 0
 IsWrittenCode code = (is_written code ≡ true) × (eqb code command.page_plus_write ≡ false)
 
+-- the code of a plain packet
 plain-code : (code : ℕ) (rest : Bool) → (is_written code && not (eqb code command.page_plus_write) && rest) ≡ true → IsWrittenCode code
 unfolding IsWrittenCode
 plain-code code rest e =
@@ -92,16 +90,23 @@ plain-code code rest e =
     let parts = and_parts (is_written code) (not (eqb code command.page_plus_write)) plain in
     (parts.0, not-true (eqb code command.page_plus_write) parts.1)
 
+-- the code of each packet that writes
 write-code : (message : Message) → is_read_message message ≡ false → fits_layout message ≡ true → IsWrittenCode (message_code message)
 unfolding IsWrittenCode
 write-code (SendByte code) writes fits = unfold IsWrittenCode in plain-code code _ fits
 write-code (WriteByte code byte) writes fits = unfold IsWrittenCode in plain-code code _ fits
 write-code (WriteWord code word) writes fits = unfold IsWrittenCode in plain-code code _ fits
 write-code (PagePlusWrite page code payload) writes fits =
-    let both = (and_parts (not (eqb code command.page || eqb code command.page_plus_write || eqb code command.page_plus_read || eqb code command.coefficients) && is_written code) _ fits).0 in
-    let parts = and_parts (not (eqb code command.page || eqb code command.page_plus_write || eqb code command.page_plus_read || eqb code command.coefficients)) (is_written code) both in
-    let none = not-true (eqb code command.page || eqb code command.page_plus_write || eqb code command.page_plus_read || eqb code command.coefficients) parts.0 in
-    let three = (or-false (eqb code command.page || eqb code command.page_plus_write || eqb code command.page_plus_read) (eqb code command.coefficients) none).0 in
+    let both = (and_parts (not
+    (eqb code command.page || eqb code command.page_plus_write || eqb code command.page_plus_read || eqb code command.coefficients) &&
+    is_written code) _ fits).0 in
+    let parts = and_parts (not
+    (eqb code command.page || eqb code command.page_plus_write || eqb code command.page_plus_read || eqb code command.coefficients))
+    (is_written code) both in
+    let none = not-true (eqb code command.page || eqb code command.page_plus_write || eqb code command.page_plus_read || eqb code
+    command.coefficients) parts.0 in
+    let three = (or-false (eqb code command.page || eqb code command.page_plus_write || eqb code command.page_plus_read)
+    (eqb code command.coefficients) none).0 in
     let two = (or-false (eqb code command.page || eqb code command.page_plus_write) (eqb code command.page_plus_read) three).0 in
     (parts.1, (or-false (eqb code command.page) (eqb code command.page_plus_write) two).1)
 write-code (ReadCommand code) writes fits = cc
@@ -114,6 +119,7 @@ act-reply held away allowed accepted act =
     reply_to held (cond away (Refuses BadPage) (cond (not allowed) (Refuses Protected)
     (cond (not accepted) (Refuses UnsupportedData) (Takes act))))
 
+-- it is no answer
 act-not_answer : (held : Held) (away allowed accepted : Bool) (act : Act) (items : List ℕ) →
     act-reply held away allowed accepted act ≡ Answer (record { items = items }) → ⊥
 unfolding act-reply
@@ -122,6 +128,7 @@ act-not_answer held false false accepted act items e = cc
 act-not_answer held false true false act items e = cc
 act-not_answer held false true true act items e = cc
 
+-- and not K2
 act-not_unknown : (held : Held) (away allowed accepted : Bool) (act : Act) →
     act-reply held away allowed accepted act ≡ Refused UnsupportedCode → ⊥
 unfolding act-reply
@@ -131,7 +138,7 @@ act-not_unknown held false true false act e = cc
 act-not_unknown held false true true act e = cc
 
 -- no fault is answered
-fault-not_answer : (held : Held) (fault : FrameFault) (items : List ℕ) →
+pub fault-not_answer : (held : Held) (fault : FrameFault) (items : List ℕ) →
     reply_to held (fault_verdict fault) ≡ Answer (record { items = items }) → ⊥
 fault-not_answer held frame.NotOurs items e = cc
 fault-not_answer held (frame.Short place) items e = cc
@@ -159,7 +166,8 @@ pub stop-not_answer : (held : Held) (bytes items : List ℕ) → reply_of held b
 unfolding reply_of verdict_of act-reply
 stop-not_answer held bytes items e = go (write_fault held.config.addr bytes) e where
   acts : (message : Message) (found : Option Act) →
-      reply_to held (option_map_or (λ act. act_verdict held.config.count (word_at held.words Protect) message act) found (Refuses UnsupportedCode))
+      reply_to held (option_map_or (λ act. act_verdict held.config.count (word_at held.words Protect) message act) found
+      (Refuses UnsupportedCode))
       ≡ Answer (record { items = items }) → ⊥
   acts message None h = cc
   acts message (Some act) h =
@@ -197,7 +205,8 @@ write-unknown exact held bytes are e = go (write_fault held.config.addr bytes) r
     where
       acts : (found : Option Act) →
           act_in (message_code message) (output_in held.page message) (written_word message) ≡ found →
-          reply_to held (option_map_or (λ act. act_verdict held.config.count (word_at held.words Protect) message act) found (Refuses UnsupportedCode))
+          reply_to held (option_map_or (λ act. act_verdict held.config.count (word_at held.words Protect) message act) found
+          (Refuses UnsupportedCode))
           ≡ Refused UnsupportedCode → ⊥
       acts None is x =
           let code = write-code message h.writes h.fits in
@@ -258,6 +267,7 @@ unfolding reply_of verdict_of
 unknown-write held bytes place e =
     ap (λ fault. reply_to held (unless_faulty fault (write_verdict held.config held.words held.page (message_in bytes)))) e
 
+-- likewise for a request
 pub unknown-read : (held : Held) (bytes : List ℕ) (place : ℕ) →
     request_fault held.config.addr bytes ≡ Some (frame.UnknownCode place) → reply_of held bytes Restart ≡ Refused UnsupportedCode
 unfolding reply_of verdict_of

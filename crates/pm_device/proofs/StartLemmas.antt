@@ -1,5 +1,6 @@
 -- The start words of the cells, and what a configuration without a fault has.
-use Rattle.std.proofs.Common.{◌≡◌, ℕ, zero, suc, ◌+◌, ◌<◌, ◌≤◌, Bool, true, false, cond, eqb, ltb, not, ◌||◌, Option, Some, None, unwrap_or, Result, Ok, Err, List, [], ◌∷◌, map, get_or, refl, sym, ◌∙◌, ap, subst, arith}
+use Rattle.std.proofs.Common.{◌≡◌, ℕ, zero, suc, ◌+◌, ◌<◌, ◌≤◌, Bool, true, false, cond, eqb, ltb, not, ◌||◌, Option, Some, None, unwrap_or}
+use Rattle.std.proofs.Common.{Result, Ok, Err, List, [], ◌∷◌, map, get_or, refl, sym, ◌∙◌, ap, subst, arith}
 use Rattle.std.proofs.lemmas.Bool.Decides.{nat_tests}
 use Rattle.std.proofs.lemmas.List.{get_or-take}
 use Rattle.std.proofs.Math.ListN.{get_or-map}
@@ -26,7 +27,8 @@ use Rattle.pm_device.specs.declared.config.OutputStart.{OutputStart}
 use Rattle.pm_device.specs.declared.config.ConfigFault.{ConfigFault}
 use Rattle.pm_device.specs.declared.config.ConfigFault.TheVariants.{OutputCount, BadStart, Address, BadMode, BadCoefficients}
 use Rattle.pm_device.specs.Held.{mode_for, shape_made, shape_for}
-use Rattle.pm_device.specs.Start.{register_start, start_row, start_word, start_words, no_start, outputs, is_direct, has_direct, bad_register, bad_registers, bad_start, bad_mode, bad_coefficients, config_fault, IsSound}
+use Rattle.pm_device.specs.Start.{register_start, start_row, start_word, start_words, no_start, outputs, is_direct, has_direct}
+use Rattle.pm_device.specs.Start.{bad_register, bad_registers, bad_start, bad_mode, bad_coefficients, config_fault, IsSound}
 
 -- a register's start word stands at its place in the row
 row-at : (start : OutputStart) (register : Reg) →
@@ -65,14 +67,17 @@ or-none : {X : Type 0} (x y : Option X) → option_or x y ≡ None → (x ≡ No
 or-none None y e = (refl, e)
 or-none (Some x) y e = cc
 
+-- nor is what a function makes of it
 map-none : {X Y : Type 0} (f : X → Y) (x : Option X) → option_map f x ≡ None → x ≡ None
 map-none f None e = refl
 map-none f (Some x) e = cc
 
+-- a rule that names no fault doesn't apply
 rule-none : {X : Type 0} (b : Bool) (x : X) → cond b (Some x) None ≡ None → b ≡ false
 rule-none false x e = refl
 rule-none true x e = cc
 
+-- a test that names no fault passes
 unless-none : {X : Type 0} (b : Bool) (x : X) → cond b None (Some x) ≡ None → b ≡ true
 unless-none true x e = refl
 unless-none false x e = cc
@@ -94,7 +99,8 @@ accepted-nothing Operation = refl
 accepted-nothing _ = refl
 
 -- each start word of outputs without a bad register is accepted
-accepted-registers : (from : ℕ) (starts : List OutputStart) (output : ℕ) (register : Reg) → bad_registers from starts ≡ None → register_accepts register (register_start register (get_or starts output no_start)) ≡ true
+accepted-registers : (from : ℕ) (starts : List OutputStart) (output : ℕ) (register : Reg) → bad_registers from starts ≡ None
+    → register_accepts register (register_start register (get_or starts output no_start)) ≡ true
 accepted-registers from [] output register e = accepted-nothing register
 accepted-registers from (start ∷ starts) zero register e =
     accepted-register from start register ((or-none (bad_register from start) (bad_registers (from + 1) starts) e).0)
@@ -105,16 +111,20 @@ accepted-registers from (start ∷ starts) (suc output) register e =
 IsRead : ℕ → Type 0
 IsRead byte = result_err (mode_of byte) ≡ None
 
+-- each output's mode is read
 read-mode : (from : ℕ) (starts : List OutputStart) (output : ℕ) → bad_mode from starts ≡ None → IsRead (get_or starts output no_start).mode
 unfolding IsRead
 read-mode from [] output e = refl
 read-mode from (start ∷ starts) zero e =
-    map-none (λ fault. BadMode from fault) (result_err (mode_of start.mode)) ((or-none (option_map (λ fault. BadMode from fault) (result_err (mode_of start.mode))) (bad_mode (from + 1) starts) e).0)
+    map-none (λ fault. BadMode from fault) (result_err (mode_of start.mode))
+    ((or-none (option_map (λ fault. BadMode from fault) (result_err (mode_of start.mode))) (bad_mode (from + 1) starts) e).0)
 read-mode from (start ∷ starts) (suc output) e =
-    read-mode (from + 1) starts output ((or-none (option_map (λ fault. BadMode from fault) (result_err (mode_of start.mode))) (bad_mode (from + 1) starts) e).1)
+    read-mode (from + 1) starts output
+    ((or-none (option_map (λ fault. BadMode from fault) (result_err (mode_of start.mode))) (bad_mode (from + 1) starts) e).1)
 
 -- an element that passes a test
-any-at : (test : OutputStart → Bool) (starts : List OutputStart) (output : ℕ) → test no_start ≡ false → test (get_or starts output no_start) ≡ true → list_any test starts ≡ true
+any-at : (test : OutputStart → Bool) (starts : List OutputStart) (output : ℕ) → test no_start ≡ false
+    → test (get_or starts output no_start) ≡ true → list_any test starts ≡ true
 any-at test [] output fails holds = absurd (true≢false holds fails) where
   true≢false : test no_start ≡ true → test no_start ≡ false → ⊥
   true≢false a b = let e : true ≡ false = sym a ∙ b in cc
@@ -125,7 +135,9 @@ any-at test (start ∷ starts) (suc output) fails holds = go (test start) (any-a
   go false h = h
 
 -- the format of a mode that is read, where the coefficients are one for DIRECT
-made-shape : (read : Result VoutMode TableFault) (c : Coefficients) → result_err read ≡ None → (is_direct read ≡ true → result_err (shape_in Direct c) ≡ None) → (shape : Shape) × (option_and_then (λ mode. result_ok (shape_in mode c)) (result_ok read) ≡ Some shape)
+made-shape : (read : Result VoutMode TableFault) (c : Coefficients) → result_err read ≡ None
+    → (is_direct read ≡ true → result_err (shape_in Direct c) ≡ None) → (shape : Shape)
+    × (option_and_then (λ mode. result_ok (shape_in mode c)) (result_ok read) ≡ Some shape)
 made-shape (Err fault) c e direct = cc
 made-shape (Ok (Linear n)) c e direct = (_, refl)
 made-shape (Ok Direct) c e direct = go (shape_in Direct c) (direct refl) where
@@ -138,6 +150,7 @@ unwrapped : {X : Type 0} (made : Option X) (x d : X) → made ≡ Some x → mad
 unwrapped None x d e = cc
 unwrapped (Some s) x d e = refl
 
+-- the mode of an output is that of its start
 mode-of_start : (config : Config) (output : ℕ) → mode_for config output ≡ (get_or config.starts output no_start).mode
 mode-of_start config output = get_or-map (λ (start : OutputStart). start.mode) config.starts output no_start
 
@@ -145,25 +158,30 @@ mode-of_start config output = get_or-map (λ (start : OutputStart). start.mode) 
 counted : (count : ℕ) → (eqb count 0 || ltb 8 count) ≡ false → (1 ≤ count) × (count ≤ 8)
 counted count e = (grind (arith, nat_tests, e), grind (arith, nat_tests, e))
 
+-- the address is one that a device may have
 addressed : (addr : ℕ) → (ltb addr 0x08 || ltb 0x77 addr) ≡ false → IsAddress addr
 addressed addr e = (grind (arith, nat_tests, e), grind (arith, nat_tests, e))
 
 -- the start of an output that there is, among those that there are
-start-there : (config : Config) (output : ℕ) → output < config.count → get_or (outputs config) output no_start ≡ get_or config.starts output no_start
+start-there : (config : Config) (output : ℕ) → output < config.count
+    → get_or (outputs config) output no_start ≡ get_or config.starts output no_start
 start-there config output here = get_or-take config.count config.starts output no_start here
 
 -- each of an output's start words is accepted
-starts-accepted : (config : Config) (cell : Cell) → bad_start config ≡ None → IsCell config.count cell → cell_accepts cell (start_word config cell) ≡ true
+starts-accepted : (config : Config) (cell : Cell) → bad_start config ≡ None → IsCell config.count cell
+    → cell_accepts cell (start_word config cell) ≡ true
 starts-accepted config (Out output register) e here =
     let none = (or-none (bad_registers 0 (outputs config)) (cond (cell_accepts Protect config.protect) None (Some Protect)) e).0 in
     let accepted = accepted-registers 0 (outputs config) output register none in
     subst (λ w. register_accepts register w ≡ true)
     (ap (λ s. register_start register s) (start-there config output here) ∙ sym (word-of_start config.starts output register)) accepted
 starts-accepted config Protect e here =
-    unless-none (cell_accepts Protect config.protect) Protect ((or-none (bad_registers 0 (outputs config)) (cond (cell_accepts Protect config.protect) None (Some Protect)) e).1)
+    unless-none (cell_accepts Protect config.protect) Protect
+    ((or-none (bad_registers 0 (outputs config)) (cond (cell_accepts Protect config.protect) None (Some Protect)) e).1)
 
 -- each output has a format
-format-made : (config : Config) (output : ℕ) → bad_mode 0 (outputs config) ≡ None → bad_coefficients config ≡ None → output < config.count → shape_made config output ≡ Some (shape_for config output)
+format-made : (config : Config) (output : ℕ) → bad_mode 0 (outputs config) ≡ None → bad_coefficients config ≡ None → output < config.count
+    → shape_made config output ≡ Some (shape_for config output)
 unfolding shape_for
 format-made config output modes coefficients here =
     unwrapped (shape_made config output) (shape.0) InLinear11 shape.1
@@ -175,9 +193,11 @@ format-made config output modes coefficients here =
     read = subst (λ b. result_err (mode_of b) ≡ None) byte (unfold IsRead in read-mode 0 (outputs config) output modes)
 
     some : is_direct (mode_of (mode_for config output)) ≡ true → has_direct config ≡ true
-    some holds = any-at (λ start. is_direct (mode_of start.mode)) (outputs config) output refl (subst (λ b. is_direct (mode_of b) ≡ true) (sym byte) holds)
+    some holds = any-at (λ start. is_direct (mode_of start.mode)) (outputs config) output refl
+        (subst (λ b. is_direct (mode_of b) ≡ true) (sym byte) holds)
 
-    good : (b : Bool) → has_direct config ≡ b → cond b (result_err (shape_in Direct config.coefficients)) None ≡ None → is_direct (mode_of (mode_for config output)) ≡ true → result_err (shape_in Direct config.coefficients) ≡ None
+    good : (b : Bool) → has_direct config ≡ b → cond b (result_err (shape_in Direct config.coefficients)) None ≡ None
+        → is_direct (mode_of (mode_for config output)) ≡ true → result_err (shape_in Direct config.coefficients) ≡ None
     good true is none holds = none
     good false is none holds = let e : true ≡ false = sym (some holds) ∙ is in cc
 

@@ -1,5 +1,6 @@
 -- What a hearing that is taken was: a write without a fault, whose act was asked for, allowed and accepted.
-use Rattle.std.proofs.Common.{◌≡◌, ℕ, ◌<◌, Bool, true, false, cond, eqb, ltb, not, ◌||◌, Option, Some, None, unwrap_or, List, refl, sym, ◌∙◌, ap, subst}
+use Rattle.std.proofs.Common.{◌≡◌, ℕ, ◌<◌, Bool, true, false, cond, eqb, ltb, not, ◌||◌, Option, Some, None, unwrap_or, List, refl, sym}
+use Rattle.std.proofs.Common.{◌∙◌, ap, subst}
 use Rattle.std.proofs.lemmas.Bool.{ltb-true}
 use Rattle.std.specs.Option.{option_map, option_map_or}
 use Rattle.pm_table.specs.declared.cell.Reg.{Reg}
@@ -10,7 +11,8 @@ use Rattle.pm_table.specs.Protection.{is_allowed}
 use Rattle.pm_frame.specs.declared.fault.FrameFault.{FrameFault}
 use Rattle.pm_frame.specs.declared.fault.FrameFault.TheVariants as frame
 use Rattle.pm_frame.specs.declared.message.Message.{Message}
-use Rattle.pm_frame.specs.declared.message.Message.TheVariants.{SendByte, WriteByte, WriteWord, PagePlusWrite, ReadCommand, PagePlusRead, ReadCoefficients}
+use Rattle.pm_frame.specs.declared.message.Message.TheVariants.{SendByte, WriteByte, WriteWord, PagePlusWrite, ReadCommand, PagePlusRead}
+use Rattle.pm_frame.specs.declared.message.Message.TheVariants.{ReadCoefficients}
 use Rattle.pm_frame.specs.Fault.{write_fault, request_fault}
 use Rattle.pm_frame.specs.View.{message_in, message_page, message_code}
 use Rattle.pm_model.specs.Settings.{Words, word_at}
@@ -22,7 +24,9 @@ use Rattle.pm_device.specs.declared.heard.Ending.{Ending}
 use Rattle.pm_device.specs.declared.heard.Ending.TheVariants.{Stop, Restart}
 use Rattle.pm_device.specs.declared.verdict.Verdict.{Verdict}
 use Rattle.pm_device.specs.declared.verdict.Verdict.TheVariants.{Refuses, Takes, Answers}
-use Rattle.pm_device.specs.Verdict.{written_word, output_in, names_no_output, act_in, selects_no_output, is_accepted, act_verdict, write_verdict, read_verdict, answers_coefficients, fault_verdict, unless_faulty, verdict_of, CanAct, ActsOn}
+use Rattle.pm_device.specs.Verdict.{written_word, output_in, names_no_output, act_in, selects_no_output, is_accepted, act_verdict}
+use Rattle.pm_device.specs.Verdict.{write_verdict, read_verdict, answers_coefficients, fault_verdict, unless_faulty, verdict_of, CanAct}
+use Rattle.pm_device.specs.Verdict.{ActsOn}
 
 -- the facts of an act that is taken
 pub record IsTaken (config : Config) (words : Words) (page : ℕ) (message : Message) (act : Act) : Type 0 where
@@ -33,31 +37,40 @@ pub record IsTaken (config : Config) (words : Words) (page : ℕ) (message : Mes
   pub accepted : is_accepted act ≡ true
 
 -- what an act comes to is taken only where nothing refuses it
-chosen : (a b c : Bool) (found act : Act) → cond a (Refuses BadPage) (cond (not b) (Refuses Protected) (cond (not c) (Refuses UnsupportedData) (Takes found))) ≡ Takes act → (a ≡ false) × (b ≡ true) × (c ≡ true) × (found ≡ act)
+chosen : (a b c : Bool) (found act : Act)
+    → cond a (Refuses BadPage) (cond (not b) (Refuses Protected) (cond (not c) (Refuses UnsupportedData) (Takes found))) ≡ Takes act
+    → (a ≡ false) × (b ≡ true) × (c ≡ true) × (found ≡ act)
 chosen true b c found act e = cc
 chosen false false c found act e = cc
 chosen false true false found act e = cc
 chosen false true true found act e = (refl, refl, refl, cc)
 
-or-false : (a b : Bool) → (a || b) ≡ false → (a ≡ false) × (b ≡ false)
+-- neither of two bits is set
+pub or-false : (a b : Bool) → (a || b) ≡ false → (a ≡ false) × (b ≡ false)
 or-false false false e = (refl, refl)
 or-false false true e = cc
 or-false true b e = cc
 
-pub write-taken : (config : Config) (words : Words) (page : ℕ) (message : Message) (act : Act) → write_verdict config words page message ≡ Takes act → IsTaken config words page message act
-write-taken config words page message act e = go (act_in (message_code message) (output_in page message) (written_word message)) refl e where
-  go : (found : Option Act) → act_in (message_code message) (output_in page message) (written_word message) ≡ found → option_map_or (λ a. act_verdict config.count (word_at words Protect) message a) found (Refuses UnsupportedCode) ≡ Takes act → IsTaken config words page message act
-  go None is none = cc
-  go (Some found) is taken =
-      let parts = chosen (names_no_output config.count message || selects_no_output config.count found) (is_allowed (word_at words Protect) (message_code message)) (is_accepted found) found act taken in
-      let outside = or-false (names_no_output config.count message) (selects_no_output config.count found) parts.0 in
-      record {
-        asked = is ∙ ap (λ a. Some a) parts.3;
-        there = outside.0;
-        selected = subst (λ a. selects_no_output config.count a ≡ false) parts.3 outside.1;
-        allowed = parts.1;
-        accepted = subst (λ a. is_accepted a ≡ true) parts.3 parts.2;
-      }
+-- what a write is whose act is taken
+pub write-taken : (config : Config) (words : Words) (page : ℕ) (message : Message) (act : Act)
+    → write_verdict config words page message ≡ Takes act → IsTaken config words page message act
+write-taken config words page message act e =
+    go (act_in (message_code message) (output_in page message) (written_word message)) refl e where
+      go : (found : Option Act) → act_in (message_code message) (output_in page message) (written_word message) ≡ found
+          → option_map_or (λ a. act_verdict config.count (word_at words Protect) message a) found (Refuses UnsupportedCode) ≡ Takes act
+          → IsTaken config words page message act
+      go None is none = cc
+      go (Some found) is taken =
+          let parts = chosen (names_no_output config.count message || selects_no_output config.count found)
+          (is_allowed (word_at words Protect) (message_code message)) (is_accepted found) found act taken in
+          let outside = or-false (names_no_output config.count message) (selects_no_output config.count found) parts.0 in
+          record {
+            asked = is ∙ ap (λ a. Some a) parts.3;
+            there = outside.0;
+            selected = subst (λ a. selects_no_output config.count a ≡ false) parts.3 outside.1;
+            allowed = parts.1;
+            accepted = subst (λ a. is_accepted a ≡ true) parts.3 parts.2;
+          }
 
 -- no fault is a write that is taken
 fault-not_taken : (fault : FrameFault) (act : Act) → fault_verdict fault ≡ Takes act → ⊥
@@ -75,9 +88,11 @@ cond-not_taken : (b : Bool) (x y : Verdict) (act : Act) → (x ≡ Takes act →
 cond-not_taken true x y act nx ny e = nx e
 cond-not_taken false x y act nx ny e = ny e
 
+-- and so isn't what it comes to
 read-not_taken : (config : Config) (message : Message) (act : Act) → read_verdict config message ≡ Takes act → ⊥
 read-not_taken config (ReadCoefficients code side) act e =
-    cond-not_taken (answers_coefficients config code side) (Answers (ReadCoefficients code side)) (Refuses UnsupportedData) act (λ x. cc) (λ x. cc) e
+    cond-not_taken (answers_coefficients config code side) (Answers (ReadCoefficients code side)) (Refuses UnsupportedData) act (λ x. cc)
+    (λ x. cc) e
 read-not_taken config (PagePlusRead page code) act e =
     cond-not_taken (ltb page config.count) (Answers (PagePlusRead page code)) (Refuses BadPage) act (λ x. cc) (λ x. cc) e
 read-not_taken config (ReadCommand code) act e = cc
@@ -92,10 +107,13 @@ pub record WasTaken (config : Config) (words : Words) (page : ℕ) (bytes : List
   pub faultless : write_fault config.addr bytes ≡ None
   pub act_taken : IsTaken config words page (message_in bytes) act
 
-pub verdict-taken : (config : Config) (words : Words) (page : ℕ) (bytes : List ℕ) (ending : Ending) (act : Act) → verdict_of config words page bytes ending ≡ Takes act → WasTaken config words page bytes ending act
+-- what a hearing that is taken was
+pub verdict-taken : (config : Config) (words : Words) (page : ℕ) (bytes : List ℕ) (ending : Ending) (act : Act)
+    → verdict_of config words page bytes ending ≡ Takes act → WasTaken config words page bytes ending act
 unfolding verdict_of
 verdict-taken config words page bytes Stop act e = go (write_fault config.addr bytes) refl e where
-  go : (fault : Option FrameFault) → write_fault config.addr bytes ≡ fault → unless_faulty fault (write_verdict config words page (message_in bytes)) ≡ Takes act → WasTaken config words page bytes Stop act
+  go : (fault : Option FrameFault) → write_fault config.addr bytes ≡ fault
+      → unless_faulty fault (write_verdict config words page (message_in bytes)) ≡ Takes act → WasTaken config words page bytes Stop act
   go None is taken = record { stopped = refl; faultless = is; act_taken = write-taken config words page (message_in bytes) act taken }
   go (Some fault) is taken = absurd (fault-not_taken fault act taken)
 verdict-taken config words page bytes Restart act e = absurd (go (request_fault config.addr bytes) e) where
@@ -104,12 +122,15 @@ verdict-taken config words page bytes Restart act e = absurd (go (request_fault 
   go (Some fault) taken = fault-not_taken fault act taken
 
 -- a request changes nothing
-pub request-not_taken : (config : Config) (words : Words) (page : ℕ) (bytes : List ℕ) (act : Act) → verdict_of config words page bytes Restart ≡ Takes act → ⊥
+pub request-not_taken : (config : Config) (words : Words) (page : ℕ) (bytes : List ℕ) (act : Act)
+    → verdict_of config words page bytes Restart ≡ Takes act → ⊥
 request-not_taken config words page bytes act e =
     let stopped : Restart ≡ Stop = (verdict-taken config words page bytes Restart act e).stopped in cc
 
 -- the output that an act names is the one that was asked for
-acts-on_code : (code output word : ℕ) (b : Bool) (act : Act) → option_map (λ cell. Put cell word) (cond b (Some Protect) (option_map (λ register. Out output register) (register_of code))) ≡ Some act → ActsOn output act
+acts-on_code : (code output word : ℕ) (b : Bool) (act : Act)
+    → option_map (λ cell. Put cell word) (cond b (Some Protect) (option_map (λ register. Out output register) (register_of code))) ≡ Some
+    act → ActsOn output act
 acts-on_code code output word true act e = subst (λ a. ActsOn output a) (some-one (Put Protect word) act e) tt where
   some-one : (x y : Act) → Some x ≡ Some y → x ≡ y
   some-one x y h = cc
@@ -117,27 +138,34 @@ acts-on_code code output word false act e = go (register_of code) e where
   some-one : (x y : Act) → Some x ≡ Some y → x ≡ y
   some-one x y h = cc
 
-  go : (found : Option Reg) → option_map (λ cell. Put cell word) (option_map (λ register. Out output register) found) ≡ Some act → ActsOn output act
+  go : (found : Option Reg) → option_map (λ cell. Put cell word) (option_map (λ register. Out output register) found) ≡ Some act
+      → ActsOn output act
   go None h = cc
   go (Some register) h = subst (λ a. ActsOn output a) (some-one (Put (Out output register) word) act h) refl
 
+-- two acts that are some are one
 some-act : (x y : Act) → Some x ≡ Some y → x ≡ y
 some-act x y h = cc
 
+-- so the act of any code names it
 pub acts-on : (code output word : ℕ) (act : Act) → act_in code output word ≡ Some act → ActsOn output act
-acts-on code output word act e = first (eqb code command.page) (eqb code command.clear_faults) (eqb code command.status_vout) (eqb code command.status_cml) e where
-  rest : Option Act
-  rest = option_map (λ cell. Put cell word) (cell_at code output)
+acts-on code output word act e =
+    first (eqb code command.page) (eqb code command.clear_faults) (eqb code command.status_vout) (eqb code command.status_cml) e where
+      rest : Option Act
+      rest = option_map (λ cell. Put cell word) (cell_at code output)
 
-  first : (a b c d : Bool) → cond a (Some (Select word)) (cond b (Some (ClearFaults output)) (cond c (Some (ClearVout output word)) (cond d (Some (ClearCml word)) rest))) ≡ Some act → ActsOn output act
-  first true b c d h = subst (λ x. ActsOn output x) (some-act (Select word) act h) tt
-  first false true c d h = subst (λ x. ActsOn output x) (some-act (ClearFaults output) act h) refl
-  first false false true d h = subst (λ x. ActsOn output x) (some-act (ClearVout output word) act h) refl
-  first false false false true h = subst (λ x. ActsOn output x) (some-act (ClearCml word) act h) tt
-  first false false false false h = acts-on_code code output word (eqb code command.write_protect) act h
+      first : (a b c d : Bool) → cond a (Some (Select word))
+          (cond b (Some (ClearFaults output)) (cond c (Some (ClearVout output word)) (cond d (Some (ClearCml word)) rest))) ≡ Some act
+          → ActsOn output act
+      first true b c d h = subst (λ x. ActsOn output x) (some-act (Select word) act h) tt
+      first false true c d h = subst (λ x. ActsOn output x) (some-act (ClearFaults output) act h) refl
+      first false false true d h = subst (λ x. ActsOn output x) (some-act (ClearVout output word) act h) refl
+      first false false false true h = subst (λ x. ActsOn output x) (some-act (ClearCml word) act h) tt
+      first false false false false h = acts-on_code code output word (eqb code command.write_protect) act h
 
 -- a page that is named is there, or PAGE is
-pub output-there : (count page : ℕ) (message : Message) → names_no_output count message ≡ false → page < count → output_in page message < count
+pub output-there : (count page : ℕ) (message : Message) → names_no_output count message ≡ false → page < count
+    → output_in page message < count
 output-there count page message e here = go (message_page message) e where
   within : (named : ℕ) (b : Bool) → ltb named count ≡ b → not b ≡ false → named < count
   within named true is h = ltb-true named count is
@@ -148,7 +176,8 @@ output-there count page message e here = go (message_page message) e where
   go (Some named) h = within named (ltb named count) refl h
 
 -- an act that is taken names an output that is there, and a word that its cell accepts
-can-act : (count output : ℕ) (act : Act) → output < count → ActsOn output act → selects_no_output count act ≡ false → is_accepted act ≡ true → CanAct count act
+can-act : (count output : ℕ) (act : Act) → output < count → ActsOn output act → selects_no_output count act ≡ false → is_accepted act ≡ true
+    → CanAct count act
 can-act count output (Put (Out named register) word) here on selected accepted = (subst (λ n. n < count) (sym on) here, accepted)
 can-act count output (Put Protect word) here on selected accepted = (tt, accepted)
 can-act count output (Select page) here on selected accepted = go (ltb page count) refl selected where
@@ -159,10 +188,15 @@ can-act count output (ClearFaults named) here on selected accepted = subst (λ n
 can-act count output (ClearVout named byte) here on selected accepted = subst (λ n. n < count) (sym on) here
 can-act count output (ClearCml byte) here on selected accepted = tt
 
-pub taken-can : (config : Config) (words : Words) (page : ℕ) (message : Message) (act : Act) → IsTaken config words page message act → page < config.count → CanAct config.count act
+-- so an act that is taken can be done
+pub taken-can : (config : Config) (words : Words) (page : ℕ) (message : Message) (act : Act) → IsTaken config words page message act
+    → page < config.count → CanAct config.count act
 taken-can config words page message act h here =
-    can-act config.count (output_in page message) act (output-there config.count page message h.there here) (acts-on (message_code message) (output_in page message) (written_word message) act h.asked) h.selected h.accepted
+    can-act config.count (output_in page message) act (output-there config.count page message h.there here)
+    (acts-on (message_code message) (output_in page message) (written_word message) act h.asked) h.selected h.accepted
 
-pub verdict-can : (config : Config) (words : Words) (page : ℕ) (bytes : List ℕ) (ending : Ending) (act : Act) → verdict_of config words page bytes ending ≡ Takes act → page < config.count → CanAct config.count act
+-- the same of what was heard
+pub verdict-can : (config : Config) (words : Words) (page : ℕ) (bytes : List ℕ) (ending : Ending) (act : Act)
+    → verdict_of config words page bytes ending ≡ Takes act → page < config.count → CanAct config.count act
 verdict-can config words page bytes ending act e here =
     taken-can config words page (message_in bytes) act (verdict-taken config words page bytes ending act e).act_taken here

@@ -1,5 +1,6 @@
 -- What a hearing leaves of the words of the cells and of PAGE.
-use Rattle.std.proofs.Common.{◌≡◌, ◌≢◌, ℕ, Bool, true, false, cond, eqb, ltb, not, ◌||◌, ◌&&◌, Option, Some, None, List, refl, sym, ◌∙◌, ap, ap₂, subst}
+use Rattle.std.proofs.Common.{◌≡◌, ◌≢◌, ℕ, Bool, true, false, cond, eqb, ltb, not, ◌||◌, ◌&&◌, Option, Some, None, List, refl, sym, ◌∙◌, ap}
+use Rattle.std.proofs.Common.{ap₂, subst}
 use Rattle.std.proofs.lemmas.Bool.{eqb-true}
 use Rattle.std.specs.Option.{option_map, option_map_or}
 use Rattle.pm_table.specs.declared.cell.Cell.{Cell}
@@ -24,7 +25,8 @@ use Rattle.pm_device.specs.declared.heard.Ending.TheVariants.{Stop, Restart}
 use Rattle.pm_device.specs.declared.verdict.Verdict.{Verdict}
 use Rattle.pm_device.specs.declared.verdict.Verdict.TheVariants.{Ignores, Refuses, Takes, Answers}
 use Rattle.pm_device.specs.Held.{Held}
-use Rattle.pm_device.specs.Verdict.{payload_word, written_word, output_in, names_no_output, act_in, act_verdict, write_verdict, fault_verdict, unless_faulty, verdict_of}
+use Rattle.pm_device.specs.Verdict.{payload_word, written_word, output_in, names_no_output, act_in, act_verdict, write_verdict}
+use Rattle.pm_device.specs.Verdict.{fault_verdict, unless_faulty, verdict_of}
 use Rattle.pm_device.specs.Effect.{Hearing, Heard, Kept, kept_by, kept_in, kept_after, words_after, page_after}
 use Rattle.pm_device.proofs.TakenActs.{request-not_taken}
 
@@ -162,12 +164,12 @@ cell-written exact held message cell bytes h names =
 
 -- a carried one does where its page is there
 pub carried : WritesAreExact → (held : Held) (output code : ℕ) (payload : Payload) (cell : Cell) (bytes : List ℕ) →
-    IsWrite held.config.addr (PagePlusWrite output code payload) bytes → cell_at code output ≡ Some cell →
+    IsWrite held.config.addr (PagePlusWrite output code payload) bytes × (cell_at code output ≡ Some cell) →
     (words_after held (Hearing bytes Stop)
     ≡ cond (ltb output held.config.count && is_allowed (word_at held.words Protect) code
     && cell_accepts cell (payload_word payload)) (with_word held.words cell (payload_word payload)) held.words)
     × (page_after held (Hearing bytes Stop) ≡ held.page)
-carried exact held output code payload cell bytes h names =
+carried exact held output code payload cell bytes (h, names) =
     let all = cell-written exact held (PagePlusWrite output code payload) cell bytes h names in (
       all.0 ∙ ap (λ b. cond (b && is_allowed (word_at held.words Protect) code && cell_accepts cell (payload_word payload))
           (with_word held.words cell (payload_word payload)) held.words) (not-not (ltb output held.config.count)),

@@ -139,6 +139,12 @@ pub record WritesReachOneCell : Type 0 where
       (words_after held (Hearing bytes Stop) ≡ held.words)
       × (page_after held (Hearing bytes Stop) ≡ held.page)
 
+-- bytes that a repeated start ended are answered by an answer to this request with this payload
+abbrev pub AnswersWith : Held → List ℕ → Message → List ℕ → Type 0
+AnswersWith held bytes request payload =
+    (frame : List ℕ) × (reply_of held bytes Restart ≡ Answer (record { items = frame }))
+    × IsAnswer held.config.addr request payload frame
+
 -- What is answered after a repeated start is an answer, of the length that its layout has, to a
 -- request that was heard (`answer`), and a whole request whose page is there, or whose coefficients
 -- are, is answered (`answered`). So a PAGE_PLUS_READ of a cell's code at an output that is there
@@ -153,36 +159,27 @@ pub record ReadsAreAnswered : Type 0 where
       × IsAnswer held.config.addr request (payload_for held request) items
   pub answered : (held : Held) (request : Message) (bytes : List ℕ) →
       IsRequest held.config.addr request bytes → is_answered held.config request ≡ true →
-      (frame : List ℕ)
-      × (reply_of held bytes Restart ≡ Answer (record { items = frame }))
-      × IsAnswer held.config.addr request (payload_for held request) frame
+      AnswersWith held bytes request
+      (payload_for held request)
   pub cell : (held : Held) (output code : ℕ) (cell : Cell) (bytes : List ℕ) →
       IsRequest held.config.addr (PagePlusRead output code) bytes →
       output < held.config.count → cell_at code output ≡ Some cell →
-      (frame : List ℕ)
-      × (reply_of held bytes Restart ≡ Answer (record { items = frame }))
-      × IsAnswer held.config.addr (PagePlusRead output code)
-      (register_bytes code (word_at held.words cell)) frame
+      AnswersWith held bytes (PagePlusRead output code)
+      (register_bytes code (word_at held.words cell))
   pub protect : (held : Held) (bytes : List ℕ) →
       IsRequest held.config.addr (ReadCommand command.write_protect) bytes →
-      (frame : List ℕ)
-      × (reply_of held bytes Restart ≡ Answer (record { items = frame }))
-      × IsAnswer held.config.addr (ReadCommand command.write_protect)
-      (register_bytes command.write_protect (word_at held.words Protect)) frame
+      AnswersWith held bytes (ReadCommand command.write_protect)
+      (register_bytes command.write_protect (word_at held.words Protect))
   pub mode : (held : Held) (output : ℕ) (bytes : List ℕ) →
       IsRequest held.config.addr (PagePlusRead output command.vout_mode) bytes →
       output < held.config.count →
-      (frame : List ℕ)
-      × (reply_of held bytes Restart ≡ Answer (record { items = frame }))
-      × IsAnswer held.config.addr (PagePlusRead output command.vout_mode)
-      (register_bytes command.vout_mode (mode_for held.config output)) frame
+      AnswersWith held bytes (PagePlusRead output command.vout_mode)
+      (register_bytes command.vout_mode (mode_for held.config output))
   pub coefficients : (held : Held) (bytes : List ℕ) →
       IsRequest held.config.addr (ReadCoefficients command.vout_command 0x00) bytes →
       has_direct held.config ≡ true →
-      (frame : List ℕ)
-      × (reply_of held bytes Restart ≡ Answer (record { items = frame }))
-      × IsAnswer held.config.addr (ReadCoefficients command.vout_command 0x00)
-      (coefficient_bytes held.config.coefficients) frame
+      AnswersWith held bytes (ReadCoefficients command.vout_command 0x00)
+      (coefficient_bytes held.config.coefficients)
   pub number : (cell : Cell) (word : ℕ) → cell_accepts cell word ≡ true →
       payload_word (payload_in (register_bytes (cell_code cell) word)) ≡ word
 

@@ -148,7 +148,7 @@ answer_fault-found addr request bytes reads fits h =
           },
         )
 
--- no answer to a request is a strict front of another
+-- no answer to a request is a strict prefix of another
 pub answer-front : (addr : ℕ) (request : Message) (first second front rest : List ℕ) → IsAnswer addr request first front
     → IsAnswer addr request second (front ++ rest) → rest ≡ []
 answer-front addr request first second front rest h k =
@@ -178,7 +178,7 @@ pub answer-last : (addr last : ℕ) (request : Message) (front : List ℕ) → a
 answer-last addr last request front h =
     pec_fault-found (sent addr request) front last (answer_fault-pec addr request (front ++ last ∷ []) h)
 
--- a strict front of what has no fault has one
+-- a strict prefix of what has no fault has one
 pub answer_fault-front : (addr : ℕ) (request : Message) (front rest : List ℕ) → answer_fault addr request (front ++ rest) ≡ None
     → answer_fault addr request front ≡ None → rest ≡ []
 answer_fault-front addr request front rest long short =

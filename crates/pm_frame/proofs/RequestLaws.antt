@@ -178,7 +178,7 @@ at_least_two : (block : Bool) (n : ℕ) → n ≡ cond block 5 2 → 2 ≤ n
 at_least_two true n h = omega arith
 at_least_two false n h = omega arith
 
--- no request is a strict front of another
+-- no request is a strict prefix of another
 pub request-front : (addr : ℕ) (front rest : List ℕ) → request_fault addr front ≡ None → request_fault addr (front ++ rest) ≡ None
     → rest ≡ []
 request-front addr front rest h k =
@@ -191,7 +191,7 @@ request-front addr front rest h k =
     ap (λ (c : ℕ). cond {A = ℕ} (eqb c command.page_plus_read || eqb c command.coefficients) 5 2) same_code in
     empty_of rest (omega (arith, length-append front rest))
 
--- neither a request nor a front of one is a write
+-- neither a request nor a prefix of one is a write
 pub request-no_write : (addr other : ℕ) (front rest : List ℕ) → request_fault addr (front ++ rest) ≡ None → write_fault other front ≢ None
 request-no_write addr other front rest h k =
     let first = write-first other front k in

@@ -9,7 +9,7 @@ use Rattle.pm_frame.specs.declared.message.Payload.{Payload}
 use Rattle.pm_frame.specs.declared.message.Payload.TheVariants.{Empty, Byte, Word}
 use Rattle.pm_frame.specs.Layout.{AreBytes, IsWrite, IsRequest, payload_bytes, with_pec, sent, write_address, is_plain_write, fits_layout}
 use Rattle.pm_frame.specs.Layout.{is_read_message}
-use Rattle.pm_frame.specs.View.{IsWhole}
+use Rattle.pm_frame.specs.Whole.{IsWhole}
 use Rattle.pm_frame.proofs.Codes.{written-is_no_page_plus_read, written-is_no_coefficients, read-is_no_page_plus_write}
 
 -- a payload has two bytes at most

@@ -311,7 +311,7 @@ pub empty_of : (xs : List ℕ) → length xs ≡ 0 → xs ≡ []
 empty_of [] h = refl
 empty_of (x ∷ xs) h = absurd (omega arith)
 
--- no write is a strict front of another
+-- no write is a strict prefix of another
 pub write-front : (addr : ℕ) (front rest : List ℕ) → write_fault addr front ≡ None → write_fault addr (front ++ rest) ≡ None → rest ≡ []
 unfolding packet_length
 write-front addr front rest h k =

@@ -7,3 +7,5 @@ pub mod Laws
 pub mod Layout
 pub mod Pec
 pub mod View
+-- How it is kept.
+pub mod Whole

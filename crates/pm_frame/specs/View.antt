@@ -1,12 +1,12 @@
 -- What a whole packet says, read from its bytes by their places, and what a message has: its page,
 -- its code, its payload.
-use Rattle.std.specs.Prelude.{◌≡◌, ◌≢◌, ◌≤◌, ℕ, ◌+◌, ◌*◌, ◌-◌, ◌==◌, if◌then◌else◌, List, [], ◌∷◌, length, slice_index, slice_range, Option, Some, None}
+use Rattle.std.specs.Prelude.{ℕ, ◌+◌, ◌*◌, ◌-◌, ◌==◌, if◌then◌else◌, List, [], ◌∷◌, length, slice_index, slice_range, Option, Some, None}
 use Rattle.pm_table.specs.Codes as command
 use Rattle.pm_frame.specs.declared.message.Message.{Message}
 use Rattle.pm_frame.specs.declared.message.Message.TheVariants.{SendByte, WriteByte, WriteWord, PagePlusWrite, ReadCommand, PagePlusRead, ReadCoefficients}
 use Rattle.pm_frame.specs.declared.message.Payload.{Payload}
 use Rattle.pm_frame.specs.declared.message.Payload.TheVariants.{Empty, Byte, Word}
-use Rattle.pm_frame.specs.Layout.{AreBytes, payload_bytes, has_count}
+use Rattle.pm_frame.specs.Layout.{payload_bytes, has_count}
 
 -- the payload that bytes are, at most two
 abbrev pub payload_in : List ℕ → Payload
@@ -40,17 +40,6 @@ message_in bytes =
     else (if code == command.coefficients then ReadCoefficients third fourth
     else (if length bytes == 2 then ReadCommand code
     else plain_write code (payload_in (slice_range bytes 2 last)))))
-
--- These are bytes, as many as such a packet has. No public clause speaks of this: it is what a view
--- of the bytes keeps.
-pub record IsWhole (bytes : List ℕ) : Type 0 where
-  pub are_bytes : AreBytes bytes
-  pub two : 2 ≤ length bytes
-  pub carries : slice_index bytes 1 ≡ command.page_plus_write → 6 ≤ length bytes
-  pub carries_word : slice_index bytes 1 ≡ command.page_plus_write → length bytes ≤ 8
-  pub reads_page : slice_index bytes 1 ≡ command.page_plus_read → length bytes ≡ 5
-  pub reads_coefficients : slice_index bytes 1 ≡ command.coefficients → length bytes ≡ 5
-  pub plain : slice_index bytes 1 ≢ command.page_plus_write → length bytes ≤ 5
 
 -- the page that a message names
 abbrev pub message_page : Message → Option ℕ

@@ -1,5 +1,6 @@
 ghost use Rattle.std.specs.Prelude.{◌≡◌};
-ghost use Rattle.pm_frame.specs.View.{message_in, IsWhole, message_page, message_code, message_payload, payload_in, plain_write as spec_plain_write};
+ghost use Rattle.pm_frame.specs.Whole.{IsWhole};
+ghost use Rattle.pm_frame.specs.View.{message_in, message_page, message_code, message_payload, payload_in, plain_write as spec_plain_write};
 
 use crate::message::{Message, Payload};
 use crate::places::{CARRIED, CARRIED_PAYLOAD, CODE, PAGE, PAYLOAD};
@@ -15,7 +16,8 @@ pub struct FrameView<'a> {
 
 impl<'a> Model for FrameView<'a> {
     ghost use Rattle.pm_frame.specs.declared.message.Message.{Message};
-    ghost use Rattle.pm_frame.specs.View.{message_in, IsWhole};
+    ghost use Rattle.pm_frame.specs.View.{message_in};
+    ghost use Rattle.pm_frame.specs.Whole.{IsWhole};
 
     ghost Value = { Message };
 

@@ -1,42 +1,35 @@
 -- Cells, their places, and lists with an element for each place.
-use Rattle.std.proofs.Common.{◌≡◌, ℕ, ◌<◌, true, false, length, get_or, set, replicate, refl, sym, ap, ◌∙◌, inl, inr, arith, rules}
+use Rattle.std.proofs.Common.{◌≡◌, ℕ, ◌<◌, true, false, length, get_or, set, replicate, sym, ap, ◌∙◌, inl, inr, arith, rules}
 use Rattle.std.proofs.lemmas.List.{same_lists, length-set, get_or-set_same, get_or-set_other, length-replicate, get_or-replicate}
 use Rattle.std.proofs.lemmas.List.FromFn.{length-map-range_with_len, get_or-map-range_with_len}
-use Rattle.std.proofs.lemmas.Bool.{cases_eq, cases_Bool}
+use Rattle.std.proofs.lemmas.Bool.{cases_eq}
 use Rattle.pm_table.specs.declared.cell.Cell.{Cell}
 use Rattle.pm_table.specs.Cell.{IsCell, cell_in, place_of, places, same_cell}
-use Rattle.pm_table.specs.Laws.{CellsAreToldApart, CellsHavePlaces}
+use Rattle.pm_table.specs.Laws.{CellsHavePlaces}
 use Rattle.pm_host.specs.Cells.{table}
 
--- the laws of the command table on cells, which a lemma can't take from the functions that have them
-told_apart : CellsAreToldApart
-told_apart = search rules
-
+-- the law of places, which a lemma can't take from the function that has it
 placed : CellsHavePlaces
 placed = search rules
 
 -- a cell of eight outputs has a place
 pub place_below : (cell : Cell) → IsCell 8 cell → place_of cell < places
-place_below = placed.below
+place_below = search rules
 
 -- a cell is the same as itself
 pub same_cell_itself : (cell : Cell) → same_cell cell cell ≡ true
-same_cell_itself cell = (told_apart cell cell).1 refl
+same_cell_itself = search rules
 
 -- the cell of another place is another cell
 other_place : (cell : Cell) (place : ℕ) → place < places → (place ≡ place_of cell → ⊥) → same_cell cell (cell_in place) ≡ false
-other_place cell place below apart =
-    elim (cases_Bool (same_cell cell (cell_in place))) [
-      | inl same ↦
-          absurd (apart (sym (ap place_of ((told_apart cell (cell_in place)).0 same) ∙ placed.again place below)))
-      | inr other ↦ other
-    ]
+other_place = search rules
 
 -- a list with an element for each of n places, and its element at one
 length-table : {X : Type 0} (n : ℕ) (f : Cell → X) → length (table n f) ≡ n
 unfolding table
 length-table n f = length-map-range_with_len (λ place. f (cell_in place)) 0 n
 
+-- the element at a place
 get_or-table : {X : Type 0} (n : ℕ) (f : Cell → X) (k : ℕ) (d : X) → k < n → get_or (table n f) k d ≡ f (cell_in k)
 unfolding table
 get_or-table n f k d below = get_or-map-range_with_len (λ place. f (cell_in place)) 0 n k k d below (omega arith)
@@ -68,8 +61,6 @@ table-same n f v same =
     let within : k < n = let l = length-table n f in omega arith in
     get_or-table n f k d within ∙ same (cell_in k) ∙ sym (get_or-replicate n k v d within))
 
+-- two lists with equal elements
 pub table-agree : {X : Type 0} (n : ℕ) (f g : Cell → X) → ((c : Cell) → f c ≡ g c) → table n f ≡ table n g
-table-agree n f g same =
-    same_lists _ _ (length-table n f ∙ sym (length-table n g)) (λ k d h.
-    let within : k < n = let l = length-table n f in omega arith in
-    get_or-table n f k d within ∙ same (cell_in k) ∙ sym (get_or-table n g k d within))
+table-agree = search rules

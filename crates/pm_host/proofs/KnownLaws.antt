@@ -1,8 +1,8 @@
 -- What the definitions say of the marks, one mark after another.
-use Rattle.std.proofs.Common.{◌≡◌, ℕ, Bool, true, false, not, ◌||◌, cond, List, [], ◌∷◌, ◌++◌, reverse, set, replicate, Option, Some, None, refl, sym, ap, ◌∙◌, inl, inr}
+use Rattle.std.proofs.Common.{rules, ◌≡◌, ℕ, Bool, true, false, not, ◌||◌, cond, List, [], ◌∷◌, ◌++◌, reverse, set, replicate, Option, Some}
+use Rattle.std.proofs.Common.{None, refl, sym, ap, ◌∙◌}
 use Rattle.std.specs.Option.{option_map}
 use Rattle.std.proofs.lemmas.List.{reverse-append}
-use Rattle.std.proofs.lemmas.Bool.{cases_Bool}
 use Rattle.pm_table.specs.declared.cell.Cell.{Cell}
 use Rattle.pm_host.specs.declared.possible.Possible.{Possible}
 use Rattle.pm_host.specs.declared.possible.Possible.TheVariants.{Any, Words}
@@ -23,133 +23,152 @@ IsMark (Put cell word) = IsCell 8 cell
 IsMark (Good cell word) = IsCell 8 cell
 IsMark Restart = Unit {0}
 
--- one more write
-listed_step : (w : ℕ) (xs : List ℕ) (listed : Bool) → is_listed w (once xs) ≡ listed
-    → possible_from (Some []) ≡ possible_from (Some []) →
-    once (xs ++ w ∷ []) ≡ cond listed (once xs) (once xs ++ w ∷ []) →
-    ◌≡◌ {A = Possible} (Words (record { items = once (xs ++ w ∷ []) })) (joined (Words (record { items = once xs })) w)
-listed_step w xs true listed _ h = rw (h, listed) refl
-listed_step w xs false listed _ h = rw (h, listed) refl
+-- a word that is listed leaves the list, and another is put at its end
+listed_step : (word : ℕ) (xs : List ℕ) (listed : Bool) → is_listed word (once xs) ≡ listed
+    → once (xs ++ word ∷ []) ≡ cond listed (once xs) (once xs ++ word ∷ [])
+    → ◌≡◌ {A = Possible} (Words (record { items = once (xs ++ word ∷ []) })) (joined (Words (record { items = once xs })) word)
+listed_step = search rules
 
-joined-from : (w : ℕ) (found : Option (List ℕ)) → possible_from (option_map (λ ws. w ∷ ws) found) ≡ joined (possible_from found) w
-joined-from w None = refl
-joined-from w (Some ws) =
-    ap (λ xs. Words (record { items = once xs })) (reverse-append (w ∷ []) ws)
-    ∙ listed_step w (reverse ws) (is_listed w (reverse ws)) (is_listed-once w (reverse ws)) refl (once-push w (reverse ws))
+-- one more write joins its word to those that were found
+joined-from : (word : ℕ) (found : Option (List ℕ)) → possible_from (option_map (λ ws. word ∷ ws) found) ≡ joined (possible_from found) word
+joined-from word None = refl
+joined-from word (Some ws) =
+    ap (λ xs. Words (record { items = once xs })) (reverse-append (word ∷ []) ws)
+    ∙ listed_step word (reverse ws) (is_listed word (reverse ws)) (is_listed-once word (reverse ws)) (once-push word (reverse ws))
 
-pub possible_of-put_same : (ms : List Mark) (c : Cell) (w : ℕ) → possible_of (Put c w ∷ ms) c ≡ joined (possible_of ms c) w
+-- a write joins its word to those of its cell
+pub possible_of-put_same : (before : List Mark) (cell : Cell) (word : ℕ)
+    → possible_of (Put cell word ∷ before) cell ≡ joined (possible_of before cell) word
 unfolding possible_of
-possible_of-put_same ms c w = rw (same_cell_itself c) (joined-from w (words_since ms c))
+possible_of-put_same before cell word = rw (same_cell_itself cell) (joined-from word (words_since before cell))
 
-possible_of-put_other : (ms : List Mark) (c d : Cell) (w : ℕ) → same_cell c d ≡ false → possible_of (Put c w ∷ ms) d ≡ possible_of ms d
+-- a write leaves the words of another cell
+possible_of-put_other : (before : List Mark) (cell d : Cell) (word : ℕ) → same_cell cell d ≡ false
+    → possible_of (Put cell word ∷ before) d ≡ possible_of before d
 unfolding possible_of
-possible_of-put_other ms c d w other = rw other refl
+possible_of-put_other = search rules
 
-possible_of-good_same : (ms : List Mark) (c : Cell) (w : ℕ) → possible_of (Good c w ∷ ms) c ≡ only w
+-- a good answer leaves its word alone
+possible_of-good_same : (before : List Mark) (cell : Cell) (word : ℕ) → possible_of (Good cell word ∷ before) cell ≡ only word
 unfolding possible_of
-possible_of-good_same ms c w = rw (same_cell_itself c) refl
+possible_of-good_same = search rules
 
-possible_of-good_other : (ms : List Mark) (c d : Cell) (w : ℕ) → same_cell c d ≡ false
-    → possible_of (Good c w ∷ ms) d ≡ cond (is_possible w (possible_of ms c)) (possible_of ms d) Any
+-- it leaves the words of another cell where it was possible, and any word where it wasn't
+possible_of-good_other : (before : List Mark) (cell d : Cell) (word : ℕ) → same_cell cell d ≡ false
+    → possible_of (Good cell word ∷ before) d ≡ cond (is_possible word (possible_of before cell)) (possible_of before d) Any
 unfolding possible_of
-possible_of-good_other ms c d w other =
-    rw other (elim (cases_Bool (is_possible w (possible_from (words_since ms c)))) [
-      | inl h ↦ rw h refl
-      | inr h ↦ rw h refl
-    ])
+possible_of-good_other = search rules
 
-standing_of-other : (ms : List Mark) (c d : Cell) (w : ℕ) → same_cell c d ≡ false
-    → (standing_of (Put c w ∷ ms) d ≡ standing_of ms d) × (standing_of (Good c w ∷ ms) d ≡ standing_of ms d)
-standing_of-other ms c d w other = (rw other refl, rw other refl)
+-- what is said of a cell stays with the marks of another
+standing_of-other : (before : List Mark) (cell d : Cell) (word : ℕ) → same_cell cell d ≡ false
+    → (standing_of (Put cell word ∷ before) d ≡ standing_of before d) × (standing_of (Good cell word ∷ before) d ≡ standing_of before d)
+standing_of-other = search rules
 
 -- what is held of a cell
-pub known_now-possible : (ms : List Mark) (c : Cell) → IsCell 8 c → known_possible (known_now ms) c ≡ possible_of ms c
+pub known_now-possible : (before : List Mark) (cell : Cell) → IsCell 8 cell
+    → known_possible (known_now before) cell ≡ possible_of before cell
 unfolding known_now
-known_now-possible ms c there = table-at (possible_of ms) c Any there
+known_now-possible before cell there = table-at (possible_of before) cell Any there
 
-pub known_now-standing : (ms : List Mark) (c : Cell) → IsCell 8 c → known_standing (known_now ms) c ≡ standing_of ms c
+-- what is said of it
+pub known_now-standing : (before : List Mark) (cell : Cell) → IsCell 8 cell
+    → known_standing (known_now before) cell ≡ standing_of before cell
 unfolding known_now
-known_now-standing ms c there = table-at (standing_of ms) c Unknown there
+known_now-standing before cell there = table-at (standing_of before) cell Unknown there
 
-pub known_now-seen : (ms : List Mark) → (known_now ms).seen ≡ restart_seen_of ms
+-- whether a restart was seen
+pub known_now-seen : (before : List Mark) → (known_now before).seen ≡ restart_seen_of before
 unfolding known_now
-known_now-seen ms = refl
+known_now-seen = search rules
 
-same_known : (p q : List Possible) (s t : List Standing) (b c : Bool) → p ≡ q → s ≡ t → b ≡ c
-    → ◌≡◌ {A = Known} (record { possible = p; standing = s; seen = b }) (record { possible = q; standing = t; seen = c })
-same_known p q s t b c e h k = rw (e, h, k) refl
+-- what is known in equal parts is equal
+same_known : {p q : List Possible} {s t : List Standing} {seen other : Bool} → p ≡ q → s ≡ t → seen ≡ other
+    → ◌≡◌ {A = Known} (record { possible = p; standing = s; seen = seen }) (record { possible = q; standing = t; seen = other })
+same_known = search rules
 
-possible_of-nil : (c : Cell) → possible_of [] c ≡ Any
+-- without a mark any word is possible, in each place
+possible_of-nil : (cell : Cell) → possible_of [] cell ≡ Any
 unfolding possible_of
-possible_of-nil c = refl
+possible_of-nil = search rules
 
+-- any word in each place
 any_table : table places (λ _. Any) ≡ all_any
-unfolding all_any
-any_table = table-same places (λ _. Any) Any (λ _. refl)
+unfolding all_any table
+any_table = search rules
 
+-- without a mark nothing is known
 pub known_now-nil : known_now [] ≡ nothing_known
-unfolding known_now nothing_known all_any all_unknown
-known_now-nil =
-    same_known _ _ _ _ _ _ (table-same places (possible_of []) Any possible_of-nil)
-    (table-same places (standing_of []) Unknown (λ _. refl)) refl
+unfolding known_now nothing_known all_any all_unknown table possible_of
+known_now-nil = search rules
 
-put_possible : (ms : List Mark) (c : Cell) (w : ℕ) → IsCell 8 c
-    → table places (possible_of (Put c w ∷ ms)) ≡ set (table places (possible_of ms)) (place_of c) (joined (possible_of ms c) w)
-put_possible ms c w there =
-    table-set (possible_of ms) (possible_of (Put c w ∷ ms)) c (joined (possible_of ms c) w) there
-    (possible_of-put_same ms c w) (λ d other. possible_of-put_other ms c d w other)
+-- the list of possible words after a write
+put_possible : (before : List Mark) (cell : Cell) (word : ℕ) → IsCell 8 cell
+    → table places (possible_of (Put cell word ∷ before))
+    ≡ set (table places (possible_of before)) (place_of cell) (joined (possible_of before cell) word)
+put_possible before cell word there =
+    table-set (possible_of before) (possible_of (Put cell word ∷ before)) cell (joined (possible_of before cell) word) there
+    (possible_of-put_same before cell word) (λ d other. possible_of-put_other before cell d word other)
 
-good_possible : (ms : List Mark) (c : Cell) (w : ℕ) → IsCell 8 c → (expected : Bool) → is_possible w (possible_of ms c) ≡ expected
-    → table places (possible_of (Good c w ∷ ms)) ≡ set (cond expected (table places (possible_of ms)) all_any) (place_of c) (only w)
-good_possible ms c w there true e =
-    table-set (possible_of ms) (possible_of (Good c w ∷ ms)) c (only w) there
-    (possible_of-good_same ms c w)
-    (λ d other. possible_of-good_other ms c d w other ∙ ap (λ b. cond b (possible_of ms d) Any) e)
-good_possible ms c w there false e =
-    table-set (λ _. Any) (possible_of (Good c w ∷ ms)) c (only w) there
-    (possible_of-good_same ms c w)
-    (λ d other. possible_of-good_other ms c d w other ∙ ap (λ b. cond b (possible_of ms d) Any) e)
-    ∙ ap (λ xs. set xs (place_of c) (only w)) any_table
+-- the list after a good answer, which was possible or not
+good_possible : (before : List Mark) (cell : Cell) (word : ℕ) → IsCell 8 cell → (expected : Bool)
+    → is_possible word (possible_of before cell) ≡ expected
+    → table places (possible_of (Good cell word ∷ before))
+    ≡ set (cond expected (table places (possible_of before)) all_any) (place_of cell) (only word)
+good_possible before cell word there true e =
+    table-set (possible_of before) (possible_of (Good cell word ∷ before)) cell (only word) there
+    (possible_of-good_same before cell word)
+    (λ d other. possible_of-good_other before cell d word other ∙ ap (λ b. cond b (possible_of before d) Any) e)
+good_possible before cell word there false e =
+    table-set (λ _. Any) (possible_of (Good cell word ∷ before)) cell (only word) there
+    (possible_of-good_same before cell word)
+    (λ d other. possible_of-good_other before cell d word other ∙ ap (λ b. cond b (possible_of before d) Any) e)
+    ∙ ap (λ xs. set xs (place_of cell) (only word)) any_table
 
-put_standing : (ms : List Mark) (c : Cell) (w : ℕ) → IsCell 8 c
-    → table places (standing_of (Put c w ∷ ms)) ≡ set (table places (standing_of ms)) (place_of c) Unknown
-put_standing ms c w there =
-    table-set (standing_of ms) (standing_of (Put c w ∷ ms)) c Unknown there
-    (rw (same_cell_itself c) refl) (λ d other. (standing_of-other ms c d w other).0)
+-- what is said of the cells after a write
+put_standing : (before : List Mark) (cell : Cell) (word : ℕ) → IsCell 8 cell
+    → table places (standing_of (Put cell word ∷ before)) ≡ set (table places (standing_of before)) (place_of cell) Unknown
+put_standing before cell word there =
+    table-set (standing_of before) (standing_of (Put cell word ∷ before)) cell Unknown there
+    (rw (same_cell_itself cell) refl) (λ d other. (standing_of-other before cell d word other).0)
 
-good_standing : (ms : List Mark) (c : Cell) (w : ℕ) → IsCell 8 c
-    → table places (standing_of (Good c w ∷ ms)) ≡ set (table places (standing_of ms)) (place_of c) (Confirmed w)
-good_standing ms c w there =
-    table-set (standing_of ms) (standing_of (Good c w ∷ ms)) c (Confirmed w) there
-    (rw (same_cell_itself c) refl) (λ d other. (standing_of-other ms c d w other).1)
+-- after a good answer
+good_standing : (before : List Mark) (cell : Cell) (word : ℕ) → IsCell 8 cell
+    → table places (standing_of (Good cell word ∷ before)) ≡ set (table places (standing_of before)) (place_of cell) (Confirmed word)
+good_standing before cell word there =
+    table-set (standing_of before) (standing_of (Good cell word ∷ before)) cell (Confirmed word) there
+    (rw (same_cell_itself cell) refl) (λ d other. (standing_of-other before cell d word other).1)
 
-restart_possible : (ms : List Mark) (c : Cell) → possible_of (Restart ∷ ms) c ≡ possible_of [] c
+-- after a restart it is as without a mark
+restart_possible : (before : List Mark) (cell : Cell) → possible_of (Restart ∷ before) cell ≡ possible_of [] cell
 unfolding possible_of
-restart_possible ms c = refl
+restart_possible = search rules
 
+-- that is any word in each place
 nil_possible : table places (possible_of []) ≡ all_any
-unfolding all_any
-nil_possible = table-same places (possible_of []) Any possible_of-nil
+unfolding all_any table possible_of
+nil_possible = search rules
 
+-- and nothing is said of any cell
 unknown_all : replicate places Unknown ≡ all_unknown
 unfolding all_unknown
-unknown_all = refl
+unknown_all = search rules
 
-pub known_now-next : (ms : List Mark) (m : Mark) → IsMark m → known_now (m ∷ ms) ≡ known_after (known_now ms) m
+-- one more mark makes of what is known what `known_after` says
+pub known_now-next : (before : List Mark) (m : Mark) → IsMark m → known_now (m ∷ before) ≡ known_after (known_now before) m
 unfolding known_now nothing_known
-known_now-next ms (Put c w) there =
-    same_known _ _ _ _ _ _
-    (put_possible ms c w there
-    ∙ ap (λ p. set (table places (possible_of ms)) (place_of c) (joined p w)) (sym (known_now-possible ms c there)))
-    (put_standing ms c w there) refl
-known_now-next ms (Good c w) there =
-    let held = known_now-possible ms c there in
-    same_known _ _ _ _ _ _
-    (good_possible ms c w there (is_possible w (possible_of ms c)) refl
-    ∙ ap (λ p. set (cond (is_possible w p) (table places (possible_of ms)) all_any) (place_of c) (only w)) (sym held))
-    (good_standing ms c w there)
-    (ap (λ p. not (is_possible w p) || restart_seen_of ms) (sym held))
-known_now-next ms Restart there =
-    same_known _ _ _ _ _ _
-    (table-agree places (possible_of (Restart ∷ ms)) (possible_of []) (λ c. restart_possible ms c) ∙ nil_possible)
-    (table-same places (standing_of (Restart ∷ ms)) Unknown (λ _. refl) ∙ unknown_all) refl
+known_now-next before (Put cell word) there =
+    same_known
+    (put_possible before cell word there
+    ∙ ap (λ p. set (table places (possible_of before)) (place_of cell) (joined p word)) (sym (known_now-possible before cell there)))
+    (put_standing before cell word there) refl
+known_now-next before (Good cell word) there =
+    let held = known_now-possible before cell there in
+    same_known
+    (good_possible before cell word there (is_possible word (possible_of before cell)) refl
+    ∙ ap (λ p. set (cond (is_possible word p) (table places (possible_of before)) all_any) (place_of cell) (only word)) (sym held))
+    (good_standing before cell word there)
+    (ap (λ p. not (is_possible word p) || restart_seen_of before) (sym held))
+known_now-next before Restart there =
+    same_known
+    (table-agree places (possible_of (Restart ∷ before)) (possible_of []) (λ cell. restart_possible before cell) ∙ nil_possible)
+    (table-same places (standing_of (Restart ∷ before)) Unknown (λ _. refl) ∙ unknown_all) refl

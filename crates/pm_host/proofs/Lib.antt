@@ -1,4 +1,6 @@
+pub mod Bounds
 pub mod CellLemmas
+pub mod Changes
 pub mod Follows
 pub mod FrameLemmas
 pub mod Kept
@@ -7,4 +9,3 @@ pub mod Left
 pub mod Once
 pub mod OpenJobs
 pub mod RangeLemmas
-pub mod Turns

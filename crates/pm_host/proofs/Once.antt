@@ -1,5 +1,6 @@
 -- Lists in which each word stands once.
-use Rattle.std.proofs.Common.{◌≡◌, ℕ, Bool, true, false, not, ◌||◌, cond, eqb, List, [], ◌∷◌, ◌++◌, filter, refl, sym, ap, ◌∙◌, inl, inr}
+use Rattle.std.proofs.Common.{◌≡◌, ℕ, Bool, true, false, not, ◌||◌, cond, eqb, List, [], ◌∷◌, ◌++◌, filter, refl, sym, ap, ◌∙◌, inl}
+use Rattle.std.proofs.Common.{inr}
 use Rattle.std.proofs.lemmas.List.{append-nil}
 use Rattle.std.proofs.lemmas.List.Elements.{filter-append}
 use Rattle.std.proofs.lemmas.Bool.{cases_eq, eq-eqb, ne_eqb, or_right}
@@ -16,6 +17,7 @@ is_listed-filter w x differ (y ∷ ys) =
       | inr apart ↦ rw (ne_eqb y x apart) (ap (λ b. eqb y w || b) (is_listed-filter w x differ ys))
     ]
 
+-- nothing that is listed is lost
 pub is_listed-once : (w : ℕ) (xs : List ℕ) → is_listed w (once xs) ≡ is_listed w xs
 is_listed-once w [] = refl
 is_listed-once w (x ∷ xs) =
@@ -34,6 +36,7 @@ once_step w x xs false h =
       | inr apart ↦ rw (ne_eqb x w apart, ne_eqb w x (λ e. apart (sym e))) refl
     ])
 
+-- the same for a list of any length
 pub once-push : (w : ℕ) (xs : List ℕ) → once (xs ++ w ∷ []) ≡ cond (is_listed w xs) (once xs) (once xs ++ w ∷ [])
 once-push w [] = refl
 once-push w (x ∷ xs) = once_step w x xs (is_listed w xs) (once-push w xs)

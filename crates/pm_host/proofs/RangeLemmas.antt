@@ -1,8 +1,8 @@
 -- Whether a number lies in a format's range, as a test and as a fact.
-use Rattle.std.proofs.Common.{◌≡◌, ℕ, ◌+◌, ◌*◌, ◌<◌, ◌≤◌, ℤ, pos, ◌*ℤ◌, ◌+ℤ◌, ◌≤ℤ◌, ◌<ℤ◌, T, Bool, true, false, Some, None, refl, sym, ap, subst, arith}
+use Rattle.std.proofs.Common.{rules, ◌≡◌, ℕ, ◌+◌, ◌*◌, ◌<◌, ◌≤◌, ℤ, pos, ◌*ℤ◌, ◌+ℤ◌, ◌≤ℤ◌, ◌<ℤ◌, true, false, Some, None, refl}
+use Rattle.std.proofs.Common.{ap, arith}
 use Rattle.std.proofs.Math.Nat.{mul-le-mul_right}
 use Rattle.std.proofs.lemmas.Int.{ints, by_lt_z}
-use Rattle.std.proofs.lemmas.Bool.{false_from_ne_true}
 use borrow.Author.Differences.{up, down, product_is, le_out, lt_out}
 use Rattle.pm_num.specs.declared.fault.NumFault.{NumFault}
 use Rattle.pm_num.specs.declared.fault.NumFault.TheVariants.{ZeroSlope, ExponentRange, BelowLeast, AboveGreatest, TooLarge}
@@ -18,20 +18,24 @@ times-times a m n =
     let f = ap (λ (k : ℕ). k * n) (product_is a (pos m)).1 in
     omega (arith, ints)
 
+-- in either order
 times-swap : (a : ℤ) (m n : ℕ) → (a *ℤ pos m) *ℤ pos n ≡ (a *ℤ pos n) *ℤ pos m
 times-swap a m n = let e = times-times a m n in let f = times-times a n m in omega (arith, ints)
 
+-- order is kept by the product with a positive number, both ways
 le-times : (a b : ℤ) (n : ℕ) → a ≤ℤ b → (a *ℤ pos n) ≤ℤ (b *ℤ pos n)
 le-times a b n h =
     let k : (up a + down b) * n ≤ (up b + down a) * n = mul-le-mul_right n (le_out a b h) in
     omega (arith, ints)
 
+-- strict order too
 lt-times : (a b : ℤ) (n : ℕ) → a <ℤ b → (a *ℤ pos n +ℤ pos n) ≤ℤ (b *ℤ pos n)
 lt-times a b n h =
     let j : up a + down b + 1 ≤ up b + down a = omega (arith, lt_out a b h) in
     let k : (up a + down b + 1) * n ≤ (up b + down a) * n = mul-le-mul_right n j in
     omega (arith, ints)
 
+-- and back
 le_from_times : (a b : ℤ) (n : ℕ) → 0 < n → (a *ℤ pos n) ≤ℤ (b *ℤ pos n) → a ≤ℤ b
 le_from_times a b n h le = by_lt_z b a (λ less. let k = lt-times b a n less in absurd (omega (arith, ints))) (λ p. p)
 
@@ -45,23 +49,21 @@ AtMost-above l h x den le less =
     let e = times-swap x.num h.den l.den in
     le_from_times (l.num *ℤ pos x.den) (x.num *ℤ pos l.den) h.den den (omega (arith, ints))
 
--- the test
-from_T : (b : Bool) → T b → b ≡ true
-from_T true h = refl
-from_T false h = absurd h
-
+-- the test says what the relation does
 pub is_at_most-true : (p q : Ratio) → AtMost p q → is_at_most p q ≡ true
-is_at_most-true p q h = from_T _ h.le
+is_at_most-true = search rules
 
+-- and where it doesn't hold
 pub is_at_most-false : (p q : Ratio) → LessThan q p → is_at_most p q ≡ false
-is_at_most-false p q less = false_from_ne_true (is_at_most p q) (λ e.
-    let h : AtMost p q = record { le = subst T (sym e) tt } in absurd (omega (arith, ints)))
+is_at_most-false = search rules
 
 -- the refusal of a number outside a format, and of none inside
 pub outside_fault-none : (l h x : Ratio) → IsBetween l h x → outside_fault l h x ≡ None
-outside_fault-none l h x between = rw (is_at_most-true l x between.from_least, is_at_most-true x h between.to_greatest) refl
+outside_fault-none = search rules
 
-pub outside_fault-some : (l h x : Ratio) (fault : NumFault) → 0 < h.den → AtMost l h → IsOutside l h x fault → outside_fault l h x ≡ Some fault
+-- N3 below the least value, N4 above the greatest
+pub outside_fault-some : (l h x : Ratio) (fault : NumFault) → 0 < h.den → AtMost l h → IsOutside l h x fault
+    → outside_fault l h x ≡ Some fault
 outside_fault-some l h x BelowLeast den le less = rw (is_at_most-false l x less) refl
 outside_fault-some l h x AboveGreatest den le less =
     rw (is_at_most-true l x (AtMost-above l h x den le less), is_at_most-false x h less) refl

@@ -1,3 +1,6 @@
+pub mod CutLemmas
 pub mod Joins
 pub mod LineLemmas
+pub mod PairLemmas
 pub mod ReadingLemmas
+pub mod Writing

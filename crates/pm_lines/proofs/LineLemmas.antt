@@ -1,5 +1,6 @@
 -- How the lines of a text and the words of a line come off one after another, at the first mark.
-use Rattle.std.proofs.Common.{◌≡◌, ℕ, ◌+◌, ◌<◌, ◌≤◌, eqb, Bool, true, false, List, [], ◌∷◌, length, map, refl, sym, ap, ◌∙◌, arith, ◌⊎◌, inl, inr}
+use Rattle.std.proofs.Common.{◌≡◌, ℕ, ◌+◌, ◌<◌, ◌≤◌, eqb, Bool, true, false, List, [], ◌∷◌, length, map, refl, sym, ap, ◌∙◌, arith, ◌⊎◌}
+use Rattle.std.proofs.Common.{inl, inr}
 use Rattle.std.specs.List.{slice_split, before_first, after_first, position_or_len}
 use Rattle.std.proofs.lemmas.Bool.{cases_lt}
 use Rattle.std.proofs.lemmas.List.{take_all, length-drop, nil_from_length}
@@ -22,7 +23,8 @@ first_piece p xs =
     elim (cases_lt (position_or_len p xs) (length xs)) [
       | inl marked ↦ inl (slice_split_first p xs 0 marked)
       | inr none ↦ inr (record {
-        pieces = slice_split_none p xs (λ k d below. let first : k < position_or_len p xs = omega arith in fails_before_first p xs k d first);
+        pieces = slice_split_none p xs
+            (λ k d below. let first : k < position_or_len p xs = omega arith in fails_before_first p xs k d first);
         before = take_all (position_or_len p xs) xs none;
         after = drop_of_length-le xs {i = position_or_len p xs + 1} (omega arith);
       })
@@ -35,7 +37,8 @@ shorter p xs rest after some =
     rw after (omega (arith, length-drop {A = ℕ} (position_or_len p xs + 1) xs))
 
 -- a piece with others behind it stays
-keeps : (piece : List ℕ) (pieces : List (List ℕ)) → 0 < length pieces → without_empty_last (piece ∷ pieces) ≡ piece ∷ without_empty_last pieces
+keeps : (piece : List ℕ) (pieces : List (List ℕ)) → 0 < length pieces
+    → without_empty_last (piece ∷ pieces) ≡ piece ∷ without_empty_last pieces
 keeps piece [] some = absurd (omega arith)
 keeps piece (next ∷ pieces) some = refl
 
@@ -49,10 +52,12 @@ ended_first : (p : ℕ → Bool) (xs : List ℕ) → 0 < length xs
     → without_empty_last (slice_split p xs) ≡ before_first p xs ∷ without_empty_last (slice_split p (after_first p xs))
 ended_first p xs some =
     elim (first_piece p xs) [
-      | inl marked ↦ rw marked (keeps (before_first p xs) (slice_split p (after_first p xs)) (omega (arith, length-slice_split p (after_first p xs))))
+      | inl marked ↦ rw marked (keeps (before_first p xs) (slice_split p (after_first p xs))
+          (omega (arith, length-slice_split p (after_first p xs))))
       | inr last ↦ rw (last.pieces, last.before, last.after) (single xs some)
     ]
 
+-- an empty text has no lines
 pub lines-nil : lines_of [] ≡ []
 unfolding lines_of
 lines-nil = refl
@@ -63,6 +68,7 @@ pub lines-first : (text : List ℕ) → 0 < length text
 unfolding lines_of
 lines-first text some = ap (map without_return) (ended_first is_line_feed text some)
 
+-- nor one that is not skipped
 pub unskipped-nil : (first : ℕ) → unskipped_from first [] ≡ []
 unfolding unskipped_from
 unskipped-nil first = rw lines-nil refl
@@ -75,10 +81,12 @@ unskipped-skipped first text some skipped = rw (lines-first text some) (rw skipp
 
 -- a first line that is not skipped
 pub unskipped-first : (first : ℕ) (text : List ℕ) → 0 < length text → is_skipped (without_return (before_first is_line_feed text)) ≡ false
-    → unskipped_from first text ≡ (first, without_return (before_first is_line_feed text)) ∷ unskipped_from (first + 1) (after_first is_line_feed text)
+    → unskipped_from first text ≡ (first, without_return (before_first is_line_feed text))
+    ∷ unskipped_from (first + 1) (after_first is_line_feed text)
 unfolding unskipped_from
 unskipped-first first text some unskipped = rw (lines-first text some) (rw unskipped refl)
 
+-- an empty line has no words
 pub words-nil : words_of [] ≡ []
 unfolding words_of
 words-nil = refl
@@ -112,12 +120,14 @@ pub words-after_empty : (line word rest : List ℕ) → word ≡ before_first is
 words-after_empty line word rest before after empty =
     words-spaced line (sym before ∙ empty_nil word empty) ∙ ap words_of (sym after)
 
+-- a word, and what follows its space
 pub words-after : (line word rest : List ℕ) → word ≡ before_first is_space line → rest ≡ after_first is_space line
     → eqb (length word) 0 ≡ false → words_of line ≡ word ∷ words_of rest
 words-after line [] rest before after some = absurd (cc)
 words-after line (byte ∷ bytes) rest before after some =
     words-first line byte bytes (sym before) ∙ ap (λ r. (byte ∷ bytes) ∷ words_of r) (sym after)
 
+-- no byte is left of the line
 pub words-end : (line : List ℕ) → eqb (length line) 0 ≡ true → words_of line ≡ []
 words-end line empty = ap words_of (empty_nil line empty) ∙ words-nil
 
@@ -129,6 +139,7 @@ unskipped-after_skipped first text line rest before after some skipped =
     let more : 0 < length text = grind (arith, nat_tests) in
     unskipped-skipped first text more (sym (ap is_skipped before) ∙ skipped) ∙ ap (unskipped_from (first + 1)) (sym after)
 
+-- a line that is not skipped, and what follows it
 pub unskipped-after : (first : ℕ) (text line rest : List ℕ) → line ≡ without_return (before_first is_line_feed text)
     → rest ≡ after_first is_line_feed text → eqb (length text) 0 ≡ false → is_skipped line ≡ false
     → unskipped_from first text ≡ (first, line) ∷ unskipped_from (first + 1) rest
@@ -138,6 +149,7 @@ unskipped-after first text line rest before after some unskipped =
     ∙ ap (λ l. (first, l) ∷ unskipped_from (first + 1) (after_first is_line_feed text)) (sym before)
     ∙ ap (λ r. (first, line) ∷ unskipped_from (first + 1) r) (sym after)
 
+-- a line more than what follows it
 pub lines-counted : (text rest : List ℕ) → rest ≡ after_first is_line_feed text → eqb (length text) 0 ≡ false
     → length (lines_of text) ≡ length (lines_of rest) + 1
 lines-counted text rest after some =
@@ -145,8 +157,10 @@ lines-counted text rest after some =
     let counted = ap length (lines-first text more) in
     rw after (omega (arith, counted))
 
+-- no byte is left of the text
 pub unskipped-end : (first : ℕ) (text : List ℕ) → eqb (length text) 0 ≡ true → unskipped_from first text ≡ []
 unskipped-end first text empty = ap (unskipped_from first) (empty_nil text empty) ∙ unskipped-nil first
 
+-- nor a line
 pub lines-end : (text : List ℕ) → eqb (length text) 0 ≡ true → lines_of text ≡ []
 lines-end text empty = ap lines_of (empty_nil text empty) ∙ lines-nil

@@ -1,36 +1,43 @@
 -- That `std` reads a text without a leading `+` as the definitions of `specs/Digits.antt` do.
-use Rattle.std.proofs.Common.{◌≡◌, ◌≢◌, ◌∙◌, ◌+◌, ◌-◌, ◌*◌, ◌^◌, ◌<◌, ◌≤◌, ◌&&◌, ℕ, ℤ, pos, neg_ℤ, Bool, true, false, cond, zero, suc, refl, lit<, lit≤, sym, ap, ap₂, subst, Decides, arith, List, [], ◌∷◌, length, get_or, Some, None, Result, Ok, Err, option_map, eqb, nat_lt, lt-ltb, ltb-true, true≢false, eq-eqb}
+use Rattle.std.proofs.Common.{◌≡◌, ◌≢◌, ◌∙◌, ◌+◌, ◌-◌, ◌*◌, ◌^◌, ◌<◌, ◌≤◌, ◌&&◌, ℕ, ℤ, pos, neg_ℤ, Bool, true, false, cond, zero, suc, refl}
+use Rattle.std.proofs.Common.{lit<, lit≤, sym, ap, ap₂, subst, Decides, arith, List, [], ◌∷◌, length, get_or, Option, Some, None, Result}
+use Rattle.std.proofs.Common.{Ok, Err, option_map, eqb, nat_lt, lt-ltb, ltb-true, true≢false, eq-eqb}
 use Rattle.std.specs.Option.{IfNone, option_and_then}
 use Rattle.std.specs.Result.{MatchResult, OkIff, result_ok}
 use Rattle.std.specs.Int.{IsInRange}
-use Rattle.std.specs.Char.{digit_value}
+use Rattle.hex.specs.Hex.{hex_digit_value, is_hex_digit}
 use Rattle.std.specs.Str.{IsAscii, IsUtf8}
-use Rattle.std.specs.Str.Parse.{AllDigits, IsNumeral, ParsesSigned, ParsesUnsigned, digits_value, digits_value_after}
-use Rattle.std.proofs.lemmas.Str.Parse.{IsDigitsTest, IsNumeralModel, WeighsDigits, numerals_by_weight, parse_plain, parse_signed_minus, parse_signed_plain, without_leading_plus_none}
+use Rattle.std.specs.Str.Parse.{ParsesSigned, ParsesUnsigned}
+use Rattle.std.proofs.lemmas.Str.Parse.{IsDigitsTest, IsNumeralModel, WeighsDigits, numerals_by_weight, parse_plain, parse_signed_minus}
+use Rattle.std.proofs.lemmas.Str.Parse.{parse_signed_plain}
 use Rattle.std.proofs.lemmas.Bool.Decides.{nat_tests, Decides-eqb}
 use Rattle.std.proofs.lemmas.Nat.{pow_pos}
 use Rattle.std.proofs.lemmas.Str.{IsUtf8-from_ascii}
-use Rattle.std.proofs.lemmas.Int.Digits.{digits_value-lt}
-use Rattle.std.proofs.Math.Nat.{pow-suc}
 use mir.Syntax.{Width}
 use mir.Val.{hbits}
+use Rattle.pm_lines.specs.Pairs.{byte_of, digit_value, pair_of}
 use Rattle.pm_lines.specs.Digits.{are_digits, decimal_of, digit, fits, hex_of, natural_of, place_sum, signed_of, small_of}
 
+-- two tests that hold
 both : (a b : Bool) → (a && b) ≡ true → (a ≡ true) × (b ≡ true)
 both true b e = (refl, e)
 both false b e = absurd (true≢false (sym e))
 
 -- ---- digits
 
+-- a decimal digit is one of `0` to `9`
 decimal_digit : (c : ℕ) → nat_lt (digit c) 10 ≡ true → IsInRange 48 57 c
 decimal_digit c e = grind (arith, nat_tests)
 
+-- the value of a decimal digit
 digit_decimal : (c : ℕ) → IsInRange 48 57 c → digit c ≡ c - 48
 digit_decimal c h = grind (arith, nat_tests)
 
+-- which is below 10
 digit_below : (c : ℕ) → IsInRange 48 57 c → nat_lt (digit c) 10 ≡ true
 digit_below c h = let e = digit_decimal c h in grind (arith, nat_tests)
 
+-- the test of decimal digits is one in `std`'s sense
 decimal_test : IsDigitsTest (λ ds. are_digits 10 ds ≡ true)
 decimal_test = record {
   empty = refl;
@@ -38,18 +45,22 @@ decimal_test = record {
   more = λ c cs h e. ap₂ (λ x y. x && y) (digit_below c h) e;
 }
 
+-- and so is their value
 decimal_weights : WeighsDigits (place_sum 10)
 decimal_weights = record {
   empty = refl;
   more = λ c cs h. ap (λ d. d * 10 ^ length cs + place_sum 10 cs) (digit_decimal c h);
 }
 
+-- decimal numbers as `std` reads them
 own : IsNumeralModel (λ ds. are_digits 10 ds ≡ true) (place_sum 10)
 own = numerals_by_weight _ decimal_test (place_sum 10) decimal_weights
 
 -- ---- a result that is as a test says
 
-as_tested : {T E : Type 0} (r : Result T E) (test : Bool) (P : Type 0) (x : T) → OkIff r P x → (test ≡ true → P) → (P → test ≡ true) → result_ok r ≡ cond test (Some x) None
+-- a result that is there exactly where a test holds
+as_tested : {T E : Type 0} (r : Result T E) (test : Bool) (P : Type 0) (x : T) → OkIff r P x → (test ≡ true → P) → (P → test ≡ true)
+    → result_ok r ≡ cond test (Some x) None
 as_tested (Ok y) true P x h to from = ap Some h.1
 as_tested (Ok y) false P x h to from = absurd (true≢false (sym (from h.0)))
 as_tested (Err e) true P x h to from = absurd (h (to refl))
@@ -57,16 +68,19 @@ as_tested (Err e) false P x h to from = refl
 
 -- ---- signed numbers
 
+-- what a negative number that fits says of its digits
 fits_minus : (bits n : ℕ) → fits bits (neg_ℤ (pos n)) ≡ true → n ≤ 2 ^ (bits - 1)
 fits_minus bits zero e = omega arith
 fits_minus bits (suc n) e = ltb-true _ _ e
 
+-- and back
 minus_fits : (bits n : ℕ) → n ≤ 2 ^ (bits - 1) → fits bits (neg_ℤ (pos n)) ≡ true
 minus_fits bits zero h = lt-ltb 0 (2 ^ (bits - 1)) (pow_pos (bits - 1))
 minus_fits bits (suc n) h = lt-ltb n (2 ^ (bits - 1)) h
 
 -- two tests, one after the other
-nested : (a : Bool) (n : ℕ) (f : ℕ → ℤ) (bits : ℕ) → option_and_then (λ z. cond (fits bits z) (Some z) None) (option_map f (cond a (Some n) None))
+nested : (a : Bool) (n : ℕ) (f : ℕ → ℤ) (bits : ℕ)
+    → option_and_then (λ z. cond (fits bits z) (Some z) None) (option_map f (cond a (Some n) None))
     ≡ cond (a && fits bits (f n)) (Some (f n)) None
 nested true n f bits = refl
 nested false n f bits = refl
@@ -87,7 +101,8 @@ module _ {E : Type 0} (w : Width) (bits : ℕ) (same : hbits w ≡ bits - 1) (r 
       as_tested r _ _ _ (parse_signed_minus own w (c ∷ rest) r h is)
       (λ e. let p = both (nat_lt 0 (length rest) && are_digits 10 rest) _ e in let q = both (nat_lt 0 (length rest)) _ p.0 in
       (q.1, ltb-true _ _ q.0, subst (λ k. place_sum 10 rest ≤ 2 ^ k) (sym same) (fits_minus bits (place_sum 10 rest) p.1)))
-      (λ h. ap₂ (λ x y. x && y) (ap₂ (λ x y. x && y) (lt-ltb _ _ h.1) h.0) (minus_fits bits (place_sum 10 rest) (subst (λ k. place_sum 10 rest ≤ 2 ^ k) same h.2)))
+      (λ h. ap₂ (λ x y. x && y) (ap₂ (λ x y. x && y) (lt-ltb _ _ h.1) h.0)
+      (minus_fits bits (place_sum 10 rest) (subst (λ k. place_sum 10 rest ≤ 2 ^ k) same h.2)))
       ∙ sym (nested _ (place_sum 10 rest) (λ n. neg_ℤ (pos n)) bits)
 
   -- what `parse` reads is the number of the text
@@ -96,61 +111,71 @@ module _ {E : Type 0} (w : Width) (bits : ℕ) (same : hbits w ≡ bits - 1) (r 
   signed_read (c ∷ rest) h plus = go (eqb c 45) (Decides-eqb c 45)
     where
       go : (b : Bool) → Decides b (c ≡ 45)
-          → result_ok r ≡ option_and_then (λ z. cond (fits bits z) (Some z) None) (cond b (option_map (λ n. neg_ℤ (pos n)) (natural_of 10 rest)) (option_map (λ n. pos n) (natural_of 10 (c ∷ rest))))
+          → result_ok r ≡ option_and_then (λ z. cond (fits bits z) (Some z) None)
+          (cond b (option_map (λ n. neg_ℤ (pos n)) (natural_of 10 rest)) (option_map (λ n. pos n) (natural_of 10 (c ∷ rest))))
       go true d = signed_minus c rest h (d.0 refl)
       go false d = signed_plain (c ∷ rest) h plus (λ e. true≢false (sym (d.1 e)))
 
 -- ---- hexadecimal
 
-digit_known : (c : ℕ) → nat_lt (digit c) 16 ≡ true → (digit_value c < 16) × (digit c ≡ digit_value c)
-digit_known c e = (grind (arith, nat_tests), grind (arith, nat_tests))
+-- a digit is read as `hex` reads it
+digit_is : (c : ℕ) → hex_digit_value c ≡ cond (nat_lt (digit c) 16) (Some (digit c)) None
+digit_is c = grind (arith, nat_tests)
 
-known_digit : (c : ℕ) → digit_value c < 16 → nat_lt (digit c) 16 ≡ true
-known_digit c h = grind (arith, nat_tests)
-
-all_known : (text : List ℕ) → are_digits 16 text ≡ true → AllDigits 16 text
-all_known [] e = tt
-all_known (c ∷ cs) e = let p = both (nat_lt (digit c) 16) _ e in ((digit_known c p.0).0, all_known cs p.1)
-
-known_all : (text : List ℕ) → AllDigits 16 text → are_digits 16 text ≡ true
-known_all [] h = refl
-known_all (c ∷ cs) h = ap₂ (λ x y. x && y) (known_digit c h.0) (known_all cs h.1)
-
--- the digits after those of n, each at its place
-places_after : (n : ℕ) (text : List ℕ) → are_digits 16 text ≡ true → digits_value_after 16 n text ≡ n * 16 ^ length text + place_sum 16 text
-places_after n [] e = omega arith
-places_after n (c ∷ cs) e =
-    let p = both (nat_lt (digit c) 16) _ e in
-    let same = (digit_known c p.0).1 in
-    let rest = places_after (n * 16 + digit_value c) cs p.1 in
-    rest ∙ (let power : 16 ^ suc (length cs) ≡ 16 ^ length cs * 16 = pow-suc 16 (length cs) in rw (same, power) (omega arith))
-
--- what `from_str_radix` reads of as many digits as the type has is their number
-pub hex_read : {E : Type 0} (bits count : ℕ) (same : 16 ^ count ≡ 2 ^ bits) (r : Result ℕ E) (text : List ℕ) → ParsesUnsigned bits 16 text r → get_or text 0 0 ≢ 43 → length text ≡ count
-    → result_ok r ≡ hex_of count text
-hex_read bits count same r text h plus counted =
-    let bare : OkIff r (IsNumeral 16 text × (digits_value 16 text < 2 ^ bits)) (digits_value 16 text) =
-    subst (λ t. OkIff r (IsNumeral 16 t × (digits_value 16 t < 2 ^ bits)) (digits_value 16 t)) (without_leading_plus_none text plus) h in
-    as_tested r (nat_lt 0 (length text) && are_digits 16 text) _ _ bare
-    (λ e. let p = both (nat_lt 0 (length text)) _ e in let all = all_known text p.1 in
-    ((ltb-true _ _ p.0, all), subst (λ k. digits_value 16 text < k) (ap (λ k. 16 ^ k) counted ∙ same) (digits_value-lt 16 text all)))
-    (λ k. ap₂ (λ x y. x && y) (lt-ltb _ _ k.0.0) (known_all text k.0.1))
-    ∙ go (nat_lt 0 (length text)) (are_digits 16 text) (λ e. places_after 0 text e ∙ omega arith) ∙ rw (eq-eqb (length text) count counted) refl
+-- two digits write a byte
+pub pair_is : (high low : ℕ) → pair_of high low ≡ hex_of 2 (high ∷ low ∷ [])
+pair_is high low =
+    by (nat_lt (digit high) 16) (nat_lt (digit low) 16) (digit_is high) (digit_is low)
   where
-    go : (some digits : Bool) → (digits ≡ true → digits_value 16 text ≡ place_sum 16 text)
-        → cond (some && digits) (Some (digits_value 16 text)) None ≡ cond (some && digits) (Some (place_sum 16 text)) None
-    go true true same = ap Some (same refl)
-    go true false same = refl
-    go false digits same = refl
+    by : (first second : Bool) → hex_digit_value high ≡ cond first (Some (digit high)) None
+        → hex_digit_value low ≡ cond second (Some (digit low)) None
+        → pair_of high low ≡ cond (first && (second && true)) (Some (digit high * 16 ^ 1 + (digit low * 16 ^ 0 + 0))) None
+    by true true is too = rw (is, too) (ap Some (omega arith))
+    by true false is too = rw (is, too) refl
+    by false second is too = rw is refl
+
+-- the word of two bytes
+abbrev pub word_of : Option ℕ → Option ℕ → Option ℕ
+word_of (Some high) (Some low) = Some (high * 256 + low)
+word_of (Some high) None = None
+word_of None low = None
+
+-- four digits write two bytes, the high one first
+pairs_are : (a b c d : ℕ) → hex_of 4 (a ∷ b ∷ c ∷ d ∷ []) ≡ word_of (hex_of 2 (a ∷ b ∷ [])) (hex_of 2 (c ∷ d ∷ []))
+pairs_are a b c d = by (nat_lt (digit a) 16) (nat_lt (digit b) 16) (nat_lt (digit c) 16) (nat_lt (digit d) 16)
+  where
+    by : (p q r s : Bool)
+        → cond (p && (q && (r && (s && true)))) (Some (digit a * 16 ^ 3 + (digit b * 16 ^ 2 + (digit c * 16 ^ 1 + (digit d * 16 ^ 0 + 0)))))
+        None
+        ≡ word_of (cond (p && (q && true)) (Some (digit a * 16 ^ 1 + (digit b * 16 ^ 0 + 0))) None)
+        (cond (r && (s && true)) (Some (digit c * 16 ^ 1 + (digit d * 16 ^ 0 + 0))) None)
+    by true true true true = ap Some (omega arith)
+    by true true true false = refl
+    by true true false s = refl
+    by true false r s = refl
+    by false q r s = refl
+
+-- four digits write the word of two bytes
+pub word_is : (text : List ℕ) → length text ≡ 4
+    → hex_of 4 text ≡ word_of (pair_of (get_or text 0 0) (get_or text 1 0)) (pair_of (get_or text 2 0) (get_or text 3 0))
+word_is [] four = absurd (omega arith)
+word_is (a ∷ []) four = absurd (omega arith)
+word_is (a ∷ b ∷ []) four = absurd (omega arith)
+word_is (a ∷ b ∷ c ∷ []) four = absurd (omega arith)
+word_is (a ∷ b ∷ c ∷ d ∷ []) four = pairs_are a b c d ∙ ap₂ word_of (sym (pair_is a b)) (sym (pair_is c d))
+word_is (a ∷ b ∷ c ∷ d ∷ more ∷ rest) four = absurd (omega arith)
 
 -- ---- small numbers
 
-nested_small : (a : Bool) (n : ℕ) → option_and_then (λ n. cond (nat_lt n 256) (Some n) None) (cond a (Some n) None) ≡ cond (a && nat_lt n 256) (Some n) None
+-- two tests, one after the other
+nested_small : (a : Bool) (n : ℕ)
+    → option_and_then (λ n. cond (nat_lt n 256) (Some n) None) (cond a (Some n) None) ≡ cond (a && nat_lt n 256) (Some n) None
 nested_small true n = refl
 nested_small false n = refl
 
 -- what `parse` reads of a text without a leading `+` as a byte
-pub small_read : {E : Type 0} (r : Result ℕ E) (text : List ℕ) → ParsesUnsigned 8 10 text r → get_or text 0 0 ≢ 43 → result_ok r ≡ small_of text
+pub small_read : {E : Type 0} (r : Result ℕ E) (text : List ℕ) → ParsesUnsigned 8 10 text r → get_or text 0 0 ≢ 43
+    → result_ok r ≡ small_of text
 small_read r text h plus =
     as_tested r _ _ _ (parse_plain own 8 text r h plus)
     (λ e. let p = both (nat_lt 0 (length text) && are_digits 10 text) _ e in let q = both (nat_lt 0 (length text)) _ p.0 in
@@ -160,14 +185,17 @@ small_read r text h plus =
 
 -- ---- bytes that are no text
 
+-- a digit is ASCII
 digit_ascii : (base c : ℕ) → base ≤ 16 → nat_lt (digit c) base ≡ true → c < 128
 digit_ascii base c within e = grind (arith, nat_tests)
 
+-- so are digits
 digits_ascii : (base : ℕ) → base ≤ 16 → (text : List ℕ) → are_digits base text ≡ true → IsAscii text
 digits_ascii base within [] e i = lit< tt
 digits_ascii base within (c ∷ cs) e zero = digit_ascii base c within (both (nat_lt (digit c) base) _ e).0
 digits_ascii base within (c ∷ cs) e (suc i) = digits_ascii base within cs (both (nat_lt (digit c) base) _ e).1 i
 
+-- bytes beyond ASCII write no number
 natural_ascii : (base : ℕ) → base ≤ 16 → (text : List ℕ) → ¬ (IsAscii text) → natural_of base text ≡ None
 natural_ascii base within text broken =
     go (nat_lt 0 (length text)) (are_digits base text) (λ e. broken (digits_ascii base within text e))
@@ -181,6 +209,7 @@ natural_ascii base within text broken =
 pub natural_none : (base : ℕ) → base ≤ 16 → (text : List ℕ) → ¬ (IsUtf8 text) → natural_of base text ≡ None
 natural_none base within text broken = natural_ascii base within text (λ h. broken (IsUtf8-from_ascii text h))
 
+-- nor a number with a sign
 pub decimal_none : (text : List ℕ) → ¬ (IsUtf8 text) → decimal_of text ≡ None
 decimal_none [] broken = refl
 decimal_none (c ∷ cs) broken = go (eqb c 45) (Decides-eqb c 45)
@@ -191,10 +220,12 @@ decimal_none (c ∷ cs) broken = go (eqb c 45) (Decides-eqb c 45)
 
     go : (b : Bool) → Decides b (c ≡ 45)
         → cond b (option_map (λ n. neg_ℤ (pos n)) (natural_of 10 cs)) (option_map (λ n. pos n) (natural_of 10 (c ∷ cs))) ≡ None
-    go true d = ap (option_map (λ n. neg_ℤ (pos n))) (natural_ascii 10 (lit≤ tt) cs (λ h. broken (IsUtf8-from_ascii (c ∷ cs) (behind (d.0 refl) h))))
+    go true d = ap (option_map (λ n. neg_ℤ (pos n)))
+        (natural_ascii 10 (lit≤ tt) cs (λ h. broken (IsUtf8-from_ascii (c ∷ cs) (behind (d.0 refl) h))))
     go false d = ap (option_map (λ n. pos n)) (natural_none 10 (lit≤ tt) (c ∷ cs) broken)
 
 -- a result that is no text
-pub no_text : {S E U P : Type 0} (F : S → Type 0) (V : E → Type 0) (r : Result S E) → MatchResult r F (λ e. (¬ U) × V e) → (¬ U → P) → IfNone (result_ok r) P
+pub no_text : {S E U P : Type 0} (F : S → Type 0) (V : E → Type 0) (r : Result S E) → MatchResult r F (λ e. (¬ U) × V e) → (¬ U → P)
+    → IfNone (result_ok r) P
 no_text F V (Ok s) h none = tt
 no_text F V (Err e) h none = none h.0

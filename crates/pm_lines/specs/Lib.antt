@@ -1,7 +1,8 @@
+-- What the crate promises.
 pub mod Bytes
 pub mod Digits
 pub mod Faults
-pub mod FaultWords
 pub mod Lines
 pub mod Numbers
+pub mod Pairs
 pub mod Streams

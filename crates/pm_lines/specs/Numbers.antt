@@ -6,6 +6,10 @@ use Rattle.std.specs.Fmt.{digit_glyph}
 unfoldable pub hex_byte : ℕ → List ℕ
 hex_byte byte = digit_glyph true (byte / 16) ∷ digit_glyph true (byte % 16) ∷ []
 
+-- a word as four hexadecimal digits
+unfoldable pub hex_word : ℕ → List ℕ
+hex_word word = hex_byte (word / 256) ++ hex_byte (word % 256)
+
 -- the number that bytes are which went over the bus low byte first: the low byte is written last
 abbrev pub hex_number : List ℕ → List ℕ
 hex_number [] = []

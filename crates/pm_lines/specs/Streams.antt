@@ -2,7 +2,10 @@
 -- holds after it failed.
 use Rattle.std.specs.Prelude.{◌≡◌, ℕ, ◌<◌, ◌≤◌, Bool, List, ◌++◌, length, Option}
 use Rattle.std.specs.Io.KnownBytes.{Appends, Consumes, IsAtEnd}
-use Rattle.pm_lines.specs.declared.text.TheConstants.{MAX_TEXT}
+
+-- the most bytes that a text may have
+abbrev pub max_text : ℕ
+max_text = 1048576
 
 -- a reader or a writer, and whether it failed
 pub record Held (R : Type 0) : Type 0 where
@@ -19,4 +22,4 @@ AppendsFront old new bytes =
 pub record IsWholeText (old new : Option (List ℕ)) (text : List ℕ) : Type 0 where
   pub given : Consumes old new text
   pub ended : IsAtEnd new
-  pub short : length text ≤ MAX_TEXT
+  pub short : length text ≤ max_text

@@ -1,17 +1,17 @@
+//! The bytes that texts write in hexadecimal.
 ghost use Rattle.std.specs.Prelude.{◌≡◌, ◌⊎◌, ◌<◌, ℕ, List, ◌++◌, Some, None, Err, length};
-ghost use Rattle.std.specs.Prelude.{OnOk, OnErr, IfErr, IsOkAnd, IsErrOf, option_map};
-ghost use Rattle.hex.specs.Hex.{decode_of};
-ghost use Rattle.hex.specs.declared.error.FromHexError.TheVariants.{OutOfMemory};
+ghost use Rattle.std.specs.Prelude.{OnOk, OnErr, IfOk, IfErr, IsErrOf, option_map};
 ghost use Rattle.pm_lines.specs.Bytes.{bytes_of};
 ghost use Rattle.pm_lines.specs.Lines.{words_of};
+ghost use Rattle.pm_lines.specs.Pairs.{behind_pairs, paired_bytes};
 
 use crate::fault::TextFault;
+use crate::hex_digit::pair_of;
 use crate::line::Line;
-use crate::words::Words;
-use hex::FromHexError;
+use std::alloc::AllocError;
 
-/// Puts the bytes that a line's words write in hexadecimal behind those that are there. Each word
-/// is an even number of digits, of either case.
+/// Appends the bytes that a line's words write in hexadecimal. Each word is an even number of digits,
+/// of either case.
 ///
 /// X2 with the line's number where a word isn't, and X6 where memory was refused. Then the bytes are
 /// as they were.
@@ -26,31 +26,40 @@ pub fn push_bytes(line: Line<'_>, bytes: &mut Vec<u8>) -> Result<(), TextFault>
     ensures unchanged { OnErr result (bytes.new.items ≡ bytes.old.items) }
 {
     let start = bytes.len();
-    let mut words = Words::new(line);
-    'words: while let Some(word) = words.next_word() {
-        if let Err(fault) = push_word(word, bytes) {
+    match push_pairs(line.text, bytes) {
+        Ok([]) => Ok(()),
+        Ok(_) => {
             bytes.truncate(start);
-            return Err(match fault {
-                FromHexError::OutOfMemory => TextFault::Memory,
-                _ => TextFault::BadHex(line.number),
-            });
+            Err(TextFault::BadHex(line.number))
+        }
+        Err(error) => {
+            bytes.truncate(start);
+            Err(error.into())
         }
     }
-    Ok(())
 }
 
-// Puts the bytes of one word behind those that are there, or leaves them as they were.
-fn push_word(word: &[u8], bytes: &mut Vec<u8>) -> Result<(), FromHexError>
-    ensures all { OnOk result (IsOkAnd (decode_of word.now)
-        (λ more. bytes.new.items ≡ bytes.old.items ++ more)) }
-    ensures fault { IfErr result (λ e. (e ≡ OutOfMemory) ⊎ (decode_of word.now ≡ Err e)) }
-    ensures unchanged { OnErr result (bytes.new.items ≡ bytes.old.items) }
+// Appends the bytes that the pairs of digits at the beginning write, and gives what follows them.
+// Where memory was refused, some of the bytes may be there.
+#[tactic(auto, using(crate::proofs::Joins::joins))]
+fn push_pairs<'a>(digits: &'a [u8], bytes: &mut Vec<u8>) -> Result<&'a [u8], AllocError>
+    ensures all { OnOk result (bytes.new.items ≡ bytes.old.items ++ paired_bytes digits.entry.now) }
+    ensures rest { IfOk result (λ rest. rest.now ≡ behind_pairs digits.entry.now) }
+    ensures kept { (more : List ℕ) × (bytes.new.items ≡ bytes.old.items ++ more) }
+    ensures some { OnErr result (0 < length (paired_bytes digits.entry.now)) }
 {
-    let start = bytes.len();
-    bytes.resize(start + word.len() / 2, 0)?;
-    let result = hex::decode_to_slice(word, &mut bytes[start..]);
-    if result.is_err() {
-        bytes.truncate(start);
+    let mut rest = digits;
+    'pairs: loop {
+        match rest {
+            [b' ', more @ ..] => rest = more,
+            [high, low, more @ ..] => {
+                let Some(byte) = pair_of(*high, *low) else {
+                    return Ok(rest);
+                };
+                bytes.push(byte)?;
+                rest = more;
+            }
+            _ => return Ok(rest),
+        }
     }
-    result
 }

@@ -1,6 +1,8 @@
 ghost use Rattle.std.specs.Prelude.{◌≡◌, ◌==◌, position};
 ghost use Rattle.std.specs.List.{before_first, after_first};
 
+use memchr::memchr;
+
 /// What stands before the first byte that is the mark, and what follows it: all bytes and none,
 /// where there is no mark.
 pub fn cut_at(bytes: &[u8], mark: u8) -> (&[u8], &[u8])
@@ -17,5 +19,5 @@ pub fn cut_at(bytes: &[u8], mark: u8) -> (&[u8], &[u8])
 fn first_place(bytes: &[u8], mark: u8) -> Option<usize>
     ensures { result ≡ position (λ byte. byte == mark) bytes.now }
 {
-    bytes.iter().position(|byte| *byte == mark)
+    memchr(mark, bytes)
 }

@@ -2,10 +2,16 @@
 ghost use Rattle.std.specs.Prelude.{◌≡◌, ◌≢◌, IfSome, IfNone, slice_index};
 ghost use Rattle.pm_lines.specs.Digits.{decimal_of, hex_of, natural_of, signed_of, small_of};
 
+use crate::hex_digit::pair_of;
+
 /// The decimal number of a text, where it is 0 to 255 and has no sign.
 pub fn read_u8(text: &[u8]) -> Option<u8>
     ensures { result ≡ small_of text.now }
 {
+    // most numbers are one digit
+    if let [digit @ b'0'..=b'9'] = text {
+        return Some(*digit - b'0');
+    }
     plain_text(text)?.parse().ok()
 }
 
@@ -34,20 +40,24 @@ pub fn read_i64(text: &[u8]) -> Option<i64>
 pub fn read_byte(text: &[u8]) -> Option<u8>
     ensures { result ≡ hex_of 2 text.now }
 {
-    if text.len() != 2 {
-        return None;
+    match text {
+        [high, low] => pair_of(*high, *low),
+        _ => None,
     }
-    u8::from_str_radix(plain_text(text)?, 16).ok()
 }
 
 /// The word that four hexadecimal digits write, in either case.
 pub fn read_word(text: &[u8]) -> Option<u16>
     ensures { result ≡ hex_of 4 text.now }
 {
-    if text.len() != 4 {
-        return None;
+    match text {
+        [first, second, third, fourth] => {
+            let high = pair_of(*first, *second)?;
+            let low = pair_of(*third, *fourth)?;
+            Some(u16::from(high) * 256 + u16::from(low))
+        }
+        _ => None,
     }
-    u16::from_str_radix(plain_text(text)?, 16).ok()
 }
 
 // The bytes as a text without a leading `+`. Where they are none, they write no number.
@@ -56,7 +66,6 @@ fn plain_text(bytes: &[u8]) -> Option<&str>
     ensures plain { IfSome result (λ text. slice_index text.now 0 ≢ 43) }
     ensures decimal { IfNone result (decimal_of bytes.now ≡ None) }
     ensures natural { IfNone result (natural_of 10 bytes.now ≡ None) }
-    ensures hex { IfNone result (natural_of 16 bytes.now ≡ None) }
 {
     if bytes.starts_with(b"+") {
         return None;

@@ -36,7 +36,7 @@ impl TextFault {
     ghost use Rattle.pm_lines.specs.Faults.{fault_words, fault_line, fault_setup};
 
     /// The letters and the name of the fault, as a program prints them: `X1 Syntax`, `X3 TooLong`.
-    /// Behind them stands the line, where the fault has one, or why no world is made.
+    /// The line follows them, where the fault has one, or why no world is made.
     pub fn words(&self) -> &'static str
         ensures { result.now ≡ fault_words self.now }
     {
@@ -83,8 +83,8 @@ impl From<AllocError> for TextFault {
 impl<T: Drop> From<AllocFailed<T>> for TextFault {
     ghost from_gives = { λ _ fault. fault ≡ Memory };
 
-    fn from(_failed: AllocFailed<T>) -> TextFault {
-        TextFault::Memory
+    fn from(failed: AllocFailed<T>) -> TextFault {
+        AllocError::from(failed).into()
     }
 }
 

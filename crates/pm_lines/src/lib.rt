@@ -11,7 +11,7 @@ mod bytes;
 mod cut;
 mod digits;
 mod fault;
-mod fault_words;
+mod hex_digit;
 mod line;
 mod lines;
 mod number_text;
@@ -24,10 +24,12 @@ pub use bytes::push_bytes;
 pub use cut::cut_at;
 pub use digits::{read_byte, read_i8, read_i16, read_i64, read_u8, read_word};
 pub use fault::TextFault;
-pub use fault_words::{host_fault_words, num_fault_words, table_fault_words};
+pub use hex_digit::{byte_of, is_digit, pair_of};
 pub use line::Line;
-pub use lines::Lines;
-pub use number_text::{push_decimal, push_hex, push_hex_number, push_signed};
+pub use lines::{Lines, is_blank};
+pub use number_text::{
+    hex_digits, push_decimal, push_hex, push_hex_number, push_hex_word, push_signed,
+};
 pub use sink::Sink;
 pub use source::Source;
 pub use text::{MAX_TEXT, read_text};

@@ -67,8 +67,8 @@ impl<'a> Lines<'a> {
         None
     }
 
-    /// The number after that of the last line that was passed: once `next_line` gave None, the
-    /// number of a line that is missing.
+    /// The number of the next line. After `next_line` gave `None` it is the number to report for a
+    /// missing line.
     pub fn next_number(&self) -> u64
         ensures { result ≡ self.now.passed + 1 }
     {
@@ -94,8 +94,8 @@ fn is_skipped_line(line: &[u8]) -> bool
     is_blank(line) || line.starts_with(b"#")
 }
 
-// Whether the line has no byte but spaces.
-fn is_blank(line: &[u8]) -> bool
+/// Whether the line has no byte but spaces.
+pub fn is_blank(line: &[u8]) -> bool
     ensures { result ≡ list_all is_space line.now }
 {
     line.iter().all(|byte| *byte == b' ')

@@ -1,19 +1,32 @@
-//! Numbers behind a text.
-ghost use Rattle.std.specs.Prelude.{◌≡◌, ◌<◌, ◌++◌, ◌∷◌, true, OnOk, decimal, string_bytes};
+//! Numbers in a text.
+ghost use Rattle.std.specs.Prelude.{◌≡◌, ◌+◌, ◌<◌, ◌++◌, ◌∷◌, true, OnOk, decimal, string_bytes};
 ghost use Rattle.std.specs.Fmt.{digit_glyph, signed_decimal};
-ghost use Rattle.pm_lines.specs.Numbers.{hex_byte, hex_number};
+ghost use Rattle.pm_lines.specs.Numbers.{hex_byte, hex_number, hex_word};
 
 use std::alloc::AllocError;
 
-/// Puts a number in decimal behind a text.
+/// Appends a number in decimal.
+#[tactic(auto, using(crate::proofs::Joins::digit_joins))]
 pub fn push_decimal(text: &mut String, number: u64) -> Result<(), AllocError>
     ensures { OnOk result (string_bytes text.new ≡ string_bytes text.old ++ decimal number) }
 {
+    if number < 10 {
+        return text.push(decimal_glyph(number as u8));
+    }
     let mut digits = itoa::Buffer::new();
     text.push_str(digits.format(number))
 }
 
-/// Puts a number in decimal behind a text, with `-` before it where it is negative.
+// The digit of a value.
+fn decimal_glyph(value: u8) -> char
+    requires { value < 10 }
+    ensures digit { result ≡ 48 + value }
+    ensures ascii { result < 128 }
+{
+    char::from(b'0' + value)
+}
+
+/// Appends a number in decimal, with `-` before it where it is negative.
 pub fn push_signed(text: &mut String, number: i128) -> Result<(), AllocError>
     ensures { OnOk result (string_bytes text.new ≡ string_bytes text.old ++ signed_decimal number) }
 {
@@ -21,7 +34,7 @@ pub fn push_signed(text: &mut String, number: i128) -> Result<(), AllocError>
     text.push_str(digits.format(number))
 }
 
-/// Puts a byte in hexadecimal behind a text, as two digits in upper case.
+/// Appends a byte in hexadecimal, as two digits in upper case.
 #[tactic(auto, using(crate::proofs::Joins::joins), unfolding(crate::specs::Numbers::hex_byte))]
 pub fn push_hex(text: &mut String, byte: u8) -> Result<(), AllocError>
     ensures { OnOk result (string_bytes text.new ≡ string_bytes text.old ++ hex_byte byte) }
@@ -30,29 +43,59 @@ pub fn push_hex(text: &mut String, byte: u8) -> Result<(), AllocError>
     text.push(hex_digit(byte % 16))
 }
 
-// The digit of a value.
-fn hex_digit(value: u8) -> char
-    requires { value < 16 }
-    ensures digit { result ≡ digit_glyph true value }
-    ensures ascii { result < 128 }
+/// Appends a word in hexadecimal, as four digits in upper case.
+#[tactic(auto, using(crate::proofs::Joins::joins), unfolding(crate::specs::Numbers::hex_word))]
+pub fn push_hex_word(text: &mut String, word: u16) -> Result<(), AllocError>
+    ensures { OnOk result (string_bytes text.new ≡ string_bytes text.old ++ hex_word word) }
 {
-    if value < 10 {
-        char::from(b'0' + value)
-    } else {
-        char::from(b'A' - 10 + value)
-    }
+    push_hex(text, (word / 256) as u8)?;
+    push_hex(text, (word % 256) as u8)
 }
 
-/// Puts the number in hexadecimal behind a text that the bytes are, the low byte first.
+/// Appends a number in hexadecimal; `bytes` is the number, low byte first.
 #[tactic(auto, using(crate::proofs::Joins::joins))]
 pub fn push_hex_number(text: &mut String, bytes: &[u8]) -> Result<(), AllocError>
     ensures { OnOk result (string_bytes text.new ≡ string_bytes text.old ++ hex_number bytes.now) }
 {
     match bytes {
         [] => Ok(()),
+        [low, high] => {
+            push_hex(text, *high)?;
+            push_hex(text, *low)
+        }
         [low, higher @ ..] => {
             push_hex_number(text, higher)?;
             push_hex(text, *low)
         }
+    }
+}
+
+/// A byte as two hexadecimal digits in upper case.
+#[tactic(auto, unfolding(crate::specs::Numbers::hex_byte))]
+pub fn hex_digits(byte: u8) -> [u8; 2]
+    ensures { result ≡ hex_byte byte }
+{
+    [hex_glyph(byte / 16), hex_glyph(byte % 16)]
+}
+
+// The digit of a value.
+fn hex_digit(value: u8) -> char
+    requires { value < 16 }
+    ensures digit { result ≡ digit_glyph true value }
+    ensures ascii { result < 128 }
+{
+    char::from(hex_glyph(value))
+}
+
+// The byte of a value's digit.
+fn hex_glyph(value: u8) -> u8
+    requires { value < 16 }
+    ensures digit { result ≡ digit_glyph true value }
+    ensures ascii { result < 128 }
+{
+    if value < 10 {
+        b'0' + value
+    } else {
+        b'A' - 10 + value
     }
 }

@@ -1,4 +1,4 @@
-ghost use Rattle.std.specs.Prelude.{◌≡◌, false, IsFalse, is_err, IfErr, OnOk, OnErr};
+ghost use Rattle.std.specs.Prelude.{◌≡◌, false, IsFalse, is_err, flat_map, IfErr, OnOk, OnErr};
 ghost use Rattle.std.specs.Io.KnownBytes.{Appends, Keeps};
 ghost use Rattle.pm_lines.specs.Streams.{AppendsFront};
 
@@ -52,7 +52,7 @@ impl<W> Sink<W> {
 
 impl<W: Write> Sink<W> {
     /// Writes all of the bytes. X5 where a call of the writer failed, or took none of the bytes
-    /// that it was offered; then only a front of the bytes, and not all, was written, and nothing
+    /// that it was offered; then only a prefix of the bytes, and not all, was written, and nothing
     /// more may be written.
     pub fn put(&mut self, bytes: &[u8]) -> Result<(), TextFault>
         requires { IsFalse self.old.failed }
@@ -75,6 +75,23 @@ impl<W: Write> Sink<W> {
         }
         Ok(())
     }
+
+    /// Writes the pieces one after another, with the answers of `put`.
+    pub fn put_all(&mut self, pieces: &[&[u8]]) -> Result<(), TextFault>
+        requires { IsFalse self.old.failed }
+        ensures all { OnOk result (Appends (W.contents self.old.inner) (W.contents self.new.inner)
+            (flat_map (λ piece. piece.now) pieces.now)) }
+        ensures front { OnErr result (AppendsFront (W.contents self.old.inner)
+            (W.contents self.new.inner) (flat_map (λ piece. piece.now) pieces.now)) }
+        ensures failed { self.new.failed ≡ is_err result }
+        ensures fault { IfErr result (λ e. e ≡ TextFault.Write) }
+    {
+        'pieces: for piece in pieces {
+            self.put(piece)?;
+        }
+        Ok(())
+    }
+
     /// Asks the writer to hand on whatever it still keeps to itself. X5 where it failed; then
     /// nothing more may be written.
     pub fn flush(&mut self) -> Result<(), TextFault>

@@ -1,6 +1,6 @@
 ghost use Rattle.std.specs.Prelude.{◌≡◌, ℕ, List, ◌<◌, ◌≤◌, ◌↔◌, length, IfOk, IfErr, IsErrOf, IsTrue, IsFalse};
 ghost use Rattle.std.specs.Io.KnownBytes.{Consumes};
-ghost use Rattle.pm_lines.specs.Streams.{IsWholeText};
+ghost use Rattle.pm_lines.specs.Streams.{IsWholeText, max_text};
 ghost use Rattle.pm_lines.specs.Faults.{IsOfReading};
 
 use crate::fault::TextFault;
@@ -21,13 +21,14 @@ pub fn read_text<R: Read>(alloc: Global, source: &mut Source<R>) -> Result<Vec<u
     ensures whole { IfOk result (λ text.
         IsWholeText (R.remaining source.old.inner) (R.remaining source.new.inner) text.items) }
     ensures too_long { IsErrOf result TextFault.TooLong → (front : List ℕ)
-        × (MAX_TEXT < length front)
+        × (max_text < length front)
         × Consumes (R.remaining source.old.inner) (R.remaining source.new.inner) front }
     ensures memory { IsErrOf result TextFault.Memory → (front : List ℕ)
-        × (0 < length front) × (length front ≤ MAX_TEXT)
+        × (0 < length front) × (length front ≤ max_text)
         × Consumes (R.remaining source.old.inner) (R.remaining source.new.inner) front }
     ensures read { IsErrOf result TextFault.Read ↔ IsTrue source.new.failed }
     ensures faults { IfErr result IsOfReading }
+    ensures limit { MAX_TEXT ≡ max_text }
 {
     let mut text = Vec::new(alloc);
     let mut chunk = [0u8; CHUNK];

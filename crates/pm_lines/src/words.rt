@@ -1,7 +1,7 @@
-ghost use Rattle.std.specs.Prelude.{◌≡◌, [], ◌∷◌, MatchOption};
-ghost use Rattle.pm_lines.specs.Lines.{words_of};
+ghost use Rattle.std.specs.Prelude.{◌≡◌, [], ◌∷◌, MatchOption, position};
+ghost use Rattle.std.specs.List.{before_first, after_first};
+ghost use Rattle.pm_lines.specs.Lines.{is_space, words_of};
 
-use crate::cut::cut_at;
 use crate::line::Line;
 use std::marker::Model;
 
@@ -46,7 +46,7 @@ impl<'a> Words<'a> {
         ensures line { self.new.line ≡ self.old.line }
     {
         'spaces: while !self.rest.is_empty() {
-            let (word, rest) = cut_at(self.rest, b' ');
+            let (word, rest) = cut_at_space(self.rest);
             self.rest = rest;
             if !word.is_empty() {
                 return Some(word);
@@ -54,4 +54,22 @@ impl<'a> Words<'a> {
         }
         None
     }
+}
+
+// What stands before the first space, and what follows it.
+fn cut_at_space(text: &[u8]) -> (&[u8], &[u8])
+    ensures before { result.0.now ≡ before_first is_space text.now }
+    ensures after { result.1.now ≡ after_first is_space text.now }
+{
+    match first_space(text) {
+        Some(at) => (&text[..at], &text[at + 1..]),
+        None => (text, &[]),
+    }
+}
+
+// The place of the first space. A word is short, so that a plain search is the fastest.
+fn first_space(text: &[u8]) -> Option<usize>
+    ensures { result ≡ position is_space text.now }
+{
+    text.iter().position(|byte| *byte == b' ')
 }

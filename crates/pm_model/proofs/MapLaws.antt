@@ -1,5 +1,6 @@
 -- The words of the cells are a map.
-use Rattle.std.proofs.Common.{◌≡◌, ◌≢◌, inl, inr, ℕ, ◌<◌, Bool, true, false, cond, IsTrue, ◌↔◌, List, length, get_or, set, refl, sym, ◌∙◌, ap, arith}
+use Rattle.std.proofs.Common.{◌≡◌, ◌≢◌, inl, inr, ℕ, ◌<◌, Bool, true, false, cond, IsTrue, ◌↔◌, List, length, get_or, set, refl, sym, ◌∙◌}
+use Rattle.std.proofs.Common.{ap, arith}
 use Rattle.std.proofs.lemmas.Bool.{cases_eq}
 use Rattle.std.proofs.lemmas.List.{get_or-set_same, get_or-set_other, get_or_default, length-set, set-set, same_lists}
 use Rattle.std.proofs.lemmas.List.FromFn.{length-map-range_with_len, get_or-map-range_with_len, fill_by_all}
@@ -15,10 +16,10 @@ place_of-one stand cell other here there e = sym (stand.back cell here) ∙ (ap 
 
 -- a cell that was written has the new word, every other one its old one
 pub word_at-with_word : CellsHavePlaces → CellsAreToldApart → (words : Words) (cell other : Cell) (word : ℕ) →
-    AreWords words → IsCell 8 cell → IsCell 8 other →
+    AreWords words × IsCell 8 cell × IsCell 8 other →
     word_at (with_word words cell word) other ≡ cond (same_cell cell other) word (word_at words other)
 unfolding word_at with_word AreWords
-word_at-with_word stand told words cell other word full here there = go (same_cell cell other) refl where
+word_at-with_word stand told words cell other word (full, here, there) = go (same_cell cell other) refl where
   go : (b : Bool) → same_cell cell other ≡ b →
       get_or (set words (place_of cell) word) (place_of other) 0 ≡ cond b word (get_or words (place_of other) 0)
   go true e =

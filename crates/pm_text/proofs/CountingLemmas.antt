@@ -6,12 +6,14 @@ use Rattle.std.proofs.lemmas.List.FromFn.{get_or-range_with_len, length-range_wi
 use Rattle.std.proofs.lemmas.List.Concat.{flat_map-append}
 
 -- one of them more
-pub numbered-more : (f : ℕ → List ℕ) (n i : ℕ) → i < n → flat_map f (take i (range_with_len 0 n)) ++ f i ≡ flat_map f (take (i + 1) (range_with_len 0 n))
+pub numbered-more : (f : ℕ → List ℕ) (n i : ℕ) → i < n
+    → flat_map f (take i (range_with_len 0 n)) ++ f i ≡ flat_map f (take (i + 1) (range_with_len 0 n))
 numbered-more f n i within =
     let xs = range_with_len 0 n in
     let here : get_or xs i 0 ≡ i = get_or-range_with_len 0 n i 0 within ∙ zero-add i in
     let more : take (i + 1) xs ≡ take i xs ++ get_or xs i 0 ∷ [] = take_more xs i 0 (omega (arith, length-range_with_len 0 n)) in
-    sym (ap (flat_map f) more ∙ flat_map-append f (take i xs) (get_or xs i 0 ∷ []) ∙ ap (λ l. flat_map f (take i xs) ++ l) (append-nil (f (get_or xs i 0)))
+    sym (ap (flat_map f) more ∙ flat_map-append f (take i xs) (get_or xs i 0 ∷ [])
+    ∙ ap (λ l. flat_map f (take i xs) ++ l) (append-nil (f (get_or xs i 0)))
     ∙ ap (λ k. flat_map f (take i xs) ++ f k) here)
 
 -- all of them

@@ -6,16 +6,19 @@ use Rattle.pm_num.specs.Lemmas.Integers.{lt-times}
 use Rattle.pm_num.specs.Ratio.{AtMost, Ratio, micros}
 use Rattle.pm_text.specs.Report.{floor_micros}
 
--- the quotient's multiple is reached, and the next one isn't
+-- the quotient's multiple is reached
 reached : (a : ℤ) (d : ℕ) → 0 < d → (int_div_euclid a (pos d) *ℤ pos d) ≤ℤ a
 reached (pos a) d positive = omega (arith, ints)
 reached (negsuc a) d positive = omega (arith, ints)
 
+-- and the next one isn't
 passed : (a : ℤ) (d : ℕ) → 0 < d → a <ℤ (int_div_euclid a (pos d) *ℤ pos d +ℤ pos d)
 passed (pos a) d positive = omega (arith, ints)
 passed (negsuc a) d positive = omega (arith, ints)
 
-pub floor-is : (value : Ratio) (k : ℤ) → 0 < value.den → AtMost (micros k) value → ((j : ℤ) → AtMost (micros j) value → j ≤ℤ k) → k ≡ floor_micros value
+-- the greatest whole microvolts that are not above a value
+pub floor-is : (value : Ratio) (k : ℤ) → 0 < value.den → AtMost (micros k) value → ((j : ℤ) → AtMost (micros j) value → j ≤ℤ k)
+    → k ≡ floor_micros value
 unfolding floor_micros
 floor-is value k positive below greatest =
     let a = value.num *ℤ pos (10 ^ 6) in

@@ -1,4 +1,8 @@
 pub mod CountingLemmas
+mod EventLemmas
 pub mod FloorLemmas
+mod FrameLemmas
 pub mod Joins
+mod OutcomeLemmas
+mod OutputLemmas
 pub mod ReplayLemmas

@@ -1,2 +1,7 @@
+-- What the crate promises.
+pub mod EventLines
+pub mod Kinds
+pub mod Readers
 pub mod Replay
 pub mod Report
+pub mod ScenarioText

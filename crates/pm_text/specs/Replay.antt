@@ -1,51 +1,111 @@
--- What a replay comes to: the report of the life that a text's scenario is. This project's own choice.
-use Rattle.std.specs.Prelude.{◌≡◌, ℕ, List, length, Option, Some, None, Ok, ⊤}
-use Rattle.pm_world.specs.Life.{AreTaken, StopsAt, now, taken_events}
+-- What a replay comes to: the report of the run of a text's scenario. This project's own choice.
+use Rattle.std.specs.Prelude.{⊤, ◌≡◌, ℕ, List, [], ◌∷◌, length, nat_lt, if◌then◌else◌, Option, Some, None, Result, Ok, Err}
+use Rattle.pm_device.specs.declared.config.Config.{Config}
+use Rattle.pm_world.specs.Life.{now, taken_events}
 use Rattle.pm_world.specs.Setup.{setup_fault}
+use Rattle.pm_world.specs.State.{cause_of}
+use Rattle.pm_world.specs.declared.event.Event.{Event}
+use Rattle.pm_world.specs.declared.stop.Cause.{Cause}
 use Rattle.pm_world.specs.declared.stop.SetupFault.{SetupFault}
 use Rattle.pm_world.specs.declared.stop.Stop.{Stop}
+use Rattle.pm_lines.specs.Streams.{max_text}
 use Rattle.pm_lines.specs.declared.fault.TextFault.{TextFault}
 use Rattle.pm_lines.specs.declared.fault.TextFault.TheVariants.{Syntax, BadHex, TooLong, Read, Write, Memory, Setup}
-use Rattle.pm_scenario.specs.ScenarioText.{scenario_of}
-use Rattle.pm_scenario.specs.declared.scenario.Scenario.{Scenario}
 use Rattle.pm_text.specs.Report.{report_text}
+use Rattle.pm_text.specs.ScenarioText.{scenario_of}
+use Rattle.pm_text.specs.declared.form.Form.TheVariants.{First}
 use Rattle.pm_text.specs.declared.ran.Ran.{Ran}
 use Rattle.pm_text.specs.declared.replay_end.ReplayEnd.{ReplayEnd}
 use Rattle.pm_text.specs.declared.replay_end.ReplayEnd.TheVariants.{Ran as AllTaken, Stopped}
+use Rattle.pm_text.specs.declared.scenario.Scenario.{Scenario}
+
+-- ---- the run of events
+
+-- a stop at an event that has a cause against it, or one at a later event
+abbrev pub stop_or : Option Cause → ℕ → Option Stop → Option Stop
+stop_or (Some cause) at later = Some (record { at = at; cause = cause })
+stop_or None at later = later
+
+-- where a run stops, which took these events, newest first, and has these before it: at the first
+-- that has a cause against it
+abbrev pub stop_after : Config → ℕ → List Event → List Event → Option Stop
+stop_after config passes taken [] = None
+stop_after config passes taken (event ∷ events) =
+    stop_or (cause_of (now config passes taken) event) (length taken)
+    (stop_after config passes (event ∷ taken) events)
+
+-- how many of all events a run took that stops so
+abbrev pub taken_by : Option Stop → ℕ → ℕ
+taken_by None all = all
+taken_by (Some stop) all = stop.at
+
+-- the run of events that stops so: the world that the taken ones leave, and how many they are
+abbrev pub ran_by : Config → ℕ → List Event → Option Stop → Ran
+ran_by config passes events stop = record {
+  world = now config passes (taken_events events stop);
+  taken = length (taken_events events stop);
+  stop = stop;
+}
+
+-- the run of a scenario's events
+unfoldable pub run_of : Scenario → Ran
+run_of scenario = ran_by scenario.config scenario.passes scenario.events
+    (stop_after scenario.config scenario.passes [] scenario.events)
+
+-- ---- the replay of a text
 
 -- a replay is stopped where its run is
 abbrev pub end_by : Option Stop → ReplayEnd
 end_by None = AllTaken
 end_by (Some stop) = Stopped
 
--- how many of so many events are taken by a run that stops so
-abbrev pub taken_by : Option Stop → ℕ → ℕ
-taken_by None all = all
-taken_by (Some stop) all = stop.at
+-- the report of a run, and how the replay ended
+abbrev pub told : Ran → List ℕ × ReplayEnd
+told ran = (report_text First ran.world ran.taken ran.stop, end_by ran.stop)
 
--- The run of a scenario's events: each event before the stop, or each of all, was taken; the stop is at
--- the first event that wasn't, with its cause; and the world is that of the life of the taken ones.
-pub record IsRun (scenario : Scenario) (ran : Ran) : Type 0 where
-  pub all : AreTaken scenario.config scenario.passes (taken_events scenario.events ran.stop)
-  pub stops : StopsAt scenario.config scenario.passes scenario.events ran.stop
-  pub world_is : ran.world
-      ≡ now scenario.config scenario.passes (taken_events scenario.events ran.stop)
-  pub taken_is : ran.taken ≡ length (taken_events scenario.events ran.stop)
+-- no world is made, or the run of the scenario is told
+abbrev pub told_or : Option SetupFault → Scenario → Result (List ℕ × ReplayEnd) TextFault
+told_or (Some fault) scenario = Err (Setup fault)
+told_or None scenario = Ok (told (run_of scenario))
+
+abbrev pub replay_by : Result Scenario TextFault → Result (List ℕ × ReplayEnd) TextFault
+replay_by (Err fault) = Err fault
+replay_by (Ok scenario) = told_or (setup_fault scenario.config scenario.passes) scenario
+
+-- the report of what the input's scenario comes to, or the first fault
+unfoldable pub replay_of : List ℕ → Result (List ℕ × ReplayEnd) TextFault
+replay_of input = replay_by (scenario_of input)
 
 -- the text is the report of the run of the input's scenario
-pub record IsReplay (input text : List ℕ) (end : ReplayEnd) : Type 0 where
-  pub scenario : Scenario
-  pub ran : Ran
-  pub reads : scenario_of input ≡ Ok scenario
-  pub runs : IsRun scenario ran
-  pub text_is : text ≡ report_text ran.world ran.taken ran.stop
-  pub end_is : end ≡ end_by ran.stop
+abbrev pub IsReplay : List ℕ → List ℕ → ReplayEnd → Type 0
+IsReplay input text end = replay_of input ≡ Ok (text, end)
 
 -- no world is made of what the input's scenario asks for, for this reason
-pub record RefusesSetup (input : List ℕ) (fault : SetupFault) : Type 0 where
-  pub scenario : Scenario
-  pub reads : scenario_of input ≡ Ok scenario
-  pub refuses : setup_fault scenario.config scenario.passes ≡ Some fault
+abbrev pub RefusesSetup : List ℕ → SetupFault → Type 0
+RefusesSetup input fault = replay_of input ≡ Err (Setup fault)
+
+-- ---- what is answered
+
+-- how a replay ended, without its report
+abbrev pub end_alone : Result (List ℕ × ReplayEnd) TextFault → Result ReplayEnd TextFault
+end_alone (Ok told) = Ok told.1
+end_alone (Err fault) = Err fault
+
+-- what an input alone decides: one that is too long is X3, whatever it holds
+unfoldable pub outcome_of : List ℕ → Result ReplayEnd TextFault
+outcome_of input = if nat_lt max_text (length input) then Err TooLong
+    else end_alone (replay_of input)
+
+-- the reader, the writer and the memory served
+abbrev pub IsSettled : Result ReplayEnd TextFault → Type 0
+IsSettled (Ok end) = ⊤
+IsSettled (Err (Syntax line)) = ⊤
+IsSettled (Err (BadHex line)) = ⊤
+IsSettled (Err TooLong) = ⊤
+IsSettled (Err Read) = ⊥
+IsSettled (Err Write) = ⊥
+IsSettled (Err Memory) = ⊥
+IsSettled (Err (Setup fault)) = ⊤
 
 -- the faults of a replay of a text that isn't too long
 abbrev pub IsOfReplay : TextFault → Type 0

@@ -1,6 +1,6 @@
 -- What is written of a world after a scenario: what its converter holds, commands and shows, and what
 -- its host knows. The form is this project's own choice; names are printed as in PMBus 1.3 Part II.
-use Rattle.std.specs.Prelude.{ℕ, ℤ, pos, ◌*ℤ◌, ◌/◌, ◌%◌, ◌^◌, ◌==◌, Bool, if◌then◌else◌, List, [], ◌∷◌, ◌++◌, flat_map, is_some, decimal, codes, Option, Some, None}
+use Rattle.std.specs.Prelude.{ℕ, ℤ, pos, ◌*ℤ◌, ◌%◌, ◌^◌, Bool, if◌then◌else◌, List, [], ◌∷◌, ◌++◌, flat_map, is_some, decimal, codes, Option, Some, None}
 use Rattle.std.specs.Fmt.{signed_decimal}
 use Rattle.std.specs.Int.{int_div_euclid}
 use Rattle.std.specs.List.{range_with_len}
@@ -8,7 +8,7 @@ use Rattle.pm_num.specs.Ratio.{Ratio}
 use Rattle.pm_table.specs.declared.cell.Cell.{Cell}
 use Rattle.pm_table.specs.declared.cell.Cell.TheVariants.{Out, Protect}
 use Rattle.pm_table.specs.declared.cell.Reg.{Reg}
-use Rattle.pm_table.specs.declared.cell.Reg.TheVariants.{Operation, VoutCommand, VoutMax, MarginHigh, MarginLow}
+use Rattle.pm_table.specs.Cell.{cell_name, is_voltage_cell}
 use Rattle.pm_model.specs.Commanded.{commanded}
 use Rattle.pm_model.specs.Settings.{word_at}
 use Rattle.pm_device.specs.Held.{value_for}
@@ -16,27 +16,20 @@ use Rattle.pm_device.specs.Status.{is_on, status_byte, status_cml, status_vout, 
 use Rattle.pm_host.specs.Summary.{standing_at}
 use Rattle.pm_host.specs.declared.standing.Standing.{Standing}
 use Rattle.pm_host.specs.declared.standing.Standing.TheVariants.{Confirmed, Unknown}
-use Rattle.pm_host.specs.declared.step.JobEnd.{JobEnd}
-use Rattle.pm_host.specs.declared.step.JobEnd.TheVariants as ended
+use Rattle.pm_host.specs.declared.job_end.JobEnd.{JobEnd}
+use Rattle.pm_host.specs.declared.job_end.JobEnd.TheVariants as ended
+use Rattle.pm_world.specs.FaultWords.{cause_text}
 use Rattle.pm_world.specs.State.{State}
-use Rattle.pm_world.specs.declared.stop.Cause.{Cause}
-use Rattle.pm_world.specs.declared.stop.Cause.TheVariants.{Full, NothingSent, WrongKind, NotBetrayed, Host}
 use Rattle.pm_world.specs.declared.stop.Stop.{Stop}
-use Rattle.pm_lines.specs.FaultWords.{host_fault_words}
-use Rattle.pm_lines.specs.Numbers.{hex_byte}
-use Rattle.pm_scenario.specs.Kinds.{register_digits, register_name}
+use Rattle.pm_lines.specs.Numbers.{hex_byte, hex_word}
+use Rattle.pm_text.specs.Kinds.{registers_of}
+use Rattle.pm_text.specs.declared.form.Form.{Form}
 
 -- ---- words
 
--- a word as four hexadecimal digits
-unfoldable pub hex_word : ℕ → List ℕ
-hex_word word = hex_byte (word / 256) ++ hex_byte (word % 256)
-
--- a cell's word with its digits: OPERATION and WRITE_PROTECT are bytes, the low byte of their words
+-- a cell's word with its digits: a voltage has four, any other is a byte, the low one of its word
 abbrev pub cell_text : Cell → ℕ → List ℕ
-cell_text (Out output register) word =
-    if register_digits register == 2 then hex_byte (word % 256) else hex_word word
-cell_text Protect word = hex_byte (word % 256)
+cell_text cell word = if is_voltage_cell cell then hex_word word else hex_byte (word % 256)
 
 -- what the host says of a cell
 abbrev pub standing_text : Cell → Standing → List ℕ
@@ -83,31 +76,21 @@ status_line s output = codes "status " ++ (hex_byte (status_byte s.device output
 
 abbrev pub register_line : State → ℕ → Reg → List ℕ
 register_line s output register =
-    setting_line s (register_name register) (Out output register)
+    setting_line s (cell_name (Out output register)) (Out output register)
 
--- an output's five settings
-unfoldable pub register_lines : State → ℕ → List ℕ
-register_lines s output = register_line s output Operation ++ (register_line s output VoutCommand
-    ++ (register_line s output VoutMax ++ (register_line s output MarginHigh
-    ++ register_line s output MarginLow)))
+-- an output's settings: the registers that texts of this form name
+abbrev pub register_lines : Form → State → ℕ → List ℕ
+register_lines form s output = flat_map (register_line s output) (registers_of form)
 
 -- an output's lines: what it commands, its settings, its status
-unfoldable pub output_lines : State → ℕ → List ℕ
-output_lines s output =
-    output_line s output ++ (register_lines s output ++ status_line s output)
+unfoldable pub output_lines : Form → State → ℕ → List ℕ
+output_lines form s output =
+    output_line s output ++ (register_lines form s output ++ status_line s output)
 
-abbrev pub all_outputs : State → List ℕ
-all_outputs s = flat_map (output_lines s) (range_with_len 0 s.device.config.count)
+abbrev pub all_outputs : Form → State → List ℕ
+all_outputs form s = flat_map (output_lines form s) (range_with_len 0 s.device.config.count)
 
 -- ---- the first line, and the last ones
-
--- the letters and the name of a cause, and the host's refusal behind S4
-abbrev pub cause_text : Cause → List ℕ
-cause_text Full = codes "S5 Full"
-cause_text NothingSent = codes "S2 NothingSent"
-cause_text WrongKind = codes "S3 WrongKind"
-cause_text NotBetrayed = codes "S1 NotBetrayed"
-cause_text (Host fault) = codes "S4 Host " ++ host_fault_words fault
 
 -- how many events were taken, and why the next one wasn't
 abbrev pub first_line : ℕ → Option Stop → List ℕ
@@ -138,9 +121,9 @@ job_line s = codes "job " ++ (job_text (is_some s.host.stage) s.end ++ codes "\n
 -- ---- the whole
 
 -- the lines that follow the first one
-unfoldable pub world_lines : State → List ℕ
-world_lines s = setting_line s (codes "protect") Protect
-    ++ (all_outputs s ++ (cml_line s ++ (seen_line s.host.known.seen ++ job_line s)))
+unfoldable pub world_lines : Form → State → List ℕ
+world_lines form s = setting_line s (codes "protect") Protect
+    ++ (all_outputs form s ++ (cml_line s ++ (seen_line s.host.known.seen ++ job_line s)))
 
-unfoldable pub report_text : State → ℕ → Option Stop → List ℕ
-report_text s taken stop = first_line taken stop ++ world_lines s
+unfoldable pub report_text : Form → State → ℕ → Option Stop → List ℕ
+report_text form s taken stop = first_line taken stop ++ world_lines form s

@@ -1,17 +1,21 @@
-//! What the program reads and writes as texts: scenarios, which are replayed and reported, and traces,
-//! which are decoded. The lower crates' parts of it are named here too, so that a caller needs this
-//! crate alone.
+//! Scenarios, and the names of all texts that the program reads and writes. A scenario is a text that
+//! says what both ends of a bus are made from, and what happens between them, event by event. It is
+//! read (`read_scenario`), its events happen, and a report says what they come to (`render_report`);
+//! `replay` does all three, from a reader to a writer.
+//!
+//! Traces and streams are told in crates of their own; their types and calls are named here too, so
+//! that a caller needs this crate alone. What a world does is not here.
 #![tactic(auto)]
 
-mod outputs;
+mod form;
 mod ran;
 mod replay_end;
 mod replays;
 mod report;
-mod settings;
+mod scenario;
 
+pub use form::Form;
 pub use pm_lines::{MAX_TEXT, Sink, Source, TextFault};
-pub use pm_scenario::{Events, Scenario, read_scenario};
 pub use pm_trace::{
     ByteList, DecodeEnd, Decoder, Fed, Shown, TraceLine, decode, read_trace_line, render_line,
 };
@@ -19,3 +23,5 @@ pub use ran::Ran;
 pub use replay_end::ReplayEnd;
 pub use replays::replay;
 pub use report::render_report;
+pub use scenario::events::Events;
+pub use scenario::{Scenario, read_scenario};

@@ -1,21 +1,20 @@
 //! Scenarios from a reader, and the report of what they come to, to a writer.
-ghost use Rattle.std.specs.Prelude.{◌≡◌, ◌≢◌, ◌<◌, ◌≤◌, ◌↔◌, ℕ, List, length};
-ghost use Rattle.std.specs.Prelude.{Err, IfOk, IfErr, IsErrOf, IsTrue, IsFalse, string_bytes};
+ghost use Rattle.std.specs.Prelude.{◌≡◌, ◌≢◌, ◌⊎◌, ◌<◌, ◌≤◌, ◌↔◌, ℕ, List, length};
+ghost use Rattle.std.specs.Prelude.{Ok, Err, IfOk, IfErr, IfSome, IsErrOf, IsTrue, IsFalse, string_bytes};
 ghost use Rattle.std.specs.Result.{result_err};
 ghost use Rattle.std.specs.Io.KnownBytes.{Appends, Consumes};
 ghost use Rattle.pm_world.specs.Setup.{setup_fault};
 ghost use Rattle.pm_world.specs.declared.stop.SetupFault.{SetupFault as NoSetup};
-ghost use Rattle.pm_lines.specs.Streams.{AppendsFront, IsWholeText};
-ghost use Rattle.pm_lines.specs.declared.text.TheConstants.{MAX_TEXT};
-ghost use Rattle.pm_scenario.specs.ScenarioText.{scenario_of};
-ghost use Rattle.pm_text.specs.Replay.{IsOfReplay, IsReplay, IsRun, RefusesSetup, end_by, taken_by};
+ghost use Rattle.pm_lines.specs.Streams.{AppendsFront, IsWholeText, max_text};
+ghost use Rattle.pm_text.specs.Replay.{IsOfReplay, IsReplay, IsSettled, RefusesSetup, end_by, outcome_of, replay_of, run_of as run_spec, taken_by};
+ghost use Rattle.pm_text.specs.ScenarioText.{scenario_of};
 ghost use Rattle.pm_text.specs.declared.replay_end.ReplayEnd.{ReplayEnd as Ending};
 
 use crate::ran::Ran;
 use crate::replay_end::ReplayEnd;
 use crate::report::render_report;
+use crate::scenario::{Scenario, read_scenario};
 use pm_lines::{Sink, Source, TextFault, read_text};
-use pm_scenario::{Scenario, read_scenario};
 use pm_world::{SetupFault, Stop, World};
 use std::alloc::Global;
 use std::io::{Read, Write};
@@ -27,7 +26,7 @@ use std::io::{Read, Write};
 ///
 /// X3 where the text has more than 1,048,576 bytes; X4 where the reader failed; X1 or X2 for the
 /// text's first faulty line; X7 where no world is made of what the scenario asks for; X6 where memory
-/// was refused; X5 where the writer failed, and then only a front of the report is written. On any
+/// was refused; X5 where the writer failed, and then only a prefix of the report is written. On any
 /// other refusal nothing was written. X3 and X4 come before X1 and X2, and these before X7.
 pub fn replay<R: Read, W: Write>(
     alloc: Global,
@@ -58,15 +57,15 @@ pub fn replay<R: Read, W: Write>(
 
     // The reader gave more than a text may have.
     ensures too_long { IsErrOf result TextFault.TooLong → (front : List ℕ)
-        × (MAX_TEXT < length front)
+        × (max_text < length front)
         × Consumes (R.remaining reader.old.inner) (R.remaining reader.new.inner) front }
 
     // Memory is wanted only where the reader gave bytes, and no more than a text may have.
     ensures memory { IsErrOf result TextFault.Memory → (front : List ℕ)
-        × (0 < length front) × (length front ≤ MAX_TEXT)
+        × (0 < length front) × (length front ≤ max_text)
         × Consumes (R.remaining reader.old.inner) (R.remaining reader.new.inner) front }
 
-    // A failed write leaves a front of the report, and not all of it.
+    // A failed write leaves a prefix of the report, and not all of it.
     ensures cut_short { IsErrOf result TextFault.Write → (input : List ℕ) × (text : List ℕ) × (end : Ending)
         × IsWholeText (R.remaining reader.old.inner) (R.remaining reader.new.inner) input
         × IsReplay input text end
@@ -76,6 +75,10 @@ pub fn replay<R: Read, W: Write>(
     // The streams say whether they failed.
     ensures read { IsErrOf result TextFault.Read ↔ IsTrue reader.new.failed }
     ensures write { IsErrOf result TextFault.Write ↔ IsTrue writer.new.failed }
+
+    // What comes of it follows from the bytes, however they are cut.
+    ensures same { IfSome (R.remaining reader.old.inner)
+        (λ input. IsSettled result → result ≡ outcome_of input) }
 {
     let input = read_text(alloc, reader)?;
     let (text, end) = report_on(alloc, &input)?;
@@ -85,14 +88,14 @@ pub fn replay<R: Read, W: Write>(
 
 // The report on what a text's scenario comes to, and how that ended.
 fn report_on(alloc: Global, input: &[u8]) -> Result<(String, ReplayEnd), TextFault>
-    requires { length input.now ≤ MAX_TEXT }
+    requires { length input.now ≤ max_text }
     ensures replayed { IfOk result (λ told. IsReplay input.now (string_bytes told.0) told.1) }
+    ensures refused { IfErr result (λ fault. (fault ≡ TextFault.Memory)
+        ⊎ (replay_of input.now ≡ Err fault)) }
     ensures syntax { (line : ℕ) → IsErrOf result (TextFault.Syntax line) →
         scenario_of input.now ≡ Err (TextFault.Syntax line) }
     ensures bad_hex { (line : ℕ) → IsErrOf result (TextFault.BadHex line) →
         scenario_of input.now ≡ Err (TextFault.BadHex line) }
-    ensures setup { (fault : NoSetup) → IsErrOf result (TextFault.Setup fault) →
-        RefusesSetup input.now fault }
     ensures memory { IsErrOf result TextFault.Memory → 0 < length input.now }
     ensures faults { IfErr result IsOfReplay }
 {
@@ -104,7 +107,7 @@ fn report_on(alloc: Global, input: &[u8]) -> Result<(String, ReplayEnd), TextFau
 
 // What the events of a scenario come to.
 fn run_of(scenario: &Scenario) -> Result<Ran, SetupFault>
-    ensures ran { IfOk result (IsRun scenario.now) }
+    ensures ran { IfOk result (λ ran. ran ≡ run_spec scenario.now) }
     ensures fault { result_err result ≡ setup_fault scenario.now.config scenario.now.passes }
 {
     let events = scenario.events.as_slice();
@@ -113,7 +116,7 @@ fn run_of(scenario: &Scenario) -> Result<Ran, SetupFault>
     Ok(Ran { world, taken, stop })
 }
 
-// How many of so many events were taken.
+// How many of all events a run took that stops so.
 fn taken_of(stop: &Option<Stop>, all: usize) -> u64
     ensures { result ≡ taken_by stop.now all }
 {

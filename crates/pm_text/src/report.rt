@@ -1,19 +1,28 @@
 //! The report of a run: what the converter holds, commands and shows, and what the host knows.
 ghost use Rattle.std.specs.Prelude.{◌≡◌, ◌++◌, IfOk, IfErr, OnOk, codes, is_some, string_bytes};
-ghost use Rattle.pm_text.specs.Report.{cause_text, cml_line, end_text, first_line, job_line, job_text, report_text, seen_line, world_lines};
+ghost use Rattle.pm_text.specs.declared.form.Form.TheVariants.{First};
+ghost use Rattle.pm_world.specs.FaultWords.{cause_text};
+ghost use Rattle.pm_text.specs.Report.{cml_line, end_text, first_line, job_line, job_text, report_text, seen_line, world_lines};
 
-use crate::outputs::push_outputs;
+mod outputs;
+mod settings;
+
+use crate::form::Form;
 use crate::ran::Ran;
-use crate::settings::{push_hex_word, push_setting};
+use outputs::push_outputs;
 use pm_host::JobEnd;
-use pm_lines::{TextFault, host_fault_words, push_decimal, push_hex};
+use pm_lines::{TextFault, push_decimal, push_hex, push_hex_word};
 use pm_table::Cell;
 use pm_world::{Cause, Stop, World};
+use settings::push_setting;
 use std::alloc::{AllocError, Global};
+
+/// The bytes that are reserved for a report: those of eight outputs have some 2500.
+const ROOM: usize = 4096;
 
 /// The report of a run. Its first line is `ran N`, or `stopped N` and the cause, where an event wasn't
 /// taken. Then comes, of the state after the taken events: WRITE_PROTECT; for each output the voltage
-/// that it commands, its five settings, each with what the host says of it, and STATUS_BYTE,
+/// that it commands, its settings, each with what the host says of it, and STATUS_BYTE,
 /// STATUS_WORD and STATUS_VOUT; STATUS_CML; whether the host saw a restart; and its job.
 ///
 /// # Errors
@@ -21,21 +30,21 @@ use std::alloc::{AllocError, Global};
 /// X6 alone.
 pub fn render_report(alloc: Global, run: &Ran) -> Result<String, TextFault>
     ensures text { IfOk result (λ text. string_bytes text
-        ≡ report_text run.now.world run.now.taken run.now.stop) }
+        ≡ report_text First run.now.world run.now.taken run.now.stop) }
     ensures fault { IfErr result (λ fault. fault ≡ TextFault.Memory) }
 {
-    let mut text = String::new(alloc);
-    push_report(&mut text, run)?;
+    let mut text = String::with_capacity(alloc, ROOM)?;
+    push_report(&mut text, Form::First, run)?;
     Ok(text)
 }
 
 #[tactic(auto, using(crate::proofs::Joins::joins), unfolding(crate::specs::Report::report_text))]
-fn push_report(text: &mut String, run: &Ran) -> Result<(), AllocError>
+fn push_report(text: &mut String, form: Form, run: &Ran) -> Result<(), AllocError>
     ensures { OnOk result (string_bytes text.new ≡ string_bytes text.old
-        ++ report_text run.now.world run.now.taken run.now.stop) }
+        ++ report_text form run.now.world run.now.taken run.now.stop) }
 {
     push_first_line(text, run.taken, &run.stop)?;
-    push_world(text, &run.world)
+    push_world(text, form, &run.world)
 }
 
 // How many events were taken, and why the next one wasn't.
@@ -59,30 +68,27 @@ fn push_first_line(text: &mut String, taken: u64, stop: &Option<Stop>) -> Result
     text.push_str("\n")
 }
 
-// The letters and the name of a cause, and the host's refusal behind S4.
+// The letters and the name of a cause, and the host's refusal after S4.
 #[tactic(auto, using(crate::proofs::Joins::joins))]
 fn push_cause(text: &mut String, cause: Cause) -> Result<(), AllocError>
     ensures { OnOk result (string_bytes text.new ≡ string_bytes text.old ++ cause_text cause) }
 {
-    match cause {
-        Cause::Full => text.push_str("S5 Full"),
-        Cause::NothingSent => text.push_str("S2 NothingSent"),
-        Cause::WrongKind => text.push_str("S3 WrongKind"),
-        Cause::NotBetrayed => text.push_str("S1 NotBetrayed"),
-        Cause::Host(fault) => {
-            text.push_str("S4 Host ")?;
-            text.push_str(host_fault_words(fault))
-        }
+    text.push_str(cause.words())?;
+    if let Cause::Host(fault) = cause {
+        text.push_str(" ")?;
+        text.push_str(fault.words())?;
     }
+    Ok(())
 }
 
 // The lines that follow the first one.
 #[tactic(auto, using(crate::proofs::Joins::joins), unfolding(crate::specs::Report::world_lines))]
-fn push_world(text: &mut String, world: &World) -> Result<(), AllocError>
-    ensures { OnOk result (string_bytes text.new ≡ string_bytes text.old ++ world_lines world.now) }
+fn push_world(text: &mut String, form: Form, world: &World) -> Result<(), AllocError>
+    ensures { OnOk result (string_bytes text.new
+        ≡ string_bytes text.old ++ world_lines form world.now) }
 {
     push_setting(text, world, "protect", Cell::Protect)?;
-    push_outputs(text, world)?;
+    push_outputs(text, form, world)?;
     push_cml(text, world)?;
     text.push_str(seen_words(world.host().restart_seen()))?;
     push_job(text, world)

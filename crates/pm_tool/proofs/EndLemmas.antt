@@ -1,20 +1,21 @@
 -- How a run ends, by what its calls did.
-use Rattle.std.proofs.Common.{◌≡◌, ◌≢◌, ◌∙◌, ◌++◌, ◌<◌, ◌≤◌, ◌↔◌, ◌⊎◌, ℕ, Bool, true, false, List, [], length, Option, Some, Result, Ok, Err, IsTrue, IsFalse, OnOk, OnErr, is_err, refl, sym, subst, inl, inr, append-nil, codes, arith}
+use Rattle.std.proofs.Common.{◌≡◌, ◌≢◌, ◌∙◌, ◌++◌, ◌<◌, ◌≤◌, ◌↔◌, ◌⊎◌, ℕ, Bool, true, false, List, [], length, Option, Some, Result, Ok, Err, IsTrue, IsFalse, OnOk, OnErr, is_err, refl, sym, ap, subst, inl, inr, append-nil, codes, arith}
 use Rattle.std.specs.Io.KnownBytes.{Appends, Consumes, Keeps}
 use Rattle.std.proofs.KnownBytes.{Appends-kept}
 use Rattle.clap.specs.declared.error.kind.ErrorKind.{ErrorKind}
 use Rattle.clap.specs.declared.error.kind.ErrorKind.TheVariants.{DisplayHelp, DisplayVersion, OutOfMemory}
-use Rattle.pm_lines.specs.Streams.{AppendsFront, Held, IsWholeText}
+use Rattle.pm_lines.specs.Streams.{AppendsFront, Held, IsWholeText, max_text}
 use Rattle.pm_lines.specs.declared.fault.TextFault.{TextFault}
 use Rattle.pm_lines.specs.declared.fault.TextFault.TheVariants.{Syntax, BadHex, TooLong, Read, Write, Memory, Setup}
-use Rattle.pm_lines.specs.declared.text.TheConstants.{MAX_TEXT}
 use Rattle.std.specs.declared.io.ErrorKind.{ErrorKind as IoKind}
 use Rattle.std.specs.declared.io.ErrorKind.TheVariants.{OutOfMemory as IoMemory}
 use Rattle.clap.specs.Kinds.{IsAmong}
 use Rattle.clap.specs.Words.{Text, fault_of}
 use Rattle.pm_num.specs.declared.fault.NumFault.{NumFault}
 use Rattle.pm_tool.specs.Commandline.{pmb, status_by}
-use Rattle.pm_tool.specs.Execution.{End, Printed, CutShort, Refused, Broken, Misused, GaveMore, GaveSome, GaveText, HearEnds, IsDone, IsEnd, NumberEnds, NumberRefuses, DecodeBreaks, DecodeEnds, GaveFaulty, ReplayEnds, ReplayRefuses, decode_status, replay_status, Says, UsageEnds, WordsEnd, no_words_end, refusal_line, text_refusal, wants_memory}
+use Rattle.pm_tool.specs.Execution.{End, Printed, CutShort, Refused, Broken, Misused, GaveFaulty, GaveMore, GaveSome, GaveText}
+use Rattle.pm_tool.specs.Execution.{TextEnds, HearRefuses, ReplayRefuses, DecodeBreaks, DecodeEnds, NumberEnds, NumberRefuses, UsageEnds, WordsEnd}
+use Rattle.pm_tool.specs.Execution.{IsDone, IsEnd, Says, decode_status, no_words_end, refusal_line, text_refusal, wants_memory}
 use Rattle.pm_tool.specs.Outcome.{IsOfHear}
 use Rattle.pm_tool.specs.NumberFaults.{refusal_status, refusal_words}
 use Rattle.pm_tool.specs.NumberText.{IsCommandLineFault, IsNumberText, IsOfNumber, RefusesNumber}
@@ -28,8 +29,6 @@ use Rattle.pm_trace.specs.Decoding.{said as said_of}
 use Rattle.pm_trace.specs.Trace.{trace_of}
 use Rattle.pm_trace.specs.TraceText.{IsOfDecode, end_of, told_lines, trace_text}
 use Rattle.pm_trace.specs.declared.decode_end.DecodeEnd.{DecodeEnd}
-use Rattle.pm_text.specs.Replay.{IsReplay}
-use Rattle.pm_text.specs.declared.replay_end.ReplayEnd.{ReplayEnd}
 
 -- a result that is no such error
 pub false_unless : (b : Bool) → (IsTrue b → ⊥) → IsFalse b
@@ -57,215 +56,247 @@ module _ {E : Type 0} (err : E → Option (List ℕ)) where
   said_as errors errors' words other same said =
       subst (λ w. Says err errors errors' (Some (refusal_line w))) (append-nil words ∙ same) said
 
-module _ {W E : Type 0} (out : W → Option (List ℕ)) (err : E → Option (List ℕ)) where
-  -- the whole text was written, and then handed on or not
-  pub ended : (output mid output' : Held W) (errors errors' : Held E) (wanted status : ℕ) (text : List ℕ)
-      → Appends (out output.inner) (out mid.inner) text → Keeps (out mid.inner) (out output'.inner) → IsDone err output' errors errors' wanted status
-      → IsEnd out err output output' errors errors' status (Printed wanted text) ⊎ IsEnd out err output output' errors errors' status (CutShort text)
-  ended output mid output' errors errors' wanted status text written kept (inl done) =
-      inl (record { status_is = done.1; printed = (done.0, Appends-kept _ _ _ text written kept); said = done.2 })
-  ended output mid output' errors errors' wanted status text written kept (inr failed) =
-      inr (record {
-        status_is = failed.1;
-        printed = (failed.0, (text, [], sym (append-nil text), Appends-kept _ _ _ text written kept));
-        said = failed.2;
-      })
+-- a text's fault is that of a writer or another
+is_write : (fault : TextFault) → (fault ≡ Write) ⊎ (fault ≢ Write)
+is_write (Syntax line) = inr (λ e. cc)
+is_write (BadHex line) = inr (λ e. cc)
+is_write TooLong = inr (λ e. cc)
+is_write Read = inr (λ e. cc)
+is_write Write = inl refl
+is_write Memory = inr (λ e. cc)
+is_write (Setup reason) = inr (λ e. cc)
 
-  -- the text was cut short as it was written
-  pub cut : (output output' : Held W) (errors errors' : Held E) (text : List ℕ) → IsTrue output'.failed → AppendsFront (out output.inner) (out output'.inner) text
-      → Says err errors errors' (Some (refusal_line (codes "X5 Write"))) → IsEnd out err output output' errors errors' 1 (CutShort text)
-  cut output output' errors errors' text failed short said =
+-- ---- a run's streams
+
+-- the two writers of a run, before it and after it
+pub record Writers (W E : Type 0) : Type 0 where
+  pub out : W → Option (List ℕ)
+  pub err : E → Option (List ℕ)
+  pub output : Held W
+  pub output' : Held W
+  pub errors : Held E
+  pub errors' : Held E
+
+-- what they got, and the status, are those of an end
+abbrev pub Ends : {W E : Type 0} → Writers W E → ℕ → End → Type 0
+Ends w status end = IsEnd w.out w.err w.output w.output' w.errors w.errors' status end
+
+-- its reader, before it and after it
+pub record Reader (R : Type 0) : Type 0 where
+  pub remaining : R → Option (List ℕ)
+  pub old : Held R
+  pub new : Held R
+
+-- a text that was written, and then handed on or not
+pub record Wrote {W E : Type 0} (w : Writers W E) (wanted status : ℕ) (text : List ℕ) : Type 0 where
+  pub mid : Held W
+  pub written : Appends (w.out w.output.inner) (w.out mid.inner) text
+  pub kept : Keeps (w.out mid.inner) (w.out w.output'.inner)
+  pub done : IsDone w.err w.output' w.errors w.errors' wanted status
+
+module _ {W E : Type 0} (w : Writers W E) where
+  -- a text that was written is printed, or cut short where it wasn't handed on
+  pub ended : (wanted status : ℕ) (text : List ℕ) → Wrote w wanted status text
+      → Ends w status (Printed wanted text) ⊎ Ends w status (CutShort text)
+  ended wanted status text wrote = by wrote.done
+    where
+      all : Appends (w.out w.output.inner) (w.out w.output'.inner) text
+      all = Appends-kept _ _ _ text wrote.written wrote.kept
+
+      by : IsDone w.err w.output' w.errors w.errors' wanted status → Ends w status (Printed wanted text) ⊎ Ends w status (CutShort text)
+      by (inl done) = inl (record { status_is = done.1; printed = (done.0, all); said = done.2 })
+      by (inr failed) =
+          inr (record { status_is = failed.1; printed = (failed.0, (text, [], sym (append-nil text), all)); said = failed.2 })
+
+  -- a text was cut short as it was written
+  pub cut : (text : List ℕ) → IsTrue w.output'.failed → AppendsFront (w.out w.output.inner) (w.out w.output'.inner) text
+      → Says w.err w.errors w.errors' (Some (refusal_line (codes "X5 Write"))) → Ends w 1 (CutShort text)
+  cut text failed short said =
       let (front, rest, split, some, appended) = short in
       record { status_is = refl; printed = (failed, (front, rest, split, appended)); said = said }
 
   -- nothing was printed, and a refusal said
-  pub refused : (output output' : Held W) (errors errors' : Held E) (status : ℕ) (words : List ℕ) → output' ≡ output
-      → Says err errors errors' (Some (refusal_line words)) → IsEnd out err output output' errors errors' status (Refused status words)
-  refused output output' errors errors' status words same said = record { status_is = refl; printed = same; said = said }
+  pub refused : (status : ℕ) (words : List ℕ) → w.output' ≡ w.output
+      → Says w.err w.errors w.errors' (Some (refusal_line words)) → Ends w status (Refused status words)
+  refused status words same said = record { status_is = refl; printed = same; said = said }
 
-  module _ {R : Type 0} (remaining : R → Option (List ℕ)) where
-    -- `hear` wrote its text
-    pub heard : (old new : Held R) (output mid output' : Held W) (errors errors' : Held E) (status : ℕ)
-        → (input : List ℕ) × (text : List ℕ) × IsWholeText (remaining old.inner) (remaining new.inner) input × (printed_text input ≡ Ok text) × Appends (out output.inner) (out mid.inner) text
-        → IsFalse new.failed → Keeps (out mid.inner) (out output'.inner) → IsDone err output' errors errors' 0 status
-        → (end : End) × HearEnds remaining old new end × IsEnd out err output output' errors errors' status end
-    heard old new output mid output' errors errors' status (input, text, whole, is, written) sound kept done =
-        elim (ended output mid output' errors errors' 0 status text written kept done) [
-          | inl e ↦ (Printed 0 text, (refl, sound, (input, whole, is)), e)
-          | inr e ↦ (CutShort text, (sound, (input, whole, is)), e)
+  -- ---- an engine that writes its whole text or refuses
+
+  module _ {R : Type 0} (new : Held R) (Gives : ℕ → List ℕ → Type 0) (Refuses : TextFault → Type 0) where
+    -- it wrote its text
+    pub text_written : (wanted status : ℕ) (text : List ℕ) → Gives wanted text → IsFalse new.failed → Wrote w wanted status text
+        → (end : End) × TextEnds new Gives Refuses end × Ends w status end
+    text_written wanted status text gives sound wrote =
+        elim (ended wanted status text wrote) [
+          | inl e ↦ (Printed wanted text, (sound, gives), e)
+          | inr e ↦ (CutShort text, (sound, wanted, gives), e)
         ]
 
-    -- `hear` refused
-    pub hear_refused : (old new : Held R) (output output' : Held W) (errors errors' : Held E) (fault : TextFault)
-        → ((line : ℕ) → fault ≡ Syntax line → GaveText (remaining old.inner) (remaining new.inner) (Err (Syntax line)))
-        → ((line : ℕ) → fault ≡ BadHex line → GaveText (remaining old.inner) (remaining new.inner) (Err (BadHex line)))
-        → (fault ≡ TooLong → GaveMore (remaining old.inner) (remaining new.inner)) → (fault ≡ Memory → GaveSome (remaining old.inner) (remaining new.inner))
-        → (fault ≡ Write → (input : List ℕ) × (text : List ℕ) × IsWholeText (remaining old.inner) (remaining new.inner) input × (printed_text input ≡ Ok text)
-        × AppendsFront (out output.inner) (out output'.inner) text)
-        → (fault ≢ Write → output' ≡ output) → IsOfHear fault
-        → ((fault ≡ Read) ↔ IsTrue new.failed) → ((fault ≡ Write) ↔ IsTrue output'.failed)
-        → Says err errors errors' (Some (refusal_line (text_refusal fault)))
-        → (end : End) × HearEnds remaining old new end × IsEnd out err output output' errors errors' 1 end
-    hear_refused old new output output' errors errors' (Syntax line) syntax bad_hex too_long memory short unwritten of read write said =
-        (Refused 1 (text_refusal (Syntax line)), (refl, Syntax line, refl, (read.1, read.0), syntax line refl), refused output output' errors errors' 1 _ (unwritten (λ e. cc)) said)
-    hear_refused old new output output' errors errors' (BadHex line) syntax bad_hex too_long memory short unwritten of read write said =
-        (Refused 1 (text_refusal (BadHex line)), (refl, BadHex line, refl, (read.1, read.0), bad_hex line refl), refused output output' errors errors' 1 _ (unwritten (λ e. cc)) said)
-    hear_refused old new output output' errors errors' TooLong syntax bad_hex too_long memory short unwritten of read write said =
-        (Refused 1 (text_refusal TooLong), (refl, TooLong, refl, (read.1, read.0), too_long refl), refused output output' errors errors' 1 _ (unwritten (λ e. cc)) said)
-    hear_refused old new output output' errors errors' Read syntax bad_hex too_long memory short unwritten of read write said =
-        (Refused 1 (text_refusal Read), (refl, Read, refl, (read.1, read.0), tt), refused output output' errors errors' 1 _ (unwritten (λ e. cc)) said)
-    hear_refused old new output output' errors errors' Write syntax bad_hex too_long memory short unwritten of read write said =
-        let (input, text, whole, is, front) = short refl in
-        let sound : IsFalse new.failed = false_unless new.failed (λ t. let e : Write ≡ Read = read.1 t in cc) in
-        (CutShort text, (sound, (input, whole, is)), cut output output' errors errors' text (write.0 refl) front said)
-    hear_refused old new output output' errors errors' Memory syntax bad_hex too_long memory short unwritten of read write said =
-        (Refused 1 (text_refusal Memory), (refl, Memory, refl, (read.1, read.0), memory refl), refused output output' errors errors' 1 _ (unwritten (λ e. cc)) said)
-    hear_refused old new output output' errors errors' (Setup reason) syntax bad_hex too_long memory short unwritten of read write said = absurd of
+    -- what holds where it refuses
+    pub record TextRefusal (fault : TextFault) : Type 0 where
+      pub why : fault ≢ Write → Refuses fault
+      pub short : fault ≡ Write → (status : ℕ) × (text : List ℕ) × Gives status text
+          × AppendsFront (w.out w.output.inner) (w.out w.output'.inner) text
+      pub unwritten : fault ≢ Write → w.output' ≡ w.output
+      pub read : (fault ≡ Read) ↔ IsTrue new.failed
+      pub write : (fault ≡ Write) ↔ IsTrue w.output'.failed
 
-    -- `replay` wrote its report
-    pub replayed : (old new : Held R) (output mid output' : Held W) (errors errors' : Held E) (wanted status : ℕ) (end : ReplayEnd)
-        → (input : List ℕ) × (text : List ℕ) × IsWholeText (remaining old.inner) (remaining new.inner) input × IsReplay input text end × Appends (out output.inner) (out mid.inner) text
-        → IsFalse new.failed → Keeps (out mid.inner) (out output'.inner) → wanted ≡ replay_status end → IsDone err output' errors errors' wanted status
-        → (e : End) × ReplayEnds remaining old new e × IsEnd out err output output' errors errors' status e
-    replayed old new output mid output' errors errors' wanted status end (input, text, whole, is, written) sound kept same done =
-        elim (ended output mid output' errors errors' wanted status text written kept done) [
-          | inl e ↦ (Printed wanted text, (sound, end, same, (input, whole, is)), e)
-          | inr e ↦ (CutShort text, (sound, end, (input, whole, is)), e)
-        ]
+    -- it refused
+    pub text_refused : (fault : TextFault) → TextRefusal fault → Says w.err w.errors w.errors' (Some (refusal_line (text_refusal fault)))
+        → (end : End) × TextEnds new Gives Refuses end × Ends w 1 end
+    text_refused fault is said = elim (is_write fault) [ inl write ↦ failed write | inr other ↦ other_fault other ]
+      where
+        failed : fault ≡ Write → (end : End) × TextEnds new Gives Refuses end × Ends w 1 end
+        failed write =
+            let (status, text, gives, front) = is.short write in
+            let sound : IsFalse new.failed = false_unless new.failed (λ t. let e : Write ≡ Read = sym write ∙ is.read.1 t in cc) in
+            let line = subst (λ f. Says w.err w.errors w.errors' (Some (refusal_line (text_refusal f)))) write said in
+            (CutShort text, (sound, status, gives), cut text (is.write.0 write) front line)
 
-    -- `replay` refused
-    pub replay_refused : (old new : Held R) (output output' : Held W) (errors errors' : Held E) (fault : TextFault)
-        → ((line : ℕ) → fault ≡ Syntax line → GaveFaulty (remaining old.inner) (remaining new.inner) (Syntax line))
-        → ((line : ℕ) → fault ≡ BadHex line → GaveFaulty (remaining old.inner) (remaining new.inner) (BadHex line))
-        → ((reason : SetupFault) → fault ≡ Setup reason → ReplayRefuses (remaining old.inner) (remaining new.inner) (Setup reason))
-        → (fault ≡ TooLong → GaveMore (remaining old.inner) (remaining new.inner)) → (fault ≡ Memory → GaveSome (remaining old.inner) (remaining new.inner))
-        → (fault ≡ Write → (input : List ℕ) × (text : List ℕ) × (end : ReplayEnd) × IsWholeText (remaining old.inner) (remaining new.inner) input × IsReplay input text end
-        × AppendsFront (out output.inner) (out output'.inner) text)
-        → (fault ≢ Write → output' ≡ output)
-        → ((fault ≡ Read) ↔ IsTrue new.failed) → ((fault ≡ Write) ↔ IsTrue output'.failed)
-        → Says err errors errors' (Some (refusal_line (text_refusal fault)))
-        → (end : End) × ReplayEnds remaining old new end × IsEnd out err output output' errors errors' 1 end
-    replay_refused old new output output' errors errors' (Syntax line) syntax bad_hex setup too_long memory short unwritten read write said =
-        (Refused 1 (text_refusal (Syntax line)), (refl, Syntax line, refl, (read.1, read.0), syntax line refl), refused output output' errors errors' 1 _ (unwritten (λ e. cc)) said)
-    replay_refused old new output output' errors errors' (BadHex line) syntax bad_hex setup too_long memory short unwritten read write said =
-        (Refused 1 (text_refusal (BadHex line)), (refl, BadHex line, refl, (read.1, read.0), bad_hex line refl), refused output output' errors errors' 1 _ (unwritten (λ e. cc)) said)
-    replay_refused old new output output' errors errors' TooLong syntax bad_hex setup too_long memory short unwritten read write said =
-        (Refused 1 (text_refusal TooLong), (refl, TooLong, refl, (read.1, read.0), too_long refl), refused output output' errors errors' 1 _ (unwritten (λ e. cc)) said)
-    replay_refused old new output output' errors errors' Read syntax bad_hex setup too_long memory short unwritten read write said =
-        (Refused 1 (text_refusal Read), (refl, Read, refl, (read.1, read.0), tt), refused output output' errors errors' 1 _ (unwritten (λ e. cc)) said)
-    replay_refused old new output output' errors errors' Write syntax bad_hex setup too_long memory short unwritten read write said =
-        let (input, text, end, whole, is, front) = short refl in
-        let sound : IsFalse new.failed = false_unless new.failed (λ t. let e : Write ≡ Read = read.1 t in cc) in
-        (CutShort text, (sound, end, (input, whole, is)), cut output output' errors errors' text (write.0 refl) front said)
-    replay_refused old new output output' errors errors' Memory syntax bad_hex setup too_long memory short unwritten read write said =
-        (Refused 1 (text_refusal Memory), (refl, Memory, refl, (read.1, read.0), memory refl), refused output output' errors errors' 1 _ (unwritten (λ e. cc)) said)
-    replay_refused old new output output' errors errors' (Setup reason) syntax bad_hex setup too_long memory short unwritten read write said =
-        (Refused 1 (text_refusal (Setup reason)), (refl, Setup reason, refl, (read.1, read.0), setup reason refl), refused output output' errors errors' 1 _ (unwritten (λ e. cc)) said)
+        other_fault : fault ≢ Write → (end : End) × TextEnds new Gives Refuses end × Ends w 1 end
+        other_fault other =
+            (Refused 1 (text_refusal fault), (refl, fault, refl, (is.read.1, is.read.0), is.why other), refused 1 (text_refusal fault) (is.unwritten other) said)
 
+  -- ---- `decode`
+
+  module _ {R : Type 0} (r : Reader R) where
     -- `decode` wrote the text of a trace
-    pub decoded : (old new : Held R) (output mid output' : Held W) (errors errors' : Held E) (wanted status : ℕ) (end : DecodeEnd)
-        → (input : List ℕ) × IsWholeText (remaining old.inner) (remaining new.inner) input × Appends (out output.inner) (out mid.inner) (trace_text input) × (end ≡ end_of (counts_of (trace_of input)))
-        → IsFalse new.failed → Keeps (out mid.inner) (out output'.inner) → wanted ≡ decode_status end → IsDone err output' errors errors' wanted status
-        → (e : End) × DecodeEnds remaining old new e × IsEnd out err output output' errors errors' status e
-    decoded old new output mid output' errors errors' wanted status end (input, whole, written, is) sound kept same done =
-        elim (ended output mid output' errors errors' wanted status (trace_text input) written kept done) [
+    pub decoded : (wanted status : ℕ) (end : DecodeEnd) (input : List ℕ) → IsWholeText (r.remaining r.old.inner) (r.remaining r.new.inner) input
+        → (wanted ≡ decode_status end) × (end ≡ end_of (counts_of (trace_of input))) × IsFalse r.new.failed
+        → Wrote w wanted status (trace_text input)
+        → (e : End) × DecodeEnds r.remaining r.old r.new e × Ends w status e
+    decoded wanted status end input whole (same, is, sound) wrote =
+        elim (ended wanted status (trace_text input) wrote) [
           | inl e ↦ (Printed wanted (trace_text input), (sound, end, same, (input, whole, refl, is)), e)
           | inr e ↦ (CutShort (trace_text input), (sound, (input, whole.given, inr (whole, refl))), e)
         ]
 
-    -- `decode` broke off, with these lines told
-    broken : (old new : Held R) (output output' : Held W) (errors errors' : Held E) (fault : TextFault) (text : List ℕ)
-        → DecodeBreaks (remaining old.inner) (remaining new.inner) text fault → Appends (out output.inner) (out output'.inner) text
-        → ((fault ≡ Read) ↔ IsTrue new.failed) → IsFalse output'.failed
-        → Says err errors errors' (Some (refusal_line (text_refusal fault)))
-        → (end : End) × DecodeEnds remaining old new end × IsEnd out err output output' errors errors' 1 end
-    broken old new output output' errors errors' fault text breaks written read sound said =
-        (Broken text (text_refusal fault), (fault, refl, (read.1, read.0), breaks), record { status_is = refl; printed = (sound, written); said = said })
+    -- what holds where `decode` breaks off
+    pub record DecodeRefusal (fault : TextFault) : Type 0 where
+      pub too_long : fault ≡ TooLong → (front : List ℕ) × (more : List ℕ) × (length front ≡ max_text) × (0 < length more)
+          × Consumes (r.remaining r.old.inner) (r.remaining r.new.inner) (front ++ more)
+          × Appends (w.out w.output.inner) (w.out w.output'.inner) (told_lines (said_of front))
+      pub failed : fault ≡ Read → (front : List ℕ) × (length front ≤ max_text)
+          × Consumes (r.remaining r.old.inner) (r.remaining r.new.inner) front
+          × Appends (w.out w.output.inner) (w.out w.output'.inner) (told_lines (said_of front))
+      pub short : fault ≡ Write → (front : List ℕ) × Consumes (r.remaining r.old.inner) (r.remaining r.new.inner) front
+          × (AppendsFront (w.out w.output.inner) (w.out w.output'.inner) (told_lines (said_of front))
+          ⊎ (IsWholeText (r.remaining r.old.inner) (r.remaining r.new.inner) front
+          × AppendsFront (w.out w.output.inner) (w.out w.output'.inner) (trace_text front)))
+      pub memory : fault ≡ Memory → (front : List ℕ) × (text : List ℕ) × (rest : List ℕ)
+          × Consumes (r.remaining r.old.inner) (r.remaining r.new.inner) front
+          × (told_lines (said_of front) ≡ text ++ rest) × Appends (w.out w.output.inner) (w.out w.output'.inner) text
+      pub of : IsOfDecode fault
+      pub read : (fault ≡ Read) ↔ IsTrue r.new.failed
+      pub write : (fault ≡ Write) ↔ IsTrue w.output'.failed
 
-    -- it was being written as the writer failed
-    decode_cut : (old new : Held R) (output output' : Held W) (errors errors' : Held E) (front text : List ℕ)
-        → Consumes (remaining old.inner) (remaining new.inner) front → (text ≡ told_lines (said_of front)) ⊎ (IsWholeText (remaining old.inner) (remaining new.inner) front × (text ≡ trace_text front))
-        → IsFalse new.failed → IsTrue output'.failed → AppendsFront (out output.inner) (out output'.inner) text
-        → Says err errors errors' (Some (refusal_line (text_refusal Write)))
-        → (end : End) × DecodeEnds remaining old new end × IsEnd out err output output' errors errors' 1 end
-    decode_cut old new output output' errors errors' front text given is sound failed short said =
-        (CutShort text, (sound, (front, given, is)), cut output output' errors errors' text failed short said)
+    -- it broke off, with these lines told
+    broken : (fault : TextFault) → DecodeRefusal fault → fault ≢ Write → (text : List ℕ)
+        → DecodeBreaks (r.remaining r.old.inner) (r.remaining r.new.inner) text fault
+        → Appends (w.out w.output.inner) (w.out w.output'.inner) text
+        → Says w.err w.errors w.errors' (Some (refusal_line (text_refusal fault)))
+        → (end : End) × DecodeEnds r.remaining r.old r.new end × Ends w 1 end
+    broken fault is other text breaks written said =
+        let sound = false_unless w.output'.failed (λ t. absurd (other (is.write.1 t))) in
+        (Broken text (text_refusal fault), (fault, refl, (is.read.1, is.read.0), breaks), record { status_is = refl; printed = (sound, written); said = said })
 
-    pub decode_broke : (old new : Held R) (output output' : Held W) (errors errors' : Held E) (fault : TextFault)
-        → (fault ≡ TooLong → (front : List ℕ) × (more : List ℕ) × (length front ≡ MAX_TEXT) × (0 < length more) × Consumes (remaining old.inner) (remaining new.inner) (front ++ more)
-        × Appends (out output.inner) (out output'.inner) (told_lines (said_of front)))
-        → (fault ≡ Read → (front : List ℕ) × (length front ≤ MAX_TEXT) × Consumes (remaining old.inner) (remaining new.inner) front × Appends (out output.inner) (out output'.inner) (told_lines (said_of front)))
-        → (fault ≡ Write → (front : List ℕ) × Consumes (remaining old.inner) (remaining new.inner) front
-        × (AppendsFront (out output.inner) (out output'.inner) (told_lines (said_of front)) ⊎ (IsWholeText (remaining old.inner) (remaining new.inner) front × AppendsFront (out output.inner) (out output'.inner) (trace_text front))))
-        → (fault ≡ Memory → (front : List ℕ) × (text : List ℕ) × (rest : List ℕ) × Consumes (remaining old.inner) (remaining new.inner) front
-        × (told_lines (said_of front) ≡ text ++ rest) × Appends (out output.inner) (out output'.inner) text)
-        → IsOfDecode fault → ((fault ≡ Read) ↔ IsTrue new.failed) → ((fault ≡ Write) ↔ IsTrue output'.failed)
-        → Says err errors errors' (Some (refusal_line (text_refusal fault)))
-        → (end : End) × DecodeEnds remaining old new end × IsEnd out err output output' errors errors' 1 end
-    decode_broke old new output output' errors errors' TooLong too_long failed short memory of read write said =
-        let (front, more, full, some, given, written) = too_long refl in
-        let sound = false_unless output'.failed (λ t. let e : TooLong ≡ Write = write.1 t in cc) in
-        broken old new output output' errors errors' TooLong (told_lines (said_of front)) (front, more, full, some, given, refl) written read sound said
-    decode_broke old new output output' errors errors' Read too_long failed short memory of read write said =
-        let (front, within, given, written) = failed refl in
-        let sound = false_unless output'.failed (λ t. let e : Read ≡ Write = write.1 t in cc) in
-        broken old new output output' errors errors' Read (told_lines (said_of front)) (front, within, given, refl) written read sound said
-    decode_broke old new output output' errors errors' Write too_long failed short memory of read write said =
-        let (front, given, which) = short refl in
-        let sound : IsFalse new.failed = false_unless new.failed (λ t. let e : Write ≡ Read = read.1 t in cc) in
+    pub decode_broke : (fault : TextFault) → DecodeRefusal fault → Says w.err w.errors w.errors' (Some (refusal_line (text_refusal fault)))
+        → (end : End) × DecodeEnds r.remaining r.old r.new end × Ends w 1 end
+    decode_broke TooLong is said =
+        let (front, more, full, some, given, written) = is.too_long refl in
+        broken TooLong is (λ e. cc) (told_lines (said_of front)) (front, more, full, some, given, refl) written said
+    decode_broke Read is said =
+        let (front, within, given, written) = is.failed refl in
+        broken Read is (λ e. cc) (told_lines (said_of front)) (front, within, given, refl) written said
+    decode_broke Write is said =
+        let (front, given, which) = is.short refl in
+        let sound : IsFalse r.new.failed = false_unless r.new.failed (λ t. let e : Write ≡ Read = is.read.1 t in cc) in
         elim which [
-          | inl lines ↦ decode_cut old new output output' errors errors' front (told_lines (said_of front)) given (inl refl) sound (write.0 refl) lines said
-          | inr whole ↦ decode_cut old new output output' errors errors' front (trace_text front) given (inr (whole.0, refl)) sound (write.0 refl) whole.1 said
+          | inl lines ↦ (CutShort (told_lines (said_of front)), (sound, (front, given, inl refl)), cut _ (is.write.0 refl) lines said)
+          | inr whole ↦ (CutShort (trace_text front), (sound, (front, given, inr (whole.0, refl))), cut _ (is.write.0 refl) whole.1 said)
         ]
-    decode_broke old new output output' errors errors' Memory too_long failed short memory of read write said =
-        let (front, text, rest, given, split, written) = memory refl in
-        let sound = false_unless output'.failed (λ t. let e : Memory ≡ Write = write.1 t in cc) in
-        broken old new output output' errors errors' Memory text (front, rest, given, split) written read sound said
-    decode_broke old new output output' errors errors' (Syntax line) too_long failed short memory of read write said = absurd of
-    decode_broke old new output output' errors errors' (BadHex line) too_long failed short memory of read write said = absurd of
-    decode_broke old new output output' errors errors' (Setup reason) too_long failed short memory of read write said = absurd of
+    decode_broke Memory is said =
+        let (front, text, rest, given, split, written) = is.memory refl in
+        broken Memory is (λ e. cc) text (front, rest, given, split) written said
+    decode_broke (Syntax line) is said = absurd is.of
+    decode_broke (BadHex line) is said = absurd is.of
+    decode_broke (Setup reason) is said = absurd is.of
 
-  -- `number` wrote its line
-  pub numbered : (asked : Result Question NumberFault) (output mid output' : Held W) (errors errors' : Held E) (status : ℕ)
-      → (text : List ℕ) × IsNumberText asked text × Appends (out output.inner) (out mid.inner) text
-      → Keeps (out mid.inner) (out output'.inner) → IsDone err output' errors errors' 0 status
-      → (end : End) × NumberEnds asked end × IsEnd out err output output' errors errors' status end
-  numbered asked output mid output' errors errors' status (text, is, written) kept done =
-      elim (ended output mid output' errors errors' 0 status text written kept done) [
-        | inl e ↦ (Printed 0 text, (refl, is), e)
-        | inr e ↦ (CutShort text, is, e)
-      ]
+  -- ---- `number`
 
-  -- `number` refused
-  module _ (asked : Result Question NumberFault) (output output' : Held W) (errors errors' : Held E) where
-    refused_as : (fault : NumberFault) → NumberRefuses asked fault → output' ≡ output → Says err errors errors' (Some (refusal_line (refusal_words fault)))
-        → (end : End) × NumberEnds asked end × IsEnd out err output output' errors errors' (refusal_status fault) end
-    refused_as fault why same said =
-        (Refused (refusal_status fault) (refusal_words fault), (fault, refl, refl, why), refused output output' errors errors' _ _ same said)
+  module _ (asked : Result Question NumberFault) where
+    -- `number` wrote its line
+    pub numbered : (status : ℕ) (text : List ℕ) → IsNumberText asked text → Wrote w 0 status text
+        → (end : End) × NumberEnds asked end × Ends w status end
+    numbered status text is wrote =
+        elim (ended 0 status text wrote) [
+          | inl e ↦ (Printed 0 text, (refl, is), e)
+          | inr e ↦ (CutShort text, is, e)
+        ]
 
-    pub number_refused : (fault : NumberFault)
-        → ((f : NumberFault) → IsCommandLineFault f → fault ≡ f → asked ≡ Err f)
-        → ((f : NumFault) → fault ≡ Num f → RefusesNumber asked f)
-        → (fault ≡ OfText Write → IsTrue output'.failed)
-        → (fault ≡ OfText Write → (text : List ℕ) × IsNumberText asked text × AppendsFront (out output.inner) (out output'.inner) text)
-        → (fault ≡ OfText Memory → (text : List ℕ) × IsNumberText asked text)
-        → IsOfNumber fault → (fault ≢ OfText Write → output' ≡ output)
-        → Says err errors errors' (Some (refusal_line (refusal_words fault)))
-        → (end : End) × NumberEnds asked end × IsEnd out err output output' errors errors' (refusal_status fault) end
-    number_refused OneOf line num write short memory of unwritten said = refused_as OneOf (line OneOf tt refl) (unwritten (λ e. cc)) said
-    number_refused Format line num write short memory of unwritten said = refused_as Format (line Format tt refl) (unwritten (λ e. cc)) said
-    number_refused Word line num write short memory of unwritten said = refused_as Word (line Word tt refl) (unwritten (λ e. cc)) said
-    number_refused Micro line num write short memory of unwritten said = refused_as Micro (line Micro tt refl) (unwritten (λ e. cc)) said
-    number_refused (Num f) line num write short memory of unwritten said = refused_as (Num f) (num f refl) (unwritten (λ e. cc)) said
-    number_refused (OfText Write) line num write short memory of unwritten said =
-        let (text, is, front) = short refl in
-        (CutShort text, is, cut output output' errors errors' text (write refl) front said)
-    number_refused (OfText Memory) line num write short memory of unwritten said = refused_as (OfText Memory) (memory refl) (unwritten (λ e. cc)) said
-    number_refused (OfText (Syntax n)) line num write short memory of unwritten said = absurd of
-    number_refused (OfText (BadHex n)) line num write short memory of unwritten said = absurd of
-    number_refused (OfText TooLong) line num write short memory of unwritten said = absurd of
-    number_refused (OfText Read) line num write short memory of unwritten said = absurd of
-    number_refused (OfText (Setup reason)) line num write short memory of unwritten said = absurd of
+    -- what holds where `number` refuses
+    pub record NumberRefusal (fault : NumberFault) : Type 0 where
+      pub line : (f : NumberFault) → IsCommandLineFault f → fault ≡ f → asked ≡ Err f
+      pub num : (f : NumFault) → fault ≡ Num f → RefusesNumber asked f
+      pub write : fault ≡ OfText Write → IsTrue w.output'.failed
+      pub short : fault ≡ OfText Write → (text : List ℕ) × IsNumberText asked text
+          × AppendsFront (w.out w.output.inner) (w.out w.output'.inner) text
+      pub memory : fault ≡ OfText Memory → (text : List ℕ) × IsNumberText asked text
+      pub of : IsOfNumber fault
+      pub unwritten : fault ≢ OfText Write → w.output' ≡ w.output
+      pub said : Says w.err w.errors w.errors' (Some (refusal_line (refusal_words fault)))
+
+    refused_as : (fault : NumberFault) → NumberRefusal fault → fault ≢ OfText Write → NumberRefuses asked fault
+        → (end : End) × NumberEnds asked end × Ends w (refusal_status fault) end
+    refused_as fault is other why =
+        (Refused (refusal_status fault) (refusal_words fault), (fault, refl, refl, why), refused _ _ (is.unwritten other) is.said)
+
+    pub number_refused : (fault : NumberFault) → NumberRefusal fault → (end : End) × NumberEnds asked end × Ends w (refusal_status fault) end
+    number_refused OneOf is = refused_as OneOf is (λ e. cc) (is.line OneOf tt refl)
+    number_refused Format is = refused_as Format is (λ e. cc) (is.line Format tt refl)
+    number_refused Word is = refused_as Word is (λ e. cc) (is.line Word tt refl)
+    number_refused Micro is = refused_as Micro is (λ e. cc) (is.line Micro tt refl)
+    number_refused (Num f) is = refused_as (Num f) is (λ e. cc) (is.num f refl)
+    number_refused (OfText Write) is =
+        let (text, asks, front) = is.short refl in
+        (CutShort text, asks, cut text (is.write refl) front is.said)
+    number_refused (OfText Memory) is = refused_as (OfText Memory) is (λ e. cc) (is.memory refl)
+    number_refused (OfText (Syntax n)) is = absurd is.of
+    number_refused (OfText (BadHex n)) is = absurd is.of
+    number_refused (OfText TooLong) is = absurd is.of
+    number_refused (OfText Read) is = absurd is.of
+    number_refused (OfText (Setup reason)) is = absurd is.of
+
+-- ---- why a text is refused, by what its engine ensures of each fault
+
+module _ (old new : Option (List ℕ)) where
+  pub hear_refuses : (fault : TextFault) → ((line : ℕ) → fault ≡ Syntax line → GaveText old new (Err (Syntax line)))
+      → ((line : ℕ) → fault ≡ BadHex line → GaveText old new (Err (BadHex line)))
+      → (fault ≡ TooLong → GaveMore old new) → (fault ≡ Memory → GaveSome old new) → IsOfHear fault → fault ≢ Write → HearRefuses old new fault
+  hear_refuses (Syntax line) syntax bad_hex too_long memory of other = syntax line refl
+  hear_refuses (BadHex line) syntax bad_hex too_long memory of other = bad_hex line refl
+  hear_refuses TooLong syntax bad_hex too_long memory of other = too_long refl
+  hear_refuses Read syntax bad_hex too_long memory of other = tt
+  hear_refuses Write syntax bad_hex too_long memory of other = absurd (other refl)
+  hear_refuses Memory syntax bad_hex too_long memory of other = memory refl
+  hear_refuses (Setup reason) syntax bad_hex too_long memory of other = absurd of
+
+  -- what `replay` ensures of each fault
+  pub record ReplayClauses (fault : TextFault) : Type 0 where
+    pub syntax_line : (line : ℕ) → fault ≡ Syntax line → GaveFaulty old new (Syntax line)
+    pub bad_hex : (line : ℕ) → fault ≡ BadHex line → GaveFaulty old new (BadHex line)
+    pub setup : (reason : SetupFault) → fault ≡ Setup reason → ReplayRefuses old new (Setup reason)
+    pub too_long : fault ≡ TooLong → GaveMore old new
+    pub memory : fault ≡ Memory → GaveSome old new
+
+  pub replay_refuses : (fault : TextFault) → ReplayClauses fault → fault ≢ Write → ReplayRefuses old new fault
+  replay_refuses (Syntax line) is other = is.syntax_line line refl
+  replay_refuses (BadHex line) is other = is.bad_hex line refl
+  replay_refuses TooLong is other = is.too_long refl
+  replay_refuses Read is other = tt
+  replay_refuses Write is other = absurd (other refl)
+  replay_refuses Memory is other = is.memory refl
+  replay_refuses (Setup reason) is other = is.setup reason refl
 
 -- ---- the parser's faults
 

@@ -4,24 +4,23 @@ use Rattle.std.proofs.lemmas.Bool.Decides.{nat_tests}
 use Rattle.std.specs.Io.KnownBytes.{Consumes}
 use Rattle.pm_lines.specs.declared.fault.TextFault.{TextFault}
 use Rattle.pm_lines.specs.declared.fault.TextFault.TheVariants.{Syntax, BadHex, TooLong, Read, Write, Memory, Setup}
-use Rattle.pm_lines.specs.declared.text.TheConstants.{MAX_TEXT}
-use Rattle.pm_lines.specs.Streams.{IsWholeText}
+use Rattle.pm_lines.specs.Streams.{IsWholeText, max_text}
 use Rattle.pm_lines.specs.Faults.{IsOfReading}
 use Rattle.pm_tool.specs.Outcome.{outcome_of, outcome_of_text, IsSettled}
 use Rattle.pm_tool.specs.Script.{printed_text}
 
 -- an input that is too long
-outcome-long : (input : List ℕ) → MAX_TEXT < length input → outcome_of input ≡ Err TooLong
+outcome-long : (input : List ℕ) → max_text < length input → outcome_of input ≡ Err TooLong
 unfolding outcome_of
-outcome-long input long = let over : ltb MAX_TEXT (length input) ≡ true = grind (arith, nat_tests) in rw over refl
+outcome-long input long = let over : ltb max_text (length input) ≡ true = grind (arith, nat_tests) in rw over refl
 
 -- one that isn't
-outcome-short : (input : List ℕ) → length input ≤ MAX_TEXT → outcome_of input ≡ outcome_of_text (printed_text input)
+outcome-short : (input : List ℕ) → length input ≤ max_text → outcome_of input ≡ outcome_of_text (printed_text input)
 unfolding outcome_of
-outcome-short input short = let within : ltb MAX_TEXT (length input) ≡ false = grind (arith, nat_tests) in rw within refl
+outcome-short input short = let within : ltb max_text (length input) ≡ false = grind (arith, nat_tests) in rw within refl
 
 -- what a reader gave at its front
-pub same-long : (old new : Option (List ℕ)) (front : List ℕ) → MAX_TEXT < length front → Consumes old new front
+pub same-long : (old new : Option (List ℕ)) (front : List ℕ) → max_text < length front → Consumes old new front
     → IfSome old (λ input. Err TooLong ≡ outcome_of input)
 same-long None new front long given = tt
 same-long (Some input) None front long given = absurd given
@@ -51,7 +50,7 @@ unsettled (Some input) r open' = λ settled. absurd (open' settled)
 
 -- what a refused reading comes to
 pub same-read : (old new : Option (List ℕ)) (fault : TextFault) → IsOfReading fault
-    → (fault ≡ TooLong → (front : List ℕ) × (MAX_TEXT < length front) × Consumes old new front)
+    → (fault ≡ TooLong → (front : List ℕ) × (max_text < length front) × Consumes old new front)
     → IfSome old (λ input. IsSettled (Err fault) → Err fault ≡ outcome_of input)
 same-read old new (Syntax line) of long = absurd of
 same-read old new (BadHex line) of long = absurd of

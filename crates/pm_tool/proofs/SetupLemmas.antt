@@ -1,22 +1,23 @@
 -- The line that says why no world is made, put together from its parts.
-use Rattle.std.proofs.Common.{◌≡◌, ◌∙◌, ℕ, List, ◌++◌, Option, Some, None, append_assoc, ap, codes, sym, subst}
+use Rattle.std.proofs.Common.{◌≡◌, ◌∙◌, ℕ, List, [], ◌++◌, append_assoc, ap, codes, sym}
 use Rattle.std.specs.Prelude.{decimal}
 use Rattle.pm_tool.specs.Execution.{refusal_line}
-use Rattle.pm_tool.specs.SetupText.{joined_words}
 
-module _ (head tail words h t : List ℕ) (is_head : h ≡ head) (is_tail : t ≡ tail) where
-  pub line-none : (output : Option ℕ) → output ≡ None → joined_words head output tail ≡ words
-      → codes "pmb: X7 Setup " ++ (h ++ (t ++ codes "\n")) ≡ refusal_line (codes "X7 Setup " ++ words)
-  line-none output is joined =
-      let plain : head ++ tail ≡ words = subst (λ o. joined_words head o tail ≡ words) is joined in
-      (λ i. codes "pmb: X7 Setup " ++ (is_head i ++ (is_tail i ++ codes "\n")))
-      ∙ ap (λ w. codes "pmb: X7 Setup " ++ w) (sym (append_assoc head tail (codes "\n")))
-      ∙ ap (λ w. codes "pmb: X7 Setup " ++ (w ++ codes "\n")) plain
+module _ (words w detail s d : List ℕ) (is_words : w ≡ words) (is_detail : s ++ d ≡ detail) where
+  detailed : s ++ (d ++ codes "\n") ≡ detail ++ codes "\n"
+  detailed = sym (append_assoc s d (codes "\n")) ∙ ap (λ l. l ++ codes "\n") is_detail
 
-  pub line-some : (output : Option ℕ) (n : ℕ) (d : List ℕ) → d ≡ decimal n → output ≡ Some n → joined_words head output tail ≡ words
-      → codes "pmb: X7 Setup " ++ (h ++ (d ++ (codes " " ++ (t ++ codes "\n")))) ≡ refusal_line (codes "X7 Setup " ++ words)
-  line-some output n d is_number is joined =
-      let named : head ++ (decimal n ++ (codes " " ++ tail)) ≡ words = subst (λ o. joined_words head o tail ≡ words) is joined in
-      (λ i. codes "pmb: X7 Setup " ++ (is_head i ++ (is_number i ++ (codes " " ++ (is_tail i ++ codes "\n")))))
-      ∙ ap (λ w. codes "pmb: X7 Setup " ++ w) (sym (simp append_assoc))
-      ∙ ap (λ w. codes "pmb: X7 Setup " ++ (w ++ codes "\n")) named
+  -- of a fault that names no output
+  pub line-none : codes "pmb: X7 Setup " ++ (w ++ (s ++ (d ++ codes "\n"))) ≡ refusal_line (codes "X7 Setup " ++ (words ++ ([] ++ detail)))
+  line-none =
+      (λ i. codes "pmb: X7 Setup " ++ (is_words i ++ detailed i))
+      ∙ ap (λ l. codes "pmb: X7 Setup " ++ l) (sym (append_assoc words detail (codes "\n")))
+
+  -- of one that names this output
+  pub line-some : (n : ℕ) (o : List ℕ) → o ≡ decimal n
+      → codes "pmb: X7 Setup " ++ (w ++ (codes " " ++ (o ++ (s ++ (d ++ codes "\n")))))
+      ≡ refusal_line (codes "X7 Setup " ++ (words ++ ((codes " " ++ decimal n) ++ detail)))
+  line-some n o is =
+      (λ i. codes "pmb: X7 Setup " ++ (is_words i ++ (codes " " ++ (is i ++ detailed i))))
+      ∙ ap (λ l. codes "pmb: X7 Setup " ++ (words ++ (codes " " ++ l))) (sym (append_assoc (decimal n) detail (codes "\n")))
+      ∙ ap (λ l. codes "pmb: X7 Setup " ++ l) (sym (append_assoc words ((codes " " ++ decimal n) ++ detail) (codes "\n")))

@@ -11,10 +11,10 @@ use Rattle.clap.specs.Walk.{texts}
 use Rattle.clap.specs.Words.{Text, fault_of, subcommand_of}
 use Rattle.clap.specs.declared.error.kind.ErrorKind.{ErrorKind}
 use Rattle.pm_lines.specs.Faults.{fault_line, fault_setup, fault_words}
-use Rattle.pm_lines.specs.Streams.{AppendsFront, Held, IsWholeText}
+use Rattle.pm_lines.specs.Streams.{AppendsFront, Held, IsWholeText, max_text}
 use Rattle.pm_lines.specs.declared.fault.TextFault.{TextFault}
 use Rattle.pm_lines.specs.declared.fault.TextFault.TheVariants.{Syntax, BadHex, TooLong, Read, Write, Memory, Setup}
-use Rattle.pm_lines.specs.declared.text.TheConstants.{MAX_TEXT}
+use Rattle.pm_world.specs.FaultWords.{setup_fault_text}
 use Rattle.pm_world.specs.declared.stop.SetupFault.{SetupFault}
 use Rattle.pm_trace.specs.Counts.{counts_of}
 use Rattle.pm_trace.specs.Decoding.{said}
@@ -22,7 +22,7 @@ use Rattle.pm_trace.specs.Trace.{trace_of}
 use Rattle.pm_trace.specs.TraceText.{end_of, told_lines, trace_text}
 use Rattle.pm_trace.specs.declared.decode_end.DecodeEnd.{DecodeEnd}
 use Rattle.pm_trace.specs.declared.decode_end.DecodeEnd.TheVariants.{Clean, BadLines}
-use Rattle.pm_scenario.specs.ScenarioText.{scenario_of}
+use Rattle.pm_text.specs.ScenarioText.{scenario_of}
 use Rattle.pm_text.specs.Replay.{IsReplay, RefusesSetup}
 use Rattle.pm_text.specs.declared.replay_end.ReplayEnd.{ReplayEnd}
 use Rattle.pm_text.specs.declared.replay_end.ReplayEnd.TheVariants.{Ran as AllTaken, Stopped}
@@ -30,7 +30,6 @@ use Rattle.pm_tool.specs.Commandline.{Asks, pmb, status_by}
 use Rattle.pm_tool.specs.NumberFaults.{refusal_status, refusal_words}
 use Rattle.pm_tool.specs.NumberText.{IsNumberText, RefusesNumber}
 use Rattle.pm_tool.specs.Script.{printed_text}
-use Rattle.pm_tool.specs.SetupText.{setup_fault_words}
 use Rattle.pm_tool.specs.Question.{asked_by}
 use Rattle.pm_tool.specs.declared.commandline.choice.Chosen.{Chosen}
 use Rattle.pm_tool.specs.declared.commandline.choice.Chosen.TheVariants.{Hear, Replay, Decode, Number as NumberChosen}
@@ -104,7 +103,7 @@ line_words (Some line) = codes " line " ++ decimal line
 -- the same, where no world is made
 abbrev pub reason_words : Option SetupFault → List ℕ
 reason_words None = []
-reason_words (Some fault) = codes " " ++ setup_fault_words fault
+reason_words (Some fault) = codes " " ++ setup_fault_text fault
 
 abbrev pub text_refusal : TextFault → List ℕ
 text_refusal fault =
@@ -112,11 +111,21 @@ text_refusal fault =
 
 -- more bytes came than a text may have, or some that memory was wanted for
 abbrev pub GaveMore : Option (List ℕ) → Option (List ℕ) → Type 0
-GaveMore old new = (front : List ℕ) × (MAX_TEXT < length front) × Consumes old new front
+GaveMore old new = (front : List ℕ) × (max_text < length front) × Consumes old new front
 
 abbrev pub GaveSome : Option (List ℕ) → Option (List ℕ) → Type 0
 GaveSome old new =
-    (front : List ℕ) × (0 < length front) × (length front ≤ MAX_TEXT) × Consumes old new front
+    (front : List ℕ) × (0 < length front) × (length front ≤ max_text) × Consumes old new front
+
+-- how an engine ends that writes its whole text or refuses: what the reader gave makes this text,
+-- with this status, or is refused so; the reader failed exactly where X4 is said
+abbrev pub TextEnds : {R : Type 0} → Held R → (ℕ → List ℕ → Type 0) → (TextFault → Type 0) → End → Type 0
+TextEnds new Gives Refuses (Printed status text) = IsFalse new.failed × Gives status text
+TextEnds new Gives Refuses (CutShort text) = IsFalse new.failed × (status : ℕ) × Gives status text
+TextEnds new Gives Refuses (Refused status words) = (status ≡ 1) × (fault : TextFault)
+    × (words ≡ text_refusal fault) × (IsTrue new.failed ↔ (fault ≡ Read)) × Refuses fault
+TextEnds new Gives Refuses (Broken text words) = ⊥
+TextEnds new Gives Refuses (Misused text) = ⊥
 
 -- ---- `hear`
 
@@ -135,17 +144,11 @@ HearRefuses old new Write = ⊥
 HearRefuses old new Memory = GaveSome old new
 HearRefuses old new (Setup fault) = ⊥
 
--- how `hear` ends; the reader failed exactly where X4 is said
+-- how `hear` ends
 abbrev pub HearEnds : {R : Type 0} → (R → Option (List ℕ)) → Held R → Held R → End → Type 0
-HearEnds remaining old new (Printed status text) = (status ≡ 0) × IsFalse new.failed
-    × GaveText (remaining old.inner) (remaining new.inner) (Ok text)
-HearEnds remaining old new (CutShort text) = IsFalse new.failed
-    × GaveText (remaining old.inner) (remaining new.inner) (Ok text)
-HearEnds remaining old new (Refused status words) = (status ≡ 1)
-    × (fault : TextFault) × (words ≡ text_refusal fault) × (IsTrue new.failed ↔ (fault ≡ Read))
-    × HearRefuses (remaining old.inner) (remaining new.inner) fault
-HearEnds remaining old new (Broken text words) = ⊥
-HearEnds remaining old new (Misused text) = ⊥
+HearEnds remaining old new end = TextEnds new
+    (λ status text. (status ≡ 0) × GaveText (remaining old.inner) (remaining new.inner) (Ok text))
+    (HearRefuses (remaining old.inner) (remaining new.inner)) end
 
 -- ---- `replay`
 
@@ -175,17 +178,12 @@ abbrev pub replay_status : ReplayEnd → ℕ
 replay_status AllTaken = 0
 replay_status Stopped = 1
 
--- how `replay` ends; the reader failed exactly where X4 is said
+-- how `replay` ends
 abbrev pub ReplayEnds : {R : Type 0} → (R → Option (List ℕ)) → Held R → Held R → End → Type 0
-ReplayEnds remaining old new (Printed status text) = IsFalse new.failed × (end : ReplayEnd)
-    × (status ≡ replay_status end) × GaveScenario (remaining old.inner) (remaining new.inner) text end
-ReplayEnds remaining old new (CutShort text) = IsFalse new.failed × (end : ReplayEnd)
-    × GaveScenario (remaining old.inner) (remaining new.inner) text end
-ReplayEnds remaining old new (Refused status words) = (status ≡ 1)
-    × (fault : TextFault) × (words ≡ text_refusal fault) × (IsTrue new.failed ↔ (fault ≡ Read))
-    × ReplayRefuses (remaining old.inner) (remaining new.inner) fault
-ReplayEnds remaining old new (Broken text words) = ⊥
-ReplayEnds remaining old new (Misused text) = ⊥
+ReplayEnds remaining old new end = TextEnds new
+    (λ status text. (end : ReplayEnd) × (status ≡ replay_status end)
+    × GaveScenario (remaining old.inner) (remaining new.inner) text end)
+    (ReplayRefuses (remaining old.inner) (remaining new.inner)) end
 
 -- ---- `decode`
 
@@ -202,9 +200,9 @@ GaveTrace old new text end = (input : List ℕ) × IsWholeText old new input
 -- why `decode` breaks off, and what it has told until then: more bytes than a trace may have, or a
 -- failed read, and the lines that ended before; want of memory, and a front of these
 abbrev pub DecodeBreaks : Option (List ℕ) → Option (List ℕ) → List ℕ → TextFault → Type 0
-DecodeBreaks old new text TooLong = (front : List ℕ) × (more : List ℕ) × (length front ≡ MAX_TEXT)
+DecodeBreaks old new text TooLong = (front : List ℕ) × (more : List ℕ) × (length front ≡ max_text)
     × (0 < length more) × Consumes old new (front ++ more) × (text ≡ told_lines (said front))
-DecodeBreaks old new text Read = (front : List ℕ) × (length front ≤ MAX_TEXT)
+DecodeBreaks old new text Read = (front : List ℕ) × (length front ≤ max_text)
     × Consumes old new front × (text ≡ told_lines (said front))
 DecodeBreaks old new text Memory = (front : List ℕ) × (rest : List ℕ)
     × Consumes old new front × (told_lines (said front) ≡ text ++ rest)

@@ -1,11 +1,12 @@
-pub mod Base
+-- What the crate promises.
 pub mod Commandline
 pub mod Execution
-pub mod LineEvent
 pub mod NumberFaults
 pub mod NumberText
 pub mod Outcome
 pub mod Question
 pub mod ReplyText
 pub mod Script
-pub mod SetupText
+-- How it is kept.
+pub mod Base
+pub mod LineEvent

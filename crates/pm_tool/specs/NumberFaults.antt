@@ -1,7 +1,7 @@
 -- The refusals of `number`, as the program prints them: `pmb: bad word`, `pmb: N1 ZeroSlope`. This
 -- project's own choice.
 use Rattle.std.specs.Prelude.{ℕ, List, codes}
-use Rattle.pm_lines.specs.FaultWords.{num_fault_words}
+use Rattle.pm_num.specs.FaultWords.{num_fault_words}
 use Rattle.pm_lines.specs.Faults.{fault_words}
 use Rattle.pm_tool.specs.declared.numbers.fault.NumberFault.{NumberFault}
 use Rattle.pm_tool.specs.declared.numbers.fault.NumberFault.TheVariants.{OneOf, Format, Word}

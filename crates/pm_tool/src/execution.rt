@@ -3,7 +3,7 @@ ghost use Rattle.std.specs.Io.KnownBytes.{Keeps};
 ghost use Rattle.clap.specs.Words.{kind_of};
 ghost use Rattle.pm_tool.specs.Execution.{DecodeEnds, End, HearEnds, IsDone, IsEnd, NumberEnds, ReplayEnds, RunEnds, Says, UsageEnds};
 ghost use Rattle.pm_tool.specs.Execution.{decode_status as status_of_decode, replay_status as status_of_replay};
-ghost use Rattle.pm_tool.specs.Execution.{CutShort, Printed, arguments_of, no_words_end, refusal_line, said_by, status_of, wants_memory};
+ghost use Rattle.pm_tool.specs.Execution.{CutShort, Printed, arguments_of, no_words_end, refusal_line, said_by, status_of, text_refusal, wants_memory};
 ghost use Rattle.pm_tool.specs.Question.{asked_by};
 
 use crate::commandline::{Chosen, chosen};
@@ -13,7 +13,45 @@ use crate::script::hear;
 use clap::error::ErrorKind;
 use pm_text::{DecodeEnd, ReplayEnd, Sink, Source, TextFault, decode, replay};
 use std::alloc::Global;
+use std::env;
 use std::io::{self, Read, Write};
+use std::process::ExitCode;
+use std::rt::Runtime;
+
+/// Runs the program over the parts of a runtime: its arguments and its input, standard output and
+/// standard error. What `main` does is this one call. No clause can say what a terminal or a file
+/// gives or takes: `run` says what is read and written.
+pub fn program<R: Runtime + AllocGlobal, W: Write + Drop, E: Write + Drop>(
+    rt: &R,
+    output: W,
+    errors: E,
+) -> ExitCode {
+    let mut input = Source::new(rt.reader());
+    let mut output = Sink::new(output);
+    let mut errors = Sink::new(errors);
+    let texts = arguments(rt);
+    let words = match &texts {
+        Ok(texts) => texts
+            .iter()
+            .map(|text| text.as_str())
+            .collect(rt.alloc())
+            .map_err(|_| io::ErrorKind::OutOfMemory),
+        Err(kind) => Err(*kind),
+    };
+    let words = words
+        .as_ref()
+        .map(|words: &Vec<&str>| words.as_slice())
+        .map_err(|kind| *kind);
+    ExitCode::from(run(rt.alloc(), words, &mut input, &mut output, &mut errors))
+}
+
+// The arguments as texts, or why they can't be had as such.
+fn arguments<R: Runtime + AllocGlobal>(rt: &R) -> Result<Vec<String>, io::ErrorKind> {
+    let arguments = env::args(rt).map_err(|error| error.kind())?;
+    arguments
+        .collect(rt.alloc())
+        .map_err(|_| io::ErrorKind::OutOfMemory)
+}
 
 /// Runs the program: does what the words of the command line ask, over any reader and any two
 /// writers, and answers the exit status. The words are those of the arguments, the program's name
@@ -71,10 +109,7 @@ fn run_hear<R: Read, W: Write, E: Write>(
 {
     match hear(alloc, input, output) {
         Ok(()) => done(output, errors, 0),
-        Err(fault) => {
-            say_fault(errors, &fault);
-            1
-        }
+        Err(fault) => refuse_text(errors, &fault),
     }
 }
 
@@ -93,10 +128,7 @@ fn run_replay<R: Read, W: Write, E: Write>(
 {
     match replay(alloc, input, output) {
         Ok(end) => done(output, errors, replay_status(end)),
-        Err(fault) => {
-            say_fault(errors, &fault);
-            1
-        }
+        Err(fault) => refuse_text(errors, &fault),
     }
 }
 
@@ -115,11 +147,18 @@ fn run_decode<R: Read, W: Write, E: Write>(
 {
     match decode(alloc, input, output) {
         Ok(end) => done(output, errors, decode_status(end)),
-        Err(fault) => {
-            say_fault(errors, &fault);
-            1
-        }
+        Err(fault) => refuse_text(errors, &fault),
     }
+}
+
+// Says why a text is refused.
+fn refuse_text<E: Write>(errors: &mut Sink<E>, fault: &TextFault) -> u8
+    requires { IsFalse errors.old.failed }
+    ensures status { result ≡ 1 }
+    ensures said { Says E.contents errors.old errors.new (Some (refusal_line (text_refusal fault.now))) }
+{
+    say_fault(errors, fault);
+    1
 }
 
 // The status of a replay that was reported: 1 where it stopped.

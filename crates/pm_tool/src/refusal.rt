@@ -1,14 +1,14 @@
 //! What the program says on standard error. Where that fails too, the status alone tells. Nothing here
 //! takes memory.
-ghost use Rattle.std.specs.Prelude.{◌≡◌, ◌++◌, IsFalse, Some, codes, option_map};
+ghost use Rattle.std.specs.Prelude.{◌≡◌, [], ◌++◌, IsFalse, Some, codes, option_map};
 ghost use Rattle.pm_tool.specs.Execution.{Says, line_words, refusal_line, text_refusal};
-ghost use Rattle.pm_tool.specs.SetupText.{joined_words, setup_fault_words};
+ghost use Rattle.pm_device.specs.FaultWords.{config_fault_text};
+ghost use Rattle.pm_host.specs.FaultWords.{host_fault_words};
+ghost use Rattle.pm_world.specs.FaultWords.{setup_fault_text};
+ghost use Rattle.std.specs.Option.{option_map_or};
 
-use crate::pieces::put_all;
 use pm_device::ConfigFault;
-use pm_lines::{host_fault_words, num_fault_words, table_fault_words};
-use pm_scenario::register_name;
-use pm_table::Cell;
+use pm_host::HostFault;
 use pm_text::{Sink, TextFault};
 use pm_world::SetupFault;
 use std::io::Write;
@@ -21,17 +21,14 @@ pub(crate) fn say<E: Write>(errors: &mut Sink<E>, words: &str, line: Option<u64>
 {
     let mut digits = itoa::Buffer::new();
     let _ = match line {
-        None => put_all(errors, &[b"pmb: ", words.as_bytes(), b"\n"]),
-        Some(line) => put_all(
-            errors,
-            &[
-                b"pmb: ",
-                words.as_bytes(),
-                b" line ",
-                digits.format(line).as_bytes(),
-                b"\n",
-            ],
-        ),
+        None => errors.put_all(&[b"pmb: ", words.as_bytes(), b"\n"]),
+        Some(line) => errors.put_all(&[
+            b"pmb: ",
+            words.as_bytes(),
+            b" line ",
+            digits.format(line).as_bytes(),
+            b"\n",
+        ]),
     };
 }
 
@@ -50,79 +47,59 @@ pub(crate) fn say_fault<E: Write>(errors: &mut Sink<E>, fault: &TextFault)
 fn say_setup<E: Write>(errors: &mut Sink<E>, fault: SetupFault)
     requires { IsFalse errors.old.failed }
     ensures { Says E.contents errors.old errors.new
-        (Some (refusal_line (codes "X7 Setup " ++ setup_fault_words fault))) }
+        (Some (refusal_line (codes "X7 Setup " ++ setup_fault_text fault))) }
 {
-    let words = setup_words(fault);
-    let mut digits = itoa::Buffer::new();
-    let _ = match words.output {
-        None => put_all(
-            errors,
-            &[
-                b"pmb: X7 Setup ",
-                words.head.as_bytes(),
-                words.tail.as_bytes(),
-                b"\n",
-            ],
-        ),
-        Some(output) => put_all(
-            errors,
-            &[
-                b"pmb: X7 Setup ",
-                words.head.as_bytes(),
-                digits.format(output).as_bytes(),
-                b" ",
-                words.tail.as_bytes(),
-                b"\n",
-            ],
-        ),
-    };
-}
-
-// The words for why no world is made, in parts.
-#[derive(Clone, Copy)]
-struct SetupWords {
-    // What stands before an output's number, or before the rest.
-    head: &'static str,
-    // The output, where one is named.
-    output: Option<u8>,
-    // What stands behind it.
-    tail: &'static str,
-}
-
-// Words that name no output.
-fn plain(head: &'static str, tail: &'static str) -> SetupWords
-    ensures { joined_words result.head.now result.output result.tail.now ≡ head.now ++ tail.now }
-{
-    SetupWords {
-        head,
-        output: None,
-        tail,
+    match fault {
+        SetupFault::Device(fault) => say_config(errors, fault),
+        SetupFault::Host(fault) => say_host(errors, fault),
     }
 }
 
-// The words for why no world is made.
-fn setup_words(fault: SetupFault) -> SetupWords
-    ensures { joined_words result.head.now result.output result.tail.now ≡ setup_fault_words fault }
+// Says why the host refuses.
+fn say_host<E: Write>(errors: &mut Sink<E>, fault: HostFault)
+    requires { IsFalse errors.old.failed }
+    ensures { Says E.contents errors.old errors.new
+        (Some (refusal_line (codes "X7 Setup " ++ host_fault_words fault))) }
 {
-    match fault {
-        SetupFault::Device(ConfigFault::OutputCount) => plain("V1 OutputCount", ""),
-        SetupFault::Device(ConfigFault::BadStart(Cell::Out(output, register))) => SetupWords {
-            head: "V2 BadStart ",
-            output: Some(output),
-            tail: register_name(register),
-        },
-        SetupFault::Device(ConfigFault::BadStart(Cell::Protect)) => {
-            plain("V2 BadStart ", "WRITE_PROTECT")
-        }
-        SetupFault::Device(ConfigFault::Address) => plain("V3 Address", ""),
-        SetupFault::Device(ConfigFault::BadMode(output, fault)) => SetupWords {
-            head: "V4 BadMode ",
-            output: Some(output),
-            tail: table_fault_words(fault),
-        },
-        SetupFault::Device(ConfigFault::BadCoefficients(fault)) => {
-            plain("V5 BadCoefficients ", num_fault_words(fault))
-        }
-        SetupFault::Host(fault) => plain(host_fault_words(fault), ""),
+    let _ = errors.put_all(&[b"pmb: X7 Setup ", fault.words().as_bytes(), b"\n"]);
+}
+
+// Says why the converter's configuration is none: the words, and then the output and the detail,
+// where there are such.
+fn say_config<E: Write>(errors: &mut Sink<E>, fault: ConfigFault)
+    requires { IsFalse errors.old.failed }
+    ensures { Says E.contents errors.old errors.new
+        (Some (refusal_line (codes "X7 Setup " ++ config_fault_text fault))) }
+{
+    let mut digits = itoa::Buffer::new();
+    let (space, detail) = spaced(fault.detail());
+    let _ = match fault.output() {
+        None => errors.put_all(&[
+            b"pmb: X7 Setup ",
+            fault.words().as_bytes(),
+            space.as_bytes(),
+            detail.as_bytes(),
+            b"\n",
+        ]),
+        Some(output) => errors.put_all(&[
+            b"pmb: X7 Setup ",
+            fault.words().as_bytes(),
+            b" ",
+            digits.format(output).as_bytes(),
+            space.as_bytes(),
+            detail.as_bytes(),
+            b"\n",
+        ]),
+    };
+}
+
+// A text and the space before it, where there is a text.
+fn spaced(text: Option<&'static str>) -> (&'static str, &'static str)
+    ensures { result.0.now ++ result.1.now
+        ≡ option_map_or (λ t. codes " " ++ t) (option_map (λ t. t.now) text.entry) [] }
+{
+    match text {
+        Some(text) => (" ", text),
+        None => ("", ""),
     }
 }

@@ -4,8 +4,7 @@ ghost use Rattle.std.specs.Prelude.{Ok, Err, IfOk, IfErr, OnOk, OnErr, IsErrOf, 
 ghost use Rattle.std.specs.Io.KnownBytes.{Consumes, Appends};
 ghost use Rattle.pm_lines.specs.Faults.{IsOfText};
 ghost use Rattle.pm_lines.specs.Lines.{unskipped_from};
-ghost use Rattle.pm_lines.specs.Streams.{IsWholeText, AppendsFront};
-ghost use Rattle.pm_lines.specs.declared.text.TheConstants.{MAX_TEXT};
+ghost use Rattle.pm_lines.specs.Streams.{IsWholeText, AppendsFront, max_text};
 ghost use Rattle.pm_device.specs.Effect.{Event};
 ghost use Rattle.pm_device.specs.History.{next, start_of};
 ghost use Rattle.pm_tool.specs.Base.{base};
@@ -63,12 +62,12 @@ pub fn hear<R: Read, W: Write>(
 
     // The reader gave more than a text may have.
     ensures too_long { IsErrOf result TextFault.TooLong → (front : List ℕ)
-        × (MAX_TEXT < length front)
+        × (max_text < length front)
         × Consumes (R.remaining reader.old.inner) (R.remaining reader.new.inner) front }
 
     // Memory is wanted only where the reader gave bytes, and no more than a text may have.
     ensures memory { IsErrOf result TextFault.Memory → (front : List ℕ)
-        × (0 < length front) × (length front ≤ MAX_TEXT)
+        × (0 < length front) × (length front ≤ max_text)
         × Consumes (R.remaining reader.old.inner) (R.remaining reader.new.inner) front }
 
     // A failed write leaves a front of the text, and not all of it.

@@ -7,8 +7,8 @@ use Rattle.std.proofs.lemmas.List.Sums.{fold-append}
 use Rattle.pm_trace.specs.declared.decode_end.DecodeEnd.{DecodeEnd}
 use Rattle.pm_trace.specs.declared.fed.Fed.{Fed}
 use Rattle.pm_lines.specs.declared.fault.TextFault.TheVariants.{TooLong}
-use Rattle.pm_trace.specs.declared.standing.Standing.TheVariants.{Open}
-use Rattle.pm_lines.specs.declared.text.TheConstants.{MAX_TEXT}
+use Rattle.pm_trace.specs.declared.decoder.standing.Standing.TheVariants.{Open}
+use Rattle.pm_lines.specs.Streams.{max_text}
 use Rattle.pm_lines.specs.Lines.{is_line_feed, has_bytes}
 use Rattle.pm_trace.specs.Trace.{trace_of}
 use Rattle.pm_trace.specs.TraceText.{told_line, told_lines, counts_text, trace_text, end_of}
@@ -47,14 +47,14 @@ some_first (x ∷ xs) some = by (is_line_feed x)
     by false = omega arith
 
 room_left : (old : Holding) (piece : List ℕ) → old.standing ≡ Open → 0 < length piece → refusal_of old piece ≡ None
-    → old.kept.taken < MAX_TEXT
+    → old.kept.taken < max_text
 room_left old [] open' some none = absurd (omega arith)
-room_left old (x ∷ xs) open' some none = by (leb MAX_TEXT old.kept.taken) refl
+room_left old (x ∷ xs) open' some none = by (leb max_text old.kept.taken) refl
   where
     is : refusal_by Open old.kept (x ∷ xs) ≡ None
     is = ap (λ s. refusal_by s old.kept (x ∷ xs)) (sym open') ∙ none
 
-    by : (c : Bool) → leb MAX_TEXT old.kept.taken ≡ c → old.kept.taken < MAX_TEXT
+    by : (c : Bool) → leb max_text old.kept.taken ≡ c → old.kept.taken < max_text
     by true full = let refused = rw full at is in absurd (cc)
     by false free = grind (arith, nat_tests)
 
@@ -62,23 +62,23 @@ pub some_taken : (old : Holding) (piece : List ℕ) → old.standing ≡ Open �
     → 0 < length (taken_of old piece)
 some_taken old piece open' some none =
     let room = room_left old piece open' some none in
-    let front = take (MAX_TEXT - old.kept.taken) piece in
-    let many : 0 < length front = omega (arith, length-take (MAX_TEXT - old.kept.taken) piece) in
+    let front = take (max_text - old.kept.taken) piece in
+    let many : 0 < length front = omega (arith, length-take (max_text - old.kept.taken) piece) in
     let taken : taken_of old piece ≡ first_line front = ap (λ s. taken_by s old.kept piece) open' in
     let first = some_first front many in
     omega (arith, ap length taken)
 
 -- X3 comes where so many bytes were taken as a text may have
-pub room_none : (old : Holding) (piece : List ℕ) → old.standing ≡ Open → refusal_of old piece ≡ Some TooLong → MAX_TEXT ≤ old.kept.taken
-room_none old piece open' refused = by (has_bytes piece) (leb MAX_TEXT old.kept.taken) refl (ap (λ s. refusal_by s old.kept piece) (sym open') ∙ refused)
+pub room_none : (old : Holding) (piece : List ℕ) → old.standing ≡ Open → refusal_of old piece ≡ Some TooLong → max_text ≤ old.kept.taken
+room_none old piece open' refused = by (has_bytes piece) (leb max_text old.kept.taken) refl (ap (λ s. refusal_by s old.kept piece) (sym open') ∙ refused)
   where
-    by : (some full : Bool) → leb MAX_TEXT old.kept.taken ≡ full → cond (some && full) (Some TooLong) None ≡ Some TooLong → MAX_TEXT ≤ old.kept.taken
+    by : (some full : Bool) → leb max_text old.kept.taken ≡ full → cond (some && full) (Some TooLong) None ≡ Some TooLong → max_text ≤ old.kept.taken
     by true true is yes' = grind (arith, nat_tests)
     by true false is yes' = absurd (cc)
     by false full is yes' = absurd (cc)
 
 -- no bytes
-pub pushes_none : (text : List ℕ) (old : Holding) → old.standing ≡ Open → old.kept.taken ≤ MAX_TEXT → Pushes text text old old []
+pub pushes_none : (text : List ℕ) (old : Holding) → old.standing ≡ Open → old.kept.taken ≤ max_text → Pushes text text old old []
 pushes_none text old open' room = record {
   text_is = sym (append-nil text);
   kept = refl;
@@ -88,16 +88,15 @@ pushes_none text old open' room = record {
 
 -- a call more
 pub pushes_more : (text mid_text new_text : List ℕ) (old mid new : Holding) (front rest : List ℕ) (fed : Fed)
-    → Pushes text mid_text old mid front → Feeds mid rest fed new → new.kept.taken ≤ MAX_TEXT
-    → new_text ≡ mid_text ++ told_lines (some_told new.shown) → Pushes text new_text old new (front ++ taken_of mid rest)
+    → Pushes text mid_text old mid front → Feeds mid rest fed new → new.kept.taken ≤ max_text
+    → new_text ≡ mid_text ++ told_lines (told mid.kept (taken_of mid rest)) → Pushes text new_text old new (front ++ taken_of mid rest)
 pushes_more text mid_text new_text old mid new front rest fed before feeds room more =
     let bytes = taken_of mid rest in
-    let shown : some_told new.shown ≡ told (next old.kept front) bytes = feeds.shown ∙ ap (λ k. told k bytes) before.kept in
     record {
       text_is =
-          more ∙ ap (λ t. t ++ told_lines (some_told new.shown)) before.text_is
-          ∙ append_assoc text (told_lines (told old.kept front)) (told_lines (some_told new.shown))
-          ∙ ap (λ l. text ++ (told_lines (told old.kept front) ++ told_lines l)) shown
+          more ∙ ap (λ t. t ++ told_lines (told mid.kept bytes)) before.text_is
+          ∙ append_assoc text (told_lines (told old.kept front)) (told_lines (told mid.kept bytes))
+          ∙ ap (λ k. text ++ (told_lines (told old.kept front) ++ told_lines (told k bytes))) before.kept
           ∙ ap (λ l. text ++ l) (sym (flat_map-append told_line (told old.kept front) (told (next old.kept front) bytes)))
           ∙ ap (λ l. text ++ told_lines l) (sym (told-append old.kept front bytes));
       kept = feeds.kept ∙ ap (λ k. next k bytes) before.kept ∙ sym (fold-append kept_takes old.kept front bytes);
@@ -127,16 +126,17 @@ pushed_whole text new_text old new piece front rest split none pushes = record {
 }
 
 -- a piece with a byte too many
-pub pushed_front : (text new_text : List ℕ) (old mid new : Holding) (piece front rest : List ℕ) → piece ≡ front ++ rest → 0 < length rest
-    → Pushes text new_text old mid front → refusal_of mid rest ≡ Some TooLong → PushesFront text new_text old new piece false
-pushed_front text new_text old mid new piece front rest split some pushes refused =
+pub pushed_front : (text mid_text new_text : List ℕ) (old mid new : Holding) (piece front rest : List ℕ) → piece ≡ front ++ rest
+    → 0 < length rest → Pushes text mid_text old mid front → refusal_of mid rest ≡ Some TooLong → new_text ≡ mid_text
+    → PushesFront text new_text old new piece false
+pushed_front text mid_text new_text old mid new piece front rest split some pushes refused same =
     let full = room_none mid rest pushes.standing refused in
     let many : mid.kept.taken ≡ old.kept.taken + length front = ap (λ k. k.taken) pushes.kept ∙ next-taken old.kept front in
     record {
       front = front;
       rest = rest;
       split = split;
-      text_is = pushes.text_is;
+      text_is = same ∙ pushes.text_is;
       whole = λ is. absurd (cc);
       too_many = λ _. (some, omega (arith, full, many, pushes.room));
     }
@@ -177,7 +177,7 @@ written_none r w holding fresh =
       text = subst P (sym lines_none) (Appends-nil w);
     }
 
-pub written_room : (r r' w w' : Option (List ℕ)) (bytes : List ℕ) (holding : Holding) → Written r r' w w' bytes holding → holding.kept.taken ≤ MAX_TEXT
+pub written_room : (r r' w w' : Option (List ℕ)) (bytes : List ℕ) (holding : Holding) → Written r r' w w' bytes holding → holding.kept.taken ≤ max_text
 written_room r r' w w' bytes holding written =
     let same : holding.kept.taken ≡ length bytes = ap (λ k. k.taken) written.kept ∙ length_now bytes in omega (arith, same, written.short)
 
@@ -211,7 +211,7 @@ module _ (r0 r1 r2 w0 w1 w2 : Option (List ℕ)) (bytes piece text : List ℕ) (
   put_memory = (bytes ++ piece, told_lines (said bytes), told_lines (told (now bytes) piece), consumed, lines-append bytes piece, written.text)
 
   pub put_too_long : PushesFront [] text old new piece false → Appends w1 w2 text
-      → (front : List ℕ) × (more : List ℕ) × (length front ≡ MAX_TEXT) × (0 < length more) × Consumes r0 r2 (front ++ more)
+      → (front : List ℕ) × (more : List ℕ) × (length front ≡ max_text) × (0 < length more) × Consumes r0 r2 (front ++ more)
       × Appends w0 w2 (told_lines (said front))
   put_too_long pushed appended =
       let (some, many) = pushed.too_many refl in

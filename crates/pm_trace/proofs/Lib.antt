@@ -1,4 +1,4 @@
-pub mod BodyLemmas
+pub mod PlainLineLemmas
 pub mod CountLemmas
 pub mod DecodeLemmas
 pub mod GatheredLemmas

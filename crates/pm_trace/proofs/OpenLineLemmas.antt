@@ -7,10 +7,9 @@ use lib.Pointwise.{pointwise}
 use Rattle.std.proofs.lemmas.Bool.Decides.{nat_tests}
 use Rattle.std.proofs.Math.Seq.{drop-append_seam, take-append_seam}
 use Rattle.pm_lines.specs.Lines.{without_return, carriage_return}
-use Rattle.pm_trace.specs.OpenLines.{body_of, body_takes, line_of, line_takes, body_with_return}
-use Rattle.pm_trace.specs.declared.line_body.LineBody.{LineBody}
-use Rattle.pm_trace.specs.declared.open_line.OpenLine.{OpenLine}
-use Rattle.pm_trace.proofs.BodyLemmas.{body_of-snoc}
+use Rattle.pm_trace.specs.OpenLines.{plain_line, plain_takes, line_of, line_takes, with_return}
+use Rattle.pm_trace.specs.declared.decoder.open_line.OpenLine.{OpenLine}
+use Rattle.pm_trace.proofs.PlainLineLemmas.{plain_line-snoc}
 
 -- a list that isn't empty has a last byte
 pub record HasLast (xs : List ℕ) : Type 0 where
@@ -51,46 +50,52 @@ without_return-snoc xs b =
     ap (λ c. cond c (take (length (xs ++ b ∷ []) - 1) (xs ++ b ∷ [])) (xs ++ b ∷ [])) (ends-snoc xs b)
     ∙ ap (λ l. cond (eqb b 13) l (xs ++ b ∷ [])) (ap (λ n. take n (xs ++ b ∷ [])) (one_less xs b) ∙ take-append_seam xs (b ∷ []))
 
-line_snoc : (xs : List ℕ) (b : ℕ)
-    → line_of (xs ++ b ∷ []) ≡ record { body = body_of (cond (eqb b 13) xs (xs ++ b ∷ [])); is_returned = eqb b 13 }
+-- a line with its carriage return held back, or without one
+abbrev held : OpenLine → Bool → OpenLine
+held line returned = record line { is_returned = returned }
+
+line_snoc : (xs : List ℕ) (b : ℕ) → line_of (xs ++ b ∷ []) ≡ held (plain_line (cond (eqb b 13) xs (xs ++ b ∷ []))) (eqb b 13)
 unfolding line_of
-line_snoc xs b = λ i. record { body = body_of (without_return-snoc xs b i); is_returned = ends-snoc xs b i }
+line_snoc xs b = λ i. held (plain_line (without_return-snoc xs b i)) (ends-snoc xs b i)
+
+-- a plain line holds nothing back
+unheld : (xs : List ℕ) → held (plain_line xs) false ≡ plain_line xs
+unfolding plain_line
+unheld xs = refl
 
 -- the carriage return that is held back stands at the end
-returned-snoc : (xs : List ℕ) (b : ℕ) → body_with_return (line_of (xs ++ b ∷ [])) ≡ body_of (xs ++ b ∷ [])
-returned-snoc xs b = ap body_with_return (line_snoc xs b) ∙ by (eqb b 13) refl
+returned-snoc : (xs : List ℕ) (b : ℕ) → with_return (line_of (xs ++ b ∷ [])) ≡ plain_line (xs ++ b ∷ [])
+returned-snoc xs b = ap with_return (line_snoc xs b) ∙ by (eqb b 13) refl
   where
     by : (c : Bool) → eqb b 13 ≡ c
-        → cond c (body_takes (body_of (cond c xs (xs ++ b ∷ []))) 13) (body_of (cond c xs (xs ++ b ∷ []))) ≡ body_of (xs ++ b ∷ [])
+        → with_return (held (plain_line (cond c xs (xs ++ b ∷ []))) c) ≡ plain_line (xs ++ b ∷ [])
     by true is =
         let same : b ≡ 13 = grind (arith, nat_tests) in
-        ap (body_takes (body_of xs)) (sym same) ∙ sym (body_of-snoc xs b)
-    by false other = refl
+        ap (λ l. plain_takes l 13) (unheld xs) ∙ ap (plain_takes (plain_line xs)) (sym same) ∙ sym (plain_line-snoc xs b)
+    by false other = unheld (xs ++ b ∷ [])
 
-returned : (xs : List ℕ) → body_with_return (line_of xs) ≡ body_of xs
+returned : (xs : List ℕ) → with_return (line_of xs) ≡ plain_line xs
 unfolding line_of
-returned [] = refl
+returned [] = unheld []
 returned (x ∷ xs) =
     let last = has_last x xs in
-    let P : List ℕ → Type 0 = λ l. body_with_return (line_of l) ≡ body_of l in
+    let P : List ℕ → Type 0 = λ l. with_return (line_of l) ≡ plain_line l in
     subst P (sym last.is) (returned-snoc last.front last.last)
 
--- a line in these two states
-abbrev pub line_held : LineBody → OpenLine
-line_held body = record { body = body; is_returned = true }
-
-abbrev pub line_left : LineBody → OpenLine
-line_left body = record { body = body; is_returned = false }
-
 line_took : (xs : List ℕ) (b : ℕ)
-    → line_takes (line_of xs) b ≡ cond (eqb b 13) (line_held (body_of xs)) (line_left (body_takes (body_of xs) b))
+    → line_takes (line_of xs) b ≡ cond (eqb b 13) (held (plain_line xs) true) (plain_takes (plain_line xs) b)
 unfolding line_takes
-line_took xs b = ap (λ l. cond (eqb b 13) (line_held l) (line_left (body_takes l b))) (returned xs)
+line_took xs b = ap (λ l. cond (eqb b 13) (held l true) (plain_takes l b)) (returned xs)
 
+-- the law of the line: one byte more at its end is one step
 pub line_of-snoc : (xs : List ℕ) (b : ℕ) → line_of (xs ++ b ∷ []) ≡ line_takes (line_of xs) b
 line_of-snoc xs b = line_snoc xs b ∙ by (eqb b 13) ∙ sym (line_took xs b)
   where
-    by : (c : Bool) → record { body = body_of (cond c xs (xs ++ b ∷ [])); is_returned = c }
-        ≡ cond c (line_held (body_of xs)) (line_left (body_takes (body_of xs) b))
+    by : (c : Bool) → held (plain_line (cond c xs (xs ++ b ∷ []))) c ≡ cond c (held (plain_line xs) true) (plain_takes (plain_line xs) b)
     by true = refl
-    by false = ap line_left (body_of-snoc xs b)
+    by false = unheld (xs ++ b ∷ []) ∙ plain_line-snoc xs b
+
+-- a line without bytes holds nothing back
+pub none_of : line_of [] ≡ plain_line []
+unfolding line_of plain_line
+none_of = refl

@@ -4,7 +4,7 @@ use Rattle.std.proofs.lemmas.Bool.Decides.{nat_tests}
 use Rattle.std.specs.Io.KnownBytes.{Consumes}
 use Rattle.pm_lines.specs.declared.fault.TextFault.{TextFault}
 use Rattle.pm_lines.specs.declared.fault.TextFault.TheVariants.{Syntax, BadHex, TooLong, Read, Write, Memory, Setup}
-use Rattle.pm_lines.specs.declared.text.TheConstants.{MAX_TEXT}
+use Rattle.pm_lines.specs.Streams.{max_text}
 use Rattle.pm_lines.specs.Streams.{IsWholeText}
 use Rattle.pm_trace.specs.Counts.{counts_of}
 use Rattle.pm_trace.specs.Outcome.{outcome_of, IsSettled}
@@ -13,13 +13,13 @@ use Rattle.pm_trace.specs.TraceText.{end_of, IsOfDecode}
 use Rattle.pm_trace.specs.declared.decode_end.DecodeEnd.{DecodeEnd}
 
 -- an input that is too long, and one that isn't
-outcome-long : (input : List ℕ) → MAX_TEXT < length input → outcome_of input ≡ Err TooLong
+outcome-long : (input : List ℕ) → max_text < length input → outcome_of input ≡ Err TooLong
 unfolding outcome_of
-outcome-long input long = let over : ltb MAX_TEXT (length input) ≡ true = grind (arith, nat_tests) in rw over refl
+outcome-long input long = let over : ltb max_text (length input) ≡ true = grind (arith, nat_tests) in rw over refl
 
-outcome-short : (input : List ℕ) → length input ≤ MAX_TEXT → outcome_of input ≡ Ok (end_of (counts_of (trace_of input)))
+outcome-short : (input : List ℕ) → length input ≤ max_text → outcome_of input ≡ Ok (end_of (counts_of (trace_of input)))
 unfolding outcome_of
-outcome-short input short = let within : ltb MAX_TEXT (length input) ≡ false = grind (arith, nat_tests) in rw within refl
+outcome-short input short = let within : ltb max_text (length input) ≡ false = grind (arith, nat_tests) in rw within refl
 
 -- an input that was read whole
 pub same-whole : (old new : Option (List ℕ)) (text : List ℕ) (end : DecodeEnd) → IsWholeText old new text → end ≡ end_of (counts_of (trace_of text))
@@ -31,7 +31,7 @@ same-whole (Some input) (Some rest) text end whole is = λ settled.
     ap Ok is ∙ sym (outcome-short text whole.short) ∙ ap outcome_of (sym same)
 
 -- an input with more bytes than a text may have
-same-long : (old new : Option (List ℕ)) (front more : List ℕ) → length front ≡ MAX_TEXT → 0 < length more → Consumes old new (front ++ more)
+same-long : (old new : Option (List ℕ)) (front more : List ℕ) → length front ≡ max_text → 0 < length more → Consumes old new (front ++ more)
     → IfSome old (λ input. IsSettled (Err TooLong) → Err TooLong ≡ outcome_of input)
 same-long None new front more many some given = tt
 same-long (Some input) None front more many some given = absurd given
@@ -46,7 +46,7 @@ unsettled (Some input) fault open' = λ settled. absurd (open' settled)
 
 -- a refusal
 pub same-refused : (old new : Option (List ℕ)) (fault : TextFault) → IsOfDecode fault
-    → (fault ≡ TooLong → (front : List ℕ) × (more : List ℕ) × (length front ≡ MAX_TEXT) × (0 < length more) × Consumes old new (front ++ more))
+    → (fault ≡ TooLong → (front : List ℕ) × (more : List ℕ) × (length front ≡ max_text) × (0 < length more) × Consumes old new (front ++ more))
     → IfSome old (λ input. IsSettled (Err fault) → Err fault ≡ outcome_of input)
 same-refused old new (Syntax line) of long = absurd of
 same-refused old new (BadHex line) of long = absurd of

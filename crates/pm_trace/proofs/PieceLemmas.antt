@@ -1,17 +1,17 @@
 -- A decoder that is called again and again.
-use Rattle.std.proofs.Common.{◌≡◌, ℕ, ◌+◌, ◌-◌, Bool, true, false, cond, List, [], ◌∷◌, ◌++◌, length, take, drop, None, refl, sym, ap, subst, ◌∙◌, arith, append_assoc, append-nil, take-append-drop}
+use Rattle.std.proofs.Common.{inl, inr, ◌≡◌, ℕ, ◌+◌, ◌-◌, Bool, true, false, cond, List, [], ◌∷◌, ◌++◌, length, take, drop, None, refl, sym, ap, subst, ◌∙◌, arith, append_assoc, append-nil, take-append-drop}
 use Rattle.std.specs.Prelude.{flat_map}
 use Rattle.std.specs.List.{concat, count_by}
 use Rattle.std.proofs.lemmas.List.Sums.{sum_by-cons}
 use Rattle.std.proofs.Math.Seq.{take-append_seam}
-use Rattle.pm_lines.specs.declared.text.TheConstants.{MAX_TEXT}
-use Rattle.pm_trace.specs.declared.standing.Standing.TheVariants.{Open}
+use Rattle.pm_lines.specs.Streams.{max_text}
+use Rattle.pm_trace.specs.declared.decoder.standing.Standing.TheVariants.{Open}
 use Rattle.pm_lines.specs.Lines.{is_line_feed}
 use Rattle.pm_trace.specs.Counts.{counts_of, counts_with, lines_in, is_accepted, is_faulty, is_bad}
 use Rattle.pm_trace.specs.Trace.{Told, Accepted, Faulty, BadSyntax, BadHex, trace_of}
 use Rattle.pm_trace.specs.OpenLines.{is_begun}
 use Rattle.pm_trace.specs.Decoding.{Holding, IsFresh, Feeds, Finishes, now, said, next, told, some_told, told_at_end, kept_at_end, line_told, line_ended, first_line, taken_by, taken_of, told_by, kept_by}
-use Rattle.pm_trace.specs.Pieces.{Call, Calls, Decodes, TakesWhole, taken_in}
+use Rattle.pm_trace.specs.Pieces.{Call, Calls, Decodes, TakesWhole, taken_in, Stops, TakesFront}
 use Rattle.pm_trace.proofs.SaidLemmas.{now-append, said-append, trace_of-end, counts-at_end}
 
 -- the first line is a front
@@ -26,12 +26,12 @@ first_front (x ∷ xs) = by (is_line_feed x) (first_front xs)
 -- what a call takes is a front of its piece
 pub taken_front : (old : Holding) (piece : List ℕ) → old.standing ≡ Open → (rest : List ℕ) × (piece ≡ taken_of old piece ++ rest)
 taken_front old piece open' =
-    let room = take (MAX_TEXT - old.kept.taken) piece in
-    let left = drop (MAX_TEXT - old.kept.taken) piece in
+    let room = take (max_text - old.kept.taken) piece in
+    let left = drop (max_text - old.kept.taken) piece in
     let front = first_front room in
     let taken : taken_of old piece ≡ first_line room = ap (λ s. taken_by s old.kept piece) open' in (
       front.0 ++ left,
-      sym (take-append-drop (MAX_TEXT - old.kept.taken) piece) ∙ ap (λ l. l ++ left) front.1
+      sym (take-append-drop (max_text - old.kept.taken) piece) ∙ ap (λ l. l ++ left) front.1
           ∙ append_assoc (first_line room) front.0 left ∙ ap (λ l. l ++ (front.0 ++ left)) (sym taken),
     )
 
@@ -91,13 +91,18 @@ takes_all bytes old new (call ∷ calls) lines took (mid, rest, feeds, split, ru
           ∙ ap (λ l. said bytes ++ l) (sym split);
     }
 
+-- calls take the first bytes of a piece, and leave the rest
+taken_of_piece : (piece left : List ℕ) (calls : List Call) → TakesFront piece calls left → piece ≡ flat_map taken_in calls ++ left
+taken_of_piece piece left [] is = is
+taken_of_piece piece left (call ∷ calls) (same, rest) =
+    let n = call.fed.taken in
+    sym (take-append-drop n piece) ∙ ap (λ l. take n piece ++ l) (taken_of_piece (drop n piece) left calls rest)
+    ∙ sym (append_assoc (take n piece) (flat_map taken_in calls) left)
+    ∙ ap (λ p. (take n p ++ flat_map taken_in calls) ++ left) (sym same)
+
 -- calls that take a piece whole take the piece
-whole : (piece : List ℕ) (old new : Holding) (calls : List Call) (lines : List Told) → old.standing ≡ Open → Calls old calls lines new
-    → TakesWhole piece calls → flat_map taken_in calls ≡ piece
-whole piece old new [] lines open' run taken = sym taken
-whole piece old new (call ∷ calls) lines open' (mid, rest, feeds, split, run) (same, left) =
-    ap (λ l. taken_in call ++ l) (whole (drop call.fed.taken piece) mid new calls rest (feeds.standing ∙ open') run left)
-    ∙ ap (λ l. take call.fed.taken l ++ drop call.fed.taken piece) same ∙ take-append-drop call.fed.taken piece
+whole : (piece : List ℕ) (calls : List Call) → TakesWhole piece calls → flat_map taken_in calls ≡ piece
+whole piece calls taken = sym (taken_of_piece piece [] calls taken ∙ append-nil (flat_map taken_in calls))
 
 -- the end of all bytes
 pub record Ends (bytes : List ℕ) (new : Holding) : Type 0 where
@@ -147,7 +152,7 @@ ends_all bytes old new [] lines took (ended, finishes, shown) =
     }
 ends_all bytes old new (piece ∷ pieces) lines took (calls, mid, front, rest, run, taken, split, decodes) =
     let all = takes_all bytes old mid calls front took run in
-    let same : bytes ++ flat_map taken_in calls ≡ bytes ++ piece = ap (λ l. bytes ++ l) (whole piece old mid calls front took.standing run taken) in
+    let same : bytes ++ flat_map taken_in calls ≡ bytes ++ piece = ap (λ l. bytes ++ l) (whole piece calls taken) in
     let P : List ℕ → Type 0 = λ l. Took l mid in
     let others = ends_all (bytes ++ piece) mid new pieces rest (subst P same all.took) decodes in
     let joined = append_assoc bytes piece (concat pieces) in
@@ -156,6 +161,43 @@ ends_all bytes old new (piece ∷ pieces) lines took (calls, mid, front, rest, r
           ap trace_of (sym joined) ∙ others.lines_are ∙ ap (λ l. said l ++ rest) (sym same) ∙ ap (λ l. l ++ rest) all.said_is
           ∙ append_assoc (said bytes) front rest ∙ ap (λ l. said bytes ++ l) (sym split);
       counts = others.counts ∙ ap (λ l. counts_of (trace_of l)) joined;
+    }
+
+-- pieces up to a call that is refused: what was taken of them
+pub record StopsAt (bytes : List ℕ) (pieces : List (List ℕ)) (lines : List Told) : Type 0 where
+  pub taken : List ℕ
+  pub more : List ℕ
+  pub split : bytes ++ concat pieces ≡ taken ++ more
+  pub lines_are : said taken ≡ said bytes ++ lines
+
+stops : (bytes : List ℕ) (old new : Holding) (pieces : List (List ℕ)) (lines : List Told) → Took bytes old → Stops old pieces lines new
+    → StopsAt bytes pieces lines
+stops bytes old new [] lines took (none, fault, fails) =
+    record { taken = bytes; more = []; split = refl; lines_are = sym (ap (λ l. said bytes ++ l) none ∙ append-nil (said bytes)) }
+stops bytes old new (piece ∷ pieces) lines took (calls, left, mid, front, rest, run, taken, split, inl (none, fault, fails)) =
+    let all = takes_all bytes old mid calls front took run in
+    let n = flat_map taken_in calls in
+    record {
+      taken = bytes ++ n;
+      more = left ++ concat pieces;
+      split =
+          ap (λ p. bytes ++ (p ++ concat pieces)) (taken_of_piece piece left calls taken)
+          ∙ ap (λ l. bytes ++ l) (append_assoc n left (concat pieces)) ∙ sym (append_assoc bytes n (left ++ concat pieces));
+      lines_are = all.said_is ∙ ap (λ l. said bytes ++ l) (sym (split ∙ ap (λ l. front ++ l) none ∙ append-nil front));
+    }
+stops bytes old new (piece ∷ pieces) lines took (calls, left, mid, front, rest, run, taken, split, inr (none, later)) =
+    let all = takes_all bytes old mid calls front took run in
+    let P : List ℕ → Type 0 = λ l. TakesFront piece calls l in
+    let same : bytes ++ flat_map taken_in calls ≡ bytes ++ piece = ap (λ l. bytes ++ l) (whole piece calls (subst P none taken)) in
+    let Q : List ℕ → Type 0 = λ l. Took l mid in
+    let others = stops (bytes ++ piece) mid new pieces rest (subst Q same all.took) later in
+    record {
+      taken = others.taken;
+      more = others.more;
+      split = sym (append_assoc bytes piece (concat pieces)) ∙ others.split;
+      lines_are =
+          others.lines_are ∙ ap (λ l. said l ++ rest) (sym same) ∙ ap (λ l. l ++ rest) all.said_is
+          ∙ append_assoc (said bytes) front rest ∙ ap (λ l. said bytes ++ l) (sym split);
     }
 
 -- ---- from a fresh decoder
@@ -191,6 +233,15 @@ said_front bytes more =
     let later = told (now bytes) more in
     let last = some_told (told_at_end (now (bytes ++ more))) in
     (later ++ last, trace_of-end (bytes ++ more) ∙ ap (λ l. l ++ last) (said-append bytes more) ∙ append_assoc (said bytes) later last)
+
+-- the lines shown up to a refused call are the first that the pieces have
+pub stopped_lines : (old new : Holding) (pieces : List (List ℕ)) (lines : List Told) → IsFresh old → Stops old pieces lines new
+    → (rest : List Told) × (trace_of (concat pieces) ≡ lines ++ rest)
+stopped_lines old new pieces lines is run =
+    let at = stops [] old new pieces lines (fresh old is) run in
+    let (rest, front) = said_front at.taken at.more in
+    let shown : said at.taken ≡ lines = at.lines_are ∙ ap (λ l. l ++ lines) said_none in
+    (rest, ap trace_of at.split ∙ front ∙ ap (λ l. l ++ rest) shown)
 
 -- ---- the total
 

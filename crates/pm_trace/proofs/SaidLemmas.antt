@@ -11,19 +11,19 @@ use Rattle.std.proofs.lemmas.List.Folds.{list_any-append}
 use Rattle.std.proofs.lemmas.List.Sums.{sum_by-append, fold-append}
 use Rattle.pm_lines.specs.Lines.{is_line_feed, is_space, is_skipped, is_unskipped, has_bytes, without_return, without_empty_last, carriage_return, lines_of, unskipped_from}
 use Rattle.pm_trace.specs.Marks.{ended, since, before, after}
-use Rattle.pm_trace.specs.Trace.{Told, told_of, Accepted, Faulty, BadSyntax, BadHex, is_slash, is_separator, is_bad_word, has_bad_word, is_long, is_misshapen, part_bytes, parts_of, line_read, line_judged, reading_judged, trace_of, unpaired}
+use Rattle.pm_trace.specs.Trace.{Told, told_of, Accepted, Faulty, BadSyntax, BadHex, is_slash, is_separator, is_bad_word, has_bad_word, is_long, is_misshapen, part_bytes, parts_of, line_read, line_judged, reading_judged, trace_of, unpaired, max_part}
 use Rattle.pm_trace.specs.Counts.{counts_of, counts_with, one_counted, one_more, counted, code_told, is_accepted, is_faulty, is_bad}
 use Rattle.pm_trace.specs.Parts.{part_of}
-use Rattle.pm_trace.specs.OpenLines.{kind_of, is_skipped_kind, is_empty_kind, body_of, body_read, body_judged, line_of, line_takes, is_begun}
+use Rattle.pm_trace.specs.OpenLines.{kind_of, is_skipped_kind, is_empty_kind, slashes_of, has_slash, plain_line, open_read, open_judged, line_of, line_takes, is_begun}
 use Rattle.pm_trace.specs.Decoding.{now, said, kept_takes, next, told, some_told, line_told, line_ended, told_at_end}
 use Rattle.pm_trace.specs.declared.line_fault.LineFault.TheVariants as fault
-use Rattle.pm_trace.specs.declared.line_kind.LineKind.TheVariants.{Blank, Comment, Packet}
-use Rattle.pm_trace.specs.declared.part.TheConstants.{PART_BYTES}
+use Rattle.pm_trace.specs.declared.decoder.line_kind.LineKind.TheVariants.{Blank, Comment, Packet}
 use Rattle.pm_trace.specs.declared.trace_line.TraceLine.{TraceLine}
 use Rattle.hex.specs.Hex.{is_hex_digit}
 use Rattle.pm_frame.specs.View.{message_code}
 use Rattle.pm_trace.proofs.MarkLemmas.{ended-mark, ended-other, since-mark, since-other, split-ended}
 use Rattle.pm_trace.proofs.OpenLineLemmas.{turned, line_of-snoc}
+use Rattle.pm_trace.proofs.PlainLineLemmas.{has_slash-is, has_more-is}
 
 -- ---- a line by what is kept of it
 
@@ -49,23 +49,26 @@ bad_word line =
     ∙ sym (or_assoc (list_any is_bad_word (ended is_separator line)) (not (list_all is_hex_digit (since is_separator line)))
     (is_some (unpaired (since is_separator line))))
 
-short_part : (part : List ℕ) → is_long part ≡ false → take PART_BYTES (part_bytes part) ≡ part_bytes part
+short_part : (part : List ℕ) → is_long part ≡ false → take max_part (part_bytes part) ≡ part_bytes part
 short_part part short =
-    let few : length (part_bytes part) ≤ PART_BYTES = grind (arith, nat_tests) in
-    take_all PART_BYTES (part_bytes part) few
+    let few : length (part_bytes part) ≤ max_part = grind (arith, nat_tests) in
+    take_all max_part (part_bytes part) few
 
 -- as much of the parts as is kept
 abbrev pub short_parts : List ℕ → TraceLine
 short_parts line = record {
-  write = take PART_BYTES (part_bytes (before is_slash line));
-  read = cond (list_any is_slash line) (Some (take PART_BYTES (part_bytes (after is_slash line)))) None;
+  write = take max_part (part_bytes (before is_slash line));
+  read = cond (list_any is_slash line) (Some (take max_part (part_bytes (after is_slash line)))) None;
 }
 
-pub body_reads : (line : List ℕ) → body_read (body_of line) ≡ line_read line
-unfolding body_read body_of line_read part_of
-body_reads line =
+-- the law of a line's reading: what is kept of a line reads as the line does
+pub open_reads : (line : List ℕ) → open_read (plain_line line) ≡ line_read line
+unfolding open_read plain_line line_read part_of
+open_reads line =
+    rw (has_more-is line, has_slash-is line) (
     ap (λ c. cond c (Err fault.BadHex) (cond (is_misshapen line) (Err fault.Syntax) (Ok (short_parts line)))) (sym (bad_word line))
     ∙ by (has_bad_word line) (is_misshapen line) refl
+    )
   where
     by : (bad wrong : Bool) → is_misshapen line ≡ wrong
         → cond bad (Err fault.BadHex) (cond wrong (Err fault.Syntax) (Ok (short_parts line)))
@@ -80,11 +83,13 @@ body_reads line =
           read = cond (list_any is_slash line) (Some (short_part (after is_slash line) longs.1 i)) None;
         })
 
-pub body_judges : (line : List ℕ) → body_judged (body_of line) ≡ line_judged line
-body_judges line = ap reading_judged (body_reads line)
+-- what it says, though its carriage return is held back
+pub open_judges : (line : List ℕ) → open_judged (line_of line) ≡ line_judged (without_return line)
+unfolding line_of open_read
+open_judges line = ap reading_judged (open_reads (without_return line))
 
 begun : (line : List ℕ) → is_begun (line_of line) ≡ has_bytes line
-unfolding line_of body_of
+unfolding line_of plain_line
 begun [] = refl
 begun (x ∷ xs) = by (ends_with nat_eq (x ∷ xs) carriage_return) refl
   where
@@ -125,7 +130,7 @@ told_lines-snoc lines line =
 -- the line that goes on, as if it ended here
 told_here : (bytes : List ℕ) → let line = without_return (since is_line_feed bytes) in
     map told_of (filter is_unskipped ((1 + length (map without_return (ended is_line_feed bytes)), line) ∷ [])) ≡ some_told (line_told (now bytes))
-unfolding now line_of body_of
+unfolding now line_of plain_line
 told_here bytes = by (is_skipped_kind (kind_of (without_return (since is_line_feed bytes)))) refl
   where
     line : List ℕ
@@ -136,11 +141,11 @@ told_here bytes = by (is_skipped_kind (kind_of (without_return (since is_line_fe
 
     by : (c : Bool) → is_skipped_kind (kind_of line) ≡ c
         → map told_of (filter is_unskipped ((1 + length (map without_return (ended is_line_feed bytes)), line) ∷ []))
-        ≡ some_told (cond c None (Some (length (ended is_line_feed bytes) + 1, body_judged (body_of line))))
+        ≡ some_told (cond c None (Some (length (ended is_line_feed bytes) + 1, open_judged (line_of (since is_line_feed bytes)))))
     by true skipped = ap (λ c. map told_of (cond (not c) ((1 + length (map without_return (ended is_line_feed bytes)), line) ∷ []) [])) (skipped_kind line ∙ skipped)
     by false unskipped =
         ap (λ c. map told_of (cond (not c) ((1 + length (map without_return (ended is_line_feed bytes)), line) ∷ []) [])) (skipped_kind line ∙ unskipped)
-        ∙ (λ i. (count i, sym (body_judges line) i) ∷ [])
+        ∙ (λ i. (count i, sym (open_judges (since is_line_feed bytes)) i) ∷ [])
 
 said-mark : (bytes : List ℕ) (b : ℕ) → is_line_feed b ≡ true → said (bytes ++ b ∷ []) ≡ said bytes ++ some_told (line_told (now bytes))
 unfolding said

@@ -5,16 +5,16 @@ use Rattle.std.specs.Prelude.{◌≡◌, ℕ, ◌+◌, ◌-◌, Bool, false, ◌
 use Rattle.std.specs.List.{list_any, fold, enumerate_from}
 use Rattle.pm_lines.specs.declared.fault.TextFault.{TextFault}
 use Rattle.pm_lines.specs.declared.fault.TextFault.TheVariants.{TooLong}
-use Rattle.pm_lines.specs.declared.text.TheConstants.{MAX_TEXT}
-use Rattle.pm_trace.specs.declared.standing.Standing.{Standing}
-use Rattle.pm_trace.specs.declared.standing.Standing.TheVariants.{Open, Finished, Failed}
+use Rattle.pm_lines.specs.Streams.{max_text}
+use Rattle.pm_trace.specs.declared.decoder.standing.Standing.{Standing}
+use Rattle.pm_trace.specs.declared.decoder.standing.Standing.TheVariants.{Open, Finished, Failed}
 use Rattle.pm_trace.specs.declared.fed.Fed.{Fed}
-use Rattle.pm_trace.specs.declared.open_line.OpenLine.{OpenLine}
+use Rattle.pm_trace.specs.declared.decoder.open_line.OpenLine.{OpenLine}
 use Rattle.pm_lines.specs.Lines.{has_bytes, is_line_feed, is_unskipped, without_return}
 use Rattle.pm_trace.specs.Marks.{ended, since}
 use Rattle.pm_trace.specs.Trace.{Told, told_of}
 use Rattle.pm_trace.specs.Counts.{Counts, counts_of, counts_with, IsNewCode}
-use Rattle.pm_trace.specs.OpenLines.{line_of, line_takes, is_begun, is_skipped_kind, body_judged}
+use Rattle.pm_trace.specs.OpenLines.{line_of, line_takes, is_begun, is_skipped_kind, open_judged}
 
 -- ---- the bytes taken
 
@@ -44,8 +44,8 @@ now bytes = record {
 
 -- what the line says that ends here, where it isn't skipped
 abbrev pub line_told : Kept → Option Told
-line_told kept = if is_skipped_kind kept.line.body.kind then None
-    else Some (kept.ended + 1, body_judged kept.line.body)
+line_told kept = if is_skipped_kind kept.line.kind then None
+    else Some (kept.ended + 1, open_judged kept.line)
 
 -- what is kept where a line ends here
 abbrev pub line_ended : Kept → Kept
@@ -107,7 +107,7 @@ first_line (byte ∷ bytes) = if is_line_feed byte then byte ∷ [] else byte �
 -- the bytes that one call takes of a piece: up to the first line feed, with it, and no more than a
 -- text may have
 abbrev pub taken_by : Standing → Kept → List ℕ → List ℕ
-taken_by Open kept piece = first_line (take (MAX_TEXT - kept.taken) piece)
+taken_by Open kept piece = first_line (take (max_text - kept.taken) piece)
 taken_by Finished kept piece = []
 taken_by (Failed fault) kept piece = []
 
@@ -118,7 +118,7 @@ taken_of holding piece = taken_by holding.standing holding.kept piece
 -- a text may have, and the refusal of a decoder that failed
 abbrev pub refusal_by : Standing → Kept → List ℕ → Option TextFault
 refusal_by Open kept piece =
-    if has_bytes piece && nat_le MAX_TEXT kept.taken then Some TooLong else None
+    if has_bytes piece && nat_le max_text kept.taken then Some TooLong else None
 refusal_by Finished kept piece = None
 refusal_by (Failed fault) kept piece = Some fault
 

@@ -1,13 +1,15 @@
+-- What the crate promises.
 pub mod Counts
 pub mod Decoding
-pub mod Gathered
-pub mod Marks
-pub mod OpenLines
+pub mod Laws
 pub mod Outcome
-pub mod Pairs
-pub mod Parts
 pub mod Pieces
 pub mod ShownLines
 pub mod Trace
 pub mod TraceText
+-- How it is kept.
+pub mod Gathered
+pub mod Marks
+pub mod OpenLines
+pub mod Parts
 pub mod Written

@@ -1,20 +1,20 @@
 -- What the lines of a trace say. A line is the write part of a packet of SMBus as it went over the
 -- bus, in hexadecimal, and optionally `/` and the read part. The form of the lines is this project's
 -- own choice; the packets and their faults are those of `pm_frame`.
-use Rattle.std.specs.Prelude.{ℕ, ◌+◌, ◌*◌, ◌/◌, ◌%◌, Bool, true, false, not, ◌&&◌, ◌||◌, ◌==◌, nat_lt, nat_le, if◌then◌else◌, List, [], ◌∷◌, length, map, flat_map, slice_index, is_some, unwrap_or, Option, Some, None, Result, Ok, Err}
+use Rattle.std.specs.Prelude.{ℕ, ◌+◌, ◌*◌, ◌/◌, ◌%◌, Bool, true, false, not, ◌&&◌, ◌||◌, ◌==◌, nat_lt, nat_le, if◌then◌else◌, List, [], ◌∷◌, length, map, flat_map, slice_index, is_some, Option, Some, None, Result, Ok, Err}
 use Rattle.std.specs.List.{slice_split, list_any, list_all}
-use Rattle.hex.specs.Hex.{is_hex_digit, hex_digit_value}
+use Rattle.hex.specs.Hex.{is_hex_digit}
 use Rattle.pm_frame.specs.Fault.{write_fault, request_fault, answer_fault}
 use Rattle.pm_frame.specs.View.{message_in, answer_payload}
 use Rattle.pm_frame.specs.declared.fault.FrameFault.{FrameFault}
 use Rattle.pm_frame.specs.declared.fault.FrameFault.TheVariants.{NotOurs}
 use Rattle.pm_frame.specs.declared.message.Message.{Message}
+use Rattle.pm_lines.specs.Pairs.{byte_of}
 use Rattle.pm_lines.specs.Lines.{Numbered, is_space, unskipped_from}
 use Rattle.pm_trace.specs.Marks.{before, after}
 use Rattle.pm_trace.specs.declared.line_fault.LineFault.{LineFault}
 use Rattle.pm_trace.specs.declared.line_fault.LineFault.TheVariants as fault
 use Rattle.pm_trace.specs.declared.trace_line.TraceLine.{TraceLine}
-use Rattle.pm_trace.specs.declared.part.TheConstants.{PART_BYTES}
 
 -- ---- the words of a line
 
@@ -24,14 +24,6 @@ is_slash byte = byte == 47
 
 abbrev pub is_separator : ℕ → Bool
 is_separator byte = is_space byte || is_slash byte
-
--- a digit's value, in either case, and 0 for a byte that is no digit
-abbrev pub digit_value : ℕ → ℕ
-digit_value byte = unwrap_or (hex_digit_value byte) 0
-
--- the byte of two digits
-abbrev pub byte_of : ℕ → ℕ → ℕ
-byte_of high low = digit_value high * 16 + digit_value low
 
 -- the bytes that a word's digits write, two digits a byte
 abbrev pub word_bytes : List ℕ → List ℕ
@@ -60,9 +52,13 @@ part_bytes part = flat_map word_bytes (slice_split is_separator part)
 abbrev pub has_bad_word : List ℕ → Bool
 has_bad_word line = list_any is_bad_word (slice_split is_separator line)
 
--- a part with more bytes than one may have
+-- the most bytes that a part may have
+abbrev pub max_part : ℕ
+max_part = 300
+
+-- a part with more bytes than that
 abbrev pub is_long : List ℕ → Bool
-is_long part = nat_lt PART_BYTES (length (part_bytes part))
+is_long part = nat_lt max_part (length (part_bytes part))
 
 -- it has a second slash, or a part is too long
 abbrev pub is_misshapen : List ℕ → Bool

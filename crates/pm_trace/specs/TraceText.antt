@@ -2,14 +2,12 @@
 -- that was carried, and the counts. The forms are this project's own choice; names are printed as
 -- in PMBus 1.3 Part II.
 use Rattle.std.specs.Prelude.{ℕ, ◌==◌, if◌then◌else◌, List, [], ◌∷◌, ◌++◌, flat_map, unwrap_or, decimal, codes, Option, Some, None, ⊤}
-use Rattle.std.specs.Option.{option_map_or}
 use Rattle.std.specs.Fmt.{signed_decimal}
-use Rattle.pm_table.specs.Commands.{line_of}
+use Rattle.pm_table.specs.Commands.{name_of}
+use Rattle.pm_frame.specs.FaultWords.{frame_fault_text}
 use Rattle.pm_table.specs.Coefficients.{coefficients_of}
 use Rattle.pm_table.specs.declared.coefficients.Coefficients.{Coefficients}
 use Rattle.pm_frame.specs.View.{message_page, message_code, message_payload}
-use Rattle.pm_frame.specs.declared.fault.FrameFault.{FrameFault}
-use Rattle.pm_frame.specs.declared.fault.FrameFault.TheVariants.{NotOurs, Short, Long, WrongCount, WrongPec, UnknownCode, WrongDirection, Nested}
 use Rattle.pm_frame.specs.declared.message.Message.{Message}
 use Rattle.pm_frame.specs.declared.message.Message.TheVariants.{SendByte, WriteByte, WriteWord, PagePlusWrite, ReadCommand, PagePlusRead, ReadCoefficients}
 use Rattle.pm_trace.specs.declared.decode_end.DecodeEnd.{DecodeEnd}
@@ -19,23 +17,6 @@ use Rattle.pm_lines.specs.declared.fault.TextFault.{TextFault}
 use Rattle.pm_lines.specs.declared.fault.TextFault.TheVariants.{Syntax, BadHex, TooLong, Read, Write, Memory, Setup}
 use Rattle.pm_trace.specs.Counts.{Counts, counts_of, lines_in}
 use Rattle.pm_trace.specs.Trace.{Told, Judged, Accepted, Faulty, BadSyntax, BadHex, trace_of}
-
--- ---- names
-
--- the name of a code that stands in the command table
-abbrev pub code_name : ℕ → List ℕ
-code_name code = option_map_or (λ line. line.name) (line_of code) []
-
--- the fault of a packet: its letters and name, and the place where there is one
-abbrev pub fault_text : FrameFault → List ℕ
-fault_text NotOurs = codes "F1 NotOurs"
-fault_text (Short place) = codes "F2 Short " ++ decimal place
-fault_text (Long place) = codes "F3 Long " ++ decimal place
-fault_text (WrongCount place) = codes "F4 WrongCount " ++ decimal place
-fault_text (WrongPec place) = codes "F5 WrongPec " ++ decimal place
-fault_text (UnknownCode place) = codes "F6 UnknownCode " ++ decimal place
-fault_text (WrongDirection place) = codes "F7 WrongDirection " ++ decimal place
-fault_text (Nested place) = codes "F8 Nested " ++ decimal place
 
 -- ---- a packet that was accepted
 
@@ -56,7 +37,7 @@ payload_text payload (Some answer) = codes " read " ++ hex_number answer
 -- the page that it names, the code's name, and what it carries
 unfoldable pub plain_text : Message → Option (List ℕ) → List ℕ
 plain_text message answer = page_text (message_page message)
-    ++ (code_name (message_code message) ++ payload_text (message_payload message) answer)
+    ++ (name_of (message_code message) ++ payload_text (message_payload message) answer)
 
 -- the code and the side that coefficients were asked of
 unfoldable pub asked_text : ℕ → ℕ → List ℕ
@@ -88,7 +69,7 @@ abbrev pub judged_text : Judged → List ℕ
 judged_text (Accepted addr message answer) =
     hex_byte addr ++ (codes " " ++ message_text message answer)
 judged_text (Faulty addr read fault) = address_text addr
-    ++ ((if read then codes " read " else codes " write ") ++ fault_text fault)
+    ++ ((if read then codes " read " else codes " write ") ++ frame_fault_text fault)
 judged_text BadSyntax = codes "X1 Syntax"
 judged_text BadHex = codes "X2 BadHex"
 
@@ -106,7 +87,7 @@ told_lines lines = flat_map told_line lines
 -- ---- the counts
 
 unfoldable pub count_line : (ℕ × ℕ) → List ℕ
-count_line entry = codes "count " ++ code_name entry.0 ++ codes " " ++ decimal entry.1 ++ codes "\n"
+count_line entry = codes "count " ++ name_of entry.0 ++ codes " " ++ decimal entry.1 ++ codes "\n"
 
 unfoldable pub totals_line : Counts → List ℕ
 totals_line counts =

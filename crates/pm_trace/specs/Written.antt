@@ -1,8 +1,8 @@
 -- What a decoder took of a reader, and what was written of it.
 use Rattle.std.specs.Prelude.{◌≡◌, ℕ, ◌+◌, ◌<◌, ◌≤◌, Bool, true, false, List, [], ◌++◌, length, Option}
 use Rattle.std.specs.Io.KnownBytes.{Appends, Consumes}
-use Rattle.pm_trace.specs.declared.standing.Standing.TheVariants.{Open}
-use Rattle.pm_lines.specs.declared.text.TheConstants.{MAX_TEXT}
+use Rattle.pm_trace.specs.declared.decoder.standing.Standing.TheVariants.{Open}
+use Rattle.pm_lines.specs.Streams.{max_text}
 use Rattle.pm_trace.specs.Decoding.{Holding, now, next, said, told}
 use Rattle.pm_trace.specs.TraceText.{told_lines}
 
@@ -11,7 +11,7 @@ pub record Pushes (text new_text : List ℕ) (old new : Holding) (bytes : List �
   pub text_is : new_text ≡ text ++ told_lines (told old.kept bytes)
   pub kept : new.kept ≡ next old.kept bytes
   pub standing : new.standing ≡ Open
-  pub room : new.kept.taken ≤ MAX_TEXT
+  pub room : new.kept.taken ≤ max_text
 
 -- a front of a piece was taken, and what its lines say was put behind a text: the whole piece, or
 -- all that a text may have
@@ -22,7 +22,7 @@ pub record PushesFront (text new_text : List ℕ) (old new : Holding) (piece : L
   pub split : piece ≡ front ++ rest
   pub text_is : new_text ≡ text ++ told_lines (told old.kept front)
   pub whole : is_whole ≡ true → (rest ≡ []) × Pushes text new_text old new front
-  pub too_many : is_whole ≡ false → (0 < length rest) × (old.kept.taken + length front ≡ MAX_TEXT)
+  pub too_many : is_whole ≡ false → (0 < length rest) × (old.kept.taken + length front ≡ max_text)
 
 -- the reader gave these bytes, the decoder took them, and what their lines say was written
 pub record Written (read new_read written new_written : Option (List ℕ)) (bytes : List ℕ)
@@ -30,5 +30,5 @@ pub record Written (read new_read written new_written : Option (List ℕ)) (byte
   pub given : Consumes read new_read bytes
   pub kept : holding.kept ≡ now bytes
   pub standing : holding.standing ≡ Open
-  pub short : length bytes ≤ MAX_TEXT
+  pub short : length bytes ≤ max_text
   pub text : Appends written new_written (told_lines (said bytes))

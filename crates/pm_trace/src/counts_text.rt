@@ -3,9 +3,9 @@ ghost use Rattle.std.specs.Prelude.{◌≡◌, ◌++◌, ◌<◌, ◌^◌, OnOk,
 ghost use Rattle.pm_trace.specs.Counts.{lines_in};
 ghost use Rattle.pm_trace.specs.TraceText.{count_line, totals_line, counts_text};
 
-use crate::shown_text::name_of;
 use crate::tally::Tally;
 use pm_lines::push_decimal;
+use pm_table::Code;
 use std::alloc::AllocError;
 
 /// Puts a line for each code that was carried, and the line of the counts, behind a text.
@@ -26,7 +26,7 @@ fn push_count(text: &mut String, code: u8, count: u64) -> Result<(), AllocError>
     ensures { OnOk result (string_bytes text.new ≡ string_bytes text.old ++ count_line (code, count)) }
 {
     text.push_str("count ")?;
-    text.push_str(name_of(code))?;
+    text.push_str(Code(code).name())?;
     text.push_str(" ")?;
     push_decimal(text, count)?;
     text.push_str("\n")

@@ -1,11 +1,18 @@
+mod gathered;
+mod line_kind;
+pub(crate) mod open_line;
+mod part;
+mod slashes;
+mod standing;
+
 ghost use Rattle.std.specs.Prelude.{◌≡◌};
 
+use crate::decoder::gathered::Gathered;
+pub use crate::decoder::part::PART_BYTES;
+use crate::decoder::standing::Standing;
 use crate::fed::Fed;
-use crate::gathered::Gathered;
 use crate::shown::Shown;
-use crate::standing::Standing;
 use crate::tally::Tally;
-use crate::verdict::Verdict;
 use pm_lines::{MAX_TEXT, TextFault};
 use std::alloc::Global;
 use std::marker::Model;
@@ -35,11 +42,13 @@ impl Model for Decoder {
 }
 
 impl Decoder {
-    ghost use Rattle.std.specs.Prelude.{[], ◌⊎◌, ◌≤◌, ◌<◌, ◌^◌, length, None, Some, IfOk, IfErr, OnOk, OnErr, IsOk, option_map};
+    ghost use Rattle.std.specs.Prelude.{[], ◌⊎◌, ◌+◌, ◌≤◌, ◌<◌, ◌^◌, ◌++◌, length, take, None, Some, IfOk, IfErr, OnOk, OnErr, option_map, string_bytes};
+    ghost use Rattle.std.specs.Result.{result_err};
     ghost use Rattle.pm_trace.specs.Counts.{lines_in};
-    ghost use Rattle.pm_trace.specs.Decoding.{IsFresh, Feeds, Finishes, Fails, CarriesNew, refusal_of, taken_of, told, told_by, some_told};
-    ghost use Rattle.pm_trace.specs.ShownLines.{told_in, verdict_told};
-    ghost use Rattle.pm_lines.specs.declared.text.TheConstants.{MAX_TEXT};
+    ghost use Rattle.pm_trace.specs.Decoding.{IsFresh, Feeds, Finishes, Fails, CarriesNew, refusal_of, taken_of, first_line, told, told_by, some_told};
+    ghost use Rattle.pm_trace.specs.ShownLines.{told_in};
+    ghost use Rattle.pm_trace.specs.TraceText.{told_lines};
+    ghost use Rattle.pm_lines.specs.Streams.{max_text};
 
     /// A decoder that took no byte. Takes no memory.
     pub fn new(alloc: Global) -> Decoder
@@ -72,7 +81,7 @@ impl Decoder {
     pub fn feed(&mut self, piece: &[u8]) -> Result<Fed, TextFault>
         ensures fed { IfOk result (λ fed. Feeds self.old piece.now fed self.new) }
         ensures within { IfOk result (λ fed. fed.taken ≤ length piece.now) }
-        ensures room { self.new.kept.taken ≤ MAX_TEXT }
+        ensures room { self.new.kept.taken ≤ max_text }
         ensures failed { IfErr result (λ fault. Fails self.old fault self.new) }
 
         // X3 and a repeated refusal come exactly where they are due, and X6 only for a new code.
@@ -81,29 +90,79 @@ impl Decoder {
             ⊎ ((refusal_of self.old piece.now ≡ None) × (fault ≡ TextFault.Memory)
             × CarriesNew self.old.kept.counts (told self.old.kept (taken_of self.old piece.now)))) }
     {
+        let fed = self.take(piece);
+        if let Err(fault) = fed {
+            self.fail(fault);
+        }
+        fed
+    }
+
+    // Takes bytes of a piece.
+    fn take(&mut self, piece: &[u8]) -> Result<Fed, TextFault>
+        ensures fed { IfOk result (λ fed. Feeds self.old piece.now fed self.new) }
+        ensures within { IfOk result (λ fed. fed.taken ≤ length piece.now) }
+        ensures room { self.new.kept.taken ≤ max_text }
+        ensures counts { OnErr result (self.new.kept.counts ≡ self.old.kept.counts) }
+        ensures taken { OnOk result (refusal_of self.old piece.now ≡ None) }
+        ensures refused { IfErr result (λ fault. (refusal_of self.old piece.now ≡ Some fault)
+            ⊎ ((refusal_of self.old piece.now ≡ None) × (fault ≡ TextFault.Memory)
+            × CarriesNew self.old.kept.counts (told self.old.kept (taken_of self.old piece.now)))) }
+    {
+        let room = self.room(piece)?;
         self.gathered.begin();
+        if room == 0 {
+            return Ok(Fed::NOTHING);
+        }
+        Ok(self.gathered.take_line(&piece[..room])?)
+    }
+
+    /// As `feed`, and appends what the line says that ends, if it isn't skipped, to a text, with a
+    /// line feed. After a refusal the decoder is not used again.
+    pub(crate) fn tell(&mut self, piece: &[u8], text: &mut String) -> Result<Fed, TextFault>
+        ensures fed { IfOk result (λ fed. Feeds self.old piece.now fed self.new) }
+        ensures within { IfOk result (λ fed. fed.taken ≤ length piece.now) }
+        ensures room { self.new.kept.taken ≤ max_text }
+        ensures text { OnOk result (string_bytes text.new
+            ≡ string_bytes text.old ++ told_lines (told self.old.kept (taken_of self.old piece.now))) }
+        ensures taken { OnOk result (refusal_of self.old piece.now ≡ None) }
+        ensures refused { IfErr result (λ fault. ((refusal_of self.old piece.now ≡ Some fault)
+            × (string_bytes text.new ≡ string_bytes text.old)) ⊎ (fault ≡ TextFault.Memory)) }
+    {
+        let room = self.room(piece)?;
+        self.gathered.begin();
+        if room == 0 {
+            return Ok(Fed::NOTHING);
+        }
+        Ok(self.gathered.tell_line(&piece[..room], text)?)
+    }
+
+    // How many bytes of a piece may be looked at, or why none is taken.
+    fn room(&self, piece: &[u8]) -> Result<usize, TextFault>
+        ensures within { IfOk result (λ room. room ≤ length piece.now) }
+        ensures room { IfOk result (λ room. self.now.kept.taken + room ≤ max_text) }
+        ensures open { IfOk result (λ room. 0 < room → self.now.standing ≡ Standing.Open) }
+        ensures taken { IfOk result (λ room. taken_of self.now piece.now ≡ first_line (take room piece.now)) }
+        ensures refused { result_err result ≡ refusal_of self.now piece.now }
+    {
         match self.standing {
             Standing::Open => {}
-            Standing::Finished => {
-                return Ok(Fed {
-                    taken: 0,
-                    ended: false,
-                });
-            }
+            Standing::Finished => return Ok(0),
             Standing::Failed(fault) => return Err(fault),
         }
         let room = MAX_TEXT - self.gathered.taken;
         if room == 0 && !piece.is_empty() {
-            self.standing = Standing::Failed(TextFault::TooLong);
             return Err(TextFault::TooLong);
         }
-        match self.gathered.take_line(&piece[..room.min(piece.len())]) {
-            Ok(fed) => Ok(fed),
-            Err(_) => {
-                self.standing = Standing::Failed(TextFault::Memory);
-                Err(TextFault::Memory)
-            }
-        }
+        Ok(room.min(piece.len()))
+    }
+
+    // Refuses from then on.
+    fn fail(&mut self, fault: TextFault)
+        ensures fails { Fails self.old fault self.new }
+        ensures room { self.new.kept.taken ≤ max_text }
+    {
+        self.gathered.begin();
+        self.standing = Standing::Failed(fault);
     }
 
     /// Ends the trace: a last line ends here that has bytes and no line feed, and the answer is
@@ -121,19 +180,34 @@ impl Decoder {
             ⊎ ((refusal_of self.old [] ≡ None) × (fault ≡ TextFault.Memory)
             × CarriesNew self.old.kept.counts (some_told (told_by self.old.standing self.old.kept)))) }
     {
-        self.gathered.begin();
-        match self.standing {
-            Standing::Open => {}
-            Standing::Finished => return Ok(false),
-            Standing::Failed(fault) => return Err(fault),
+        let ended = self.end();
+        if let Err(fault) = ended {
+            self.fail(fault);
         }
-        let is_begun = self.gathered.line.is_begun();
-        if is_begun && self.gathered.end_line().is_err() {
-            self.standing = Standing::Failed(TextFault::Memory);
-            return Err(TextFault::Memory);
+        ended
+    }
+
+    // Ends the trace.
+    fn end(&mut self) -> Result<bool, TextFault>
+        ensures finished { IfOk result (λ ended. Finishes self.old ended self.new) }
+        ensures counts { OnErr result (self.new.kept.counts ≡ self.old.kept.counts) }
+        ensures taken { OnOk result (refusal_of self.old [] ≡ None) }
+        ensures refused { IfErr result (λ fault. (refusal_of self.old [] ≡ Some fault)
+            ⊎ ((refusal_of self.old [] ≡ None) × (fault ≡ TextFault.Memory)
+            × CarriesNew self.old.kept.counts (some_told (told_by self.old.standing self.old.kept)))) }
+    {
+        let is_open = match self.standing {
+            Standing::Open => true,
+            Standing::Finished => false,
+            Standing::Failed(fault) => return Err(fault),
+        };
+        self.gathered.begin();
+        let ends = is_open && self.gathered.line.is_begun();
+        if ends {
+            self.gathered.end_line()?;
         }
         self.standing = Standing::Finished;
-        Ok(is_begun)
+        Ok(ends)
     }
 
     /// The line that the last call ended, with its number; the first line of a trace has number 1.
@@ -142,20 +216,11 @@ impl Decoder {
     pub fn line(&self) -> Option<(u64, Shown<'_>)>
         ensures { option_map told_in result ≡ self.now.shown }
     {
-        if !self.gathered.has_ended || self.gathered.line.body.is_skipped() {
+        if !self.gathered.has_ended {
             return None;
         }
-        Some((self.gathered.ended, self.gathered.line.body.shown()))
-    }
-
-    /// The same without a view of the bytes.
-    pub(crate) fn verdict(&self) -> Option<(u64, &Verdict)>
-        ensures { option_map verdict_told result ≡ self.now.shown }
-    {
-        match &self.gathered.verdict {
-            Some(verdict) => Some((self.gathered.ended, verdict)),
-            None => None,
-        }
+        let shown = self.gathered.line.shown()?;
+        Some((self.gathered.ended, shown))
     }
 
     /// How many lines ended that are not skipped, and how many of these were accepted, have a faulty

@@ -7,3 +7,11 @@ pub struct Fed {
     /// Whether a line ended with the last of them: `Decoder::line` shows it until the next call.
     pub ended: bool,
 }
+
+impl Fed {
+    /// No byte was taken.
+    pub(crate) const NOTHING: Fed = Fed {
+        taken: 0,
+        ended: false,
+    };
+}

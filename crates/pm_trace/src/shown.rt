@@ -4,7 +4,7 @@ ghost use Rattle.pm_frame.specs.Fault.{write_fault, request_fault};
 ghost use Rattle.pm_frame.specs.View.{message_in};
 ghost use Rattle.pm_trace.specs.Trace.{parts_judged, write_judged, read_judged};
 ghost use Rattle.pm_trace.specs.Trace.{address_of as spec_address_of};
-ghost use Rattle.pm_trace.specs.ShownLines.{judged_in, HasShortAnswer};
+ghost use Rattle.pm_trace.specs.ShownLines.{judged_in};
 
 use pm_frame::{FrameFault, FrameView, read_answer, read_request, read_write};
 use pm_table::address_ok;
@@ -41,9 +41,8 @@ pub enum Shown<'a> {
 /// What a packet says by its two parts; there is no read part where a stop ended the write part.
 #[tactic(auto, unfolding(crate::specs::Trace::parts_judged))]
 pub(crate) fn packet_shown<'a>(write: &'a [u8], read: Option<&'a [u8]>) -> Shown<'a>
-    ensures judged { judged_in result ≡ parts_judged write.entry.now
+    ensures { judged_in result ≡ parts_judged write.entry.now
         (option_map (λ bytes. bytes.now) read.entry) }
-    ensures short { HasShortAnswer result }
 {
     match (address_of(write), read) {
         (None, _) => Shown::Faulty {
@@ -66,12 +65,11 @@ fn address_of(write: &[u8]) -> Option<u8>
     }
 }
 
-// What a packet says that a stop ended.
+// Judges a write, which a stop ends.
 fn write_shown(addr: u8, write: &[u8]) -> Shown<'_>
     requires { IsAddress addr }
-    ensures judged { judged_in result
+    ensures { judged_in result
         ≡ write_judged addr (message_in write.entry.now) (write_fault addr write.entry.now) }
-    ensures short { HasShortAnswer result }
 {
     match read_write(addr, write) {
         Ok(view) => Shown::Accepted {
@@ -87,12 +85,11 @@ fn write_shown(addr: u8, write: &[u8]) -> Shown<'_>
     }
 }
 
-// What a packet says whose request a repeated start ended.
+// Judges a read: the request, which a repeated start ends, then the answer.
 fn read_shown<'a>(addr: u8, write: &'a [u8], read: &'a [u8]) -> Shown<'a>
     requires { IsAddress addr }
-    ensures judged { judged_in result ≡ read_judged addr (message_in write.entry.now) read.entry.now
+    ensures { judged_in result ≡ read_judged addr (message_in write.entry.now) read.entry.now
         (request_fault addr write.entry.now) }
-    ensures short { HasShortAnswer result }
 {
     let view = match read_request(addr, write) {
         Ok(view) => view,
@@ -104,9 +101,7 @@ fn read_shown<'a>(addr: u8, write: &'a [u8], read: &'a [u8]) -> Shown<'a>
             };
         }
     };
-    let request = view.message();
-    let _length = request.answer_length();
-    match read_answer(addr, &request, read) {
+    match read_answer(addr, &view.message(), read) {
         Ok(payload) => Shown::Accepted {
             addr,
             view,

@@ -1,56 +1,58 @@
 //! The text of a line that is shown.
 ghost use Rattle.std.specs.Prelude.{◌≡◌, ◌++◌, [], OnOk, string_bytes, option_map, unwrap_or, decimal, codes};
 ghost use Rattle.std.specs.Fmt.{signed_decimal};
-ghost use Rattle.pm_frame.specs.Layout.{payload_bytes};
-ghost use Rattle.pm_trace.specs.ShownLines.{verdict_in};
-ghost use Rattle.pm_trace.specs.TraceText.{told_text, judged_text, address_text, fault_text, message_text};
-ghost use Rattle.pm_trace.specs.TraceText.{plain_text, page_text, payload_text, written_text, asked_text, numbers_text, code_name};
+ghost use Rattle.pm_frame.specs.FaultWords.{frame_fault_text, place_text};
+ghost use Rattle.pm_trace.specs.ShownLines.{judged_in};
+ghost use Rattle.pm_trace.specs.TraceText.{told_line, told_text, judged_text, address_text, message_text};
+ghost use Rattle.pm_trace.specs.TraceText.{plain_text, page_text, payload_text, written_text, asked_text, numbers_text};
 ghost use Rattle.pm_table.specs.Coefficients.{coefficients_of};
 
-use crate::verdict::Verdict;
-use pm_frame::{FrameFault, Message, Payload};
+use crate::shown::Shown;
+use pm_frame::{FrameFault, FrameView, Message};
 use pm_lines::{push_decimal, push_hex, push_hex_number, push_signed};
-use pm_table::{Code, Coefficients, known};
+use pm_table::{Code, Coefficients};
 use std::alloc::AllocError;
 
-/// Puts the text of a line behind a text, with the line's number and without a line feed.
-#[tactic(auto, using(crate::proofs::Joins::joins), unfolding(crate::specs::TraceText::told_text))]
-pub(crate) fn push_line(text: &mut String, number: u64, verdict: &Verdict) -> Result<(), AllocError>
+/// Appends the text of a line to a text, with the line's number, and a line feed.
+#[tactic(auto, using(crate::proofs::Joins::joins))]
+pub(crate) fn push_told(text: &mut String, number: u64, shown: &Shown<'_>) -> Result<(), AllocError>
     ensures { OnOk result (string_bytes text.new
-        ≡ string_bytes text.old ++ told_text (number, verdict_in verdict.now)) }
+        ≡ string_bytes text.old ++ told_line (number, judged_in shown.now)) }
+{
+    push_line(text, number, shown)?;
+    text.push_str("\n")
+}
+
+/// Appends the text of a line to a text, with the line's number and without a line feed.
+#[tactic(auto, using(crate::proofs::Joins::joins), unfolding(crate::specs::TraceText::told_text))]
+pub(crate) fn push_line(text: &mut String, number: u64, shown: &Shown<'_>) -> Result<(), AllocError>
+    ensures { OnOk result (string_bytes text.new
+        ≡ string_bytes text.old ++ told_text (number, judged_in shown.now)) }
 {
     push_decimal(text, number)?;
     text.push_str(" ")?;
-    push_verdict(text, verdict)
+    push_shown(text, shown)
 }
 
 // What the line says.
 #[tactic(auto, using(crate::proofs::Joins::joins))]
-fn push_verdict(text: &mut String, verdict: &Verdict) -> Result<(), AllocError>
+fn push_shown(text: &mut String, shown: &Shown<'_>) -> Result<(), AllocError>
     ensures { OnOk result (string_bytes text.new
-        ≡ string_bytes text.old ++ judged_text (verdict_in verdict.now)) }
+        ≡ string_bytes text.old ++ judged_text (judged_in shown.now)) }
 {
-    match verdict {
-        Verdict::Accepted {
-            addr,
-            message,
-            answer,
-        } => {
-            let answer = match answer {
-                Some(answer) => Some(answer.as_slice()),
-                None => None,
-            };
+    match shown {
+        Shown::Accepted { addr, view, answer } => {
             push_hex(text, *addr)?;
             text.push_str(" ")?;
-            push_message(text, *message, answer)
+            push_packet(text, view, *answer)
         }
-        Verdict::Faulty { addr, read, fault } => {
+        Shown::Faulty { addr, read, fault } => {
             push_address(text, *addr)?;
             text.push_str(if *read { " read " } else { " write " })?;
             push_fault(text, *fault)
         }
-        Verdict::BadSyntax => text.push_str("X1 Syntax"),
-        Verdict::BadHex => text.push_str("X2 BadHex"),
+        Shown::BadSyntax => text.push_str("X1 Syntax"),
+        Shown::BadHex => text.push_str("X2 BadHex"),
     }
 }
 
@@ -64,94 +66,63 @@ fn push_address(text: &mut String, addr: Option<u8>) -> Result<(), AllocError>
     }
 }
 
-// The letters and the name of a packet's fault, and its place.
+// The letter and the name of a packet's fault, and its place.
+#[tactic(auto, using(crate::proofs::Joins::joins))]
 fn push_fault(text: &mut String, fault: FrameFault) -> Result<(), AllocError>
-    ensures { OnOk result (string_bytes text.new ≡ string_bytes text.old ++ fault_text fault) }
+    ensures { OnOk result (string_bytes text.new ≡ string_bytes text.old ++ frame_fault_text fault) }
 {
-    match fault {
-        FrameFault::NotOurs => text.push_str("F1 NotOurs"),
-        FrameFault::Short(place) => push_placed(text, "F2 Short ", place),
-        FrameFault::Long(place) => push_placed(text, "F3 Long ", place),
-        FrameFault::WrongCount(place) => push_placed(text, "F4 WrongCount ", place),
-        FrameFault::WrongPec(place) => push_placed(text, "F5 WrongPec ", place),
-        FrameFault::UnknownCode(place) => push_placed(text, "F6 UnknownCode ", place),
-        FrameFault::WrongDirection(place) => push_placed(text, "F7 WrongDirection ", place),
-        FrameFault::Nested(place) => push_placed(text, "F8 Nested ", place),
-    }
+    text.push_str(fault.words())?;
+    push_place(text, fault.place())
 }
 
-// A name, and a place behind it.
+// The place of a fault, where it has one.
 #[tactic(auto, using(crate::proofs::Joins::joins))]
-fn push_placed(text: &mut String, name: &str, place: usize) -> Result<(), AllocError>
-    ensures { OnOk result (string_bytes text.new
-        ≡ string_bytes text.old ++ (name.now ++ decimal place)) }
+fn push_place(text: &mut String, place: Option<usize>) -> Result<(), AllocError>
+    ensures { OnOk result (string_bytes text.new ≡ string_bytes text.old ++ place_text place) }
 {
-    text.push_str(name)?;
+    let Some(place) = place else {
+        return Ok(());
+    };
+    text.push_str(" ")?;
     push_decimal(text, place as u64)
 }
 
 // What a packet says that was accepted.
 #[tactic(auto, using(crate::proofs::Joins::joins), unfolding(crate::specs::TraceText::plain_text))]
-fn push_message(
+fn push_packet(
     text: &mut String,
-    message: Message,
+    view: &FrameView<'_>,
     answer: Option<&[u8]>,
 ) -> Result<(), AllocError>
     ensures { OnOk result (string_bytes text.new ≡ string_bytes text.old
-        ++ message_text message (option_map (λ bytes. bytes.now) answer.entry)) }
+        ++ message_text view.now (option_map (λ bytes. bytes.now) answer.entry)) }
 {
-    match message {
-        Message::SendByte { code } => push_plain(text, None, code, Payload::Empty, answer),
-        Message::WriteByte { code, byte } => push_plain(
-            text,
-            None,
-            code,
-            Payload::Byte(byte),
-            answer,
-        ),
-        Message::WriteWord { code, word } => push_plain(
-            text,
-            None,
-            code,
-            Payload::Word(word),
-            answer,
-        ),
-        Message::PagePlusWrite {
-            page,
-            code,
-            payload,
-        } => { push_plain(text, Some(page), code, payload, answer) }
-        Message::ReadCommand { code } => push_plain(text, None, code, Payload::Empty, answer),
-        Message::PagePlusRead { page, code } => {
-            push_plain(text, Some(page), code, Payload::Empty, answer)
-        }
+    match view.message() {
         Message::ReadCoefficients { code, side } => {
             push_coefficients(text, code, side, answered(answer))
         }
+        _ => push_plain(text, view, answer),
     }
 }
 
 // The page that a packet names, its code's name, and what it carries.
-#[tactic(auto, using(crate::proofs::Joins::joins))]
+#[tactic(auto, using(crate::proofs::Joins::joins), unfolding(crate::specs::TraceText::plain_text))]
 fn push_plain(
     text: &mut String,
-    page: Option<u8>,
-    code: u8,
-    payload: Payload,
+    view: &FrameView<'_>,
     answer: Option<&[u8]>,
 ) -> Result<(), AllocError>
     ensures { OnOk result (string_bytes text.new ≡ string_bytes text.old
-        ++ (page_text page ++ (code_name code
-        ++ payload_text (payload_bytes payload) (option_map (λ bytes. bytes.now) answer.entry)))) }
+        ++ plain_text view.now (option_map (λ bytes. bytes.now) answer.entry)) }
 {
-    push_page(text, page)?;
-    text.push_str(name_of(code))?;
+    push_page(text, view.page())?;
+    text.push_str(Code(view.code()).name())?;
     match answer {
         Some(answer) => {
             text.push_str(" read ")?;
             push_hex_number(text, answer)
         }
-        None => push_written(text, payload),
+        None => push_written(text, view.payload()),
     }
 }
 
@@ -170,31 +141,15 @@ fn push_page(text: &mut String, page: Option<u8>) -> Result<(), AllocError>
 
 // What a write carries.
 #[tactic(auto, using(crate::proofs::Joins::joins))]
-fn push_written(text: &mut String, payload: Payload) -> Result<(), AllocError>
+fn push_written(text: &mut String, payload: &[u8]) -> Result<(), AllocError>
     ensures { OnOk result (string_bytes text.new
-        ≡ string_bytes text.old ++ written_text (payload_bytes payload)) }
+        ≡ string_bytes text.old ++ written_text payload.now) }
 {
-    match payload {
-        Payload::Empty => text.push_str(" send"),
-        Payload::Byte(byte) => {
-            text.push_str(" write ")?;
-            push_hex_number(text, &[byte])
-        }
-        Payload::Word(word) => {
-            text.push_str(" write ")?;
-            push_hex_number(text, &word.to_le_bytes())
-        }
+    if payload.is_empty() {
+        return text.push_str(" send");
     }
-}
-
-/// The name of a code that stands in the command table.
-pub(crate) fn name_of(code: u8) -> &'static str
-    ensures { result.now ≡ code_name code }
-{
-    match known(Code(code)) {
-        Some(line) => line.name,
-        None => "",
-    }
+    text.push_str(" write ")?;
+    push_hex_number(text, payload)
 }
 
 // The bytes of an answer, none where there is no answer.

@@ -1,13 +1,13 @@
 ghost use Rattle.std.specs.Prelude.{◌≡◌, ◌⊎◌, IfOk, IfErr, IsOk, Ok, Err, string_bytes};
-ghost use Rattle.pm_trace.specs.Trace.{line_read, parts_judged};
+ghost use Rattle.pm_trace.specs.Trace.{line_read, max_part, parts_judged};
 ghost use Rattle.pm_trace.specs.TraceText.{told_text};
 
 use crate::byte_list::ByteList;
-use crate::line_body::LineBody;
+use crate::decoder::PART_BYTES;
+use crate::decoder::open_line::OpenLine;
 use crate::line_fault::LineFault;
 use crate::shown::packet_shown;
 use crate::shown_text::push_line;
-use crate::verdict::Verdict;
 use pm_lines::TextFault;
 use std::alloc::Global;
 
@@ -33,9 +33,10 @@ pub fn read_trace_line(alloc: Global, line: &[u8]) -> Result<TraceLine, TextFaul
     ensures fault { IfErr result (λ fault. ((fault ≡ TextFault.Syntax 1) × (line_read line.now ≡ Err LineFault.Syntax))
         ⊎ (((fault ≡ TextFault.BadHex 1) × (line_read line.now ≡ Err LineFault.BadHex))
         ⊎ ((fault ≡ TextFault.Memory) × IsOk (line_read line.now)))) }
+    ensures limit { PART_BYTES ≡ max_part }
 {
-    let body = LineBody::of(line);
-    let (write, read) = match body.parts() {
+    let open = OpenLine::of(line);
+    let (write, read) = match open.parts() {
         Ok(parts) => parts,
         Err(LineFault::Syntax) => return Err(TextFault::Syntax(1)),
         Err(LineFault::BadHex) => return Err(TextFault::BadHex(1)),
@@ -64,7 +65,10 @@ pub fn render_line(alloc: Global, number: u64, line: &TraceLine) -> Result<Strin
         None => None,
     };
     let mut text = String::new(alloc);
-    let shown = packet_shown(line.write.as_slice(), read);
-    push_line(&mut text, number, &Verdict::of(&shown))?;
+    push_line(
+        &mut text,
+        number,
+        &packet_shown(line.write.as_slice(), read),
+    )?;
     Ok(text)
 }

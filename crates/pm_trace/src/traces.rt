@@ -2,8 +2,8 @@
 ghost use Rattle.std.specs.Prelude.{◌≡◌, ◌⊎◌, ◌+◌, ◌<◌, ◌≤◌, ◌↔◌, ℕ, List, ◌++◌, length, drop};
 ghost use Rattle.std.specs.Prelude.{IfSome, IfOk, IfErr, OnOk, IsErrOf, IsTrue, IsFalse, string_bytes};
 ghost use Rattle.std.specs.Io.KnownBytes.{Appends, Consumes, IsAtEnd};
-ghost use Rattle.pm_trace.specs.declared.standing.Standing.{Standing};
-ghost use Rattle.pm_lines.specs.declared.text.TheConstants.{MAX_TEXT};
+ghost use Rattle.pm_trace.specs.declared.decoder.standing.Standing.{Standing};
+ghost use Rattle.pm_lines.specs.Streams.{max_text};
 ghost use Rattle.pm_trace.specs.Counts.{counts_of};
 ghost use Rattle.pm_trace.specs.Decoding.{said, told, some_told, told_at_end, kept_at_end, IsFresh};
 ghost use Rattle.pm_trace.specs.Written.{PushesFront, Written};
@@ -15,7 +15,7 @@ ghost use Rattle.pm_trace.specs.TraceText.{trace_text, told_lines, counts_text, 
 use crate::counts_text::push_counts;
 use crate::decode_end::DecodeEnd;
 use crate::decoder::Decoder;
-use crate::shown_text::push_line;
+use crate::shown_text::push_told;
 use pm_lines::{Sink, Source, TextFault};
 use std::alloc::{AllocError, Global};
 use std::io::{Read, Write};
@@ -51,10 +51,10 @@ pub fn decode<R: Read, W: Write>(
 
     // The reader gave more than a text may have, or failed: what ended before was written.
     ensures too_long { IsErrOf result TextFault.TooLong → (front : List ℕ) × (more : List ℕ)
-        × (length front ≡ MAX_TEXT) × (0 < length more)
+        × (length front ≡ max_text) × (0 < length more)
         × Consumes (R.remaining reader.old.inner) (R.remaining reader.new.inner) (front ++ more)
         × Appends (W.contents writer.old.inner) (W.contents writer.new.inner) (told_lines (said front)) }
-    ensures cut { IsErrOf result TextFault.Read → (front : List ℕ) × (length front ≤ MAX_TEXT)
+    ensures cut { IsErrOf result TextFault.Read → (front : List ℕ) × (length front ≤ max_text)
         × Consumes (R.remaining reader.old.inner) (R.remaining reader.new.inner) front
         × Appends (W.contents writer.old.inner) (W.contents writer.new.inner) (told_lines (said front)) }
 
@@ -100,10 +100,10 @@ fn decode_pieces<R: Read, W: Write>(
         (W.contents writer.old.inner) (W.contents writer.new.inner) input decoder.new
         × IsAtEnd (R.remaining reader.new.inner)) }
     ensures too_long { IsErrOf result TextFault.TooLong → (front : List ℕ) × (more : List ℕ)
-        × (length front ≡ MAX_TEXT) × (0 < length more)
+        × (length front ≡ max_text) × (0 < length more)
         × Consumes (R.remaining reader.old.inner) (R.remaining reader.new.inner) (front ++ more)
         × Appends (W.contents writer.old.inner) (W.contents writer.new.inner) (told_lines (said front)) }
-    ensures cut { IsErrOf result TextFault.Read → (front : List ℕ) × (length front ≤ MAX_TEXT)
+    ensures cut { IsErrOf result TextFault.Read → (front : List ℕ) × (length front ≤ max_text)
         × Consumes (R.remaining reader.old.inner) (R.remaining reader.new.inner) front
         × Appends (W.contents writer.old.inner) (W.contents writer.new.inner) (told_lines (said front)) }
     ensures write { IsErrOf result TextFault.Write → (front : List ℕ)
@@ -133,29 +133,27 @@ fn decode_pieces<R: Read, W: Write>(
     }
 }
 
-// Feeds a piece on until it is taken whole, and puts what the lines say behind the text that end.
-// False where the piece has a byte more than a text may have: then what ended before it stands in
-// the text.
+// Feeds the decoder until the piece is used up, and appends the text of each line that ends. False
+// where the trace grows past its limit; the lines that ended before that are in the text.
 fn push_lines(text: &mut String, decoder: &mut Decoder, piece: &[u8]) -> Result<bool, TextFault>
     requires open { decoder.old.standing ≡ Standing.Open }
-    requires room { decoder.old.kept.taken ≤ MAX_TEXT }
+    requires room { decoder.old.kept.taken ≤ max_text }
     ensures pushed { IfOk result (PushesFront (string_bytes text.old) (string_bytes text.new)
         decoder.old decoder.new piece.now) }
     ensures fault { IfErr result (λ fault. fault ≡ TextFault.Memory) }
 {
     let mut rest = piece;
     'pieces: while !rest.is_empty() {
-        match decoder.feed(rest) {
+        match decoder.tell(rest, text) {
             Ok(fed) => rest = past(rest, fed.taken),
             Err(TextFault::TooLong) => return Ok(false),
             Err(fault) => return Err(fault),
         }
-        push_shown(text, decoder)?;
     }
     Ok(true)
 }
 
-// What follows so many bytes.
+// What follows this many bytes.
 fn past(bytes: &[u8], count: usize) -> &[u8]
     requires { count ≤ length bytes.now }
     ensures { result.now ≡ drop count bytes.now }
@@ -163,20 +161,18 @@ fn past(bytes: &[u8], count: usize) -> &[u8]
     &bytes[count..]
 }
 
-// Puts the line that is shown behind a text, with a line feed.
-#[tactic(auto, using(crate::proofs::Joins::joins))]
-fn push_shown(text: &mut String, decoder: &Decoder) -> Result<(), AllocError>
+// Appends the line that is shown to a text, with a line feed.
+fn push_shown_line(text: &mut String, decoder: &Decoder) -> Result<(), AllocError>
     ensures { OnOk result (string_bytes text.new
         ≡ string_bytes text.old ++ told_lines (some_told decoder.now.shown)) }
 {
-    let Some((number, verdict)) = decoder.verdict() else {
-        return Ok(());
-    };
-    push_line(text, number, verdict)?;
-    text.push_str("\n")
+    match decoder.line() {
+        Some((number, shown)) => push_told(text, number, &shown),
+        None => Ok(()),
+    }
 }
 
-// Ends the bytes, and gives what is written then: a last line, and the counts.
+// Ends the trace, and returns the rest of the output: an unfinished last line, and the counts.
 #[tactic(auto, using(crate::proofs::Joins::joins))]
 fn text_at_end(alloc: Global, decoder: &mut Decoder) -> Result<String, TextFault>
     requires { decoder.old.standing ≡ Standing.Open }
@@ -188,7 +184,7 @@ fn text_at_end(alloc: Global, decoder: &mut Decoder) -> Result<String, TextFault
 {
     let mut text = String::new(alloc);
     decoder.finish()?;
-    push_shown(&mut text, decoder)?;
+    push_shown_line(&mut text, decoder)?;
     push_counts(&mut text, decoder.tally())?;
     Ok(text)
 }

@@ -4,7 +4,6 @@ ghost use Rattle.pm_tool.specs.NumberFaults.{refusal_status, refusal_words};
 ghost use Rattle.pm_lines.specs.declared.fault.TextFault.TheVariants.{Memory};
 ghost use Rattle.pm_tool.specs.declared.numbers.fault.NumberFault.TheVariants as refusals;
 
-use pm_lines::num_fault_words;
 use pm_num::NumFault;
 use pm_text::TextFault;
 use std::alloc::AllocError;
@@ -44,7 +43,7 @@ impl NumberFault {
             NumberFault::Format => "bad format",
             NumberFault::Word => "bad word",
             NumberFault::Micro => "bad micro",
-            NumberFault::Num(fault) => num_fault_words(*fault),
+            NumberFault::Num(fault) => fault.words(),
             NumberFault::Text(fault) => fault.words(),
         }
     }

@@ -1,14 +1,13 @@
 ghost use Rattle.std.specs.Prelude.{◌≡◌, ◌⊎◌, Ok, Err, codes, IfOk, IfErr, OnOk};
-ghost use Rattle.std.specs.List.{list_all};
 ghost use Rattle.pm_lines.specs.Faults.{IsOfText};
-ghost use Rattle.pm_lines.specs.Lines.{is_space, words_of};
+ghost use Rattle.pm_lines.specs.Lines.{words_of};
 ghost use Rattle.pm_lines.specs.declared.fault.TextFault.TheVariants.{Memory};
 ghost use Rattle.pm_tool.specs.Script.{begins_with, line_event, restart_event};
 ghost use Rattle.pm_tool.specs.LineEvent.{event_of};
 ghost use Rattle.pm_device.specs.Effect.{Restarted};
 
 use pm_device::Ending;
-use pm_lines::{Line, TextFault, Words, cut_at, push_bytes};
+use pm_lines::{Line, TextFault, Words, cut_at, is_blank, push_bytes};
 
 /// What a line of `hear` asks. The bytes of a frame stand elsewhere, since a buffer of their own
 /// serves all lines.
@@ -35,8 +34,12 @@ pub(super) fn read_event(line: Line<'_>, frame: &mut Vec<u8>) -> Result<LineEven
         read_restart(line)?;
         return Ok(LineEvent::Restart);
     }
-    let (front, rest) = cut_at(line.text, b'/');
     frame.clear();
+    if !line.text.contains(&b'/') {
+        push_bytes(line, frame)?;
+        return Ok(LineEvent::Frame(Ending::Stop));
+    }
+    let (front, rest) = cut_at(line.text, b'/');
     push_bytes(
         Line {
             number: line.number,
@@ -44,9 +47,6 @@ pub(super) fn read_event(line: Line<'_>, frame: &mut Vec<u8>) -> Result<LineEven
         },
         frame,
     )?;
-    if !line.text.contains(&b'/') {
-        return Ok(LineEvent::Frame(Ending::Stop));
-    }
     if is_blank(rest) {
         return Ok(LineEvent::Frame(Ending::Restart));
     }
@@ -76,11 +76,4 @@ fn is_restart(line: Line<'_>) -> bool
         Some(word) => word == b"restart".as_slice(),
         None => false,
     }
-}
-
-// Whether the text has no byte but spaces.
-fn is_blank(text: &[u8]) -> bool
-    ensures { result ≡ list_all is_space text.now }
-{
-    text.iter().all(|byte| *byte == b' ')
 }

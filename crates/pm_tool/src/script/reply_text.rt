@@ -1,14 +1,14 @@
 ghost use Rattle.std.specs.Prelude.{◌≡◌, ◌<◌, [], ◌∷◌, ◌++◌, OnOk, decimal};
-ghost use Rattle.pm_tool.specs.ReplyText.{as_line, device_fault_words, frame_fault_words, hex_byte, output_line, reply_words, spaced_bytes};
+ghost use Rattle.pm_device.specs.FaultWords.{device_fault_text};
+ghost use Rattle.pm_frame.specs.FaultWords.{frame_fault_text};
+ghost use Rattle.pm_tool.specs.ReplyText.{as_line, output_line, reply_words, spaced_bytes};
 
 use pm_device::{DeviceFault, Heard};
 use pm_frame::FrameFault;
+use pm_lines::hex_digits;
 use std::alloc::AllocError;
 
-/// The hexadecimal digits, in upper case.
-const DIGITS: [u8; 16] = *b"0123456789ABCDEF";
-
-/// Puts the line of a converter's answer behind a text.
+/// Appends the line of a converter's answer to a text.
 pub(super) fn push_reply(text: &mut Vec<u8>, heard: &Heard) -> Result<(), AllocError>
     ensures { OnOk result (text.new.items ≡ text.old.items ++ as_line (reply_words heard.now)) }
 {
@@ -45,62 +45,34 @@ fn push_spaced(text: &mut Vec<u8>, bytes: &[u8]) -> Result<(), AllocError>
     Ok(())
 }
 
-// A byte as two hexadecimal digits.
-#[tactic(auto, unfolding(hex::specs::Hex::encode_with))]
-fn hex_digits(byte: u8) -> [u8; 2]
-    ensures { result ≡ hex_byte byte }
-{
-    [
-        DIGITS[usize::from(byte / 16)],
-        DIGITS[usize::from(byte % 16)],
-    ]
-}
-
-// The letters and the name of the converter's refusal, and the frame's fault behind K1.
+// The letter and the name of the converter's refusal, and the frame's fault after K1.
 fn push_device_fault(text: &mut Vec<u8>, fault: &DeviceFault) -> Result<(), AllocError>
-    ensures { OnOk result (text.new.items ≡ text.old.items ++ device_fault_words fault.now) }
+    ensures { OnOk result (text.new.items ≡ text.old.items ++ device_fault_text fault.now) }
 {
+    text.extend_from_slice(fault.words().as_bytes())?;
     match fault {
         DeviceFault::Frame(fault) => {
-            text.extend_from_slice(b"K1 Frame ")?;
-            push_frame_fault(text, fault)
+            text.extend_from_slice(b" ")?;
+            push_frame_fault(text, *fault)
         }
-        DeviceFault::UnsupportedCode => text.extend_from_slice(b"K2 UnsupportedCode"),
-        DeviceFault::UnsupportedData => text.extend_from_slice(b"K3 UnsupportedData"),
-        DeviceFault::BadPage => text.extend_from_slice(b"K4 BadPage"),
-        DeviceFault::Protected => text.extend_from_slice(b"K5 Protected"),
-        DeviceFault::Nested => text.extend_from_slice(b"K6 Nested"),
-        DeviceFault::ReadOnly => text.extend_from_slice(b"K7 ReadOnly"),
+        _ => Ok(()),
     }
 }
 
-// The letters and the name of a frame's fault, and its place.
-fn push_frame_fault(text: &mut Vec<u8>, fault: &FrameFault) -> Result<(), AllocError>
-    ensures { OnOk result (text.new.items ≡ text.old.items ++ frame_fault_words fault.now) }
+// The letter and the name of a frame's fault, and its place.
+fn push_frame_fault(text: &mut Vec<u8>, fault: FrameFault) -> Result<(), AllocError>
+    ensures { OnOk result (text.new.items ≡ text.old.items ++ frame_fault_text fault) }
 {
-    match fault {
-        FrameFault::NotOurs => text.extend_from_slice(b"F1 NotOurs"),
-        FrameFault::Short(place) => push_placed(text, b"F2 Short ", *place),
-        FrameFault::Long(place) => push_placed(text, b"F3 Long ", *place),
-        FrameFault::WrongCount(place) => push_placed(text, b"F4 WrongCount ", *place),
-        FrameFault::WrongPec(place) => push_placed(text, b"F5 WrongPec ", *place),
-        FrameFault::UnknownCode(place) => push_placed(text, b"F6 UnknownCode ", *place),
-        FrameFault::WrongDirection(place) => push_placed(text, b"F7 WrongDirection ", *place),
-        FrameFault::Nested(place) => push_placed(text, b"F8 Nested ", *place),
-    }
-}
-
-// A name, and a place behind it.
-fn push_placed(text: &mut Vec<u8>, name: &[u8], place: usize) -> Result<(), AllocError>
-    ensures { OnOk result (text.new.items ≡ text.old.items ++ (name.now ++ decimal place)) }
-{
+    text.extend_from_slice(fault.words().as_bytes())?;
+    let Some(place) = fault.place() else {
+        return Ok(());
+    };
     let mut digits = itoa::Buffer::new();
-    text.extend_from_slice(name)?;
+    text.extend_from_slice(b" ")?;
     text.extend_from_slice(digits.format(place).as_bytes())
 }
 
 /// The line of an output, whose number has one digit, and of its word of VOUT_COMMAND.
-#[tactic(auto, unfolding(hex::specs::Hex::encode_with))]
 pub(super) fn output_line(output: u8, word: u16) -> [u8; 27]
     requires { output < 10 }
     ensures { result ≡ output_line output word }

@@ -1,7 +1,7 @@
 use Rattle.std.proofs.Common.{sym, ap}
 use Rattle.pm_host.specs.Now.{now}
 use Rattle.pm_host.specs.Summary.{next, step_of}
-use Rattle.pm_host.proofs.Follows.{now-nil, turn-now, IsJob-told, now-format}
+use Rattle.pm_host.proofs.Follows.{now-nil, change-now, IsJob-told, now-format}
 use Rattle.pm_host.proofs.Kept.{next-keeps}
 use Rattle.pm_host.proofs.KnownLaws.{known_now-possible, known_now-standing, known_now-seen}
 use Rattle.pm_host.proofs.OpenJobs.{now-busy, now-sending, now-sound}
@@ -12,8 +12,8 @@ pub returns : goal.returns
 unfolding now next step_of
 returns c = record {
   none = now-nil;
-  more = λ setup entries entry made told. sym (ap (λ t. t.after) (turn-now setup entries entry made (IsJob-told setup entries told.1) told.0));
-  step = λ setup entries entry made told. ap (λ t. t.step) (turn-now setup entries entry made (IsJob-told setup entries told.1) told.0);
+  more = λ setup entries entry made told. sym (ap (λ t. t.after) (change-now setup entries entry made (IsJob-told setup entries told.1) told.0));
+  step = λ setup entries entry made told. ap (λ t. t.step) (change-now setup entries entry made (IsJob-told setup entries told.1) told.0);
   kept = next-keeps;
   busy = now-busy;
   sending = now-sending;

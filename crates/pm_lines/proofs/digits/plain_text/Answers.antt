@@ -9,7 +9,3 @@ returns-clause-decimal c =
 pub returns-clause-natural : goal.returns-clause-natural
 returns-clause-natural c =
     rw c.ok.ensures.value (no_text _ _ c.from_utf8.result c.from_utf8.ensures.cases (natural_none 10 (lit≤ tt) c.args.bytes.now))
-
-pub returns-clause-hex : goal.returns-clause-hex
-returns-clause-hex c =
-    rw c.ok.ensures.value (no_text _ _ c.from_utf8.result c.from_utf8.ensures.cases (natural_none 16 (lit≤ tt) c.args.bytes.now))

@@ -6,4 +6,5 @@ use Rattle.pm_lines.proofs.digits.read_i16.Goals as goal
 pub returns : goal.returns
 returns c =
     let plain = c.in_ok-plain_text.ensures in
-    c.ok.ensures.value ∙ signed_read w16 16 refl c.parse.result c.in_ok-plain_text.field-0.now c.parse.ensures.value.0 plain.plain ∙ ap (signed_of 16) plain.text
+    c.ok.ensures.value ∙ signed_read w16 16 refl c.parse.result c.in_ok-plain_text.field-0.now c.parse.ensures.value.0 plain.plain
+    ∙ ap (signed_of 16) plain.text

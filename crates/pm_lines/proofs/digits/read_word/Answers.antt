@@ -1,10 +1,19 @@
-use Rattle.std.proofs.Common.{◌≡◌, ◌∙◌, ap, length, refl, rules}
-use Rattle.pm_lines.specs.Digits.{hex_of}
-use Rattle.pm_lines.proofs.ReadingLemmas.{hex_read}
+use Rattle.std.proofs.Common.{◌≡◌, ◌∙◌, ap₂, length, rules, sym}
+use Rattle.pm_lines.proofs.ReadingLemmas.{word_is, word_of}
 use Rattle.pm_lines.proofs.digits.read_word.Goals as goal
 
-pub returns : goal.returns
-returns c =
-    let plain = c.in_ok-plain_text.ensures in
-    let counted : length c.args.text.now ≡ 4 = search rules in
-    c.ok.ensures.value ∙ hex_read 16 4 refl c.from_str_radix.result c.in_ok-plain_text.field-0.now c.from_str_radix.ensures.value plain.plain (ap length plain.text ∙ counted) ∙ ap (hex_of 4) plain.text
+pub returns-in_err-low-in-len4 : goal.returns-in_err-low-in-len4
+returns-in_err-low-in-len4 c =
+    let four : length c.args.text.now ≡ 4 = search rules in
+    let word = word_is c.args.text.now four in
+    let high = sym c.pair_of.ensures ∙ c.in_ok-high-in-len4.was in
+    let low = sym c.pair_of-in-len4.ensures ∙ c.in_err-low-in-len4.was in
+    c.from_residual-in_err-low-in-len4.ensures ∙ sym (word ∙ ap₂ word_of high low)
+
+pub returns-in_ok-low-in-len4 : goal.returns-in_ok-low-in-len4
+returns-in_ok-low-in-len4 c =
+    let four : length c.args.text.now ≡ 4 = search rules in
+    let word = word_is c.args.text.now four in
+    let high = sym c.pair_of.ensures ∙ c.in_ok-high-in-len4.was in
+    let low = sym c.pair_of-in-len4.ensures ∙ c.in_ok-low-in-len4.was in
+    rw (c.from.ensures, c.from-in-len4.ensures) (sym (word ∙ ap₂ word_of high low))

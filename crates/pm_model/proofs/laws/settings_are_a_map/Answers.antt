@@ -10,7 +10,8 @@ unfolding AreWords with_word
 returns c =
     let stand = c.cells_have_places.ensures in
     record {
-      read = word_at-with_word stand c.cells_are_told_apart.ensures;
+      read = λ words cell other word full here there.
+          word_at-with_word stand c.cells_are_told_apart.ensures words cell other word (full, here, there);
       kept = λ words cell word full. length-set words (place_of cell) word ∙ full;
       again = λ words cell word. set-set words (place_of cell) word word;
       unchanged = with_word-unchanged stand;

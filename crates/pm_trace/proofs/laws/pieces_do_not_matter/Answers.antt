@@ -1,5 +1,5 @@
 use Rattle.pm_trace.proofs.SaidLemmas.{now-append}
-use Rattle.pm_trace.proofs.PieceLemmas.{decoded_lines, decoded_counts, called_lines, called_kept, said_front, total}
+use Rattle.pm_trace.proofs.PieceLemmas.{decoded_lines, decoded_counts, called_lines, called_kept, said_front, stopped_lines, total}
 use Rattle.pm_trace.proofs.laws.pieces_do_not_matter.Goals as goal
 
 pub returns : goal.returns
@@ -8,6 +8,7 @@ returns c = record {
   lines = decoded_lines;
   counts = decoded_counts;
   total = total;
+  refused = stopped_lines;
   so_far = called_lines;
   kept = called_kept;
   front = said_front;

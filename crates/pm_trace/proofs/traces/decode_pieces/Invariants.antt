@@ -1,5 +1,5 @@
 use Rattle.std.proofs.Common.{◌≡◌, ◌-◌, ℕ, List, false}
-use Rattle.pm_lines.specs.declared.text.TheConstants.{MAX_TEXT}
+use Rattle.pm_lines.specs.Streams.{max_text}
 use Rattle.pm_trace.specs.Written.{Written}
 use Rattle.pm_trace.proofs.traces.decode_pieces.Given as goal
 
@@ -15,4 +15,4 @@ invariant-reads g l = record {
 }
 
 abbrev pub decreases-reads : goal.decreases-reads
-decreases-reads g l = MAX_TEXT - l.decoder.kept.taken
+decreases-reads g l = max_text - l.decoder.kept.taken

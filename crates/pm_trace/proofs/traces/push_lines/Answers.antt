@@ -1,4 +1,4 @@
-use Rattle.std.proofs.Common.{◌≡◌, ◌<◌, ◌++◌, ◌∙◌, Some, sym, ap, arith, length, inl, inr}
+use Rattle.std.proofs.Common.{◌≡◌, ◌<◌, ◌++◌, ◌∙◌, Some, sym, ap, arith, length, inl, inr, string_bytes}
 use Rattle.std.proofs.lemmas.List.{length-drop}
 use Rattle.std.proofs.lemmas.Bool.Decides.{nat_tests}
 use Rattle.pm_trace.specs.Decoding.{taken_of, refusal_of}
@@ -18,9 +18,9 @@ returns-in-Err-TooLong-clause-pushed c =
     let some : 0 < length c.pieces.rest.now = grind (arith, nat_tests) in
     let h = c.in-Err-TooLong.ensures.refused in
     let i = c.in-Err-TooLong.field-0-is in
-    let refused : refusal_of c.pieces.decoder c.pieces.rest.now ≡ Some TooLong =
-    elim h [ inl due ↦ due ∙ ap Some i | inr other ↦ let wrong = other.1 in absurd (cc) ] in
-    pushed_front _ _ _ c.pieces.decoder _ c.args.piece.now front c.pieces.rest.now split some pushes refused
+    let due : (refusal_of c.pieces.decoder c.pieces.rest.now ≡ Some TooLong) × (string_bytes c.tell.new.text ≡ string_bytes c.pieces.text) =
+    elim h [ inl refused ↦ (refused.0 ∙ ap Some i, refused.1) | inr memory ↦ absurd (cc) ] in
+    pushed_front _ _ _ _ c.pieces.decoder _ c.args.piece.now front c.pieces.rest.now split some pushes due.0 due.1
 
 pub pieces-smaller : goal.pieces-smaller
 pieces-smaller c =
@@ -33,8 +33,8 @@ pub pieces-preserved : goal.pieces-preserved
 pieces-preserved c =
     let (front, split, pushes) = c.pieces.invariant in (
       front ++ taken_of c.pieces.decoder c.pieces.rest.now,
-      split_more c.args.piece.now front c.pieces.rest.now c.pieces.decoder c.in-Ok.fed c.feed.new.self pushes.standing split c.in-Ok.ensures.fed
+      split_more c.args.piece.now front c.pieces.rest.now c.pieces.decoder c.in-Ok.fed c.tell.new.self pushes.standing split c.in-Ok.ensures.fed
           ∙ ap (λ r. (front ++ taken_of c.pieces.decoder c.pieces.rest.now) ++ r) (sym c.past-rest.ensures),
-      pushes_more _ _ _ c.args.decoder.now c.pieces.decoder c.feed.new.self front c.pieces.rest.now c.in-Ok.fed pushes c.in-Ok.ensures.fed c.in-Ok.ensures.room
-          c.in_ok-push_shown.ensures,
+      pushes_more _ _ _ c.args.decoder.now c.pieces.decoder c.tell.new.self front c.pieces.rest.now c.in-Ok.fed pushes c.in-Ok.ensures.fed c.in-Ok.ensures.room
+          c.in-Ok.ensures.text,
     )

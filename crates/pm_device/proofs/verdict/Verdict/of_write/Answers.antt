@@ -3,7 +3,8 @@ use Rattle.pm_device.specs.declared.act.Act.{Act}
 use Rattle.pm_device.specs.Verdict.{ActsOn}
 use Rattle.pm_device.proofs.verdict.Verdict.of_write.Goals as goal
 
-on_output : (act : Act) (named found : Option ℕ) (page output : ℕ) → output ≡ unwrap_or found page → found ≡ named → ActsOn output act → ActsOn (unwrap_or named page) act
+on_output : (act : Act) (named found : Option ℕ) (page output : ℕ) → output ≡ unwrap_or found page → found ≡ named → ActsOn output act
+    → ActsOn (unwrap_or named page) act
 on_output act named found page output is same h =
     subst (λ o. ActsOn o act) (is ∙ ap (λ n. unwrap_or n page) same) h
 

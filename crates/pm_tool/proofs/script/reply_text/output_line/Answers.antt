@@ -1,8 +1,8 @@
 use Rattle.std.proofs.Common.{refl}
 use Rattle.std.proofs.lemmas.Fmt.{decimal_digit}
-use Rattle.hex.specs.Hex.{encode_with}
+use Rattle.pm_lines.specs.Numbers.{hex_byte, hex_word}
 use Rattle.pm_tool.proofs.script.reply_text.output_line.Goals as goal
 
 pub returns : goal.returns
-unfolding encode_with
+unfolding hex_byte hex_word
 returns c = rw (decimal_digit c.args.output c.requires, c.hex_digits.ensures, c.hex_digits-2.ensures) refl

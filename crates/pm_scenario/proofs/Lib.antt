@@ -1,3 +1,0 @@
-mod EventLemmas
-mod FrameLemmas
-mod OutputLemmas

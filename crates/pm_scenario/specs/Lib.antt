@@ -1,4 +1,0 @@
-pub mod EventLines
-pub mod Kinds
-pub mod Reading
-pub mod ScenarioText

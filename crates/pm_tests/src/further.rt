@@ -1,0 +1,114 @@
+//! After `World::run` one goes on with `World::step`, and has each of its promises for the longer list of
+//! events too, by the laws of worlds and with no proof by hand.
+
+ghost use Rattle.std.specs.Prelude.{◌≡◌, ◌∷◌, ◌<◌, ℕ, [], IfOk, IfSome, OnSome, OnOk, reverse};
+ghost use Rattle.pm_table.specs.declared.cell.Cell.{Cell};
+ghost use Rattle.pm_table.specs.Cell.{IsCell};
+ghost use Rattle.pm_model.specs.Commanded.{commanded};
+ghost use Rattle.pm_model.specs.Settings.{word_at};
+ghost use Rattle.pm_device.specs.Held.{value_for};
+ghost use Rattle.pm_world.specs.Confirmed.{ConfirmedIsHeld};
+ghost use Rattle.pm_device.specs.Start.{IsSound};
+ghost use Rattle.pm_host.specs.Refusals.{IsSetup};
+ghost use Rattle.pm_world.specs.Honest.{AreFewFrames, FormatsAgree, IsSpelled, MicrosAreNearest, OrdersGoThrough};
+ghost use Rattle.pm_world.specs.Setup.{setup_of};
+ghost use Rattle.pm_world.specs.Life.{AreTaken, now};
+ghost use Rattle.pm_world.specs.Possible.{PossibleIsHeld, SeenIsTrue};
+ghost use Rattle.pm_world.specs.Retelling.{CommandsOwn, IsOrderRun, IsOwnWord};
+
+use pm_device::Config;
+use pm_world::{
+    Event, SetupFault, World, confirmed_settings_are_held, frames_are_few,
+    honest_orders_go_through, learned_formats_are_true, lives_are_followed, lives_are_orders,
+    possible_words_are_held,
+};
+
+/// Runs the events, and lets one more happen; `None` where one of them isn't taken.
+pub fn run_and_step(
+    c: Config,
+    passes: u8,
+    events: &[Event],
+    more: &Event,
+) -> Result<Option<World>, SetupFault>
+    ensures now { IfOk result (λ found. IfSome found (λ world. world ≡ now c passes (more.now ∷ reverse events.now))) }
+    ensures all { IfOk result (λ found. OnSome found (AreTaken c passes (more.now ∷ reverse events.now))) }
+    ensures sound { OnOk result (IsSound c × IsSetup (setup_of c passes) × IsSpelled c) }
+{
+    // Hands the prover what a step makes of a life.
+    lives_are_followed();
+    let (mut world, stop) = World::run(c, passes, events)?;
+    if stop.is_some() {
+        return Ok(None);
+    }
+    match world.step(more) {
+        Ok(()) => Ok(Some(world)),
+        Err(_) => Ok(None),
+    }
+}
+
+/// So its settings are those of the order machine.
+pub fn orders_after_a_step(
+    c: Config,
+    passes: u8,
+    events: &[Event],
+    more: &Event,
+) -> Result<Option<World>, SetupFault>
+    ensures orders { IfOk result (λ found. IfSome found (λ world.
+        IsOrderRun c passes (more.now ∷ reverse events.now) world.device.words)) }
+    ensures own { IfOk result (λ found. IfSome found (λ world. (cell : Cell) → IsCell c.count cell →
+        IsOwnWord c passes (more.now ∷ reverse events.now) cell (word_at world.device.words cell))) }
+    ensures commanded { IfOk result (λ found. IfSome found (λ world. (output : ℕ) → output < c.count →
+        CommandsOwn c passes (more.now ∷ reverse events.now) output
+        (commanded (value_for world.device.config output) world.device.words output))) }
+{
+    lives_are_orders();
+    run_and_step(c, passes, events, more)
+}
+
+/// Its jobs send few frames, and undisturbed orders go through.
+pub fn orders_go_through_after_a_step(
+    c: Config,
+    passes: u8,
+    events: &[Event],
+    more: &Event,
+) -> Result<Option<World>, SetupFault>
+    ensures few { IfOk result (λ found. OnSome found (AreFewFrames c passes (more.now ∷ reverse events.now))) }
+    ensures through { IfOk result (λ found. OnSome found (OrdersGoThrough c passes (more.now ∷ reverse events.now))) }
+{
+    frames_are_few();
+    honest_orders_go_through();
+    run_and_step(c, passes, events, more)
+}
+
+/// The host's formats are the converter's.
+pub fn formats_after_a_step(
+    c: Config,
+    passes: u8,
+    events: &[Event],
+    more: &Event,
+) -> Result<Option<World>, SetupFault>
+    ensures formats { IfOk result (λ found. OnSome found (FormatsAgree c passes (more.now ∷ reverse events.now))) }
+    ensures nearest { IfOk result (λ found. OnSome found (MicrosAreNearest c passes (more.now ∷ reverse events.now))) }
+{
+    learned_formats_are_true();
+    run_and_step(c, passes, events, more)
+}
+
+/// What the host says of the converter's words is true.
+pub fn words_after_a_step(
+    c: Config,
+    passes: u8,
+    events: &[Event],
+    more: &Event,
+) -> Result<Option<World>, SetupFault>
+    ensures confirmed { IfOk result (λ found. IfSome found (λ world.
+        ConfirmedIsHeld c passes (more.now ∷ reverse events.now) world)) }
+    ensures possible { IfOk result (λ found. IfSome found (λ world.
+        PossibleIsHeld c passes (more.now ∷ reverse events.now) world)) }
+    ensures seen { IfOk result (λ found. IfSome found (λ world.
+        SeenIsTrue c passes (more.now ∷ reverse events.now) world)) }
+{
+    confirmed_settings_are_held();
+    possible_words_are_held();
+    run_and_step(c, passes, events, more)
+}

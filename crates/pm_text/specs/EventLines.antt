@@ -1,0 +1,145 @@
+-- The event lines of a scenario, each with its words in their order. The forms are this project's own
+-- choice.
+use Rattle.std.specs.Prelude.{ℕ, true, false, List, [], ◌∷◌, Option, Some, None, codes}
+use Rattle.pm_table.specs.declared.cell.Cell.{Cell}
+use Rattle.pm_table.specs.declared.cell.Cell.TheVariants.{Out}
+use Rattle.pm_device.specs.declared.heard.Ending.{Ending}
+use Rattle.pm_device.specs.declared.heard.Ending.TheVariants.{Stop, Restart}
+use Rattle.pm_world.specs.declared.event.Arrival.{Arrival}
+use Rattle.pm_world.specs.declared.event.Arrival.TheVariants as arrives
+use Rattle.pm_world.specs.declared.event.Back.{Back}
+use Rattle.pm_world.specs.declared.event.Back.TheVariants as returns
+use Rattle.pm_world.specs.declared.event.Event.{Event}
+use Rattle.pm_world.specs.declared.event.Event.TheVariants.{Order, OrderMicro, Check, Learn, Clear, Deliver, Finish, Exchange, RestartDevice, RestartHost, Reading as Measure}
+use Rattle.pm_lines.specs.Digits.{hex_of, signed_of, small_of}
+use Rattle.pm_text.specs.Kinds.{output_or_device, register_named, device_cell_named, output_reading_named, device_reading_named, cell_word, frame_bytes}
+use Rattle.pm_text.specs.Readers.{◌>>=◌, Field, field, gives, named, one_of}
+use Rattle.pm_text.specs.declared.form.Form.{Form}
+use Rattle.pm_text.specs.declared.scenario.fault.ScenarioFault.TheVariants.{Syntax, BadHex}
+
+-- `O NAME`, or `- WRITE_PROTECT`
+abbrev pub cell_at : Form → Option ℕ → Field Cell
+cell_at form None = field Syntax device_cell_named
+cell_at form (Some output) = do
+  register ← field Syntax (register_named form)
+  gives (Out output register)
+
+unfoldable pub cell : Form → Field Cell
+cell form = do
+  output ← field Syntax output_or_device
+  cell_at form output
+
+-- `O NAME HEX`, or `- WRITE_PROTECT HH`
+unfoldable pub order_rest : Form → Field Event
+order_rest form = do
+  ordered ← cell form
+  word ← field BadHex (cell_word ordered)
+  gives (Order ordered word)
+
+-- `O NAME K`, K in microvolts
+unfoldable pub volts_rest : Form → Field Event
+volts_rest form = do
+  output ← field Syntax small_of
+  register ← field Syntax (register_named form)
+  microvolts ← field Syntax (signed_of 64)
+  gives (OrderMicro (Out output register) microvolts)
+
+unfoldable pub check_rest : Form → Field Event
+check_rest form = do
+  checked ← cell form
+  gives (Check checked)
+
+unfoldable pub learn_rest : Field Event
+learn_rest = do
+  output ← field Syntax small_of
+  gives (Learn output)
+
+unfoldable pub clear_rest : Field Event
+clear_rest = do
+  output ← field Syntax small_of
+  gives (Clear output)
+
+-- how bytes that arrive in a frame's place are ended
+abbrev pub ending_named : List ℕ → Option Ending
+ending_named = named ((codes "stop", Stop) ∷ (codes "restart", Restart) ∷ [])
+
+-- `whole`, `cut N`, or `bytes HEX stop` or `bytes HEX restart`
+unfoldable pub arrival : Field Arrival
+arrival = one_of (
+    (codes "whole", gives arrives.Whole) ∷ (
+      codes "cut",
+      do
+        count ← field Syntax small_of
+        gives (arrives.Cut count),
+    ) ∷ (
+      codes "bytes",
+      do
+        bytes ← field BadHex frame_bytes
+        ending ← field Syntax ending_named
+        gives (arrives.Bytes (record { items = bytes }) ending),
+    ) ∷ [])
+
+-- `whole`, `cut N` or `bytes HEX`
+unfoldable pub back : Field Back
+back = one_of (
+    (codes "whole", gives returns.Whole) ∷ (
+      codes "cut",
+      do
+        count ← field Syntax small_of
+        gives (returns.Cut count),
+    ) ∷ (
+      codes "bytes",
+      do
+        bytes ← field BadHex frame_bytes
+        gives (returns.Bytes (record { items = bytes })),
+    ) ∷ [])
+
+unfoldable pub deliver_rest : Field Event
+deliver_rest = do
+  arrived ← arrival
+  gives (Deliver arrived)
+
+unfoldable pub finish_rest : Field Event
+finish_rest = do
+  acked ← field Syntax (named ((codes "ack", true) ∷ (codes "nack", false) ∷ []))
+  gives (Finish acked)
+
+unfoldable pub exchange_rest : Field Event
+exchange_rest = do
+  arrived ← arrival
+  returned ← back
+  gives (Exchange arrived returned)
+
+unfoldable pub restart_rest : Field Event
+restart_rest = field Syntax (named ((codes "device", RestartDevice) ∷ (codes "host", RestartHost) ∷ []))
+
+-- `O NAME HHHH` for READ_VOUT and READ_IOUT, `- NAME HHHH` for READ_VIN and READ_TEMPERATURE_1, for
+-- which output 0 is named and isn't looked at
+abbrev pub reading_at : Option ℕ → Field Event
+reading_at None = do
+  code ← field Syntax device_reading_named
+  word ← field BadHex (hex_of 4)
+  gives (Measure 0 (record { 0 = code }) word)
+reading_at (Some output) = do
+  code ← field Syntax output_reading_named
+  word ← field BadHex (hex_of 4)
+  gives (Measure output (record { 0 = code }) word)
+
+unfoldable pub reading_rest : Field Event
+reading_rest = do
+  output ← field Syntax output_or_device
+  reading_at output
+
+-- an event line: its first word, and the words that follow it
+unfoldable pub event_line : Form → Field Event
+event_line form = one_of (
+    (codes "order", order_rest form) ∷
+    (codes "volts", volts_rest form) ∷
+    (codes "check", check_rest form) ∷
+    (codes "learn", learn_rest) ∷
+    (codes "clear", clear_rest) ∷
+    (codes "deliver", deliver_rest) ∷
+    (codes "finish", finish_rest) ∷
+    (codes "exchange", exchange_rest) ∷
+    (codes "restart", restart_rest) ∷
+    (codes "reading", reading_rest) ∷ [])

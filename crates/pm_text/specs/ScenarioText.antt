@@ -1,0 +1,200 @@
+-- The text of a scenario, line by line: what both ends are made from, and what happens between them.
+-- The form is this project's own choice.
+use Rattle.std.specs.Prelude.{⊤, ℕ, suc, nat_lt, min, if◌then◌else◌, List, [], ◌∷◌, ◌++◌, length, replicate, take, Option, Some, None, Result, Ok, Err, IsOk, IsOkAnd, codes}
+use Rattle.pm_table.specs.declared.coefficients.Coefficients.{Coefficients}
+use Rattle.pm_device.specs.declared.config.Config.{Config}
+use Rattle.pm_device.specs.declared.config.OutputStart.{OutputStart}
+use Rattle.pm_device.specs.Start.{no_start}
+use Rattle.pm_world.specs.declared.event.Event.{Event}
+use Rattle.pm_lines.specs.Digits.{hex_of, signed_of, small_of}
+use Rattle.pm_lines.specs.Lines.{Numbered, lines_of, unskipped_from}
+use Rattle.pm_lines.specs.declared.fault.TextFault.{TextFault}
+use Rattle.pm_lines.specs.declared.fault.TextFault.TheVariants as text
+use Rattle.pm_lines.specs.Streams.{max_text}
+use Rattle.pm_text.specs.EventLines.{event_line}
+use Rattle.pm_text.specs.Kinds.{form_named, is_word}
+use Rattle.pm_text.specs.Readers.{◌>>=◌, Field, Part, Rest, field, gives, line, line_as, one_of}
+use Rattle.pm_text.specs.declared.form.Form.{Form}
+use Rattle.pm_text.specs.declared.form.Form.TheVariants.{First}
+use Rattle.pm_text.specs.declared.scenario.fault.ScenarioFault.{ScenarioFault}
+use Rattle.pm_text.specs.declared.scenario.fault.ScenarioFault.TheVariants as fault
+use Rattle.pm_text.specs.declared.scenario.Scenario.{Scenario}
+use Rattle.pm_text.specs.declared.scenario.header.Header.{Header}
+use Rattle.pm_text.specs.declared.scenario.starts.Starts.{Starts}
+
+-- ---- the lines before the events
+
+-- `scenario 1`
+unfoldable pub form_line : Field Form
+form_line = do
+  _ ← field fault.Syntax (is_word (codes "scenario"))
+  field fault.Syntax form_named
+
+-- `address HH`
+unfoldable pub address_line : Field ℕ
+address_line = do
+  _ ← field fault.Syntax (is_word (codes "address"))
+  field fault.BadHex (hex_of 2)
+
+-- `passes N`
+unfoldable pub passes_line : Field ℕ
+passes_line = do
+  _ ← field fault.Syntax (is_word (codes "passes"))
+  field fault.Syntax small_of
+
+-- `protect HH`
+unfoldable pub protect_line : Field ℕ
+protect_line = do
+  _ ← field fault.Syntax (is_word (codes "protect"))
+  field fault.BadHex (hex_of 2)
+
+-- `coefficients M B R`
+unfoldable pub coefficients_line : Field Coefficients
+coefficients_line = do
+  _ ← field fault.Syntax (is_word (codes "coefficients"))
+  m ← field fault.Syntax (signed_of 16)
+  b ← field fault.Syntax (signed_of 16)
+  r ← field fault.Syntax (signed_of 8)
+  gives (record { m = m; b = b; r = r })
+
+-- MODE OPERATION COMMAND MAX HIGH LOW: two bytes and four words
+unfoldable pub output_rest : Form → Field OutputStart
+output_rest First = do
+  mode ← field fault.BadHex (hex_of 2)
+  operation ← field fault.BadHex (hex_of 2)
+  command ← field fault.BadHex (hex_of 4)
+  max ← field fault.BadHex (hex_of 4)
+  high ← field fault.BadHex (hex_of 4)
+  low ← field fault.BadHex (hex_of 4)
+  gives (record {
+    mode = mode;
+    operation = operation;
+    command = command;
+    max = max;
+    high = high;
+    low = low;
+  })
+
+abbrev pub some_start : Form → Field (Option OutputStart)
+some_start form = do
+  start ← output_rest form
+  gives (Some start)
+
+-- `output ..`, or `begin`: None
+unfoldable pub output_line : Form → Field (Option OutputStart)
+output_line form = one_of ((codes "output", some_start form) ∷ (codes "begin", gives None) ∷ [])
+
+-- ---- the outputs and the events
+
+-- an output, or `begin`, and the outputs that follow it
+abbrev pub start_before : Result (Option OutputStart) ScenarioFault → Result (List OutputStart × Rest) ScenarioFault → Rest → Result (List OutputStart × Rest) ScenarioFault
+start_before (Err first) rest left = Err first
+start_before (Ok None) rest left = Ok ([], left)
+start_before (Ok (Some start)) (Err first) left = Err first
+start_before (Ok (Some start)) (Ok starts) left = Ok (start ∷ starts.0, starts.1)
+
+-- the outputs up to the line `begin`
+abbrev pub outputs_in : Form → ℕ → List Numbered → Result (List OutputStart × Rest) ScenarioFault
+outputs_in form count [] = Err (fault.Syntax (suc count))
+outputs_in form count (line ∷ lines) =
+    start_before (line_as (output_line form) line) (outputs_in form count lines)
+    (record { count = count; lines = lines })
+
+unfoldable pub outputs : Form → Part (List OutputStart)
+outputs form rest = outputs_in form rest.count rest.lines
+
+-- an event, and those of the lines that follow it, or the first fault
+abbrev pub event_before : Result Event ScenarioFault → Result (List Event) ScenarioFault → Result (List Event) ScenarioFault
+event_before (Err first) events = Err first
+event_before (Ok event) (Err first) = Err first
+event_before (Ok event) (Ok events) = Ok (event ∷ events)
+
+abbrev pub events_in : Form → List Numbered → Result (List Event) ScenarioFault
+events_in form [] = Ok []
+events_in form (line ∷ lines) =
+    event_before (line_as (event_line form) line) (events_in form lines)
+
+-- ---- the whole
+
+-- how many outputs there are, of which more than 255 count as 255
+abbrev pub counted : List OutputStart → ℕ
+counted starts = min (length starts) 255
+
+-- the first eight outputs
+abbrev pub first_eight : List OutputStart → List OutputStart
+first_eight starts = take 8 (starts ++ replicate 8 no_start)
+
+-- what is kept of the outputs while they are read
+abbrev pub starts_of : List OutputStart → Starts
+starts_of starts = record { count = counted starts; starts = first_eight starts }
+
+-- The configuration has as many outputs as there are lines `output`. It has room for eight: the
+-- fields of further lines are read, and dropped.
+unfoldable pub config_of : ℕ → ℕ → Coefficients → List OutputStart → Config
+config_of address protect coefficients starts = record {
+  addr = address;
+  count = counted starts;
+  starts = first_eight starts;
+  protect = protect;
+  coefficients = coefficients;
+}
+
+-- what stands before the events
+abbrev pub header : Part Header
+header = do
+  form ← line form_line
+  address ← line address_line
+  passes ← line passes_line
+  protect ← line protect_line
+  coefficients ← line coefficients_line
+  starts ← outputs form
+  gives (record {
+    form = form;
+    config = config_of address protect coefficients starts;
+    passes = passes;
+  })
+
+abbrev pub with_events : Header → Result (List Event) ScenarioFault → Result Scenario ScenarioFault
+with_events head (Err first) = Err first
+with_events head (Ok events) =
+    Ok (record { config = head.config; passes = head.passes; events = events })
+
+abbrev pub scenario_by : Result (Header × Rest) ScenarioFault → Result Scenario ScenarioFault
+scenario_by (Err first) = Err first
+scenario_by (Ok got) = with_events got.0 (events_in got.0.form got.1.lines)
+
+-- a text that is read line by line
+abbrev pub rest_of : List ℕ → Rest
+rest_of bytes = record { count = length (lines_of bytes); lines = unskipped_from 1 bytes }
+
+abbrev pub text_fault : ScenarioFault → TextFault
+text_fault (fault.Syntax line) = text.Syntax line
+text_fault (fault.BadHex line) = text.BadHex line
+
+abbrev pub as_text_fault : {A : Type 0} → Result A ScenarioFault → Result A TextFault
+as_text_fault (Ok x) = Ok x
+as_text_fault (Err first) = Err (text_fault first)
+
+-- The scenario of a text, or the fault of its first faulty line; X3 comes before all.
+unfoldable pub scenario_of : List ℕ → Result Scenario TextFault
+scenario_of bytes = if nat_lt max_text (length bytes) then Err text.TooLong
+    else as_text_fault (scenario_by (header (rest_of bytes)))
+
+-- there is a first line, and it is an event line
+abbrev pub HasFirst : Form → List Numbered → Type 0
+HasFirst form [] = ⊥
+HasFirst form (line ∷ lines) = IsOk (line_as (event_line form) line)
+
+-- the lines before the events are read, and so is a first event line
+abbrev pub HasEvent : List ℕ → Type 0
+HasEvent bytes = IsOkAnd (header (rest_of bytes)) (λ got. HasFirst got.0.form got.1.lines)
+
+-- the faults of the text of a scenario
+abbrev pub IsOfScenario : TextFault → Type 0
+IsOfScenario (text.Syntax line) = ⊤
+IsOfScenario (text.BadHex line) = ⊤
+IsOfScenario text.TooLong = ⊤
+IsOfScenario text.Read = ⊥
+IsOfScenario text.Write = ⊥
+IsOfScenario text.Memory = ⊤
+IsOfScenario (text.Setup fault) = ⊥

@@ -1,0 +1,214 @@
+//! The event lines of a scenario. Each reader makes the event where it stays: handed up as a result
+//! through the readers, an event would be copied at each of them.
+ghost use Rattle.std.specs.Prelude.{◌≡◌, Ok, Err, MatchResult};
+ghost use Rattle.pm_text.specs.EventLines as spec;
+ghost use Rattle.pm_text.specs.Kinds.{device_reading_named, output_reading_named};
+ghost use Rattle.pm_text.specs.Readers.{ReadsTo, IsRead, field, line_as};
+ghost use Rattle.pm_text.specs.declared.scenario.fault.ScenarioFault.TheVariants.{Syntax};
+
+use crate::form::Form;
+use crate::scenario::cells::{cell, cell_word, register};
+use crate::scenario::fault::ScenarioFault;
+use crate::scenario::fields::Fields;
+use crate::scenario::frames::{arrival, back};
+use pm_lines::Line;
+use pm_table::{Cell, Code};
+use pm_world::Event;
+
+/// What a line says that happens.
+pub(crate) fn event_line(form: Form, line: Line<'_>, event: &mut Event) -> Result<(), ScenarioFault>
+    ensures { IsRead result event.new
+        (line_as (spec.event_line form) (line.entry.number, line.entry.text.now)) }
+{
+    let mut fields = Fields::new(line);
+    read_event(form, &mut fields, event)?;
+    fields.end()
+}
+
+// The words of an event line, of which the first decides.
+#[tactic(auto, unfolding(crate::specs::EventLines::event_line))]
+fn read_event(form: Form, fields: &mut Fields<'_>, event: &mut Event) -> Result<(), ScenarioFault>
+    ensures { ReadsTo result event.new fields.new (spec.event_line form fields.old) }
+{
+    let name = fields.word()?;
+    if name == b"order".as_slice() {
+        order(form, fields, event)
+    } else if name == b"volts".as_slice() {
+        volts(form, fields, event)
+    } else if name == b"check".as_slice() {
+        check(form, fields, event)
+    } else if name == b"learn".as_slice() {
+        learn(fields, event)
+    } else if name == b"clear".as_slice() {
+        clear(fields, event)
+    } else if name == b"deliver".as_slice() {
+        deliver(fields, event)
+    } else if name == b"finish".as_slice() {
+        finish(fields, event)
+    } else if name == b"exchange".as_slice() {
+        exchange(fields, event)
+    } else if name == b"restart".as_slice() {
+        restart(fields, event)
+    } else if name == b"reading".as_slice() {
+        reading(fields, event)
+    } else {
+        Err(fields.syntax())
+    }
+}
+
+// `order O NAME HEX`, or `order - WRITE_PROTECT HH`.
+#[tactic(auto, unfolding(crate::specs::EventLines::order_rest))]
+fn order(form: Form, fields: &mut Fields<'_>, event: &mut Event) -> Result<(), ScenarioFault>
+    ensures { ReadsTo result event.new fields.new (spec.order_rest form fields.old) }
+{
+    let cell = cell(form, fields)?;
+    let word = cell_word(fields, cell)?;
+    *event = Event::Order(cell, word);
+    Ok(())
+}
+
+// `volts O NAME K`, K in microvolts.
+#[tactic(auto, unfolding(crate::specs::EventLines::volts_rest))]
+fn volts(form: Form, fields: &mut Fields<'_>, event: &mut Event) -> Result<(), ScenarioFault>
+    ensures { ReadsTo result event.new fields.new (spec.volts_rest form fields.old) }
+{
+    let output = fields.small_number()?;
+    let register = register(form, fields)?;
+    let microvolts = fields.signed_64()?;
+    *event = Event::OrderMicro(Cell::Out(output, register), microvolts);
+    Ok(())
+}
+
+// `check O NAME`, or `check - WRITE_PROTECT`.
+#[tactic(auto, unfolding(crate::specs::EventLines::check_rest))]
+fn check(form: Form, fields: &mut Fields<'_>, event: &mut Event) -> Result<(), ScenarioFault>
+    ensures { ReadsTo result event.new fields.new (spec.check_rest form fields.old) }
+{
+    let cell = cell(form, fields)?;
+    *event = Event::Check(cell);
+    Ok(())
+}
+
+// `learn O`.
+#[tactic(auto, unfolding(crate::specs::EventLines::learn_rest))]
+fn learn(fields: &mut Fields<'_>, event: &mut Event) -> Result<(), ScenarioFault>
+    ensures { ReadsTo result event.new fields.new (spec.learn_rest fields.old) }
+{
+    let output = fields.small_number()?;
+    *event = Event::Learn(output);
+    Ok(())
+}
+
+// `clear O`.
+#[tactic(auto, unfolding(crate::specs::EventLines::clear_rest))]
+fn clear(fields: &mut Fields<'_>, event: &mut Event) -> Result<(), ScenarioFault>
+    ensures { ReadsTo result event.new fields.new (spec.clear_rest fields.old) }
+{
+    let output = fields.small_number()?;
+    *event = Event::Clear(output);
+    Ok(())
+}
+
+// `deliver A`, A an arrival.
+#[tactic(auto, unfolding(crate::specs::EventLines::deliver_rest))]
+fn deliver(fields: &mut Fields<'_>, event: &mut Event) -> Result<(), ScenarioFault>
+    ensures { ReadsTo result event.new fields.new (spec.deliver_rest fields.old) }
+{
+    let arrival = arrival(fields)?;
+    *event = Event::Deliver(arrival);
+    Ok(())
+}
+
+// `finish ack` or `finish nack`.
+#[tactic(auto, unfolding(crate::specs::EventLines::finish_rest))]
+fn finish(fields: &mut Fields<'_>, event: &mut Event) -> Result<(), ScenarioFault>
+    ensures { ReadsTo result event.new fields.new (spec.finish_rest fields.old) }
+{
+    let name = fields.word()?;
+    if name == b"ack".as_slice() {
+        *event = Event::Finish(true);
+        Ok(())
+    } else if name == b"nack".as_slice() {
+        *event = Event::Finish(false);
+        Ok(())
+    } else {
+        Err(fields.syntax())
+    }
+}
+
+// `exchange A B`, A an arrival and B what comes back.
+#[tactic(auto, unfolding(crate::specs::EventLines::exchange_rest))]
+fn exchange(fields: &mut Fields<'_>, event: &mut Event) -> Result<(), ScenarioFault>
+    ensures { ReadsTo result event.new fields.new (spec.exchange_rest fields.old) }
+{
+    let arrival = arrival(fields)?;
+    let back = back(fields)?;
+    *event = Event::Exchange(arrival, back);
+    Ok(())
+}
+
+// `restart device` or `restart host`.
+#[tactic(auto, unfolding(crate::specs::EventLines::restart_rest))]
+fn restart(fields: &mut Fields<'_>, event: &mut Event) -> Result<(), ScenarioFault>
+    ensures { ReadsTo result event.new fields.new (spec.restart_rest fields.old) }
+{
+    let name = fields.word()?;
+    if name == b"device".as_slice() {
+        *event = Event::RestartDevice;
+        Ok(())
+    } else if name == b"host".as_slice() {
+        *event = Event::RestartHost;
+        Ok(())
+    } else {
+        Err(fields.syntax())
+    }
+}
+
+// `reading O NAME HHHH`, or `reading - NAME HHHH`, for which output 0 is named and isn't looked at.
+#[tactic(auto, unfolding(crate::specs::EventLines::reading_rest))]
+fn reading(fields: &mut Fields<'_>, event: &mut Event) -> Result<(), ScenarioFault>
+    ensures { ReadsTo result event.new fields.new (spec.reading_rest fields.old) }
+{
+    let Some(output) = fields.output_or_device()? else {
+        let code = device_reading(fields)?;
+        let word = fields.hex_word()?;
+        *event = Event::Reading(0, code, word);
+        return Ok(());
+    };
+    let code = output_reading(fields)?;
+    let word = fields.hex_word()?;
+    *event = Event::Reading(output, code, word);
+    Ok(())
+}
+
+// The reading of an output that a name has: otherwise X1.
+fn output_reading(fields: &mut Fields<'_>) -> Result<Code, ScenarioFault>
+    ensures { MatchResult result
+        (λ code. field Syntax output_reading_named fields.old ≡ Ok (code.0, fields.new))
+        (λ fault. field Syntax output_reading_named fields.old ≡ Err fault) }
+{
+    let name = fields.word()?;
+    if name == Code::READ_VOUT.name().as_bytes() {
+        Ok(Code::READ_VOUT)
+    } else if name == Code::READ_IOUT.name().as_bytes() {
+        Ok(Code::READ_IOUT)
+    } else {
+        Err(fields.syntax())
+    }
+}
+
+// The reading of the device that a name has: otherwise X1.
+fn device_reading(fields: &mut Fields<'_>) -> Result<Code, ScenarioFault>
+    ensures { MatchResult result
+        (λ code. field Syntax device_reading_named fields.old ≡ Ok (code.0, fields.new))
+        (λ fault. field Syntax device_reading_named fields.old ≡ Err fault) }
+{
+    let name = fields.word()?;
+    if name == Code::READ_VIN.name().as_bytes() {
+        Ok(Code::READ_VIN)
+    } else if name == Code::READ_TEMPERATURE_1.name().as_bytes() {
+        Ok(Code::READ_TEMPERATURE_1)
+    } else {
+        Err(fields.syntax())
+    }
+}

@@ -1,0 +1,169 @@
+//! The words of a line, each read as what stands at its place.
+ghost use Rattle.std.specs.Prelude.{◌≡◌, Ok, Err, [], ◌∷◌, MatchResult, List, ℕ};
+ghost use Rattle.pm_lines.specs.Digits.{hex_of, signed_of, small_of};
+ghost use Rattle.pm_lines.specs.Lines.{words_of};
+ghost use Rattle.pm_text.specs.Kinds.{is_word, output_or_device};
+ghost use Rattle.pm_text.specs.Readers.{Reads, field, word as next_word};
+ghost use Rattle.pm_text.specs.declared.scenario.fault.ScenarioFault.TheVariants.{Syntax, BadHex};
+
+use crate::scenario::fault::ScenarioFault;
+use pm_lines::{Line, Words, read_byte, read_i8, read_i16, read_i64, read_u8, read_word};
+use std::marker::Model;
+
+/// The words that are left of a line. A call takes the next one, and answers X1 where there is none.
+#[derive(Debug, Drop)]
+pub(crate) struct Fields<'a> {
+    words: Words<'a>,
+}
+
+impl<'a> Model for Fields<'a> {
+    ghost use Rattle.pm_lines.specs.Lines.{WordsLeft};
+
+    ghost Value = { WordsLeft };
+
+    ghost view = { λ f. f.words };
+}
+
+impl<'a> Fields<'a> {
+    /// All words of a line.
+    pub(crate) fn new(line: Line<'a>) -> Fields<'a>
+        ensures line { result.line ≡ line.entry.number }
+        ensures words { result.words ≡ words_of line.entry.text.now }
+    {
+        Fields {
+            words: Words::new(line),
+        }
+    }
+
+    /// The next word.
+    #[tactic(auto, unfolding(crate::specs::Readers::word))]
+    pub(crate) fn word(&mut self) -> Result<&'a [u8], ScenarioFault>
+        ensures read { MatchResult result
+            (λ text. next_word self.old ≡ Ok (text.now, self.new))
+            (λ fault. next_word self.old ≡ Err fault) }
+        ensures line { self.new.line ≡ self.old.line }
+    {
+        match self.words.next_word() {
+            Some(word) => Ok(word),
+            None => Err(self.syntax()),
+        }
+    }
+
+    /// X1 for this line.
+    pub(crate) fn syntax(&self) -> ScenarioFault
+        ensures { result ≡ Syntax self.now.line }
+    {
+        ScenarioFault::Syntax(self.words.line())
+    }
+
+    /// X2 for this line.
+    pub(crate) fn bad_hex(&self) -> ScenarioFault
+        ensures { result ≡ BadHex self.now.line }
+    {
+        ScenarioFault::BadHex(self.words.line())
+    }
+
+    /// Takes this very word: X1 for another.
+    pub(crate) fn keyword(&mut self, name: &str) -> Result<(), ScenarioFault>
+        ensures { Reads result self.new (field Syntax (is_word name.now) self.old) }
+    {
+        let word = self.word()?;
+        if word == name.as_bytes() {
+            Ok(())
+        } else {
+            Err(self.syntax())
+        }
+    }
+
+    /// A decimal number of 0 to 255: otherwise X1.
+    pub(crate) fn small_number(&mut self) -> Result<u8, ScenarioFault>
+        ensures { Reads result self.new (field Syntax small_of self.old) }
+    {
+        let word = self.word()?;
+        match read_u8(word) {
+            Some(number) => Ok(number),
+            None => Err(self.syntax()),
+        }
+    }
+
+    /// A decimal number that is an `i8`: otherwise X1.
+    pub(crate) fn signed_8(&mut self) -> Result<i8, ScenarioFault>
+        ensures { Reads result self.new (field Syntax (signed_of 8) self.old) }
+    {
+        let word = self.word()?;
+        match read_i8(word) {
+            Some(number) => Ok(number),
+            None => Err(self.syntax()),
+        }
+    }
+
+    /// A decimal number that is an `i16`: otherwise X1.
+    pub(crate) fn signed_16(&mut self) -> Result<i16, ScenarioFault>
+        ensures { Reads result self.new (field Syntax (signed_of 16) self.old) }
+    {
+        let word = self.word()?;
+        match read_i16(word) {
+            Some(number) => Ok(number),
+            None => Err(self.syntax()),
+        }
+    }
+
+    /// A decimal number that is an `i64`: otherwise X1.
+    pub(crate) fn signed_64(&mut self) -> Result<i64, ScenarioFault>
+        ensures { Reads result self.new (field Syntax (signed_of 64) self.old) }
+    {
+        let word = self.word()?;
+        match read_i64(word) {
+            Some(number) => Ok(number),
+            None => Err(self.syntax()),
+        }
+    }
+
+    /// A byte of two hexadecimal digits: otherwise X2.
+    pub(crate) fn hex_byte(&mut self) -> Result<u8, ScenarioFault>
+        ensures { Reads result self.new (field BadHex (hex_of 2) self.old) }
+    {
+        let word = self.word()?;
+        match read_byte(word) {
+            Some(number) => Ok(number),
+            None => Err(self.bad_hex()),
+        }
+    }
+
+    /// A word of four hexadecimal digits: otherwise X2.
+    pub(crate) fn hex_word(&mut self) -> Result<u16, ScenarioFault>
+        ensures { Reads result self.new (field BadHex (hex_of 4) self.old) }
+    {
+        let word = self.word()?;
+        match read_word(word) {
+            Some(number) => Ok(number),
+            None => Err(self.bad_hex()),
+        }
+    }
+
+    /// An output's number, 0 to 255, or `-` for the device: otherwise X1.
+    pub(crate) fn output_or_device(&mut self) -> Result<Option<u8>, ScenarioFault>
+        ensures { Reads result self.new (field Syntax output_or_device self.old) }
+    {
+        let word = self.word()?;
+        if word == b"-".as_slice() {
+            return Ok(None);
+        }
+        match read_u8(word) {
+            Some(output) => Ok(Some(output)),
+            None => Err(self.syntax()),
+        }
+    }
+
+    /// The line's end: X1 where a word is left.
+    pub(crate) fn end(mut self) -> Result<(), ScenarioFault>
+        ensures { MatchResult result (λ _. self.entry.words ≡ [])
+            (λ fault. (fault ≡ Syntax self.entry.line) × (word : List ℕ) × (words : List (List ℕ))
+            × (self.entry.words ≡ word ∷ words)) }
+    {
+        match self.words.next_word() {
+            Some(_surplus) => Err(self.syntax()),
+            None => Ok(()),
+        }
+    }
+}

@@ -1,7 +1,0 @@
-use Rattle.pm_tool.proofs.Writing.{AppendsFront-later, flat_map-at, on_err}
-use Rattle.pm_tool.proofs.pieces.put_all.Goals as goal
-
-pub returns-in_err-put-clause-front : goal.returns-in_err-put-clause-front
-returns-in_err-put-clause-front g c =
-    on_err c.from_residual.result _ (AppendsFront-later _ _ _ _ _ _ _ c.pieces.invariant.written c.in_err-put.ensures.front
-    (flat_map-at _ c.args.pieces.now c.pieces.piece-index _ c.pieces-test.true))
