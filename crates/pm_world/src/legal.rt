@@ -1,10 +1,14 @@
-//! Which hearings and which returns a world takes, and what arrives of a frame and of an answer.
+//! What arrives of a frame and of an answer, which hearings and which returns a world takes, and what a
+//! hearing leaves.
 
 ghost use Rattle.std.specs.Prelude.{◌≡◌, take};
+ghost use Rattle.pm_device.specs.Effect.{Hearing};
+ghost use Rattle.pm_device.specs.History.{next as device_next};
+ghost use Rattle.pm_device.specs.Reply.{reply_of};
 ghost use Rattle.pm_world.specs.Legal.{heard_bytes as spec_heard_bytes, ending_of, back_bytes as spec_back_bytes, answer_in as spec_answer_in, is_heard_whole as spec_is_heard_whole, is_legal_hearing as spec_is_legal_hearing, is_legal_return as spec_is_legal_return};
 
 use crate::event::{Arrival, Back};
-use pm_device::{Ending, Heard};
+use pm_device::{Converter, Ending, Heard, refusals_set_one_bit};
 use pm_frame::is_betrayed;
 
 /// What is heard of a frame.
@@ -87,4 +91,20 @@ pub(crate) fn is_legal_return(
     ensures { result ≡ spec_is_legal_return request.now whole_answer whole answer.now bytes.now }
 {
     whole && bytes == answer || bytes.len() < whole_answer || is_betrayed(request, bytes)
+}
+
+/// The converter hears bytes to which it replies so. An answer and silence change nothing.
+pub(crate) fn hear_replied(device: &mut Converter, reply: &Heard, bytes: &[u8], ending: Ending)
+    requires { reply.now ≡ reply_of device.old bytes.now ending }
+    ensures after { device.new ≡ device_next device.old (Hearing bytes.now ending) }
+    ensures kept { device.old.config ≡ device.new.config }
+{
+    // Hands the prover what silence and an answer leave.
+    refusals_set_one_bit();
+    match reply {
+        Heard::Answer(_) | Heard::Silent => {}
+        Heard::Taken | Heard::Refused(_) => {
+            let _ = device.hear(bytes, ending);
+        }
+    }
 }

@@ -17,8 +17,6 @@ ghost use Rattle.pm_table.specs.Cell.{IsCell};
 ghost use Rattle.pm_model.specs.Commanded.{commanded};
 ghost use Rattle.pm_model.specs.Settings.{word_at};
 ghost use Rattle.pm_device.specs.Held.{value_for};
-ghost use Rattle.pm_device.specs.History.{next as device_next};
-ghost use Rattle.pm_device.specs.Reply.{reply_of};
 ghost use Rattle.pm_world.specs.Retelling.{IsOrderRun, IsOwnWord, CommandsOwn};
 
 use crate::event::{Arrival, Back, Event};
@@ -27,11 +25,11 @@ use crate::laws::{
     learned_formats_are_true, lives_are_followed, lives_are_orders, possible_words_are_held, spell,
 };
 use crate::legal::{
-    answer_in, back_bytes, heard_bytes, heard_ending, is_heard_whole, is_legal_hearing,
-    is_legal_return,
+    answer_in, back_bytes, hear_replied, heard_bytes, heard_ending, is_heard_whole,
+    is_legal_hearing, is_legal_return,
 };
 use crate::stop::{Cause, SetupFault, Stop};
-use pm_device::{Config, Converter, Ending, Heard, refusals_set_one_bit};
+use pm_device::{Config, Converter, Ending};
 use pm_host::{Host, JobEnd, Step, Told, Turn, transcripts_are_followed};
 use pm_table::{Cell, Code};
 use std::marker::Model;
@@ -388,21 +386,5 @@ impl World {
         ensures { self.new ≡ shared self.old (hears (heard.Reading output code.0 word)) }
     {
         let _ = self.device.set_reading(output, code, word);
-    }
-}
-
-// The converter hears bytes that it would answer so. An answer or silence changes nothing.
-fn hear_replied(device: &mut Converter, reply: &Heard, bytes: &[u8], ending: Ending)
-    requires { reply.now ≡ reply_of device.old bytes.now ending }
-    ensures after { device.new ≡ device_next device.old (heard.Hearing bytes.now ending) }
-    ensures kept { device.old.config ≡ device.new.config }
-{
-    // Hands the prover what silence and an answer leave.
-    refusals_set_one_bit();
-    match reply {
-        Heard::Answer(_) | Heard::Silent => {}
-        Heard::Taken | Heard::Refused(_) => {
-            let _ = device.hear(bytes, ending);
-        }
     }
 }
