@@ -13,6 +13,8 @@ mod device;
 #[cfg(test)]
 mod driver;
 #[cfg(test)]
+mod example;
+#[cfg(test)]
 mod faults;
 #[cfg(test)]
 mod fixtures;
