@@ -1,0 +1,91 @@
+#!/usr/bin/env python3
+"""Counts the instructions that `pmb` takes for three texts of 1 MiB, by valgrind's callgrind: 45,000 lines of
+`hear`, as many of `decode` (three in ten are reads), and a scenario of 11,000 orders that go through. A count is
+the same from run to run, whatever else the machine does.
+
+    bench/instructions.py [--by COMMAND]
+
+`--by` lists a command's most expensive functions. It needs valgrind, and the program, (cd crates/pmb && rt run --
+replay < stdin), or the environment variable PMB that names one.
+"""
+import os
+import random
+import re
+import shutil
+import subprocess
+import sys
+import tempfile
+
+ROOT = os.path.dirname(os.path.dirname(os.path.abspath(__file__)))
+PROGRAM = os.environ.get("PMB", os.path.join(ROOT, "crates/pmb/out/pmb"))
+SIZE = 1_048_000
+HEAD = """scenario 1
+address 58
+passes 2
+protect 00
+coefficients 1 0 0
+output 14 80 1000 4000 1100 0F00
+output 14 80 1000 4000 1100 0F00
+begin
+"""
+READ = "B0 06 02 00 21 / B1 02 CD 34 B9\n"
+
+
+def pec(message):
+    code = 0
+    for byte in message:
+        code ^= byte
+        for _ in range(8):
+            code = (code << 1 ^ 0x07) & 0xFF if code & 0x80 else code << 1
+    return code
+
+
+def write_line(dice):
+    message = [0xB0, 0x05, 0x04, dice.randrange(2), 0x21, dice.randrange(256), dice.randrange(64)]
+    return " ".join(f"{byte:02X}" for byte in [*message, pec(message)]) + "\n"
+
+
+def order_lines(dice):
+    output, word = dice.randrange(2), dice.randrange(0x4000)
+    return f"order {output} VOUT_COMMAND {word:04X}\ndeliver whole\nfinish ack\nexchange whole whole\n"
+
+
+def text_of(command):
+    dice, lines = random.Random(command), [HEAD if command == "replay" else ""]
+    size = len(lines[0])
+    while True:
+        if command == "replay":
+            line = order_lines(dice)
+        else:
+            line = READ if command == "decode" and dice.random() < 0.3 else write_line(dice)
+        size += len(line)
+        if size > SIZE:
+            return "".join(lines).encode()
+        lines.append(line)
+
+
+def counted(command, folder, is_listed):
+    found = os.path.join(folder, command)
+    run = subprocess.run(
+        ["valgrind", "--tool=callgrind", f"--callgrind-out-file={found}", PROGRAM, command],
+        input=text_of(command), capture_output=True)
+    total = re.search(rb"Collected : (\d+)", run.stderr)
+    print(f"{command:8}{int(total[1]) / 1e6:6.1f} million instructions")
+    if is_listed:
+        listing = subprocess.run(["callgrind_annotate", found], capture_output=True, text=True).stdout
+        print("\n".join(line for line in listing.splitlines() if re.match(r" *[\d,]+ \(", line)))
+
+
+def main():
+    if "--help" in sys.argv:
+        sys.exit(__doc__)
+    if not os.path.exists(PROGRAM):
+        sys.exit(f"no program at {PROGRAM}: build it by (cd crates/pmb && rt run -- replay < stdin)")
+    if not shutil.which("valgrind"):
+        sys.exit("no valgrind on this machine")
+    with tempfile.TemporaryDirectory() as folder:
+        for command in ("hear", "decode", "replay"):
+            counted(command, folder, "--by" in sys.argv and sys.argv[-1] == command)
+
+
+main()
