@@ -21,3 +21,7 @@ module _ (words w detail s d : List ℕ) (is_words : w ≡ words) (is_detail : s
       (λ i. codes "pmb: X7 Setup " ++ (is_words i ++ (codes " " ++ (is i ++ detailed i))))
       ∙ ap (λ l. codes "pmb: X7 Setup " ++ (words ++ (codes " " ++ l))) (sym (append_assoc (decimal n) detail (codes "\n")))
       ∙ ap (λ l. codes "pmb: X7 Setup " ++ l) (sym (append_assoc words ((codes " " ++ decimal n) ++ detail) (codes "\n")))
+
+-- of the host
+pub line-host : (words w : List ℕ) → w ≡ words → codes "pmb: X7 Setup " ++ (w ++ codes "\n") ≡ refusal_line (codes "X7 Setup " ++ words)
+line-host words w is = ap (λ l. codes "pmb: X7 Setup " ++ (l ++ codes "\n")) is

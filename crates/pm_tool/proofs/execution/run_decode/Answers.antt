@@ -24,7 +24,7 @@ returns-in-Ok g c =
 pub returns-in-Err : goal.returns-in-Err
 returns-in-Err g c =
     let e = c.in-Err.ensures in
-    decode_broke (record {
+    rw c.refuse_text.ensures.status (decode_broke (record {
       out = g.W.Write.contents;
       err = g.E.Write.contents;
       output = c.args.output.now;
@@ -39,7 +39,7 @@ returns-in-Err g c =
       of = e.faults;
       read = (λ is. e.reader_failed.0 (ap Err is), λ t. err_is _ _ (e.reader_failed.1 t));
       write = (λ is. e.writer_failed.0 (ap Err is), λ t. err_is _ _ (e.writer_failed.1 t));
-    }) c.refuse_text.ensures.said
+    }) c.refuse_text.ensures.said)
   where
     err_is : (a b : TextFault) → ◌≡◌ {A = Result DecodeEnd TextFault} (Err a) (Err b) → a ≡ b
     err_is a b same = cc

@@ -21,7 +21,7 @@ returns-in-Ok g c =
 pub returns-in-Err : goal.returns-in-Err
 returns-in-Err g c =
     let e = c.in-Err.ensures in
-    text_refused (record {
+    rw c.refuse_text.ensures.status (text_refused (record {
       out = g.W.Write.contents;
       err = g.E.Write.contents;
       output = c.args.output.now;
@@ -36,7 +36,7 @@ returns-in-Err g c =
       unwritten = e.unwritten;
       read = (λ is. e.read.0 (ap Err is), λ t. err_is _ _ (e.read.1 t));
       write = (λ is. e.write.0 (ap Err is), λ t. err_is _ _ (e.write.1 t));
-    }) c.refuse_text.ensures.said
+    }) c.refuse_text.ensures.said)
   where
     err_is : (a b : TextFault) → ◌≡◌ {A = Result (Unit {0}) TextFault} (Err a) (Err b) → a ≡ b
     err_is a b same = cc
