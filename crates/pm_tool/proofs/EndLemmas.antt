@@ -1,5 +1,6 @@
 -- How a run ends, by what its calls did.
-use Rattle.std.proofs.Common.{◌≡◌, ◌≢◌, ◌∙◌, ◌++◌, ◌<◌, ◌≤◌, ◌↔◌, ◌⊎◌, ℕ, Bool, true, false, List, [], length, Option, Some, Result, Ok, Err, IsTrue, IsFalse, OnOk, OnErr, is_err, refl, sym, ap, subst, inl, inr, append-nil, codes, arith}
+use Rattle.std.proofs.Common.{◌≡◌, ◌≢◌, ◌∙◌, ◌++◌, ◌<◌, ◌≤◌, ◌↔◌, ◌⊎◌, ℕ, Bool, true, false, List, [], length, Option, Some, Result, Ok}
+use Rattle.std.proofs.Common.{Err, IsTrue, IsFalse, OnOk, OnErr, is_err, refl, sym, ap, subst, inl, inr, append-nil, codes, arith}
 use Rattle.std.specs.Io.KnownBytes.{Appends, Consumes, Keeps}
 use Rattle.std.proofs.KnownBytes.{Appends-kept}
 use Rattle.clap.specs.declared.error.kind.ErrorKind.{ErrorKind}
@@ -14,7 +15,8 @@ use Rattle.clap.specs.Words.{Text, fault_of}
 use Rattle.pm_num.specs.declared.fault.NumFault.{NumFault}
 use Rattle.pm_tool.specs.Commandline.{pmb, status_by}
 use Rattle.pm_tool.specs.Execution.{End, Printed, CutShort, Refused, Broken, Misused, GaveFaulty, GaveMore, GaveSome, GaveText}
-use Rattle.pm_tool.specs.Execution.{TextEnds, HearRefuses, ReplayRefuses, DecodeBreaks, DecodeEnds, NumberEnds, NumberRefuses, UsageEnds, WordsEnd}
+use Rattle.pm_tool.specs.Execution.{TextEnds, HearRefuses, ReplayRefuses, DecodeBreaks, DecodeEnds, NumberEnds, NumberRefuses, UsageEnds}
+use Rattle.pm_tool.specs.Execution.{WordsEnd}
 use Rattle.pm_tool.specs.Execution.{IsDone, IsEnd, Says, decode_status, no_words_end, refusal_line, text_refusal, wants_memory}
 use Rattle.pm_tool.specs.Outcome.{IsOfHear}
 use Rattle.pm_tool.specs.NumberFaults.{refusal_status, refusal_words}
@@ -51,7 +53,8 @@ module _ {E : Type 0} (err : E → Option (List ℕ)) where
   put_said (Err fault) errors errors' line all front failed = inr (failed, front)
 
   -- what was said is what was to be said
-  pub said_as : (errors errors' : Held E) (words other : List ℕ) → words ≡ other → Says err errors errors' (Some (refusal_line (words ++ [])))
+  pub said_as : (errors errors' : Held E) (words other : List ℕ) → words ≡ other
+      → Says err errors errors' (Some (refusal_line (words ++ [])))
       → Says err errors errors' (Some (refusal_line other))
   said_as errors errors' words other same said =
       subst (λ w. Says err errors errors' (Some (refusal_line w))) (append-nil words ∙ same) said
@@ -154,14 +157,19 @@ module _ {W E : Type 0} (w : Writers W E) where
             (CutShort text, (sound, status, gives), cut text (is.write.0 write) front line)
 
         other_fault : fault ≢ Write → (end : End) × TextEnds new Gives Refuses end × Ends w 1 end
-        other_fault other =
-            (Refused 1 (text_refusal fault), (refl, fault, refl, (is.read.1, is.read.0), is.why other), refused 1 (text_refusal fault) (is.unwritten other) said)
+        other_fault other = (
+          Refused 1 (text_refusal fault),
+          (refl, fault, refl, (is.read.1, is.read.0), is.why other),
+          refused 1 (text_refusal fault)
+              (is.unwritten other) said,
+        )
 
   -- ---- `decode`
 
   module _ {R : Type 0} (r : Reader R) where
     -- `decode` wrote the text of a trace
-    pub decoded : (wanted status : ℕ) (end : DecodeEnd) (input : List ℕ) → IsWholeText (r.remaining r.old.inner) (r.remaining r.new.inner) input
+    pub decoded : (wanted status : ℕ) (end : DecodeEnd) (input : List ℕ)
+        → IsWholeText (r.remaining r.old.inner) (r.remaining r.new.inner) input
         → (wanted ≡ decode_status end) × (end ≡ end_of (counts_of (trace_of input))) × IsFalse r.new.failed
         → Wrote w wanted status (trace_text input)
         → (e : End) × DecodeEnds r.remaining r.old r.new e × Ends w status e
@@ -197,8 +205,16 @@ module _ {W E : Type 0} (w : Writers W E) where
         → Says w.err w.errors w.errors' (Some (refusal_line (text_refusal fault)))
         → (end : End) × DecodeEnds r.remaining r.old r.new end × Ends w 1 end
     broken fault is other text breaks written said =
-        let sound = false_unless w.output'.failed (λ t. absurd (other (is.write.1 t))) in
-        (Broken text (text_refusal fault), (fault, refl, (is.read.1, is.read.0), breaks), record { status_is = refl; printed = (sound, written); said = said })
+        let sound = false_unless w.output'.failed (λ t. absurd (other (is.write.1 t))) in (
+          Broken text (text_refusal fault),
+          (fault, refl, (is.read.1, is.read.0), breaks),
+          record {
+            status_is = refl;
+            printed =
+                (sound, written);
+            said = said;
+          },
+        )
 
     pub decode_broke : (fault : TextFault) → DecodeRefusal fault → Says w.err w.errors w.errors' (Some (refusal_line (text_refusal fault)))
         → (end : End) × DecodeEnds r.remaining r.old r.new end × Ends w 1 end
@@ -251,7 +267,8 @@ module _ {W E : Type 0} (w : Writers W E) where
     refused_as fault is other why =
         (Refused (refusal_status fault) (refusal_words fault), (fault, refl, refl, why), refused _ _ (is.unwritten other) is.said)
 
-    pub number_refused : (fault : NumberFault) → NumberRefusal fault → (end : End) × NumberEnds asked end × Ends w (refusal_status fault) end
+    pub number_refused : (fault : NumberFault) → NumberRefusal fault
+        → (end : End) × NumberEnds asked end × Ends w (refusal_status fault) end
     number_refused OneOf is = refused_as OneOf is (λ e. cc) (is.line OneOf tt refl)
     number_refused Format is = refused_as Format is (λ e. cc) (is.line Format tt refl)
     number_refused Word is = refused_as Word is (λ e. cc) (is.line Word tt refl)
@@ -272,7 +289,8 @@ module _ {W E : Type 0} (w : Writers W E) where
 module _ (old new : Option (List ℕ)) where
   pub hear_refuses : (fault : TextFault) → ((line : ℕ) → fault ≡ Syntax line → GaveText old new (Err (Syntax line)))
       → ((line : ℕ) → fault ≡ BadHex line → GaveText old new (Err (BadHex line)))
-      → (fault ≡ TooLong → GaveMore old new) → (fault ≡ Memory → GaveSome old new) → IsOfHear fault → fault ≢ Write → HearRefuses old new fault
+      → (fault ≡ TooLong → GaveMore old new) → (fault ≡ Memory → GaveSome old new) → IsOfHear fault → fault ≢ Write
+      → HearRefuses old new fault
   hear_refuses (Syntax line) syntax bad_hex too_long memory of other = syntax line refl
   hear_refuses (BadHex line) syntax bad_hex too_long memory of other = bad_hex line refl
   hear_refuses TooLong syntax bad_hex too_long memory of other = too_long refl
@@ -302,7 +320,8 @@ module _ (old new : Option (List ℕ)) where
 
 -- the parser's refusal is of a kind that it names, or is want of memory
 pub usage_ends : {R : Type 0} (remaining : R → Option (List ℕ)) (input : Held R) (words : List Text) (kind : ErrorKind) (end : End)
-    → (kind ≡ OutOfMemory) ⊎ IsAmong kind (fault_of pmb words) → UsageEnds kind end ⊎ (end ≡ wants_memory) → WordsEnd remaining input input words end
+    → (kind ≡ OutOfMemory) ⊎ IsAmong kind (fault_of pmb words) → UsageEnds kind end ⊎ (end ≡ wants_memory)
+    → WordsEnd remaining input input words end
 usage_ends remaining input words kind end (inr among) (inl usage) = inr (inl (refl, kind, among, usage))
 usage_ends remaining input words kind end (inl memory) (inl usage) = absurd (none end (subst (λ k. UsageEnds k end) memory usage))
   where

@@ -1,13 +1,16 @@
 -- What the parser makes of `PROGRAM number --NAME=TEXT ..`, where no option is used twice.
-use Rattle.std.proofs.Common.{◌≡◌, ◌∙◌, ◌&&◌, ◌||◌, Bool, true, false, not, cond, refl, sym, ap, ap₂, List, [], ◌∷◌, ◌++◌, map, is_some, Some, None, codes, unwrap_or, true≢false, append-nil, append_assoc, option_map}
+use Rattle.std.proofs.Common.{◌≡◌, ◌∙◌, ◌&&◌, ◌||◌, Bool, true, false, not, cond, refl, sym, ap, ap₂, List, [], ◌∷◌, ◌++◌, map, is_some}
+use Rattle.std.proofs.Common.{Some, None, codes, unwrap_or, true≢false, append-nil, append_assoc, option_map}
 use Rattle.std.specs.List.{find, fold, list_all, list_any}
 use Rattle.std.specs.Str.{bytes_eq}
 use Rattle.std.specs.Option.{option_and_then}
 use Rattle.std.specs.Prelude.{slice_get}
-use Rattle.clap.specs.Walk.{Row, Rule, Text, Walk, at_row, default_rows, finished, first_of, has_row, is_empty, more_values, nothing_held, reading_by, settled, walk_from, walked, with_default, with_values, without}
+use Rattle.clap.specs.Walk.{Row, Rule, Text, Walk, at_row, default_rows, finished, first_of, has_row, is_empty, more_values, nothing_held}
+use Rattle.clap.specs.Walk.{reading_by, settled, walk_from, walked, with_default, with_values, without}
 use Rattle.clap.specs.Words.{built, subcommand_of, fault_of}
 use Rattle.clap.specs.Simple.{Shape, entered, names_of}
-use Rattle.clap.specs.Faults.{check_fault, default_fault, defaults_fault, entered_fault, given_default_fault, level_fault, settle_fault, turn_fault, walk_fault}
+use Rattle.clap.specs.Faults.{check_fault, default_fault, defaults_fault, entered_fault, given_default_fault, level_fault, settle_fault}
+use Rattle.clap.specs.Faults.{turn_fault, walk_fault}
 use Rattle.clap.specs.Kinds.{Kinds, or_else}
 use Rattle.clap.specs.declared.builder.value_parser.Reading.TheVariants.{AsWritten}
 use Rattle.clap.specs.declared.parser.matches.ValueSource.TheVariants.{CommandLine}
@@ -15,7 +18,8 @@ use Rattle.clap.proofs.WalkLemmas.{both, walk_stopped}
 use Rattle.clap.proofs.SimpleLemmas.{is_false, is_nil}
 use Rattle.clap.proofs.FaultLemmas.{past, stopped_fault}
 use Rattle.clap.proofs.OnLiterals.{clap_on_literals}
-use Rattle.pm_tool.specs.Commandline.{Given, NumberOption, format_option, is_named, is_once, micro_option, number_words, option_name, option_word, pmb, word_option}
+use Rattle.pm_tool.specs.Commandline.{Given, NumberOption, format_option, is_named, is_once, micro_option, number_words, option_name}
+use Rattle.pm_tool.specs.Commandline.{option_word, pmb, word_option}
 
 -- the row that one use of an option leaves
 abbrev pub row : Given → Row
@@ -29,7 +33,8 @@ row one = record {
 
 -- ---- rows where an option has none yet
 
-at_none : (id : Text) (change : Row → List Row) (missing rows : List Row) → has_row id rows ≡ false → at_row id change missing rows ≡ rows ++ missing
+at_none : (id : Text) (change : Row → List Row) (missing rows : List Row) → has_row id rows ≡ false
+    → at_row id change missing rows ≡ rows ++ missing
 at_none id change missing [] none = refl
 at_none id change missing (r ∷ rs) none = go (bytes_eq r.id id) none (at_none id change missing rs)
   where
@@ -40,7 +45,8 @@ at_none id change missing (r ∷ rs) none = go (bytes_eq r.id id) none (at_none 
 
 -- a use of an option that has no row adds the option's row
 rows_used : (one : Given) (rows : List Row) → has_row (option_name one.option) rows ≡ false
-    → with_values (option_name one.option) AsWritten CommandLine (one.text ∷ []) (without (option_name one.option) rows) ≡ rows ++ row one ∷ []
+    → with_values (option_name one.option) AsWritten CommandLine (one.text ∷ []) (without (option_name one.option) rows)
+    ≡ rows ++ row one ∷ []
 rows_used one rows none =
     ap (with_values (option_name one.option) AsWritten CommandLine (one.text ∷ [])) (at_none _ (λ _. []) [] rows none ∙ append-nil rows)
     ∙ at_none (option_name one.option) (more_values CommandLine (one.text ∷ [])) (row one ∷ []) rows none
@@ -53,7 +59,8 @@ has_row-push id [] r = or_false (bytes_eq r.id id)
     or_false false = refl
 has_row-push id (x ∷ xs) r = go (bytes_eq x.id id) (has_row-push id xs r)
   where
-    go : (b : Bool) → has_row id (xs ++ r ∷ []) ≡ (has_row id xs || bytes_eq r.id id) → (b || has_row id (xs ++ r ∷ [])) ≡ ((b || has_row id xs) || bytes_eq r.id id)
+    go : (b : Bool) → has_row id (xs ++ r ∷ []) ≡ (has_row id xs || bytes_eq r.id id)
+        → (b || has_row id (xs ++ r ∷ [])) ≡ ((b || has_row id xs) || bytes_eq r.id id)
     go true e = refl
     go false e = e
 
@@ -85,7 +92,8 @@ none_or : (a b : Bool) → not (a || b) ≡ true → (not a ≡ true) × (not b 
 none_or true b e = absurd (true≢false (sym e))
 none_or false b e = (refl, e)
 
-all_new_after : (one : Given) (rows : List Row) (given : List Given) → list_all (is_new rows) given ≡ true → not (list_any (is_named (option_name one.option)) given) ≡ true
+all_new_after : (one : Given) (rows : List Row) (given : List Given) → list_all (is_new rows) given ≡ true
+    → not (list_any (is_named (option_name one.option)) given) ≡ true
     → list_all (is_new (rows ++ row one ∷ [])) given ≡ true
 all_new_after one rows [] new others = refl
 all_new_after one rows (next ∷ rest) new others =
@@ -104,14 +112,16 @@ number_built = unwrap_or (find (λ s. bytes_eq s.name (codes "number")) (built p
 abbrev with_rows : List Row → Walk
 with_rows rows = walk_from (record { rows = rows; pending = None; skip = 0 })
 
-stepped_as : (option : NumberOption) (text : Text) (rows : List Row) → walked number_built.rules [] (with_rows rows) (option_word (record { option = option; text = text }))
+stepped_as : (option : NumberOption) (text : Text) (rows : List Row)
+    → walked number_built.rules [] (with_rows rows) (option_word (record { option = option; text = text }))
     ≡ with_rows (with_values (option_name option) AsWritten CommandLine (text ∷ []) (without (option_name option) rows))
 unfolding clap_on_literals
 stepped_as format_option text rows = refl
 stepped_as word_option text rows = refl
 stepped_as micro_option text rows = refl
 
-stepped : (one : Given) (rows : List Row) → has_row (option_name one.option) rows ≡ false → walked number_built.rules [] (with_rows rows) (option_word one) ≡ with_rows (rows ++ row one ∷ [])
+stepped : (one : Given) (rows : List Row) → has_row (option_name one.option) rows ≡ false
+    → walked number_built.rules [] (with_rows rows) (option_word one) ≡ with_rows (rows ++ row one ∷ [])
 stepped one rows none = stepped_as one.option one.text rows ∙ ap with_rows (rows_used one rows none)
 
 turn_passes : (option : NumberOption) (text : Text) (rows : List Row) → has_row (option_name option) rows ≡ false
@@ -128,16 +138,19 @@ walk_over (one ∷ rest) rows new once =
     let parts = both (is_new rows one) _ new in
     let apart = both (not (list_any (is_named (option_name one.option)) rest)) _ once in
     ap (λ w. fold (walked number_built.rules []) w (map option_word rest)) (stepped one rows (is_false _ parts.0))
-    ∙ walk_over rest (rows ++ row one ∷ []) (all_new_after one rows rest parts.1 apart.0) apart.1 ∙ ap with_rows (append_assoc rows (row one ∷ []) (map row rest))
+    ∙ walk_over rest (rows ++ row one ∷ []) (all_new_after one rows rest parts.1 apart.0) apart.1
+    ∙ ap with_rows (append_assoc rows (row one ∷ []) (map row rest))
 
-walk_passes : (given : List Given) (rows : List Row) → list_all (is_new rows) given ≡ true → is_once given ≡ true → walk_fault number_built [] (with_rows rows) (map option_word given) ≡ []
+walk_passes : (given : List Given) (rows : List Row) → list_all (is_new rows) given ≡ true → is_once given ≡ true
+    → walk_fault number_built [] (with_rows rows) (map option_word given) ≡ []
 unfolding walk_fault
 walk_passes [] rows new once = refl
 walk_passes (one ∷ rest) rows new once =
     let parts = both (is_new rows one) _ new in
     let apart = both (not (list_any (is_named (option_name one.option)) rest)) _ once in
     let none = is_false _ parts.0 in
-    past _ _ (turn_passes one.option one.text rows none) ∙ ap (λ w. walk_fault number_built [] w (map option_word rest)) (stepped one rows none)
+    past _ _ (turn_passes one.option one.text rows none)
+    ∙ ap (λ w. walk_fault number_built [] w (map option_word rest)) (stepped one rows none)
     ∙ walk_passes rest (rows ++ row one ∷ []) (all_new_after one rows rest parts.1 apart.0) apart.1
 
 -- ---- after the walk: no option has a default
@@ -169,7 +182,8 @@ defaults_pass (a ∷ rest) rows none =
 
 -- ---- the text of an option, by its row
 
-pub first_text : (name : Text) (given : List Given) → first_of name (map row given) ≡ option_map (λ one. one.text) (find (is_named name) given)
+pub first_text : (name : Text) (given : List Given)
+    → first_of name (map row given) ≡ option_map (λ one. one.text) (find (is_named name) given)
 first_text name [] = refl
 first_text name (one ∷ rest) = go (is_named name one) (first_text name rest)
   where
@@ -187,7 +201,8 @@ stopped_walk : (words : List Text) → ◌≡◌ {A = Walk} (record (walk_from n
 unfolding clap_on_literals
 stopped_walk words = walk_stopped (built pmb).top.rules (names_of (built pmb)) (walk_from nothing_held) (codes "number") [] words
 
-pub number_met : (program : Text) (given : List Given) → is_once given ≡ true → subcommand_of pmb (number_words program given) ≡ Some (codes "number", map row given)
+pub number_met : (program : Text) (given : List Given) → is_once given ≡ true
+    → subcommand_of pmb (number_words program given) ≡ Some (codes "number", map row given)
 number_met program given once =
     ap (λ (w : Walk). entered (built pmb) w.stopped) (sym (stopped_walk (map option_word given)))
     ∙ ap (λ (w : Walk). Some (codes "number", finished number_built.rules w.held)) (walk_over given [] (all_new_first given) once)
@@ -196,19 +211,23 @@ number_met program given once =
 -- the steps after a walk that ended so, and that found these faults: those of a level of its own, and those of the whole
 abbrev own_steps : Walk → Kinds → Kinds
 own_steps w found = or_else found (or_else (settle_fault number_built.rules number_built.args_override_self w.held)
-    (or_else (defaults_fault (settled number_built.rules w.held).rows number_built.rules) (check_fault number_built (finished number_built.rules w.held) false)))
+    (or_else (defaults_fault (settled number_built.rules w.held).rows number_built.rules) (check_fault number_built
+    (finished number_built.rules w.held) false)))
 
 abbrev top : Shape
 top = (built pmb).top
 
 abbrev whole_steps : Walk → Kinds → Kinds
-whole_steps w found = or_else found (or_else (entered_fault (built pmb) w.stopped) (or_else (settle_fault top.rules top.args_override_self w.held)
-    (or_else (defaults_fault (settled top.rules w.held).rows top.rules) (check_fault top (finished top.rules w.held) (is_some (entered (built pmb) w.stopped))))))
+whole_steps w found = or_else found (or_else (entered_fault (built pmb) w.stopped) (or_else
+    (settle_fault top.rules top.args_override_self w.held)
+    (or_else (defaults_fault (settled top.rules w.held).rows top.rules) (check_fault top (finished top.rules w.held) (is_some (entered
+    (built pmb) w.stopped))))))
 
 own_level : (given : List Given) → is_once given ≡ true → level_fault number_built [] nothing_held (map option_word given) false [] ≡ []
 own_level given once =
     ap₂ own_steps (walk_over given [] (all_new_first given) once) (walk_passes given [] (all_new_first given) once)
-    ∙ ap (λ k. or_else k (check_fault number_built (finished number_built.rules (with_rows (map row given)).held) false)) (defaults_pass number_built.rules (map row given) refl)
+    ∙ ap (λ k. or_else k (check_fault number_built (finished number_built.rules (with_rows (map row given)).held) false))
+    (defaults_pass number_built.rules (map row given) refl)
 
 whole_walk : (words : List Text) → walk_fault top (names_of (built pmb)) (walk_from nothing_held) (codes "number" ∷ words) ≡ []
 unfolding clap_on_literals
@@ -217,4 +236,5 @@ whole_walk words = stopped_fault top (names_of (built pmb)) (walk_from nothing_h
 pub number_passes : (program : Text) (given : List Given) → is_once given ≡ true → fault_of pmb (number_words program given) ≡ []
 unfolding defaults_fault
 number_passes program given once =
-    ap₂ whole_steps (sym (stopped_walk (map option_word given))) (whole_walk (map option_word given)) ∙ ap (λ k. or_else k []) (own_level given once)
+    ap₂ whole_steps (sym (stopped_walk (map option_word given))) (whole_walk (map option_word given))
+    ∙ ap (λ k. or_else k []) (own_level given once)

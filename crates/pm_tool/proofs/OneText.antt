@@ -19,7 +19,8 @@ one_word Linear11 can_be = linear11-one_word
 one_word (Ulinear16 n) can_be = ulinear16-one_word n
 one_word (Direct m b r) can_be = direct-one_word m b r can_be.0
 
-same_word : (value : ℕ → Ratio) (rank : ℕ → ℕ) → IsOneWord value rank → (asked : Asked) (u w : ℕ) → IsWordFor value rank asked u → IsWordFor value rank asked w → u ≡ w
+same_word : (value : ℕ → Ratio) (rank : ℕ → ℕ) → IsOneWord value rank → (asked : Asked) (u w : ℕ) → IsWordFor value rank asked u
+    → IsWordFor value rank asked w → u ≡ w
 same_word value rank one (Word given) u w h k = h ∙ sym k
 same_word value rank one (Nearest x) u w h k = one_from_nearest value rank one (micros x) u w h k
 
@@ -29,7 +30,8 @@ same_floor v j k h i =
     let down : k ≤ℤ j = h.greatest k i.reached in
     omega (arith, ints)
 
-same_answer : (value : ℕ → Ratio) (rank : ℕ → ℕ) → IsOneWord value rank → (asked : Asked) (x y : Answer) → IsAnswer value rank asked x → IsAnswer value rank asked y → x ≡ y
+same_answer : (value : ℕ → Ratio) (rank : ℕ → ℕ) → IsOneWord value rank → (asked : Asked) (x y : Answer) → IsAnswer value rank asked x
+    → IsAnswer value rank asked y → x ≡ y
 same_answer value rank one asked x y h k =
     let word = same_word value rank one asked x.word y.word h.word k.word in
     let same : x.value ≡ y.value = h.value_is ∙ ap value word ∙ sym k.value_is in
@@ -38,4 +40,5 @@ same_answer value rank one asked x y h k =
 
 pub one_text : (asked : Question) → IsFormat asked.format → (a b : List ℕ) → IsNumberText (Ok asked) a → IsNumberText (Ok asked) b → a ≡ b
 one_text asked can_be a b h k =
-    h.2 ∙ ap line_of (same_answer (value_in asked.format) (rank_in asked.format) (one_word asked.format can_be) asked.asked h.0 k.0 h.1 k.1) ∙ sym k.2
+    h.2 ∙ ap line_of (same_answer (value_in asked.format) (rank_in asked.format)
+    (one_word asked.format can_be) asked.asked h.0 k.0 h.1 k.1) ∙ sym k.2

@@ -1,5 +1,6 @@
 -- What the hearing of an input comes to, by what its reader gave.
-use Rattle.std.proofs.Common.{◌≡◌, ℕ, ◌<◌, ◌≤◌, true, false, List, ◌++◌, length, length-append, append-nil, Option, Some, None, IfSome, Result, Ok, Err, refl, sym, ap, ◌∙◌, arith, ltb, subst, IfErr, ◌⊎◌, inl, inr}
+use Rattle.std.proofs.Common.{◌≡◌, ℕ, ◌<◌, ◌≤◌, true, false, List, ◌++◌, length, length-append, append-nil, Option, Some, None, IfSome}
+use Rattle.std.proofs.Common.{Result, Ok, Err, refl, sym, ap, ◌∙◌, arith, ltb, subst, IfErr, ◌⊎◌, inl, inr}
 use Rattle.std.proofs.lemmas.Bool.Decides.{nat_tests}
 use Rattle.std.specs.Io.KnownBytes.{Consumes}
 use Rattle.pm_lines.specs.declared.fault.TextFault.{TextFault}
@@ -71,7 +72,8 @@ same-refused old new text handed fault whole same (inl memory) =
     subst P (sym memory) (unsettled old (Err Memory) (λ settled. settled))
 same-refused old new text handed fault whole same (inr wrong) =
     let right : printed_text text ≡ Err fault = ap printed_text (sym same) ∙ wrong in
-    same-by old (Err fault) (outcome_of_text (printed_text text)) (λ settled. sym (ap outcome_of_text right)) (same-whole old new text whole)
+    same-by old (Err fault) (outcome_of_text (printed_text text)) (λ settled. sym (ap outcome_of_text right))
+    (same-whole old new text whole)
 
 -- what a text that was read whole, as it was handed on, and then written comes to
 pub same-written : (old new : Option (List ℕ)) (text handed out : List ℕ) (r : Result (Unit {0}) TextFault) → IsWholeText old new text

@@ -1,5 +1,7 @@
 -- The parts of a text between its colons, and the formats that they name.
-use Rattle.std.proofs.Common.{◌≡◌, ◌≢◌, ◌∙◌, ◌<◌, ◌&&◌, ◌||◌, ◌⊎◌, ℕ, ℤ, pos, neg_ℤ, Bool, true, false, cond, suc, refl, sym, ap, arith, inl, inr, List, [], ◌∷◌, ◌++◌, length, get_or, codes, Option, Some, None, option_map, MatchOption, eqb, nat_lt, ne_eqb, eqb-true, true≢false}
+use Rattle.std.proofs.Common.{◌≡◌, ◌≢◌, ◌∙◌, ◌<◌, ◌&&◌, ◌||◌, ◌⊎◌, ℕ, ℤ, pos, neg_ℤ, Bool, true, false, cond, suc, refl, sym, ap, arith}
+use Rattle.std.proofs.Common.{inl, inr, List, [], ◌∷◌, ◌++◌, length, get_or, codes, Option, Some, None, option_map, MatchOption, eqb}
+use Rattle.std.proofs.Common.{nat_lt, ne_eqb, eqb-true, true≢false}
 use Rattle.std.specs.List.{list_any}
 use Rattle.std.specs.Option.{option_and_then}
 use Rattle.std.specs.Borrow.{Bor}
@@ -31,7 +33,8 @@ parts_split (c ∷ cs) rest none =
     rw (here, parts_split cs rest (later c cs none)) refl
 
 -- what `split_once` says, in these words
-pub cut_at_colon : (text : Text) (r : Option (Bor Text × Bor Text)) → IsSplitOnceResult 58 text r → MatchOption r (parts text ≡ text ∷ []) (λ found. parts text ≡ found.0.now ∷ parts found.1.now)
+pub cut_at_colon : (text : Text) (r : Option (Bor Text × Bor Text)) → IsSplitOnceResult 58 text r
+    → MatchOption r (parts text ≡ text ∷ []) (λ found. parts text ≡ found.0.now ∷ parts found.1.now)
 cut_at_colon text None h = parts_plain text (split_parts 58 text None h (omega arith))
 cut_at_colon text (Some found) h =
     let p = split_parts 58 text (Some found) h (omega arith) in
@@ -50,7 +53,8 @@ no_digits (c ∷ cs) e = go (eqb c 58) refl e (no_digits cs)
     stop true = refl
     stop false = refl
 
-    go : (b : Bool) → eqb c 58 ≡ b → (b || has_colon cs) ≡ true → (has_colon cs ≡ true → are_digits 10 cs ≡ false) → (nat_lt (digit c) 10 && are_digits 10 cs) ≡ false
+    go : (b : Bool) → eqb c 58 ≡ b → (b || has_colon cs) ≡ true → (has_colon cs ≡ true → are_digits 10 cs ≡ false)
+        → (nat_lt (digit c) 10 && are_digits 10 cs) ≡ false
     go true is some rest = let at : c ≡ 58 = eqb-true c 58 is in rw at refl
     go false is some rest = rw (rest some) (stop (nat_lt (digit c) 10))
 
@@ -65,7 +69,8 @@ no_decimal : (text : Text) → has_colon text ≡ true → decimal_of text ≡ N
 no_decimal [] e = refl
 no_decimal (c ∷ cs) e = go (eqb c 45) refl
   where
-    go : (b : Bool) → eqb c 45 ≡ b → cond b (option_map (λ n. neg_ℤ (pos n)) (natural_of 10 cs)) (option_map (λ n. pos n) (natural_of 10 (c ∷ cs))) ≡ None
+    go : (b : Bool) → eqb c 45 ≡ b
+        → cond b (option_map (λ n. neg_ℤ (pos n)) (natural_of 10 cs)) (option_map (λ n. pos n) (natural_of 10 (c ∷ cs))) ≡ None
     go true is =
         let at : c ≡ 45 = eqb-true c 45 is in
         let some : has_colon cs ≡ true = rw at at e in
@@ -88,7 +93,8 @@ some_parts : (text : Text) → (first : Text) × (more : List Text) × (parts te
 some_parts [] = ([], [], refl)
 some_parts (c ∷ cs) = go (eqb c 58) (some_parts cs)
   where
-    go : (b : Bool) → (first : Text) × (more : List Text) × (parts cs ≡ first ∷ more) → (first : Text) × (more : List Text) × (cond b ([] ∷ parts cs) (before_parts c (parts cs)) ≡ first ∷ more)
+    go : (b : Bool) → (first : Text) × (more : List Text) × (parts cs ≡ first ∷ more)
+        → (first : Text) × (more : List Text) × (cond b ([] ∷ parts cs) (before_parts c (parts cs)) ≡ first ∷ more)
     go true p = ([], parts cs, refl)
     go false p = (c ∷ p.0, p.1, ap (before_parts c) p.2)
 
@@ -127,21 +133,25 @@ ulinear16_parts text = go (shape text)
     few first second (third ∷ []) = refl
     few first second (third ∷ fourth ∷ more) = refl
 
-    go : (parts text ≡ text ∷ []) ⊎ Several text → format_by (codes "ulinear16" ∷ parts text) ≡ option_and_then exponent_format (signed_of 8 text)
+    go : (parts text ≡ text ∷ []) ⊎ Several text
+        → format_by (codes "ulinear16" ∷ parts text) ≡ option_and_then exponent_format (signed_of 8 text)
     go (inl e) = ap (λ (ps : List Text). format_by (codes "ulinear16" ∷ ps)) e
     go (inr s) = ap (λ (ps : List Text). format_by (codes "ulinear16" ∷ ps)) s.are ∙ few s.first s.second s.more
         ∙ sym (ap (option_and_then exponent_format) (no_signed 8 text s.colon))
 
-pub direct_parts : (m b r : Text) → format_by (codes "direct" ∷ m ∷ b ∷ parts r) ≡ direct_format (signed_of 16 m) (signed_of 16 b) (signed_of 8 r)
+pub direct_parts : (m b r : Text)
+    → format_by (codes "direct" ∷ m ∷ b ∷ parts r) ≡ direct_format (signed_of 16 m) (signed_of 16 b) (signed_of 8 r)
 direct_parts m b r = go (shape r)
   where
-    go : (parts r ≡ r ∷ []) ⊎ Several r → format_by (codes "direct" ∷ m ∷ b ∷ parts r) ≡ direct_format (signed_of 16 m) (signed_of 16 b) (signed_of 8 r)
+    go : (parts r ≡ r ∷ []) ⊎ Several r
+        → format_by (codes "direct" ∷ m ∷ b ∷ parts r) ≡ direct_format (signed_of 16 m) (signed_of 16 b) (signed_of 8 r)
     go (inl e) = ap (λ (ps : List Text). format_by (codes "direct" ∷ m ∷ b ∷ ps)) e
     go (inr s) = ap (λ (ps : List Text). format_by (codes "direct" ∷ m ∷ b ∷ ps)) s.are
         ∙ sym (ap (direct_format (signed_of 16 m) (signed_of 16 b)) (no_signed 8 r s.colon) ∙ no_direct (signed_of 16 m) (signed_of 16 b))
 
 -- no other name has numbers after it
-pub other_parts : (name text : Text) → bytes_eq name (codes "ulinear16") ≡ false → bytes_eq name (codes "direct") ≡ false → format_by (name ∷ parts text) ≡ None
+pub other_parts : (name text : Text) → bytes_eq name (codes "ulinear16") ≡ false → bytes_eq name (codes "direct") ≡ false
+    → format_by (name ∷ parts text) ≡ None
 other_parts name text apart differs = let p = some_parts text in ap (λ (ps : List Text). format_by (name ∷ ps)) p.2 ∙ go p.0 p.1
   where
     go : (first : Text) (more : List Text) → format_by (name ∷ first ∷ more) ≡ None

@@ -25,7 +25,8 @@ not_below : (x low : Ratio) → AtMost low x → LessThan x low → ⊥
 not_below x low h l = omega (arith, ints)
 
 -- what `nearest` refuses of so many millionths
-module _ (least greatest : Ratio) (dl : 0 < least.den) (dg : 0 < greatest.den) (order : AtMost least greatest) (k : ℤ) (small : unsigned_abs k ≤ 10 ^ 15) where
+module _ (least greatest : Ratio) (dl : 0 < least.den) (dg : 0 < greatest.den) (order : AtMost least greatest) (k : ℤ)
+    (small : unsigned_abs k ≤ 10 ^ 15) where
   refuses : (fault : NumFault) → IsOutside least greatest (micros k) fault → RefusesValue least greatest (Nearest k) fault
   refuses BelowLeast out = (small, out)
   refuses AboveGreatest out = (small, out)
@@ -52,13 +53,18 @@ module _ (least greatest : Ratio) (dl : 0 < least.den) (dg : 0 < greatest.den) (
   not_inside ZeroSlope h inside = h.1
   not_inside ExponentRange h inside = h.1
 
-  pub refused_outside : (r : Result ℕ NumFault) → (IsOk r ↔ IsBetween least greatest (micros k)) → IfErr r (IsOutside least greatest (micros k))
+  pub refused_outside : (r : Result ℕ NumFault) → (IsOk r ↔ IsBetween least greatest (micros k))
+      → IfErr r (IsOutside least greatest (micros k))
       → (fault : NumFault) → (r ≡ Err fault) ↔ RefusesValue least greatest (Nearest k) fault
   refused_outside (Ok w) inside out fault = (λ e. absurd (ok_is_no_fault w fault e), λ h. absurd (not_inside fault h (inside.0 refl)))
     where
       ok_is_no_fault : (w : ℕ) (fault : NumFault) → ◌≡◌ {A = Result ℕ NumFault} (Ok w) (Err fault) → ⊥
       ok_is_no_fault w fault e = cc
-  refused_outside (Err e) inside out fault = (λ same. refuses fault (subst (IsOutside least greatest (micros k)) (err_is same) out), λ h. ap Err (same_fault e fault out h))
+  refused_outside (Err e) inside out fault = (
+    λ same. refuses fault (subst (IsOutside least greatest (micros k))
+        (err_is same) out),
+    λ h. ap Err (same_fault e fault out h),
+  )
     where
       err_is : ◌≡◌ {A = Result ℕ NumFault} (Err e) (Err fault) → e ≡ fault
       err_is same = cc

@@ -19,11 +19,21 @@ not_of_exponent : (least greatest : Ratio) (asked : Asked) → RefusesValue leas
 not_of_exponent least greatest (Word word) h = h
 not_of_exponent least greatest (Nearest k) h = h.1
 
-module _ (asked : Question) (can_be : IsFormat asked.format) (none : (fault : NumFault) → RefusesFormat asked.format fault → ⊥) (r : Result Answer NumFault)
-    (by_value : (fault : NumFault) → (r ≡ Err fault) ↔ RefusesValue (least_in asked.format) (greatest_in asked.format) asked.asked fault) where
+module _ (asked : Question) (can_be : IsFormat asked.format) (none : (fault : NumFault) → RefusesFormat asked.format fault
+    → ⊥) (r : Result Answer NumFault)
+    (by_value : (fault : NumFault)
+    → (r ≡ Err fault) ↔ RefusesValue (least_in asked.format) (greatest_in asked.format) asked.asked fault) where
   pub refused_by_value : (fault : NumFault) → (r ≡ Err fault) ↔ Refuses asked fault
-  refused_by_value ZeroSlope = (λ e. absurd (not_of_slope (least_in asked.format) (greatest_in asked.format) asked.asked ((by_value ZeroSlope).0 e)), λ h. absurd (none ZeroSlope h))
-  refused_by_value ExponentRange = (λ e. absurd (not_of_exponent (least_in asked.format) (greatest_in asked.format) asked.asked ((by_value ExponentRange).0 e)), λ h. absurd (none ExponentRange h))
+  refused_by_value ZeroSlope = (
+    λ e. absurd (not_of_slope (least_in asked.format) (greatest_in asked.format) asked.asked
+        ((by_value ZeroSlope).0 e)),
+    λ h. absurd (none ZeroSlope h),
+  )
+  refused_by_value ExponentRange = (
+    λ e. absurd (not_of_exponent (least_in asked.format) (greatest_in asked.format) asked.asked
+        ((by_value ExponentRange).0 e)),
+    λ h. absurd (none ExponentRange h),
+  )
   refused_by_value BelowLeast = (λ e. (can_be, (by_value BelowLeast).0 e), λ h. (by_value BelowLeast).1 h.1)
   refused_by_value AboveGreatest = (λ e. (can_be, (by_value AboveGreatest).0 e), λ h. (by_value AboveGreatest).1 h.1)
   refused_by_value TooLarge = (λ e. (can_be, (by_value TooLarge).0 e), λ h. (by_value TooLarge).1 h.1)
@@ -33,7 +43,8 @@ pub with_coefficients : (P : ℤ → ℤ → ℤ → Type 0) (m b r m' b' r' : �
 with_coefficients P m b r m' b' r' em eb er h = subst (λ z. P m b z) er (subst (λ z. P m z r') eb (subst (λ z. P z b' r') em h))
 
 module _ (m b r : ℤ) (slope : m ≢ pos 0) (decimal : IsDecimal r) (asked : Asked) (res : Result Answer NumFault)
-    (by_value : (fault : NumFault) → (res ≡ Err fault) ↔ RefusesValue (least_in (Direct m b r)) (greatest_in (Direct m b r)) asked fault) where
+    (by_value : (fault : NumFault)
+    → (res ≡ Err fault) ↔ RefusesValue (least_in (Direct m b r)) (greatest_in (Direct m b r)) asked fault) where
   none : (fault : NumFault) → RefusesFormat (Direct m b r) fault → ⊥
   none ZeroSlope h = slope h
   none ExponentRange h = h.1 decimal

@@ -1,5 +1,6 @@
 -- The events of a text, line by line, and the lines that are written of them.
-use Rattle.std.proofs.Common.{◌≡◌, ◌∙◌, ◌<◌, ℕ, List, [], ◌∷◌, ◌++◌, length, Result, Ok, Err, refl, sym, ap, append_assoc, append-nil, arith}
+use Rattle.std.proofs.Common.{◌≡◌, ◌∙◌, ◌<◌, ℕ, List, [], ◌∷◌, ◌++◌, length, Result, Ok, Err, refl, sym, ap, append_assoc, append-nil}
+use Rattle.std.proofs.Common.{arith}
 use Rattle.pm_device.specs.Effect.{Event}
 use Rattle.pm_device.specs.Held.{Held}
 use Rattle.pm_device.specs.History.{next, start_of}
@@ -7,7 +8,8 @@ use Rattle.pm_lines.specs.Lines.{Numbered, lines_of, unskipped_from}
 use Rattle.pm_lines.specs.declared.fault.TextFault.{TextFault}
 use Rattle.pm_tool.specs.Base.{base}
 use Rattle.pm_tool.specs.ReplyText.{as_line}
-use Rattle.pm_tool.specs.Script.{event_lines, event_words, events_in, heard_text, held_after, joined_events, line_event, output_lines, printed_text, text_by}
+use Rattle.pm_tool.specs.Script.{event_lines, event_words, events_in, heard_text, held_after, joined_events, line_event, output_lines}
+use Rattle.pm_tool.specs.Script.{printed_text, text_by}
 
 -- events before those of the lines that are left
 abbrev pub prepended : List Event → Result (List Event) TextFault → Result (List Event) TextFault
@@ -20,12 +22,14 @@ prepended-nil (Ok events) = refl
 prepended-nil (Err fault) = refl
 
 -- one event more
-pub prepended-joined : (done : List Event) (event : Event) (rest : Result (List Event) TextFault) → prepended done (joined_events (Ok event) rest) ≡ prepended (done ++ event ∷ []) rest
+pub prepended-joined : (done : List Event) (event : Event) (rest : Result (List Event) TextFault)
+    → prepended done (joined_events (Ok event) rest) ≡ prepended (done ++ event ∷ []) rest
 prepended-joined done event (Ok events) = ap Ok (sym (append_assoc done (event ∷ []) events))
 prepended-joined done event (Err fault) = refl
 
 module _ (done : List Event) (line : Numbered) (lines : List Numbered) where
-  pub events-more : (event : Event) → line_event line ≡ Ok event → prepended done (events_in (line ∷ lines)) ≡ prepended (done ++ event ∷ []) (events_in lines)
+  pub events-more : (event : Event) → line_event line ≡ Ok event
+      → prepended done (events_in (line ∷ lines)) ≡ prepended (done ++ event ∷ []) (events_in lines)
   events-more event is = ap (λ e. prepended done (joined_events e (events_in lines))) is ∙ prepended-joined done event (events_in lines)
 
   pub events-fault : (fault : TextFault) → line_event line ≡ Err fault → prepended done (events_in (line ∷ lines)) ≡ Err fault
@@ -35,7 +39,8 @@ module _ (done : List Event) (line : Numbered) (lines : List Numbered) where
 pub events-end : (done : List Event) (lines : List Numbered) → lines ≡ [] → prepended done (events_in lines) ≡ Ok done
 events-end done lines none = ap (λ l. prepended done (events_in l)) none ∙ ap Ok (append-nil done)
 
-pub held_after-push : (held : Held) (done : List Event) (event : Event) → held_after held (done ++ event ∷ []) ≡ next (held_after held done) event
+pub held_after-push : (held : Held) (done : List Event) (event : Event)
+    → held_after held (done ++ event ∷ []) ≡ next (held_after held done) event
 held_after-push held [] event = refl
 held_after-push held (first ∷ done) event = held_after-push (next held first) done event
 
@@ -56,7 +61,8 @@ unskipped-some [] some = let none : length (unskipped_from 1 []) ≡ 0 = ap leng
 unskipped-some (x ∷ xs) some = omega arith
 
 -- the text that is written of an input's events
-pub printed-text : (input : List ℕ) (events : List Event) → events_in (unskipped_from 1 input) ≡ Ok events → printed_text input ≡ Ok (heard_text events)
+pub printed-text : (input : List ℕ) (events : List Event) → events_in (unskipped_from 1 input) ≡ Ok events
+    → printed_text input ≡ Ok (heard_text events)
 unfolding printed_text
 printed-text input events are = ap text_by are
 
@@ -65,7 +71,8 @@ unfolding printed_text
 printed-fault input fault is = ap text_by is
 
 -- one event more was heard, and its line written
-pub lines-more : (start held : Held) (done : List Event) (event other : Event) (text more : List ℕ) → text ≡ event_lines start done → held ≡ held_after start done → other ≡ event
+pub lines-more : (start held : Held) (done : List Event) (event other : Event) (text more : List ℕ) → text ≡ event_lines start done
+    → held ≡ held_after start done → other ≡ event
     → more ≡ text ++ as_line (event_words held other) → more ≡ event_lines start (done ++ event ∷ [])
 lines-more start held done event other text more written is same added =
     added ∙ ap (λ t. t ++ as_line (event_words held other)) written ∙ ap (λ h. event_lines start done ++ as_line (event_words h other)) is
@@ -77,7 +84,8 @@ held-more start held after done event other is same one =
     one ∙ ap (λ h. next h other) is ∙ ap (λ e. next (held_after start done) e) same ∙ sym (held_after-push start done event)
 
 -- the text of a converter that heard all events
-pub answered-text : (input : List ℕ) (events : List Event) (lines : List ℕ) (start after : Held) → events_in (unskipped_from 1 input) ≡ Ok events → start ≡ start_of base
+pub answered-text : (input : List ℕ) (events : List Event) (lines : List ℕ) (start after : Held)
+    → events_in (unskipped_from 1 input) ≡ Ok events → start ≡ start_of base
     → lines ≡ event_lines start events → after ≡ held_after start events → printed_text input ≡ Ok (lines ++ output_lines after)
 answered-text input events lines start after are from written is =
     printed-text input events are

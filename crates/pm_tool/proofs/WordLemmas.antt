@@ -1,5 +1,6 @@
 -- What `{:04X}` writes of a word, and how the pieces of a format go together.
-use Rattle.std.proofs.Common.{◌≡◌, ◌∙◌, ◌-◌, ◌/◌, ◌%◌, ◌^◌, ◌<◌, ◌≤◌, ℕ, Bool, true, false, cond, suc, refl, sym, ap, arith, inl, inr, List, [], ◌∷◌, ◌++◌, append_assoc, eqb, eq-eqb, ne_eqb}
+use Rattle.std.proofs.Common.{◌≡◌, ◌∙◌, ◌-◌, ◌/◌, ◌%◌, ◌^◌, ◌<◌, ◌≤◌, ℕ, Bool, true, false, cond, suc, refl, sym, ap, arith, inl, inr}
+use Rattle.std.proofs.Common.{List, [], ◌∷◌, ◌++◌, append_assoc, eqb, eq-eqb, ne_eqb}
 use Rattle.std.specs.Fmt.{char_count, digit_glyph, digits, digits_onto, format_spec, padded_integral}
 use Rattle.std.proofs.lemmas.Bool.{cases_lt}
 use Rattle.std.proofs.lemmas.Fmt.{hex_one_digit, hex_two_digits}
@@ -11,12 +12,14 @@ last_digit k n acc small =
     let none : eqb (n / 16) 0 ≡ true = eq-eqb (n / 16) 0 (omega arith) in
     ap (λ (b : Bool). cond b (digit_glyph true (n % 16) ∷ acc) (digits_onto k 16 true (n / 16) (digit_glyph true (n % 16) ∷ acc))) none
 
-one_more : (k n : ℕ) (acc : List ℕ) → 16 ≤ n → digits_onto (suc k) 16 true n acc ≡ digits_onto k 16 true (n / 16) (digit_glyph true (n % 16) ∷ acc)
+one_more : (k n : ℕ) (acc : List ℕ) → 16 ≤ n
+    → digits_onto (suc k) 16 true n acc ≡ digits_onto k 16 true (n / 16) (digit_glyph true (n % 16) ∷ acc)
 one_more k n acc large =
     let some : eqb (n / 16) 0 ≡ false = ne_eqb (n / 16) 0 (λ e. omega arith) in
     ap (λ (b : Bool). cond b (digit_glyph true (n % 16) ∷ acc) (digits_onto k 16 true (n / 16) (digit_glyph true (n % 16) ∷ acc))) some
 
-three_digits : (n : ℕ) → 256 ≤ n → n < 4096 → digits 16 true n ≡ digit_glyph true (n / 256) ∷ digit_glyph true (n / 16 % 16) ∷ digit_glyph true (n % 16) ∷ []
+three_digits : (n : ℕ) → 256 ≤ n → n < 4096
+    → digits 16 true n ≡ digit_glyph true (n / 256) ∷ digit_glyph true (n / 16 % 16) ∷ digit_glyph true (n % 16) ∷ []
 unfolding digits
 three_digits n large small =
     let high : n / 16 / 16 % 16 ≡ n / 256 = omega arith in
@@ -28,7 +31,8 @@ unfolding digits
 four_digits n large small =
     let high : n / 16 / 16 / 16 % 16 ≡ n / 4096 = omega arith in
     let next : n / 16 / 16 % 16 ≡ n / 256 % 16 = omega arith in
-    one_more 63 n [] (omega arith) ∙ one_more 62 (n / 16) _ (omega arith) ∙ one_more 61 (n / 16 / 16) _ (omega arith) ∙ last_digit 60 (n / 16 / 16 / 16) _ (omega arith)
+    one_more 63 n [] (omega arith) ∙ one_more 62 (n / 16) _ (omega arith) ∙ one_more 61 (n / 16 / 16) _ (omega arith)
+    ∙ last_digit 60 (n / 16 / 16 / 16) _ (omega arith)
     ∙ (λ i. digit_glyph true (high i) ∷ digit_glyph true (next i) ∷ digit_glyph true (n / 16 % 16) ∷ digit_glyph true (n % 16) ∷ [])
 
 -- `{:04X}` writes four digits
@@ -57,5 +61,6 @@ hex_word_is n small = elim (cases_lt n 16) [
   ]
 ]
 
-pub regrouped : (a b c d e f g h i : List ℕ) → a ++ (b ++ (c ++ (d ++ (e ++ (f ++ (g ++ (h ++ i))))))) ≡ a ++ b ++ c ++ d ++ e ++ f ++ g ++ h ++ i
+pub regrouped : (a b c d e f g h i : List ℕ)
+    → a ++ (b ++ (c ++ (d ++ (e ++ (f ++ (g ++ (h ++ i))))))) ≡ a ++ b ++ c ++ d ++ e ++ f ++ g ++ h ++ i
 regrouped a b c d e f g h i = sym (simp append_assoc)

@@ -1,5 +1,6 @@
 -- What a writer got in several calls, of which one failed.
-use Rattle.std.proofs.Common.{◌≡◌, ◌∙◌, ◌+◌, ◌<◌, ◌≤◌, ℕ, List, [], ◌∷◌, ◌++◌, length, take, drop, get_or, Option, Result, Ok, Err, OnErr, sym, ap, append_assoc, append-nil, take-append-drop, zero-add, arith, length-append}
+use Rattle.std.proofs.Common.{◌≡◌, ◌∙◌, ◌+◌, ◌<◌, ◌≤◌, ℕ, List, [], ◌∷◌, ◌++◌, length, take, drop, get_or, Option, Result, Ok, Err, OnErr}
+use Rattle.std.proofs.Common.{sym, ap, append_assoc, append-nil, take-append-drop, zero-add, arith, length-append}
 use Rattle.std.specs.List.{flat_map, range_with_len}
 use Rattle.std.specs.Io.KnownBytes.{Appends}
 use Rattle.std.proofs.KnownBytes.{Appends-trans}
@@ -31,15 +32,18 @@ pub numbered-at : (f : ℕ → List ℕ) (n i : ℕ) → i < n
 numbered-at f n i within =
     let xs = range_with_len 0 n in
     let here : get_or xs i 0 ≡ i = get_or-range_with_len 0 n i 0 within ∙ zero-add i in
-    flat_map-at f xs i 0 (omega (arith, length-range_with_len 0 n)) ∙ ap (λ k. flat_map f (take i xs) ++ (f k ++ flat_map f (drop (i + 1) xs))) here
+    flat_map-at f xs i 0 (omega (arith, length-range_with_len 0 n))
+    ∙ ap (λ k. flat_map f (take i xs) ++ (f k ++ flat_map f (drop (i + 1) xs))) here
 
 -- one of them more
-pub numbered-more : (f : ℕ → List ℕ) (n i : ℕ) → i < n → flat_map f (take i (range_with_len 0 n)) ++ f i ≡ flat_map f (take (i + 1) (range_with_len 0 n))
+pub numbered-more : (f : ℕ → List ℕ) (n i : ℕ) → i < n
+    → flat_map f (take i (range_with_len 0 n)) ++ f i ≡ flat_map f (take (i + 1) (range_with_len 0 n))
 numbered-more f n i within =
     let xs = range_with_len 0 n in
     let here : get_or xs i 0 ≡ i = get_or-range_with_len 0 n i 0 within ∙ zero-add i in
     let more : take (i + 1) xs ≡ take i xs ++ get_or xs i 0 ∷ [] = take_more xs i 0 (omega (arith, length-range_with_len 0 n)) in
-    sym (ap (flat_map f) more ∙ flat_map-append f (take i xs) (get_or xs i 0 ∷ []) ∙ ap (λ l. flat_map f (take i xs) ++ l) (append-nil (f (get_or xs i 0)))
+    sym (ap (flat_map f) more ∙ flat_map-append f (take i xs) (get_or xs i 0 ∷ [])
+    ∙ ap (λ l. flat_map f (take i xs) ++ l) (append-nil (f (get_or xs i 0)))
     ∙ ap (λ k. flat_map f (take i xs) ++ f k) here)
 
 -- all of them
@@ -47,7 +51,8 @@ pub numbered-all : (f : ℕ → List ℕ) (n i : ℕ) → n ≤ i → flat_map f
 numbered-all f n i past = ap (flat_map f) (take_all i (range_with_len 0 n) (omega (arith, length-range_with_len 0 n)))
 
 -- a front of the first of two parts
-pub AppendsFront-first : (old new : Option (List ℕ)) (part later : List ℕ) → AppendsFront old new part → AppendsFront old new (part ++ later)
+pub AppendsFront-first : (old new : Option (List ℕ)) (part later : List ℕ) → AppendsFront old new part
+    → AppendsFront old new (part ++ later)
 AppendsFront-first old new part later short =
     let (front, rest, split, some, appended) = short in
     (front, rest ++ later, ap (λ p. p ++ later) split ∙ append_assoc front rest later, omega (arith, length-append rest later), appended)

@@ -6,7 +6,8 @@ use Rattle.indexmap.specs.IndexMap.{insert_entry}
 use Rattle.pm_trace.specs.Counts.{one_more, has_code, total_of}
 
 -- an insert of one more than the number that was found
-pub one_more_is : (es : List (ℕ × ℕ)) (code : ℕ) → insert_entry nat_eq es code (unwrap_or (lookup (nat_eq code) es) 0 + 1) ≡ one_more es code
+pub one_more_is : (es : List (ℕ × ℕ)) (code : ℕ)
+    → insert_entry nat_eq es code (unwrap_or (lookup (nat_eq code) es) 0 + 1) ≡ one_more es code
 one_more_is [] code = refl
 one_more_is (e ∷ es) code = by (eqb code e.0) refl (one_more_is es code)
   where

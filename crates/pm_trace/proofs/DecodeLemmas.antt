@@ -1,5 +1,7 @@
 -- How the text of the lines grows with the bytes that are taken.
-use Rattle.std.proofs.Common.{◌≡◌, ℕ, ◌+◌, ◌-◌, ◌<◌, ◌≤◌, leb, Bool, true, false, cond, ◌&&◌, List, [], ◌∷◌, ◌++◌, length, take, drop, Option, Some, None, refl, sym, ap, subst, ◌∙◌, arith, append_assoc, append-nil, length-append, take-append-drop}
+use Rattle.std.proofs.Common.{◌≡◌, ℕ, ◌+◌, ◌-◌, ◌<◌, ◌≤◌, leb, Bool, true, false, cond, ◌&&◌, List, [], ◌∷◌, ◌++◌, length, take, drop}
+use Rattle.std.proofs.Common.{Option, Some, None, refl, sym, ap, subst, ◌∙◌, arith, append_assoc, append-nil, length-append}
+use Rattle.std.proofs.Common.{take-append-drop}
 use Rattle.std.proofs.lemmas.Bool.Decides.{nat_tests}
 use Rattle.std.proofs.lemmas.Grind.{flat_map-append}
 use Rattle.std.proofs.lemmas.List.{length-take, nil_from_length}
@@ -13,7 +15,8 @@ use Rattle.pm_lines.specs.Lines.{is_line_feed, has_bytes}
 use Rattle.pm_trace.specs.Trace.{trace_of}
 use Rattle.pm_trace.specs.TraceText.{told_line, told_lines, counts_text, trace_text, end_of}
 use Rattle.pm_trace.specs.Counts.{counts_of}
-use Rattle.pm_trace.specs.Decoding.{Kept, told_at_end, kept_at_end, Holding, IsFresh, Feeds, now, said, next, told, some_told, kept_takes, line_ended, first_line, taken_of, taken_by, refusal_of, refusal_by}
+use Rattle.pm_trace.specs.Decoding.{Kept, told_at_end, kept_at_end, Holding, IsFresh, Feeds, now, said, next, told, some_told, kept_takes}
+use Rattle.pm_trace.specs.Decoding.{line_ended, first_line, taken_of, taken_by, refusal_of, refusal_by}
 use Rattle.pm_trace.specs.OpenLines.{line_takes}
 use Rattle.pm_lines.specs.Streams.{AppendsFront, IsWholeText}
 use Rattle.pm_trace.specs.Written.{Pushes, PushesFront, Written}
@@ -70,9 +73,11 @@ some_taken old piece open' some none =
 
 -- X3 comes where so many bytes were taken as a text may have
 pub room_none : (old : Holding) (piece : List ℕ) → old.standing ≡ Open → refusal_of old piece ≡ Some TooLong → max_text ≤ old.kept.taken
-room_none old piece open' refused = by (has_bytes piece) (leb max_text old.kept.taken) refl (ap (λ s. refusal_by s old.kept piece) (sym open') ∙ refused)
+room_none old piece open' refused = by (has_bytes piece) (leb max_text old.kept.taken) refl (ap (λ s. refusal_by s old.kept piece)
+    (sym open') ∙ refused)
   where
-    by : (some full : Bool) → leb max_text old.kept.taken ≡ full → cond (some && full) (Some TooLong) None ≡ Some TooLong → max_text ≤ old.kept.taken
+    by : (some full : Bool) → leb max_text old.kept.taken ≡ full → cond (some && full) (Some TooLong) None ≡ Some TooLong
+        → max_text ≤ old.kept.taken
     by true true is yes' = grind (arith, nat_tests)
     by true false is yes' = absurd (cc)
     by false full is yes' = absurd (cc)
@@ -149,13 +154,15 @@ AppendsFront-behind : (a b c : Option (List ℕ)) (before part later all : List 
 AppendsFront-behind a b c before part later all written (front, rest, split, some, appended) is = (
   before ++ front,
   rest ++ later,
-  is ∙ ap (λ l. before ++ (l ++ later)) split ∙ ap (λ l. before ++ l) (append_assoc front rest later) ∙ sym (append_assoc before front (rest ++ later)),
+  is ∙ ap (λ l. before ++ (l ++ later)) split ∙ ap (λ l. before ++ l) (append_assoc front rest later)
+      ∙ sym (append_assoc before front (rest ++ later)),
   omega (arith, some, length-append rest later),
   Appends-trans a b c before front written appended,
 )
 
 -- what the lines of more bytes say
-pub lines-append : (bytes piece : List ℕ) → told_lines (said (bytes ++ piece)) ≡ told_lines (said bytes) ++ told_lines (told (now bytes) piece)
+pub lines-append : (bytes piece : List ℕ)
+    → told_lines (said (bytes ++ piece)) ≡ told_lines (said bytes) ++ told_lines (told (now bytes) piece)
 lines-append bytes piece = ap told_lines (said-append bytes piece) ∙ flat_map-append told_line (said bytes) (told (now bytes) piece)
 
 lines_none : told_lines (said []) ≡ []
@@ -177,7 +184,8 @@ written_none r w holding fresh =
       text = subst P (sym lines_none) (Appends-nil w);
     }
 
-pub written_room : (r r' w w' : Option (List ℕ)) (bytes : List ℕ) (holding : Holding) → Written r r' w w' bytes holding → holding.kept.taken ≤ max_text
+pub written_room : (r r' w w' : Option (List ℕ)) (bytes : List ℕ) (holding : Holding) → Written r r' w w' bytes holding
+    → holding.kept.taken ≤ max_text
 written_room r r' w w' bytes holding written =
     let same : holding.kept.taken ≡ length bytes = ap (λ k. k.taken) written.kept ∙ length_now bytes in omega (arith, same, written.short)
 
@@ -188,14 +196,17 @@ module _ (r0 r1 r2 w0 w1 w2 : Option (List ℕ)) (bytes piece text : List ℕ) (
 
   -- what was put is a part of what the lines say
   pub put_part : (is_whole : Bool) → (pushed : PushesFront [] text old new piece is_whole)
-      → told_lines (said (bytes ++ piece)) ≡ told_lines (said bytes) ++ (text ++ told_lines (told (now (bytes ++ pushed.front)) pushed.rest))
+      → told_lines (said (bytes ++ piece)) ≡ told_lines (said bytes) ++ (text ++ told_lines (told (now
+      (bytes ++ pushed.front)) pushed.rest))
   put_part is_whole pushed =
       let same : told (now bytes) piece ≡ told (now bytes) pushed.front ++ told (now (bytes ++ pushed.front)) pushed.rest =
       ap (told (now bytes)) pushed.split ∙ told-append (now bytes) pushed.front pushed.rest
       ∙ ap (λ k. told (now bytes) pushed.front ++ told k pushed.rest) (sym (now-append bytes pushed.front)) in
-      let part : text ≡ told_lines (told (now bytes) pushed.front) = pushed.text_is ∙ ap (λ k. told_lines (told k pushed.front)) written.kept in
+      let part : text ≡ told_lines (told (now bytes) pushed.front) = pushed.text_is
+      ∙ ap (λ k. told_lines (told k pushed.front)) written.kept in
       lines-append bytes piece ∙ ap (λ l. told_lines (said bytes) ++ told_lines l) same
-      ∙ ap (λ l. told_lines (said bytes) ++ l) (flat_map-append told_line (told (now bytes) pushed.front) (told (now (bytes ++ pushed.front)) pushed.rest))
+      ∙ ap (λ l. told_lines (said bytes) ++ l) (flat_map-append told_line (told (now bytes) pushed.front) (told (now
+      (bytes ++ pushed.front)) pushed.rest))
       ∙ ap (λ l. told_lines (said bytes) ++ (l ++ told_lines (told (now (bytes ++ pushed.front)) pushed.rest))) (sym part)
 
   pub put_front : (is_whole : Bool) → PushesFront [] text old new piece is_whole → AppendsFront w1 w2 text
@@ -207,8 +218,17 @@ module _ (r0 r1 r2 w0 w1 w2 : Option (List ℕ)) (bytes piece text : List ℕ) (
         (told_lines (said (bytes ++ piece))) written.text short (put_part is_whole pushed),
   )
 
-  pub put_memory : (front : List ℕ) × (text' : List ℕ) × (rest : List ℕ) × Consumes r0 r2 front × (told_lines (said front) ≡ text' ++ rest) × Appends w0 w1 text'
-  put_memory = (bytes ++ piece, told_lines (said bytes), told_lines (told (now bytes) piece), consumed, lines-append bytes piece, written.text)
+  pub put_memory : (front : List ℕ) × (text' : List ℕ) × (rest : List ℕ) × Consumes r0 r2 front × (told_lines (said front)
+      ≡ text' ++ rest) × Appends w0 w1 text'
+  put_memory = (
+    bytes ++ piece,
+    told_lines (said bytes),
+    told_lines (told
+        (now bytes) piece),
+    consumed,
+    lines-append bytes piece,
+    written.text,
+  )
 
   pub put_too_long : PushesFront [] text old new piece false → Appends w1 w2 text
       → (front : List ℕ) × (more : List ℕ) × (length front ≡ max_text) × (0 < length more) × Consumes r0 r2 (front ++ more)
@@ -216,8 +236,10 @@ module _ (r0 r1 r2 w0 w1 w2 : Option (List ℕ)) (bytes piece text : List ℕ) (
   put_too_long pushed appended =
       let (some, many) = pushed.too_many refl in
       let count : old.kept.taken ≡ length bytes = ap (λ k. k.taken) written.kept ∙ length_now bytes in
-      let all : bytes ++ piece ≡ (bytes ++ pushed.front) ++ pushed.rest = ap (λ l. bytes ++ l) pushed.split ∙ sym (append_assoc bytes pushed.front pushed.rest) in
-      let part : text ≡ told_lines (told (now bytes) pushed.front) = pushed.text_is ∙ ap (λ k. told_lines (told k pushed.front)) written.kept in
+      let all : bytes ++ piece ≡ (bytes ++ pushed.front) ++ pushed.rest = ap (λ l. bytes ++ l) pushed.split
+      ∙ sym (append_assoc bytes pushed.front pushed.rest) in
+      let part : text ≡ told_lines (told (now bytes) pushed.front) = pushed.text_is
+      ∙ ap (λ k. told_lines (told k pushed.front)) written.kept in
       let P : List ℕ → Type 0 = λ l. Consumes r0 r2 l in
       let Q : List ℕ → Type 0 = λ l. Appends w0 w2 l in (
         bytes ++ pushed.front,
@@ -225,7 +247,8 @@ module _ (r0 r1 r2 w0 w1 w2 : Option (List ℕ)) (bytes piece text : List ℕ) (
         omega (arith, count, many, length-append bytes pushed.front),
         some,
         subst P all consumed,
-        subst Q (ap (λ l. told_lines (said bytes) ++ l) part ∙ sym (lines-append bytes pushed.front)) (Appends-trans w0 w1 w2 (told_lines (said bytes)) text written.text appended),
+        subst Q (ap (λ l. told_lines (said bytes) ++ l) part
+            ∙ sym (lines-append bytes pushed.front)) (Appends-trans w0 w1 w2 (told_lines (said bytes)) text written.text appended),
       )
 
   pub written_more : PushesFront [] text old new piece true → Appends w1 w2 text → Written r0 r2 w0 w2 (bytes ++ piece) new
@@ -233,7 +256,8 @@ module _ (r0 r1 r2 w0 w1 w2 : Option (List ℕ)) (bytes piece text : List ℕ) (
       let (none, pushes) = pushed.whole refl in
       let all : pushed.front ≡ piece = sym (pushed.split ∙ ap (λ l. pushed.front ++ l) none ∙ append-nil pushed.front) in
       let count : old.kept.taken ≡ length bytes = ap (λ k. k.taken) written.kept ∙ length_now bytes in
-      let grown : new.kept.taken ≡ old.kept.taken + length pushed.front = ap (λ k. k.taken) pushes.kept ∙ next-taken old.kept pushed.front in
+      let grown : new.kept.taken ≡ old.kept.taken + length pushed.front = ap (λ k. k.taken) pushes.kept
+      ∙ next-taken old.kept pushed.front in
       let part : text ≡ told_lines (told (now bytes) piece) =
       pushed.text_is ∙ ap (λ k. told_lines (told k pushed.front)) written.kept ∙ ap (λ l. told_lines (told (now bytes) l)) all in
       let Q : List ℕ → Type 0 = λ l. Appends w0 w2 l in
@@ -291,7 +315,8 @@ module _ (r0 r1 w0 w1 w2 : Option (List ℕ)) (input : List ℕ) (old : Holding)
       → trace_text input ≡ told_lines (said input) ++ text
   end_text text is =
       trace_text-end input
-      ∙ ap (λ k. told_lines (said input) ++ (told_lines (some_told (told_at_end k)) ++ counts_text (kept_at_end k).counts)) (sym written.kept)
+      ∙ ap (λ k. told_lines (said input) ++ (told_lines (some_told (told_at_end k)) ++ counts_text (kept_at_end k).counts))
+      (sym written.kept)
       ∙ ap (λ l. told_lines (said input) ++ l) (sym is)
 
   pub end_all : (text : List ℕ) → text ≡ told_lines (some_told (told_at_end old.kept)) ++ counts_text (kept_at_end old.kept).counts

@@ -56,11 +56,13 @@ onto_next-append x (l ∷ ls) ms some = refl
 
 -- one byte before the pieces and what stands since the last mark
 onto_last : (mark : ℕ → Bool) (x : ℕ) (xs : List ℕ) → mark x ≡ false
-    → onto_next x (ended mark xs ++ since mark xs ∷ []) ≡ onto_next x (ended mark xs) ++ cond (list_any mark xs) (since mark xs) (x ∷ xs) ∷ []
+    → onto_next x (ended mark xs ++ since mark xs ∷ []) ≡ onto_next x (ended mark xs) ++ cond (list_any mark xs) (since mark xs)
+    (x ∷ xs) ∷ []
 onto_last mark x xs other = by (list_any mark xs) refl
   where
     by : (b : Bool) → list_any mark xs ≡ b
-        → onto_next x (ended mark xs ++ since mark xs ∷ []) ≡ onto_next x (ended mark xs) ++ cond (list_any mark xs) (since mark xs) (x ∷ xs) ∷ []
+        → onto_next x (ended mark xs ++ since mark xs ∷ []) ≡ onto_next x (ended mark xs) ++ cond (list_any mark xs) (since mark xs)
+        (x ∷ xs) ∷ []
     by true some = rw some (onto_next-append x (ended mark xs) (since mark xs ∷ []) (some_ended mark xs some))
     by false none = rw (none, ended_none mark xs none, since_none mark xs none) refl
 
@@ -79,12 +81,14 @@ ended-other mark (x ∷ xs) b other = rw (ended-other mark xs b other) refl
 
 pub since-mark : (mark : ℕ → Bool) (xs : List ℕ) (b : ℕ) → mark b ≡ true → since mark (xs ++ b ∷ []) ≡ []
 since-mark mark [] b is = rw is refl
-since-mark mark (x ∷ xs) b is = rw (list_any-append mark xs (b ∷ []), is, or-true (list_any mark xs), or-true (mark x)) (since-mark mark xs b is)
+since-mark mark (x ∷ xs) b is = rw (list_any-append mark xs (b ∷ []), is, or-true (list_any mark xs), or-true (mark x))
+    (since-mark mark xs b is)
 
 pub since-other : (mark : ℕ → Bool) (xs : List ℕ) (b : ℕ) → mark b ≡ false → since mark (xs ++ b ∷ []) ≡ since mark xs ++ b ∷ []
 since-other mark [] b other = rw other refl
 since-other mark (x ∷ xs) b other =
-    let same : list_any mark (xs ++ b ∷ []) ≡ list_any mark xs = list_any-append mark xs (b ∷ []) ∙ rw other (or-false (list_any mark xs)) in
+    let same : list_any mark (xs ++ b ∷ []) ≡ list_any mark xs = list_any-append mark xs (b ∷ [])
+    ∙ rw other (or-false (list_any mark xs)) in
     rw same (by (mark x || list_any mark xs) (since-other mark xs b other))
   where
     by : (c : Bool) → since mark (xs ++ b ∷ []) ≡ since mark xs ++ b ∷ []

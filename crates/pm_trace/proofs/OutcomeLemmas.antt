@@ -1,5 +1,6 @@
 -- What the decoding of an input comes to, by what its reader gave.
-use Rattle.std.proofs.Common.{◌≡◌, ℕ, ◌<◌, ◌≤◌, true, false, List, ◌++◌, length, length-append, append-nil, Option, Some, None, IfSome, Ok, Err, refl, sym, ap, ◌∙◌, arith, ltb}
+use Rattle.std.proofs.Common.{◌≡◌, ℕ, ◌<◌, ◌≤◌, true, false, List, ◌++◌, length, length-append, append-nil, Option, Some, None, IfSome}
+use Rattle.std.proofs.Common.{Ok, Err, refl, sym, ap, ◌∙◌, arith, ltb}
 use Rattle.std.proofs.lemmas.Bool.Decides.{nat_tests}
 use Rattle.std.specs.Io.KnownBytes.{Consumes}
 use Rattle.pm_lines.specs.declared.fault.TextFault.{TextFault}
@@ -22,7 +23,8 @@ unfolding outcome_of
 outcome-short input short = let within : ltb max_text (length input) ≡ false = grind (arith, nat_tests) in rw within refl
 
 -- an input that was read whole
-pub same-whole : (old new : Option (List ℕ)) (text : List ℕ) (end : DecodeEnd) → IsWholeText old new text → end ≡ end_of (counts_of (trace_of text))
+pub same-whole : (old new : Option (List ℕ)) (text : List ℕ) (end : DecodeEnd) → IsWholeText old new text
+    → end ≡ end_of (counts_of (trace_of text))
     → IfSome old (λ input. IsSettled (Ok end) → Ok end ≡ outcome_of input)
 same-whole None new text end whole is = tt
 same-whole (Some input) None text end whole is = absurd whole.given
@@ -46,7 +48,8 @@ unsettled (Some input) fault open' = λ settled. absurd (open' settled)
 
 -- a refusal
 pub same-refused : (old new : Option (List ℕ)) (fault : TextFault) → IsOfDecode fault
-    → (fault ≡ TooLong → (front : List ℕ) × (more : List ℕ) × (length front ≡ max_text) × (0 < length more) × Consumes old new (front ++ more))
+    → (fault ≡ TooLong → (front : List ℕ) × (more : List ℕ) × (length front ≡ max_text) × (0 < length more) × Consumes old new
+    (front ++ more))
     → IfSome old (λ input. IsSettled (Err fault) → Err fault ≡ outcome_of input)
 same-refused old new (Syntax line) of long = absurd of
 same-refused old new (BadHex line) of long = absurd of

@@ -1,5 +1,6 @@
 -- What is kept of a line where pairs of digits come, with spaces between them.
-use Rattle.std.proofs.Common.{◌≡◌, ℕ, ◌≤◌, eqb, Bool, true, false, cond, not, ◌&&◌, ◌||◌, List, [], ◌∷◌, ◌++◌, length, Option, Some, None, refl, sym, ap, ◌∙◌, arith, append_assoc, length-append, take, drop, get_or, ne_eqb, ◌-◌}
+use Rattle.std.proofs.Common.{◌≡◌, ℕ, ◌≤◌, eqb, Bool, true, false, cond, not, ◌&&◌, ◌||◌, List, [], ◌∷◌, ◌++◌, length, Option, Some, None}
+use Rattle.std.proofs.Common.{refl, sym, ap, ◌∙◌, arith, append_assoc, length-append, take, drop, get_or, ne_eqb, ◌-◌}
 use Rattle.std.specs.Prelude.{is_some}
 use Rattle.std.specs.List.{fold, list_any}
 use Rattle.std.proofs.Math.Bool.{or-false}
@@ -60,7 +61,8 @@ other_than x k is other = by (eqb x k) refl
 -- a line that takes two digits is what it is with the byte that they write
 pair_takes : (write read : Collected) (slashes : Slashes) (bad : Bool) (x y : ℕ) → is_hex_digit x ≡ true → is_hex_digit y ≡ true
     → line_takes (line_takes (between write read slashes bad) x) y
-    ≡ between (cond (has_slash slashes) write (part_takes write (byte_of x y))) (cond (has_slash slashes) (part_takes read (byte_of x y)) read) slashes bad
+    ≡ between (cond (has_slash slashes) write (part_takes write (byte_of x y))) (cond (has_slash slashes) (part_takes read
+    (byte_of x y)) read) slashes bad
 unfolding line_takes plain_takes
 pair_takes write read slashes bad x y first second =
     let a = other_than x 13 first refl in
@@ -188,7 +190,8 @@ as_packet line bytes open' takes = by line.kind refl
     by : (kind : LineKind) → line.kind ≡ kind
         → fold line_takes line (pairs_front bytes) ≡ fold line_takes (record line { kind = Packet }) (pairs_front bytes)
     by Empty is =
-        packet_pair line bytes open' (λ x first. ap (λ k. kind_takes k x) is ∙ rw (other_than x 35 first refl, other_than x 32 first refl) refl)
+        packet_pair line bytes open' (λ x first. ap (λ k. kind_takes k x) is
+        ∙ rw (other_than x 35 first refl, other_than x 32 first refl) refl)
         (sym (ap (λ k. takes_pairs k bytes) is) ∙ takes)
     by Blank is =
         packet_pair line bytes open' (λ x first. ap (λ k. kind_takes k x) is ∙ rw (other_than x 32 first refl) refl)

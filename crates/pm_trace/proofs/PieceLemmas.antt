@@ -1,5 +1,6 @@
 -- A decoder that is called again and again.
-use Rattle.std.proofs.Common.{inl, inr, ◌≡◌, ℕ, ◌+◌, ◌-◌, Bool, true, false, cond, List, [], ◌∷◌, ◌++◌, length, take, drop, None, refl, sym, ap, subst, ◌∙◌, arith, append_assoc, append-nil, take-append-drop}
+use Rattle.std.proofs.Common.{inl, inr, ◌≡◌, ℕ, ◌+◌, ◌-◌, Bool, true, false, cond, List, [], ◌∷◌, ◌++◌, length, take, drop, None, refl}
+use Rattle.std.proofs.Common.{sym, ap, subst, ◌∙◌, arith, append_assoc, append-nil, take-append-drop}
 use Rattle.std.specs.Prelude.{flat_map}
 use Rattle.std.specs.List.{concat, count_by}
 use Rattle.std.proofs.lemmas.List.Sums.{sum_by-cons}
@@ -10,7 +11,8 @@ use Rattle.pm_lines.specs.Lines.{is_line_feed}
 use Rattle.pm_trace.specs.Counts.{counts_of, counts_with, lines_in, is_accepted, is_faulty, is_bad}
 use Rattle.pm_trace.specs.Trace.{Told, Accepted, Faulty, BadSyntax, BadHex, trace_of}
 use Rattle.pm_trace.specs.OpenLines.{is_begun}
-use Rattle.pm_trace.specs.Decoding.{Holding, IsFresh, Feeds, Finishes, now, said, next, told, some_told, told_at_end, kept_at_end, line_told, line_ended, first_line, taken_by, taken_of, told_by, kept_by}
+use Rattle.pm_trace.specs.Decoding.{Holding, IsFresh, Feeds, Finishes, now, said, next, told, some_told, told_at_end, kept_at_end}
+use Rattle.pm_trace.specs.Decoding.{line_told, line_ended, first_line, taken_by, taken_of, told_by, kept_by}
 use Rattle.pm_trace.specs.Pieces.{Call, Calls, Decodes, TakesWhole, taken_in, Stops, TakesFront}
 use Rattle.pm_trace.proofs.SaidLemmas.{now-append, said-append, trace_of-end, counts-at_end}
 
@@ -19,7 +21,8 @@ first_front : (bytes : List ℕ) → (rest : List ℕ) × (bytes ≡ first_line 
 first_front [] = ([], refl)
 first_front (x ∷ xs) = by (is_line_feed x) (first_front xs)
   where
-    by : (c : Bool) → (rest : List ℕ) × (xs ≡ first_line xs ++ rest) → (rest : List ℕ) × (x ∷ xs ≡ cond c (x ∷ []) (x ∷ first_line xs) ++ rest)
+    by : (c : Bool) → (rest : List ℕ) × (xs ≡ first_line xs ++ rest)
+        → (rest : List ℕ) × (x ∷ xs ≡ cond c (x ∷ []) (x ∷ first_line xs) ++ rest)
     by true tail = (xs, refl)
     by false tail = (tail.0, ap (λ l. x ∷ l) tail.1)
 
@@ -52,7 +55,8 @@ pub record Takes (bytes : List ℕ) (call : Call) (new : Holding) : Type 0 where
 takes : (bytes : List ℕ) (old new : Holding) (call : Call) → Took bytes old → Feeds old call.piece call.fed new → Takes bytes call new
 takes bytes old new call took feeds =
     let (rest, whole) = taken_front old call.piece took.standing in
-    let same : taken_in call ≡ taken_of old call.piece = front_taken (taken_of old call.piece) call.piece rest call.fed.taken whole feeds.taken in
+    let same : taken_in call ≡ taken_of old call.piece = front_taken
+    (taken_of old call.piece) call.piece rest call.fed.taken whole feeds.taken in
     record {
       took = record {
         kept =
@@ -112,7 +116,8 @@ pub record Ends (bytes : List ℕ) (new : Holding) : Type 0 where
 counts_kept : (bytes : List ℕ) → (kept_at_end (now bytes)).counts ≡ counts_with (now bytes).counts (told_at_end (now bytes))
 counts_kept bytes = by (is_begun (now bytes).line)
   where
-    by : (c : Bool) → (cond c (line_ended (now bytes)) (now bytes)).counts ≡ counts_with (now bytes).counts (cond c (line_told (now bytes)) None)
+    by : (c : Bool) → (cond c (line_ended (now bytes)) (now bytes)).counts ≡ counts_with (now bytes).counts (cond c (line_told
+        (now bytes)) None)
     by true = refl
     by false = refl
 

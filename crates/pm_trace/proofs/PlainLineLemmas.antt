@@ -1,5 +1,6 @@
 -- What is kept of a line, each byte of which counts, with one byte more at its end.
-use Rattle.std.proofs.Common.{◌≡◌, ℕ, eqb, ltb, Bool, true, false, cond, not, ◌||◌, ◌&&◌, List, [], ◌∷◌, ◌++◌, length, take, Option, Some, None, refl, sym, ap, ◌∙◌, arith, append_assoc, append-nil, length-append, inl, inr}
+use Rattle.std.proofs.Common.{◌≡◌, ℕ, eqb, ltb, Bool, true, false, cond, not, ◌||◌, ◌&&◌, List, [], ◌∷◌, ◌++◌, length, take, Option, Some}
+use Rattle.std.proofs.Common.{None, refl, sym, ap, ◌∙◌, arith, append_assoc, append-nil, length-append, inl, inr}
 use Rattle.std.specs.Prelude.{flat_map, is_some}
 use Rattle.std.specs.List.{list_any, list_all}
 use Rattle.std.proofs.Math.Bool.{or-true, or-false, or_assoc}
@@ -14,11 +15,13 @@ use Rattle.pm_lines.specs.Pairs.{byte_of}
 use Rattle.pm_trace.specs.Marks.{ended, since, before, after}
 use Rattle.pm_trace.specs.Trace.{is_slash, is_separator, unpaired, word_bytes, is_bad_word, part_bytes, max_part}
 use Rattle.pm_trace.specs.Parts.{Collected, part_of, part_takes}
-use Rattle.pm_trace.specs.OpenLines.{kind_of, kind_takes, slashes_of, one_slash_more, has_slash, has_more_slashes, plain_line, plain_takes, word_ends, word_goes_on}
+use Rattle.pm_trace.specs.OpenLines.{kind_of, kind_takes, slashes_of, one_slash_more, has_slash, has_more_slashes, plain_line}
+use Rattle.pm_trace.specs.OpenLines.{plain_takes, word_ends, word_goes_on}
 use Rattle.pm_trace.specs.declared.decoder.slashes.Slashes.{Slashes}
 use Rattle.pm_trace.specs.declared.decoder.slashes.Slashes.TheVariants as slash
 use Rattle.pm_trace.specs.declared.decoder.line_kind.LineKind.TheVariants.{Blank, Comment, Packet}
-use Rattle.pm_trace.proofs.MarkLemmas.{before_none, after_none, ended-mark, ended-other, since-mark, since-other, split-ended, before-marked, before-unmarked, after-marked, after-unmarked}
+use Rattle.pm_trace.proofs.MarkLemmas.{before_none, after_none, ended-mark, ended-other, since-mark, since-other, split-ended}
+use Rattle.pm_trace.proofs.MarkLemmas.{before-marked, before-unmarked, after-marked, after-unmarked}
 
 -- ---- pairs of digits
 
@@ -56,7 +59,8 @@ part_bytes-separator part b is =
     let last = word_bytes (since is_separator part) in
     part_bytes-split (part ++ b ∷ [])
     ∙ ap (λ l. flat_map word_bytes l ++ word_bytes (since is_separator (part ++ b ∷ []))) (ended-mark is_separator part b is)
-    ∙ ap (λ l. flat_map word_bytes (ended is_separator part ++ since is_separator part ∷ []) ++ word_bytes l) (since-mark is_separator part b is)
+    ∙ ap (λ l. flat_map word_bytes (ended is_separator part ++ since is_separator part ∷ []) ++ word_bytes l)
+    (since-mark is_separator part b is)
     ∙ append-nil (flat_map word_bytes (ended is_separator part ++ since is_separator part ∷ []))
     ∙ flat_map-append word_bytes (ended is_separator part) (since is_separator part ∷ [])
     ∙ ap (λ l. old ++ l) (append-nil last) ∙ sym (part_bytes-split part)
@@ -79,7 +83,8 @@ part_of-snoc bytes b =
     elim (cases_lt (length bytes) max_part) [
       | inl room ↦
           let whole : take max_part bytes ≡ bytes = take_all max_part bytes (omega arith) in
-          let more : take max_part (bytes ++ b ∷ []) ≡ bytes ++ b ∷ [] = take_all max_part (bytes ++ b ∷ []) (omega (arith, length-append bytes (b ∷ []))) in
+          let more : take max_part (bytes ++ b ∷ []) ≡ bytes ++ b ∷ [] = take_all max_part (bytes ++ b ∷ []) (omega
+          (arith, length-append bytes (b ∷ []))) in
           let fits : ltb (length bytes) max_part ≡ true = grind (arith, nat_tests) in
           let short : ltb max_part (length bytes) ≡ false = grind (arith, nat_tests) in
           let longer : ltb max_part (length (bytes ++ b ∷ [])) ≡ false = grind (arith, nat_tests, length-append bytes (b ∷ [])) in
@@ -167,7 +172,8 @@ module _ (line : List ℕ) (b : ℕ) where
   write_goes : is_separator b ≡ false → list_any is_slash line ≡ false
       → part_bytes (before is_slash (line ++ b ∷ [])) ≡ part_bytes (before is_slash line) ++ pair_of (unpaired (since is_separator line)) b
   write_goes other none =
-      let goes : before is_slash (line ++ b ∷ []) ≡ line ++ b ∷ [] = before-unmarked is_slash line (b ∷ []) none ∙ rw (not_slash b other) refl in
+      let goes : before is_slash (line ++ b ∷ []) ≡ line ++ b ∷ [] = before-unmarked is_slash line (b ∷ []) none
+      ∙ rw (not_slash b other) refl in
       ap part_bytes goes ∙ part_bytes-other line b other
       ∙ ap (λ l. part_bytes l ++ pair_of (unpaired (since is_separator line)) b) (sym (before_none is_slash line none))
 
@@ -238,14 +244,16 @@ has_more-is line = by (list_any is_slash line) (list_any is_slash (after is_slas
     by true false none = refl
     by false more none = sym (none refl)
 
-slashes-snoc : (line : List ℕ) (b : ℕ) → slashes_of (line ++ b ∷ []) ≡ cond (is_slash b) (one_slash_more (slashes_of line)) (slashes_of line)
+slashes-snoc : (line : List ℕ) (b : ℕ)
+    → slashes_of (line ++ b ∷ []) ≡ cond (is_slash b) (one_slash_more (slashes_of line)) (slashes_of line)
 slashes-snoc line b =
     (λ i. cond (slash-snoc line b i) (cond (more-snoc line b i) slash.More slash.One) slash.None)
     ∙ by (list_any is_slash line) (list_any is_slash (after is_slash line)) (is_slash b) (no_more line)
   where
     by : (any more one : Bool) → (any ≡ false → more ≡ false)
         → cond (any || one) (cond (more || (any && one)) slash.More slash.One) slash.None
-        ≡ cond one (one_slash_more (cond any (cond more slash.More slash.One) slash.None)) (cond any (cond more slash.More slash.One) slash.None)
+        ≡ cond one (one_slash_more (cond any (cond more slash.More slash.One) slash.None)) (cond any
+        (cond more slash.More slash.One) slash.None)
     by true true true none = refl
     by true true false none = refl
     by true false true none = refl
@@ -312,7 +320,8 @@ module _ (line : List ℕ) (b : ℕ) (other : is_separator b ≡ false) where
         read = cond s (part_after d (part_of (part_bytes (after is_slash line))) b) (part_of (part_bytes (after is_slash line)));
         digit = digit_after d b;
         slashes = slashes_of line;
-        is_bad = (list_any is_bad_word (ended is_separator line) || not (list_all is_hex_digit (since is_separator line))) || not (is_hex_digit b);
+        is_bad = (list_any is_bad_word (ended is_separator line) || not (list_all is_hex_digit (since is_separator line))) || not
+            (is_hex_digit b);
         is_returned = false;
       }
   unfolding plain_line
@@ -342,6 +351,7 @@ pub plain_line-snoc : (line : List ℕ) (b : ℕ) → plain_line (line ++ b ∷ 
 unfolding plain_takes
 plain_line-snoc line b = by (is_separator b) refl
   where
-    by : (c : Bool) → is_separator b ≡ c → plain_line (line ++ b ∷ []) ≡ cond c (word_ends (plain_line line) b) (word_goes_on (plain_line line) b)
+    by : (c : Bool) → is_separator b ≡ c
+        → plain_line (line ++ b ∷ []) ≡ cond c (word_ends (plain_line line) b) (word_goes_on (plain_line line) b)
     by true is = word_ended line b is
     by false other = word_went_on line b other

@@ -1,5 +1,6 @@
 -- How bytes without a line feed run, and one after them.
-use Rattle.std.proofs.Common.{◌≡◌, ℕ, ◌+◌, ◌<◌, Bool, true, false, eqb, List, [], ◌∷◌, ◌++◌, length, take, suc, Some, None, refl, sym, ap, subst, ◌∙◌, arith, append_assoc, append-nil, length-append}
+use Rattle.std.proofs.Common.{◌≡◌, ℕ, ◌+◌, ◌<◌, Bool, true, false, eqb, List, [], ◌∷◌, ◌++◌, length, take, suc, Some, None, refl, sym, ap}
+use Rattle.std.proofs.Common.{subst, ◌∙◌, arith, append_assoc, append-nil, length-append}
 use Rattle.std.specs.List.{fold, list_any}
 use Rattle.std.proofs.lemmas.List.Sums.{fold-append}
 use Rattle.pm_lines.specs.Lines.{is_line_feed}
@@ -43,7 +44,8 @@ told_plain kept (x ∷ xs) plain = by (eqb x 10) refl (told_plain (kept_takes ke
 
 pub told-append : (kept : Kept) (xs ys : List ℕ) → told kept (xs ++ ys) ≡ told kept xs ++ told (next kept xs) ys
 told-append kept [] ys = refl
-told-append kept (x ∷ xs) ys = rw (told-append (kept_takes kept x) xs ys) (sym (append_assoc _ (told (kept_takes kept x) xs) (told (next (kept_takes kept x) xs) ys)))
+told-append kept (x ∷ xs) ys = rw (told-append (kept_takes kept x) xs ys) (sym (append_assoc _ (told (kept_takes kept x) xs) (told (next
+    (kept_takes kept x) xs) ys)))
 
 -- a line feed after bytes without one
 pub next_ended : (kept : Kept) (front : List ℕ) → list_any is_line_feed front ≡ false

@@ -1,5 +1,7 @@
 -- What is kept and said of a text with one byte more at its end, with more bytes, and at its end.
-use Rattle.std.proofs.Common.{◌≡◌, ℕ, ◌+◌, ◌-◌, ◌≤◌, eqb, Bool, true, false, cond, not, ◌||◌, ◌&&◌, List, [], ◌∷◌, ◌++◌, length, map, filter, take, Option, Some, None, Ok, Err, refl, sym, ap, ◌∙◌, arith, append_assoc, append-nil, length-append}
+use Rattle.std.proofs.Common.{◌≡◌, ℕ, ◌+◌, ◌-◌, ◌≤◌, eqb, Bool, true, false, cond, not, ◌||◌, ◌&&◌, List, [], ◌∷◌, ◌++◌, length, map}
+use Rattle.std.proofs.Common.{filter, take, Option, Some, None, Ok, Err, refl, sym, ap, ◌∙◌, arith, append_assoc, append-nil}
+use Rattle.std.proofs.Common.{length-append}
 use Rattle.std.specs.Prelude.{is_some, nat_eq}
 use Rattle.std.specs.List.{list_any, list_all, ends_with, enumerate_from, filter_map, count_by}
 use Rattle.std.proofs.Math.Bool.{and-true, or-true, or-false, or_assoc}
@@ -9,12 +11,16 @@ use Rattle.std.proofs.lemmas.List.{map-append, take_all}
 use Rattle.std.proofs.lemmas.List.Elements.{filter-append, filter_map-append}
 use Rattle.std.proofs.lemmas.List.Folds.{list_any-append}
 use Rattle.std.proofs.lemmas.List.Sums.{sum_by-append, fold-append}
-use Rattle.pm_lines.specs.Lines.{is_line_feed, is_space, is_skipped, is_unskipped, has_bytes, without_return, without_empty_last, carriage_return, lines_of, unskipped_from}
+use Rattle.pm_lines.specs.Lines.{is_line_feed, is_space, is_skipped, is_unskipped, has_bytes, without_return, without_empty_last}
+use Rattle.pm_lines.specs.Lines.{carriage_return, lines_of, unskipped_from}
 use Rattle.pm_trace.specs.Marks.{ended, since, before, after}
-use Rattle.pm_trace.specs.Trace.{Told, told_of, Accepted, Faulty, BadSyntax, BadHex, is_slash, is_separator, is_bad_word, has_bad_word, is_long, is_misshapen, part_bytes, parts_of, line_read, line_judged, reading_judged, trace_of, unpaired, max_part}
+use Rattle.pm_trace.specs.Trace.{Told, told_of, Accepted, Faulty, BadSyntax, BadHex, is_slash, is_separator, is_bad_word, has_bad_word}
+use Rattle.pm_trace.specs.Trace.{is_long, is_misshapen, part_bytes, parts_of, line_read, line_judged, reading_judged, trace_of, unpaired}
+use Rattle.pm_trace.specs.Trace.{max_part}
 use Rattle.pm_trace.specs.Counts.{counts_of, counts_with, one_counted, one_more, counted, code_told, is_accepted, is_faulty, is_bad}
 use Rattle.pm_trace.specs.Parts.{part_of}
-use Rattle.pm_trace.specs.OpenLines.{kind_of, is_skipped_kind, is_empty_kind, slashes_of, has_slash, plain_line, open_read, open_judged, line_of, line_takes, is_begun}
+use Rattle.pm_trace.specs.OpenLines.{kind_of, is_skipped_kind, is_empty_kind, slashes_of, has_slash, plain_line, open_read, open_judged}
+use Rattle.pm_trace.specs.OpenLines.{line_of, line_takes, is_begun}
 use Rattle.pm_trace.specs.Decoding.{now, said, kept_takes, next, told, some_told, line_told, line_ended, told_at_end}
 use Rattle.pm_trace.specs.declared.line_fault.LineFault.TheVariants as fault
 use Rattle.pm_trace.specs.declared.decoder.line_kind.LineKind.TheVariants.{Blank, Comment, Packet}
@@ -76,7 +82,8 @@ open_reads line =
     by true wrong is = refl
     by false true is = refl
     by false false is =
-        let parts = or_parts (list_any is_slash (after is_slash line)) (is_long (before is_slash line) || is_long (after is_slash line)) is in
+        let parts = or_parts (list_any is_slash (after is_slash line)) (is_long (before is_slash line) || is_long
+        (after is_slash line)) is in
         let longs = or_parts (is_long (before is_slash line)) (is_long (after is_slash line)) parts.1 in
         λ i. Ok (record {
           write = short_part (before is_slash line) longs.0 i;
@@ -129,7 +136,8 @@ told_lines-snoc lines line =
 
 -- the line that goes on, as if it ended here
 told_here : (bytes : List ℕ) → let line = without_return (since is_line_feed bytes) in
-    map told_of (filter is_unskipped ((1 + length (map without_return (ended is_line_feed bytes)), line) ∷ [])) ≡ some_told (line_told (now bytes))
+    map told_of (filter is_unskipped ((1 + length (map without_return (ended is_line_feed bytes)), line) ∷ [])) ≡ some_told (line_told
+    (now bytes))
 unfolding now line_of plain_line
 told_here bytes = by (is_skipped_kind (kind_of (without_return (since is_line_feed bytes)))) refl
   where
@@ -142,9 +150,11 @@ told_here bytes = by (is_skipped_kind (kind_of (without_return (since is_line_fe
     by : (c : Bool) → is_skipped_kind (kind_of line) ≡ c
         → map told_of (filter is_unskipped ((1 + length (map without_return (ended is_line_feed bytes)), line) ∷ []))
         ≡ some_told (cond c None (Some (length (ended is_line_feed bytes) + 1, open_judged (line_of (since is_line_feed bytes)))))
-    by true skipped = ap (λ c. map told_of (cond (not c) ((1 + length (map without_return (ended is_line_feed bytes)), line) ∷ []) [])) (skipped_kind line ∙ skipped)
+    by true skipped = ap (λ c. map told_of (cond (not c) ((1 + length (map without_return (ended is_line_feed bytes)), line) ∷ []) []))
+        (skipped_kind line ∙ skipped)
     by false unskipped =
-        ap (λ c. map told_of (cond (not c) ((1 + length (map without_return (ended is_line_feed bytes)), line) ∷ []) [])) (skipped_kind line ∙ unskipped)
+        ap (λ c. map told_of (cond (not c) ((1 + length (map without_return (ended is_line_feed bytes)), line) ∷ []) []))
+        (skipped_kind line ∙ unskipped)
         ∙ (λ i. (count i, sym (open_judges (since is_line_feed bytes)) i) ∷ [])
 
 said-mark : (bytes : List ℕ) (b : ℕ) → is_line_feed b ≡ true → said (bytes ++ b ∷ []) ≡ said bytes ++ some_told (line_told (now bytes))
@@ -278,7 +288,8 @@ last_kept (x ∷ []) l = ap (λ r. x ∷ r) (last_kept [] l)
 last_kept (x ∷ y ∷ ls) l = ap (λ r. x ∷ r) (last_kept (y ∷ ls) l)
 
 lines_at_end : (text : List ℕ) → lines_of text
-    ≡ map without_return (ended is_line_feed text) ++ map without_return (cond (has_bytes (since is_line_feed text)) (since is_line_feed text ∷ []) [])
+    ≡ map without_return (ended is_line_feed text) ++ map without_return (cond (has_bytes (since is_line_feed text))
+    (since is_line_feed text ∷ []) [])
 unfolding lines_of
 lines_at_end text =
     ap (λ l. map without_return (without_empty_last l)) (split-ended is_line_feed text)
@@ -307,10 +318,12 @@ trace_of-end text = trace_lines text ∙ ap told_lines (lines_at_end text) ∙ b
     at_end c is = ap (λ d. cond d (line_told (now text)) None) (line_begun text ∙ is)
 
     by : (c : Bool) → has_bytes (since is_line_feed text) ≡ c
-        → told_lines (lines ++ map without_return (cond c (since is_line_feed text ∷ []) [])) ≡ said text ++ some_told (told_at_end (now text))
+        → told_lines (lines ++ map without_return (cond c (since is_line_feed text ∷ []) [])) ≡ said text ++ some_told (told_at_end
+        (now text))
     by true some =
         told_lines-snoc lines (without_return (since is_line_feed text)) ∙ ap (λ l. told_lines lines ++ l) (told_here text)
-        ∙ ap (λ l. l ++ some_told (line_told (now text))) (sym (said_lines text)) ∙ ap (λ o. said text ++ some_told o) (sym (at_end true some))
+        ∙ ap (λ l. l ++ some_told (line_told (now text))) (sym (said_lines text))
+        ∙ ap (λ o. said text ++ some_told o) (sym (at_end true some))
     by false none =
         ap told_lines (append-nil lines) ∙ sym (said_lines text) ∙ sym (append-nil (said text))
         ∙ ap (λ o. said text ++ some_told o) (sym (at_end false none))

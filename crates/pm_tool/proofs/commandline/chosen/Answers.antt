@@ -1,4 +1,5 @@
-use Rattle.std.proofs.Common.{◌≡◌, ◌∙◌, ℕ, false, true≢false, eqb, eq-eqb, ap, get_or, refl, sym, subst, [], ◌∷◌, List, Result, Ok, Err, IfOk, IsErrAnd, IsSomeAnd, Option, Some, codes, ⊎_elim, map, unwrap_or}
+use Rattle.std.proofs.Common.{◌≡◌, ◌∙◌, ℕ, false, true≢false, eqb, eq-eqb, ap, get_or, refl, sym, subst, [], ◌∷◌, List, Result, Ok, Err}
+use Rattle.std.proofs.Common.{IfOk, IsErrAnd, IsSomeAnd, Option, Some, codes, ⊎_elim, map, unwrap_or}
 use Rattle.clap.specs.Words.{FailsBy, HasKind, Kinds, Row, Text, fault_of, subcommand_of}
 use Rattle.clap.specs.Walk.{texts}
 use Rattle.clap.specs.declared.error.Error.{Error}
@@ -12,13 +13,18 @@ use Rattle.pm_tool.proofs.GivenOptions.{first_text, number_met, number_passes, r
 use Rattle.pm_tool.proofs.commandline.chosen.Goals as goal
 
 -- where the parser meets a subcommand and finds no fault, what is chosen is that subcommand, unless memory ran out
-met : (r : Result Chosen Error) (words : List Text) (name : Text) (rows : List Row) (P : Chosen → Type 0) → IfOk r (λ chosen. IsSomeAnd (subcommand_of pmb words) (λ met. Asks met.0 met.1 chosen))
-    → FailsBy (fault_of pmb words) r → subcommand_of pmb words ≡ Some (name, rows) → fault_of pmb words ≡ [] → ((chosen : Chosen) → Asks name rows chosen → P chosen) → UnlessMemory r P
-met (Ok chosen) words name rows P named kinds found none gives = gives chosen (subst (λ (o : Option (Text × List Row)). IsSomeAnd o (λ met. Asks met.0 met.1 chosen)) found named)
-met (Err e) words name rows P named kinds found none gives = ⊎_elim (λ memory. memory) (λ other. absurd other) (subst (λ (k : Kinds). HasKind k e) none kinds)
+met : (r : Result Chosen Error) (words : List Text) (name : Text) (rows : List Row) (P : Chosen → Type 0)
+    → IfOk r (λ chosen. IsSomeAnd (subcommand_of pmb words) (λ met. Asks met.0 met.1 chosen))
+    → FailsBy (fault_of pmb words) r → subcommand_of pmb words ≡ Some (name, rows) → fault_of pmb words ≡ [] → ((chosen : Chosen)
+    → Asks name rows chosen → P chosen) → UnlessMemory r P
+met (Ok chosen) words name rows P named kinds found none gives = gives chosen (subst (λ (o : Option (Text × List Row)). IsSomeAnd o
+    (λ met. Asks met.0 met.1 chosen)) found named)
+met (Err e) words name rows P named kinds found none gives = ⊎_elim (λ memory. memory) (λ other. absurd other) (subst (λ
+    (k : Kinds). HasKind k e) none kinds)
 
 -- where the parser finds a fault, the call refuses
-refused : (r : Result Chosen Error) (words : List Text) (kind : ErrorKind) (kinds : Kinds) → FailsBy (fault_of pmb words) r → fault_of pmb words ≡ kind ∷ kinds → IsErrAnd r (HasKind (kind ∷ kinds))
+refused : (r : Result Chosen Error) (words : List Text) (kind : ErrorKind) (kinds : Kinds) → FailsBy (fault_of pmb words) r
+    → fault_of pmb words ≡ kind ∷ kinds → IsErrAnd r (HasKind (kind ∷ kinds))
 refused (Ok chosen) words kind kinds fails is = let e : kind ∷ kinds ≡ [] = sym is ∙ fails in absurd (cc)
 refused (Err e) words kind kinds fails is = subst (λ (k : Kinds). HasKind k e) is fails
 
@@ -99,28 +105,32 @@ missing_fault program = refl
 pub returns-clause-hear : goal.returns-clause-hear
 returns-clause-hear c = λ program e.
     met c.parsed.result (program ∷ codes "hear" ∷ []) (codes "hear") [] (λ chosen. chosen ≡ Hear)
-    (subst (λ (t : List Text). IfOk c.parsed.result (λ chosen. IsSomeAnd (subcommand_of pmb t) (λ met. Asks met.0 met.1 chosen))) e c.parsed.ensures.named)
+    (subst (λ (t : List Text). IfOk c.parsed.result (λ chosen. IsSomeAnd (subcommand_of pmb t)
+    (λ met. Asks met.0 met.1 chosen))) e c.parsed.ensures.named)
     (subst (λ (t : List Text). FailsBy (fault_of pmb t) c.parsed.result) e c.parsed.ensures.kinds)
     (hear_met program) (hear_passes program) (hear_chosen [])
 
 pub returns-clause-replay : goal.returns-clause-replay
 returns-clause-replay c = λ program e.
     met c.parsed.result (program ∷ codes "replay" ∷ []) (codes "replay") [] (λ chosen. chosen ≡ Replay)
-    (subst (λ (t : List Text). IfOk c.parsed.result (λ chosen. IsSomeAnd (subcommand_of pmb t) (λ met. Asks met.0 met.1 chosen))) e c.parsed.ensures.named)
+    (subst (λ (t : List Text). IfOk c.parsed.result (λ chosen. IsSomeAnd (subcommand_of pmb t)
+    (λ met. Asks met.0 met.1 chosen))) e c.parsed.ensures.named)
     (subst (λ (t : List Text). FailsBy (fault_of pmb t) c.parsed.result) e c.parsed.ensures.kinds)
     (replay_met program) (replay_passes program) (replay_chosen [])
 
 pub returns-clause-decode : goal.returns-clause-decode
 returns-clause-decode c = λ program e.
     met c.parsed.result (program ∷ codes "decode" ∷ []) (codes "decode") [] (λ chosen. chosen ≡ Decode)
-    (subst (λ (t : List Text). IfOk c.parsed.result (λ chosen. IsSomeAnd (subcommand_of pmb t) (λ met. Asks met.0 met.1 chosen))) e c.parsed.ensures.named)
+    (subst (λ (t : List Text). IfOk c.parsed.result (λ chosen. IsSomeAnd (subcommand_of pmb t)
+    (λ met. Asks met.0 met.1 chosen))) e c.parsed.ensures.named)
     (subst (λ (t : List Text). FailsBy (fault_of pmb t) c.parsed.result) e c.parsed.ensures.kinds)
     (decode_met program) (decode_passes program) (decode_chosen [])
 
 pub returns-clause-number : goal.returns-clause-number
 returns-clause-number c = λ program given once e.
     met c.parsed.result (number_words program given) (codes "number") (map row given) (HasValuesOf given)
-    (subst (λ (t : List Text). IfOk c.parsed.result (λ chosen. IsSomeAnd (subcommand_of pmb t) (λ met. Asks met.0 met.1 chosen))) e c.parsed.ensures.named)
+    (subst (λ (t : List Text). IfOk c.parsed.result (λ chosen. IsSomeAnd (subcommand_of pmb t)
+    (λ met. Asks met.0 met.1 chosen))) e c.parsed.ensures.named)
     (subst (λ (t : List Text). FailsBy (fault_of pmb t) c.parsed.result) e c.parsed.ensures.kinds)
     (number_met program given once) (number_passes program given once) (given_chosen given)
 
@@ -134,4 +144,5 @@ returns-clause-version c = λ program e.
 
 pub returns-clause-missing : goal.returns-clause-missing
 returns-clause-missing c = λ program e.
-    refused c.parsed.result (texts c.args.words.now) MissingSubcommand [] c.parsed.ensures.kinds (ap (fault_of pmb) e ∙ missing_fault program)
+    refused c.parsed.result (texts c.args.words.now) MissingSubcommand [] c.parsed.ensures.kinds (ap (fault_of pmb) e
+    ∙ missing_fault program)

@@ -14,6 +14,7 @@ returns-clause-kinds c =
 pub returns-in_err-matches-clause-passes : goal.returns-in_err-matches-clause-passes
 returns-in_err-matches-clause-passes c =
     let app : app_of c.in_ok-pmb_command.field-0 ≡ pmb = c.in_ok-pmb_command.ensures in
-    passed_up c.from_residual-in_err-matches.result c.in_err-matches.field-0.0 (λ e. takes pmb (texts c.args.words.now) ≡ true → kind_of e ≡ OutOfMemory)
+    passed_up c.from_residual-in_err-matches.result c.in_err-matches.field-0.0 (λ e. takes pmb (texts c.args.words.now) ≡ true
+    → kind_of e ≡ OutOfMemory)
     c.from_residual-in_err-matches.ensures.1
     (λ t. c.in_err-matches.ensures.passes (ap (λ (a : App). takes a (texts c.args.words.now)) app ∙ t))

@@ -12,7 +12,8 @@ returns-in-Ok g c =
       output' = c.done.new.output;
       errors = c.args.errors.now;
       errors' = c.done.new.errors;
-    }) 0 _ c.args.text.now (record { mid = c.put.new.self; written = c.in-Ok.ensures.all; kept = c.done.ensures.kept; done = c.done.ensures.done })) [
+    }) 0 _ c.args.text.now
+    (record { mid = c.put.new.self; written = c.in-Ok.ensures.all; kept = c.done.ensures.kept; done = c.done.ensures.done })) [
       | inl e ↦ (Printed 0 c.args.text.now, inl refl, e)
       | inr e ↦ (CutShort c.args.text.now, inr refl, e)
     ]

@@ -18,7 +18,8 @@ returns-in-Ok g c =
     }) (record { remaining = g.R.Read.remaining; old = c.args.input.now; new = c.decode.new.reader }) _ _ c.in-Ok.end input whole (
       c.decode_status.ensures,
       is,
-      false_unless _ (λ t. let e : ◌≡◌ {A = Result DecodeEnd TextFault} (Ok c.in-Ok.end) (Err Read) = c.in-Ok.ensures.reader_failed.1 t in cc),
+      false_unless _ (λ t. let e : ◌≡◌ {A = Result DecodeEnd TextFault} (Ok c.in-Ok.end)
+          (Err Read) = c.in-Ok.ensures.reader_failed.1 t in cc),
     ) (record { mid = c.decode.new.writer; written = written; kept = c.done.ensures.kept; done = c.done.ensures.done })
 
 pub returns-in-Err : goal.returns-in-Err

@@ -14,7 +14,8 @@ pub returns-in-Linear11-clause-refused : goal.returns-in-Linear11-clause-refused
 returns-in-Linear11-clause-refused c =
     let asked = c.args.asked.asked in
     let r = c.answer_in.result in
-    subst (λ (f : FormatText). (fault : NumFault) → (r ≡ Err fault) ↔ Refuses (record { format = f; asked = asked }) fault) (sym c.in-Linear11.is)
+    subst (λ (f : FormatText). (fault : NumFault)
+    → (r ≡ Err fault) ↔ Refuses (record { format = f; asked = asked }) fault) (sym c.in-Linear11.is)
     (refused_by_value (record { format = Linear11; asked = asked }) tt (λ fault h. h) r c.answer_in.ensures.refused)
 
 pub returns-in-Ulinear16-clause-refused : goal.returns-in-Ulinear16-clause-refused
@@ -24,8 +25,11 @@ returns-in-Ulinear16-clause-refused c =
     let n = c.in-Ulinear16.n in
     let exponent : c.unwrap.result.n ≡ n = search rules in
     let by_value : (fault : NumFault) → (r ≡ Err fault) ↔ RefusesValue (ulinear16_value n 0) (ulinear16_value n 65535) asked fault =
-    subst (λ (z : ℤ). (fault : NumFault) → (r ≡ Err fault) ↔ RefusesValue (ulinear16_value z 0) (ulinear16_value z 65535) asked fault) exponent c.answer_in-in-Ulinear16.ensures.refused in
-    subst (λ (f : FormatText). (fault : NumFault) → (r ≡ Err fault) ↔ Refuses (record { format = f; asked = asked }) fault) (sym c.in-Ulinear16.is)
+    subst (λ (z : ℤ). (fault : NumFault)
+    → (r ≡ Err fault) ↔ RefusesValue (ulinear16_value z 0)
+    (ulinear16_value z 65535) asked fault) exponent c.answer_in-in-Ulinear16.ensures.refused in
+    subst (λ (f : FormatText). (fault : NumFault)
+    → (r ≡ Err fault) ↔ Refuses (record { format = f; asked = asked }) fault) (sym c.in-Ulinear16.is)
     (refused_by_value (record { format = Ulinear16 n; asked = asked }) tt (λ fault h. h) r by_value)
 
 pub returns-in_ok-new-in-Direct-clause-answered : goal.returns-in_ok-new-in-Direct-clause-answered
@@ -41,7 +45,8 @@ returns-in_ok-new-in-Direct-clause-answered c =
     let of_b : d.b ≡ b = is.offset ∙ to_z-of_z w16 b (search rules) in
     let of_r : d.r ≡ r = is.decimal ∙ to_z-of_z w8 r (search rules) in
     let answered : IfOk result (IsAnswer (direct_value m b r) one_rank asked) =
-    with_coefficients (λ x y z. IfOk result (IsAnswer (direct_value x y z) one_rank asked)) m b r d.m d.b d.r of_m of_b of_r c.answer_in-in-Direct.ensures.answered in
+    with_coefficients (λ x y z. IfOk result (IsAnswer
+    (direct_value x y z) one_rank asked)) m b r d.m d.b d.r of_m of_b of_r c.answer_in-in-Direct.ensures.answered in
     subst (λ (f : FormatText). IfOk result (IsAnswer (value_in f) (rank_in f) asked)) (sym c.in-Direct.is) answered
 
 pub returns-in_ok-new-in-Direct-clause-refused : goal.returns-in_ok-new-in-Direct-clause-refused
@@ -58,6 +63,8 @@ returns-in_ok-new-in-Direct-clause-refused c =
     let of_r : d.r ≡ r = is.decimal ∙ to_z-of_z w8 r (search rules) in
     let refused : (fault : NumFault) → (result ≡ Err fault) ↔ Refuses (record { format = Direct m b r; asked = asked }) fault =
     direct_refused m b r (subst (λ z. z ≢ pos 0) of_m d.slope) (subst IsDecimal of_r d.decimal) asked result
-    (with_coefficients (λ x y z. (fault : NumFault) → (result ≡ Err fault) ↔ RefusesValue (direct_value x y z (direct_least x)) (direct_value x y z (direct_greatest x)) asked fault)
+    (with_coefficients (λ x y z. (fault : NumFault)
+    → (result ≡ Err fault) ↔ RefusesValue (direct_value x y z (direct_least x)) (direct_value x y z (direct_greatest x)) asked fault)
     m b r d.m d.b d.r of_m of_b of_r c.answer_in-in-Direct.ensures.refused) in
-    subst (λ (f : FormatText). (fault : NumFault) → (result ≡ Err fault) ↔ Refuses (record { format = f; asked = asked }) fault) (sym c.in-Direct.is) refused
+    subst (λ (f : FormatText). (fault : NumFault)
+    → (result ≡ Err fault) ↔ Refuses (record { format = f; asked = asked }) fault) (sym c.in-Direct.is) refused

@@ -7,5 +7,8 @@ use Rattle.pm_tool.proofs.numbers.line_asked.Goals as goal
 pub returns-in_err-line-clause-memory : goal.returns-in_err-line-clause-memory
 returns-in_err-line-clause-memory c = λ _.
     let answer = c.in_ok-answer.answer in
-    let text = line_of answer in
-    (text, subst (λ (q : Result Question NumberFault). IsNumberText q text) c.in_ok-question.ensures.asked (answer, c.in_ok-answer.ensures.answered, refl))
+    let text = line_of answer in (
+      text,
+      subst (λ (q : Result Question NumberFault). IsNumberText q text) c.in_ok-question.ensures.asked
+          (answer, c.in_ok-answer.ensures.answered, refl),
+    )

@@ -23,7 +23,8 @@ returns-in-None g c =
     (λ i. c.as_bytes-in-None.ensures.value i ++ c.as_bytes-in-None-2.ensures.value i) ∙ c.spaced.ensures
     ∙ ap (λ o. option_map_or (λ t. codes " " ++ t) o []) c.detail.ensures in
     subst (λ line. Says g.E.Write.contents c.args.errors.now c.put_all.new.self (Some line))
-    (line-none (config_fault_words f) _ (detail_of f) _ _ (c.as_bytes.ensures.value ∙ c.words.ensures) detail ∙ ap (line_with f) (sym named))
+    (line-none (config_fault_words f) _ (detail_of f) _ _ (c.as_bytes.ensures.value ∙ c.words.ensures) detail
+    ∙ ap (line_with f) (sym named))
     (put_said g.E.Write.contents c.put_all.result c.args.errors.now c.put_all.new.self _
     c.put_all.ensures.all c.put_all.ensures.front c.put_all.ensures.failed)
 

@@ -4,4 +4,5 @@ use Rattle.pm_tool.proofs.refusal.say_fault.Goals as goal
 
 pub returns-in-Setup : goal.returns-in-Setup
 returns-in-Setup g c =
-    subst (λ fault. Says g.E.Write.contents c.args.errors.now c.say_setup.new.errors (Some (refusal_line (text_refusal fault)))) (sym c.in-Setup.is) c.say_setup.ensures
+    subst (λ fault. Says g.E.Write.contents c.args.errors.now c.say_setup.new.errors (Some (refusal_line (text_refusal fault))))
+    (sym c.in-Setup.is) c.say_setup.ensures

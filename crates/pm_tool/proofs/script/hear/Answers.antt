@@ -30,6 +30,7 @@ returns-clause-cut_short g c = λ is.
       c.in_ok-input.input.items,
       _,
       c.in_ok-input.ensures.whole,
-      ap printed_text (sym c.deref.ensures.value) ∙ c.in_ok-lines.ensures.text ∙ ap (λ l. Ok (l ++ output_lines c.in_ok-lines.converter)) (sym c.deref-2.ensures.value),
+      ap printed_text (sym c.deref.ensures.value) ∙ c.in_ok-lines.ensures.text
+          ∙ ap (λ l. Ok (l ++ output_lines c.in_ok-lines.converter)) (sym c.deref-2.ensures.value),
       front,
     )

@@ -5,4 +5,5 @@ use Rattle.pm_trace.proofs.counts_text.push_counts.Given as goal
 
 -- what is written and what is left are the whole
 abbrev pub invariant-loop-code : goal.invariant-loop-code
-invariant-loop-code l = string_bytes l.text ++ flat_map count_line l.code-iterator ≡ string_bytes l.fn.text ++ flat_map count_line l.tally.codes
+invariant-loop-code l = string_bytes l.text ++ flat_map count_line l.code-iterator
+    ≡ string_bytes l.fn.text ++ flat_map count_line l.tally.codes

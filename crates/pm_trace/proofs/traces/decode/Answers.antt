@@ -17,20 +17,24 @@ returns-in_err-put-clause-write g c = λ is.
       written.given,
       inr (
         whole_input _ _ _ _ (g.W.Write.contents c.decode_pieces.new.writer.inner) input c.decode_pieces.new.decoder written at_end,
-        end_front _ _ _ _ _ input c.decode_pieces.new.decoder written _ c.in_ok-text.ensures.text (as_front _ _ _ _ shown c.in_err-put.ensures.front),
+        end_front _ _ _ _ _ input c.decode_pieces.new.decoder written _ c.in_ok-text.ensures.text
+            (as_front _ _ _ _ shown c.in_err-put.ensures.front),
       ),
     )
 
 pub returns-in_err-decode_pieces-clause-same : goal.returns-in_err-decode_pieces-clause-same
 returns-in_err-decode_pieces-clause-same g c =
     let p = err_from_is_err_and c.from_residual.result c.from_residual.ensures.1 in
-    rw (p.1, p.2) (same-refused (g.R.Read.remaining c.args.reader.now.inner) (g.R.Read.remaining c.decode_pieces.new.reader.inner) _ c.in_err-decode_pieces.ensures.faults
-    (λ e. let (front, more, many, some, given, written) = c.in_err-decode_pieces.ensures.too_long (ap Err e) in (front, more, many, some, given)))
+    rw (p.1, p.2) (same-refused (g.R.Read.remaining c.args.reader.now.inner)
+    (g.R.Read.remaining c.decode_pieces.new.reader.inner) _ c.in_err-decode_pieces.ensures.faults
+    (λ e. let (front, more, many, some, given, written) = c.in_err-decode_pieces.ensures.too_long (ap Err e) in
+    (front, more, many, some, given)))
 
 pub returns-clause-same : goal.returns-clause-same
 returns-clause-same g c =
     let (input, written, at_end) = c.in_ok-decode_pieces.ensures.ok in
-    same-whole _ _ input _ (whole_input _ _ _ _ (g.W.Write.contents c.decode_pieces.new.writer.inner) input c.decode_pieces.new.decoder written at_end)
+    same-whole _ _ input _ (whole_input _ _ _ _
+    (g.W.Write.contents c.decode_pieces.new.writer.inner) input c.decode_pieces.new.decoder written at_end)
     (end_counts _ _ _ _ (g.W.Write.contents c.decode_pieces.new.writer.inner) input c.decode_pieces.new.decoder written c.text_at_end.new.decoder _ c.in_ok-text.ensures.kept c.end_in.ensures)
 
 pub returns-clause-ok : goal.returns-clause-ok
@@ -39,6 +43,7 @@ returns-clause-ok g c =
     let shown : c.as_bytes.result.now ≡ string_bytes c.in_ok-text.text = c.as_bytes.ensures.value ∙ c.as_str.ensures.value in (
       input,
       whole_input _ _ _ _ (g.W.Write.contents c.decode_pieces.new.writer.inner) input c.decode_pieces.new.decoder written at_end,
-      end_all _ _ _ _ _ input c.decode_pieces.new.decoder written _ c.in_ok-text.ensures.text (as_all _ _ _ _ shown c.in_ok-put.ensures.all),
+      end_all _ _ _ _ _ input c.decode_pieces.new.decoder written _ c.in_ok-text.ensures.text
+          (as_all _ _ _ _ shown c.in_ok-put.ensures.all),
       end_counts _ _ _ _ (g.W.Write.contents c.decode_pieces.new.writer.inner) input c.decode_pieces.new.decoder written c.text_at_end.new.decoder _ c.in_ok-text.ensures.kept c.end_in.ensures,
     )

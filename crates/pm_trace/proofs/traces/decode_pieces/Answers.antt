@@ -1,6 +1,7 @@
 use Rattle.std.proofs.Common.{◌≡◌, ◌∙◌, refl, [], ◌++◌, true, false, take, arith, string_bytes, rules}
 use Rattle.std.proofs.lemmas.List.{length-take}
-use Rattle.pm_trace.proofs.DecodeLemmas.{written_none, written_room, put_front, put_memory, put_too_long, written_more, grown_more, from_empty, at_whole, as_front, as_all}
+use Rattle.pm_trace.proofs.DecodeLemmas.{written_none, written_room, put_front, put_memory, put_too_long, written_more, grown_more}
+use Rattle.pm_trace.proofs.DecodeLemmas.{from_empty, at_whole, as_front, as_all}
 use Rattle.pm_trace.proofs.traces.decode_pieces.Goals as goal
 
 pub reads-init : goal.reads-init
@@ -18,7 +19,8 @@ push_lines-requires-clause-room g c =
 pub returns-in_err-is_whole-clause-memory : goal.returns-in_err-is_whole-clause-memory
 returns-in_err-is_whole-clause-memory g c = λ is.
     let (front, written) = c.reads.invariant.written in
-    put_memory _ _ _ _ _ (g.W.Write.contents c.reads.writer.inner) front (take c.in_ok-count.count c.read.new.buf) [] c.reads.decoder c.push_lines.new.decoder written
+    put_memory _ _ _ _ _ (g.W.Write.contents c.reads.writer.inner) front
+    (take c.in_ok-count.count c.read.new.buf) [] c.reads.decoder c.push_lines.new.decoder written
     c.in_ok-count.ensures.bytes.0
 
 pub returns-in_err-put-clause-write : goal.returns-in_err-put-clause-write
@@ -44,10 +46,13 @@ pub reads-smaller : goal.reads-smaller
 reads-smaller g c =
     let (front, written) = c.reads.invariant.written in
     let whole : c.in_ok-is_whole.is_whole ≡ true = c.if-not-is_whole.false in
-    let pushed = at_whole (string_bytes c.push_lines.new.text) c.reads.decoder c.push_lines.new.decoder (take c.in_ok-count.count c.read.new.buf) _ _ whole
-    (from_empty (string_bytes c.clear.new.self) (string_bytes c.push_lines.new.text) c.reads.decoder c.push_lines.new.decoder (take c.in_ok-count.count c.read.new.buf)
+    let pushed = at_whole (string_bytes c.push_lines.new.text) c.reads.decoder c.push_lines.new.decoder
+    (take c.in_ok-count.count c.read.new.buf) _ _ whole
+    (from_empty (string_bytes c.clear.new.self) (string_bytes c.push_lines.new.text) c.reads.decoder c.push_lines.new.decoder
+    (take c.in_ok-count.count c.read.new.buf)
     c.in_ok-is_whole.is_whole c.clear.ensures.bytes c.in_ok-is_whole.ensures.pushed) in
-    let grown = grown_more _ _ _ _ _ (g.W.Write.contents c.reads.writer.inner) front (take c.in_ok-count.count c.read.new.buf) (string_bytes c.push_lines.new.text) c.reads.decoder c.push_lines.new.decoder written
+    let grown = grown_more _ _ _ _ _ (g.W.Write.contents c.reads.writer.inner) front (take c.in_ok-count.count c.read.new.buf)
+    (string_bytes c.push_lines.new.text) c.reads.decoder c.push_lines.new.decoder written
     c.in_ok-count.ensures.bytes.0 pushed in
     let room = (pushed.whole refl).1.room in
     omega (arith, grown, room, length-take c.in_ok-count.count c.read.new.buf, c.in_ok-count.ensures.bound.1)

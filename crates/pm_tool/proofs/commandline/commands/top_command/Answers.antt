@@ -7,4 +7,5 @@ returns c =
     ap app_of_fields c.disable_help_subcommand.ensures
     ∙ ap (on_top (λ (s : Shape). record s { disable_help_subcommand = true })) (ap app_of_fields c.subcommand_required.ensures
     ∙ ap (on_top (λ (s : Shape). record s { subcommand_required = true })) (ap app_of_fields c.version.ensures
-    ∙ ap (on_top (λ (s : Shape). record s { has_version = true })) (ap app_of_fields c.after_help.ensures ∙ ap app_of_fields c.about.ensures ∙ c.new.ensures.app)))
+    ∙ ap (on_top (λ (s : Shape). record s { has_version = true })) (ap app_of_fields c.after_help.ensures
+    ∙ ap app_of_fields c.about.ensures ∙ c.new.ensures.app)))

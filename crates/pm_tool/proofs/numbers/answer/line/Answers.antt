@@ -13,9 +13,13 @@ returns c =
     let num = ap signed_decimal c.num-num.ensures.value in
     let den = ap signed_decimal c.den-den.ensures.value in
     IfOk-weaker c.format.result _ _ (λ text e.
-    let shown : string_bytes text ≡ codes "word " ++ (padded_integral (format_spec 32 0 4 4 (2 ^ 64 - 1)) false [] (digits 16 true answer.word)
-    ++ (codes " value " ++ (signed_decimal c.num-num.result ++ (codes "/" ++ (signed_decimal c.den-den.result ++ (codes " micro " ++ (signed_decimal answer.millionths ++ codes "\n")))))))
+    let shown : string_bytes text ≡ codes "word " ++ (padded_integral (format_spec 32 0 4 4 (2 ^ 64 - 1)) false []
+    (digits 16 true answer.word)
+    ++ (codes " value " ++ (signed_decimal c.num-num.result ++ (codes "/" ++ (signed_decimal c.den-den.result ++ (codes " micro " ++
+    (signed_decimal answer.millionths ++ codes "\n")))))))
     = search rules in
-    shown ∙ (λ i. codes "word " ++ (word i ++ (codes " value " ++ (num i ++ (codes "/" ++ (den i ++ (codes " micro " ++ (signed_decimal answer.millionths ++ codes "\n"))))))))
-    ∙ regrouped (codes "word ") (hex_word answer.word) (codes " value ") (signed_decimal answer.value.num) (codes "/") (decimal answer.value.den) (codes " micro ")
+    shown ∙ (λ i. codes "word " ++ (word i ++ (codes " value " ++ (num i ++ (codes "/" ++ (den i ++ (codes " micro " ++
+    (signed_decimal answer.millionths ++ codes "\n"))))))))
+    ∙ regrouped (codes "word ") (hex_word answer.word) (codes " value ") (signed_decimal answer.value.num) (codes "/")
+    (decimal answer.value.den) (codes " micro ")
     (signed_decimal answer.millionths) (codes "\n")) c.format.ensures.ok

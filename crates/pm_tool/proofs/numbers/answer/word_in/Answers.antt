@@ -1,4 +1,5 @@
-use Rattle.std.proofs.Common.{rules, ap, ℤ, w64, FitsSigned, to_z, of_z, ◌∙◌, ◌≡◌, ◌<◌, ◌≤◌, ◌^◌, ◌↔◌, refl, sym, subst, Err, IsOk, IfErr, unsigned_abs}
+use Rattle.std.proofs.Common.{rules, ap, ℤ, w64, FitsSigned, to_z, of_z, ◌∙◌, ◌≡◌, ◌<◌, ◌≤◌, ◌^◌, ◌↔◌, refl, sym, subst, Err, IsOk, IfErr}
+use Rattle.std.proofs.Common.{unsigned_abs}
 use Rattle.std.proofs.lemmas.Int.{to_z-of_z}
 use Rattle.pm_num.specs.Nearest.{IsOutside}
 use Rattle.pm_num.specs.Ratio.{AtMost, IsBetween, Ratio, micros}
@@ -23,7 +24,9 @@ returns-in_ok-micro-in-Nearest-clause-refused g c =
     let passed : to_z w64 (of_z w64 k) ≡ k = to_z-of_z w64 k range in
     let value : micro.field-0 ≡ micros k = micro.ensures.value ∙ ap micros passed in
     let small = subst (λ (z : ℤ). unsigned_abs z ≤ 10 ^ 15) passed (micro.ensures.size.0 refl) in
-    let inside : IsOk c.nearest.result ↔ IsBetween least greatest (micros k) = subst (λ (x : Ratio). IsOk c.nearest.result ↔ IsBetween least greatest x) value c.nearest.ensures.inside in
-    let out : IfErr c.nearest.result (IsOutside least greatest (micros k)) = subst (λ (x : Ratio). IfErr c.nearest.result (IsOutside least greatest x)) value c.nearest.ensures.refused in
+    let inside : IsOk c.nearest.result ↔ IsBetween least greatest (micros k) = subst (λ
+    (x : Ratio). IsOk c.nearest.result ↔ IsBetween least greatest x) value c.nearest.ensures.inside in
+    let out : IfErr c.nearest.result (IsOutside least greatest (micros k)) = subst (λ (x : Ratio). IfErr c.nearest.result
+    (IsOutside least greatest x)) value c.nearest.ensures.refused in
     λ fault. subst (λ (asked : Asked). (c.nearest.result ≡ Err fault) ↔ RefusesValue least greatest asked fault) (sym c.in-Nearest.is)
     (refused_outside least greatest dl dg order k small c.nearest.result inside out fault)

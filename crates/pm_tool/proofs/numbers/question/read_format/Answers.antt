@@ -23,4 +23,5 @@ pub returns-in_default-name-clause-named : goal.returns-in_default-name-clause-n
 returns-in_default-name-clause-named c =
     let name = c.in-Some.name.now in
     sym (ap format_by c.in-Some.ensures
-    ∙ other_parts name c.in-Some.numbers.now (unequal name (codes "ulinear16") c.in_default-name.not-ulinear16) (unequal name (codes "direct") c.in_default-name.not-direct))
+    ∙ other_parts name c.in-Some.numbers.now (unequal name (codes "ulinear16") c.in_default-name.not-ulinear16) (unequal name
+    (codes "direct") c.in_default-name.not-direct))

@@ -11,7 +11,8 @@ returns-then-not-fed-clause-taken c = line_open _ _ _ _ c.requires.open_line c.t
 
 pub returns-in_err-end_line-clause-memory : goal.returns-in_err-end_line-clause-memory
 returns-in_err-end_line-clause-memory c =
-    on_err _ (ends_new _ _ _ _ c.requires.open_line c.take_bytes-fed.ensures (not_false _ c.if-not-fed.false) c.in_err-end_line.ensures.memory)
+    on_err _ (ends_new _ _ _ _ c.requires.open_line c.take_bytes-fed.ensures
+    (not_false _ c.if-not-fed.false) c.in_err-end_line.ensures.memory)
 
 pub returns-clause-taken : goal.returns-clause-taken
 returns-clause-taken c =
