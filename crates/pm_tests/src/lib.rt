@@ -3,11 +3,7 @@
 #![tactic(auto)]
 
 #[cfg(test)]
-mod causes;
-#[cfg(test)]
 mod confirmed;
-#[cfg(test)]
-mod damage;
 #[cfg(test)]
 mod device;
 #[cfg(test)]
@@ -16,8 +12,6 @@ mod driver;
 mod example;
 #[cfg(test)]
 mod faults;
-#[cfg(test)]
-mod fixtures;
 pub mod further;
 #[cfg(test)]
 mod host;
@@ -26,10 +20,4 @@ mod model;
 #[cfg(test)]
 mod orders;
 #[cfg(test)]
-mod refusals;
-#[cfg(test)]
-mod restarts;
-#[cfg(test)]
 mod runs;
-#[cfg(test)]
-mod turns;

@@ -1,7 +1,11 @@
-use crate::fakes::{blank_paper, in_pieces};
-use crate::worked::TAKEN;
+use crate::fakes::{Endless, Failure, Paper, Pieces, blank_paper, in_pieces};
 use pm_tool::{Sink, Source, TextFault, hear};
 use std::alloc::Global;
+use std::test::Fail;
+
+const FRAME: &str = "B0 05 04 00 21 CD 34 5A";
+
+const TAKEN: &str = "taken\noutput 0 VOUT_COMMAND 34CD\noutput 1 VOUT_COMMAND 1000\n";
 
 const PIECES: [usize; 4] = [1, 2, 7, 4096];
 
@@ -158,4 +162,116 @@ fn the_first_faulty_line_is_named(rt: HostRuntime) {
             assert!(rt; written.is_empty(), "of {text:?} by {piece}");
         }
     }
+}
+
+#[test]
+fn a_failed_stream_is_told_without_a_second_try(rt: HostRuntime) {
+    for fails_at in 1..=5 {
+        let mut reader = Source::new(Pieces {
+            rest: FRAME.as_bytes(),
+            piece: 7,
+            fails_at,
+            calls: 0,
+        });
+        let mut writer = Sink::new(blank_paper(rt.alloc(), 1));
+        let result = hear(rt.alloc(), &mut reader, &mut writer);
+        assert_eq!(rt; result, Err(TextFault::Read), "at {fails_at}");
+        assert!(rt; reader.failed() && !writer.failed(), "at {fails_at}");
+        assert_eq!(rt; reader.into_inner().calls, fails_at);
+        assert_eq!(rt; writer.into_inner().calls, 0, "at {fails_at}");
+    }
+    for fails_at in 1..=TAKEN.len() {
+        for failure in [Failure::Error, Failure::Nothing] {
+            let mut reader = Source::new(FRAME.as_bytes());
+            let mut writer = Sink::new(Paper {
+                fails_at,
+                failure,
+                ..blank_paper(rt.alloc(), 1)
+            });
+            let result = hear(rt.alloc(), &mut reader, &mut writer);
+            assert_eq!(rt; result, Err(TextFault::Write), "at {fails_at}");
+            assert!(rt; writer.failed() && !reader.failed(), "at {fails_at}");
+            let written = writer.into_inner();
+            assert_eq!(rt; written.calls, fails_at);
+            let front = &TAKEN.as_bytes()[..fails_at - 1];
+            assert_eq!(rt; written.taken.as_slice(), front, "at {fails_at}");
+        }
+    }
+}
+
+#[test]
+fn the_longest_texts_are_heard_with_ample_memory(rt: HostRuntime) -> Result<(), Fail> {
+    let alloc = rt.alloc();
+    // One byte more than a text may have is X3, whatever the text holds.
+    let mut text = Vec::new(alloc);
+    text.extend_from_slice(FRAME.as_bytes())?;
+    text.extend_from_slice(b"\n#")?;
+    text.resize(1_048_576, b' ')?;
+    let (result, written) = heard(alloc, &text, 4096);
+    assert_eq!(rt; result, Ok(()));
+    assert_eq!(rt; written.as_slice(), TAKEN.as_bytes());
+    text.push(b'\n')?;
+    let (result, written) = heard(alloc, &text, 4096);
+    assert_eq!(rt; result, Err(TextFault::TooLong));
+    assert!(rt; written.is_empty());
+    let mut reader = Source::new(Endless);
+    let mut writer = Sink::new(blank_paper(alloc, 1));
+    let result = hear(alloc, &mut reader, &mut writer);
+    assert_eq!(rt; result, Err(TextFault::TooLong));
+    assert_eq!(rt; writer.into_inner().calls, 0);
+    // What is repeated to the greatest length, and the line and the number of lines that follow.
+    let rows: [(&str, &str, usize); 5] = [
+        ("11", "silent\n", 1),
+        ("11 ", "silent\n", 1),
+        ("/\n", "silent\n", 524_288),
+        ("B0 20 /\n", "answer B1 14 ED\n", 131_072),
+        ("restart\n", "restarted\n", 131_072),
+    ];
+    for (piece, line, count) in rows {
+        let mut text = Vec::new(alloc);
+        for _ in 0..1_048_576 / piece.len().max(1) {
+            text.extend_from_slice(piece.as_bytes())?;
+        }
+        let (result, written) = heard(alloc, &text, 4096);
+        assert_eq!(rt; result, Ok(()), "{piece}");
+        let outputs = 54;
+        let wanted = line.len().saturating_mul(count).saturating_add(outputs);
+        assert_eq!(rt; written.len(), wanted, "{piece}");
+        let answers = written.as_slice().chunks(line.len().max(1)).take(count);
+        assert!(rt;
+            answers.into_iter().all(|found| found == line.as_bytes()),
+            "{piece}"
+        );
+    }
+    Ok(())
+}
+
+#[test]
+fn great_places_and_line_numbers_are_told(rt: HostRuntime) -> Result<(), Fail> {
+    let alloc = rt.alloc();
+    // A long frame of an unknown code: its PEC is wrong, at its last byte.
+    let mut text = Vec::new(alloc);
+    text.extend_from_slice(b"B099")?;
+    for _ in 0..300_000 {
+        text.extend_from_slice(b"00")?;
+    }
+    let (result, written) = heard(alloc, &text, 4096);
+    assert_eq!(rt; result, Ok(()));
+    let line = b"refused K1 Frame F5 WrongPec 300001\n".as_slice();
+    assert!(rt; written.as_slice().starts_with(line));
+    for (last, fault) in [
+        (b"ZZ".as_slice(), TextFault::BadHex(300_001)),
+        (b"/ /".as_slice(), TextFault::Syntax(300_001)),
+    ] {
+        for skipped in [b"\n".as_slice(), b"#\n".as_slice(), b" \n".as_slice()] {
+            let mut text = Vec::new(alloc);
+            for _ in 0..300_000 {
+                text.extend_from_slice(skipped)?;
+            }
+            text.extend_from_slice(last)?;
+            let (result, _) = heard(alloc, &text, 4096);
+            assert_eq!(rt; result, Err(fault));
+        }
+    }
+    Ok(())
 }
