@@ -1,45 +1,12 @@
-use pm_device::{Config, OutputStart};
+//! What the host says of a cell after each event, and the word that the converter holds.
+
+use crate::fixtures::{
+    ACKED, BASE, CELLS, CHECK, FIRST, LOST, NOT_ACKED, ORDER, READ, READ_LOST, SECOND, WHOLE,
+    after, may_hold, standing, word,
+};
 use pm_host::Standing;
-use pm_table::{Cell, Coefficients, Reg};
-use pm_world::{Arrival, Back, Event, SetupFault, World};
+use pm_world::{Event, SetupFault, World};
 use std::process::Abort;
-
-// Two outputs that ask for 1 V, in ULINEAR16 with N = -12.
-pub(crate) const OUTPUT: OutputStart = OutputStart {
-    mode: 0x14,
-    operation: 0x80,
-    command: 0x1000,
-    max: 0x4000,
-    high: 0x1100,
-    low: 0x0F00,
-};
-
-pub(crate) const BASE: Config = Config {
-    addr: 0x58,
-    count: 2,
-    starts: [OUTPUT; 8],
-    protect: 0x00,
-    coefficients: Coefficients { m: 1, b: 0, r: 0 },
-};
-
-// VOUT_COMMAND of both outputs.
-pub(crate) const FIRST: Cell = Cell::Out(0, Reg::VoutCommand);
-
-const SECOND: Cell = Cell::Out(1, Reg::VoutCommand);
-
-const CHECK: Event = Event::Check(FIRST);
-
-const ORDER: Event = Event::Order(FIRST, 0x34CD);
-
-const WHOLE: Event = Event::Deliver(Arrival::Whole);
-
-const ACKED: Event = Event::Finish(true);
-
-const NOT_ACKED: Event = Event::Finish(false);
-
-const READ: Event = Event::Exchange(Arrival::Whole, Back::Whole);
-
-const READ_LOST: Event = Event::Exchange(Arrival::Whole, Back::Cut(0));
 
 const UNKNOWN: Standing = Standing::Unknown;
 
@@ -47,71 +14,94 @@ const START: Standing = Standing::Confirmed(0x1000);
 
 const ORDERED: Standing = Standing::Confirmed(0x34CD);
 
-// What the host says of a cell, and the word that the converter holds; nothing where there is no such
-// cell.
-pub(crate) fn both(world: &World, cell: Cell) -> Option<(Standing, u16)> {
-    match cell {
-        Cell::Out(output, _) if output >= world.device().count() => None,
-        _ => Some((world.host().standing(cell), world.device().word(cell))),
+// An event; then how VOUT_COMMAND of the first output stands, the words that it may hold, any where
+// none is given, the word that it holds, and whether the host saw a restart.
+type Row = (Event, Standing, &'static [u16], u16, bool);
+
+fn follow(rt: &impl Abort, world: &mut World, rows: &[Row]) {
+    for (at, (event, stands, words, held, seen)) in rows.iter().enumerate() {
+        assert_eq!(rt; world.step(event), Ok(()), "event {at}");
+        assert_eq!(rt; standing(world, FIRST), Some(*stands), "event {at}");
+        assert!(rt; may_hold(world, FIRST, words), "the words after event {at}");
+        assert_eq!(rt; word(world.device(), FIRST), *held, "event {at}");
+        assert_eq!(rt; world.host().restart_seen(), *seen, "event {at}");
     }
 }
 
-// After each event, what the host says of the first VOUT_COMMAND and the word that the converter holds.
-fn follow(rt: &impl Abort, world: &mut World, rows: &[(Event, Standing, u16)]) {
-    for (at, (event, standing, word)) in rows.iter().enumerate() {
-        assert!(rt; world.step(event).is_ok(), "event {at} is taken");
-        assert_eq!(rt; both(world, FIRST), Some((*standing, *word)), "event {at}");
-    }
-}
+// Both answers of an order are lost, and its second write.
+const ANSWERS_LOST: [Row; 9] = [
+    (CHECK, UNKNOWN, &[], 0x1000, false),
+    (READ, START, &[0x1000], 0x1000, false),
+    (ORDER, UNKNOWN, &[0x1000, 0x34CD], 0x1000, false),
+    (WHOLE, UNKNOWN, &[0x1000, 0x34CD], 0x34CD, false),
+    (NOT_ACKED, UNKNOWN, &[0x1000, 0x34CD], 0x34CD, false),
+    (READ_LOST, UNKNOWN, &[0x1000, 0x34CD], 0x34CD, false),
+    (LOST, UNKNOWN, &[0x1000, 0x34CD], 0x34CD, false),
+    (NOT_ACKED, UNKNOWN, &[0x1000, 0x34CD], 0x34CD, false),
+    (READ_LOST, UNKNOWN, &[0x1000, 0x34CD], 0x34CD, false),
+];
 
-// A world after a check, and after an order of which the first answer was lost.
-fn confirmed(rt: &impl Abort) -> Result<World, SetupFault> {
-    let mut world = World::new(BASE, 2)?;
-    let rows = [
-        (CHECK, UNKNOWN, 0x1000),
-        (READ, START, 0x1000),
-        (ORDER, UNKNOWN, 0x1000),
-        (WHOLE, UNKNOWN, 0x34CD),
-        (ACKED, UNKNOWN, 0x34CD),
-        (READ_LOST, UNKNOWN, 0x34CD),
-        (WHOLE, UNKNOWN, 0x34CD),
-        (NOT_ACKED, UNKNOWN, 0x34CD),
-        (READ, ORDERED, 0x34CD),
-    ];
-    follow(rt, &mut world, &rows);
-    Ok(world)
-}
+// A lost write is acknowledged; its answer has the old word, and a second pass goes through. Then the
+// converter restarts, which the next good answer shows.
+const FALSELY_ACKED: [Row; 12] = [
+    (CHECK, UNKNOWN, &[], 0x1000, false),
+    (READ, START, &[0x1000], 0x1000, false),
+    (ORDER, UNKNOWN, &[0x1000, 0x34CD], 0x1000, false),
+    (LOST, UNKNOWN, &[0x1000, 0x34CD], 0x1000, false),
+    (ACKED, UNKNOWN, &[0x1000, 0x34CD], 0x1000, false),
+    (READ, UNKNOWN, &[0x1000, 0x34CD], 0x1000, false),
+    (WHOLE, UNKNOWN, &[0x1000, 0x34CD], 0x34CD, false),
+    (ACKED, UNKNOWN, &[0x1000, 0x34CD], 0x34CD, false),
+    (READ, ORDERED, &[0x34CD], 0x34CD, false),
+    (Event::RestartDevice, ORDERED, &[0x34CD], 0x1000, false),
+    (CHECK, ORDERED, &[0x34CD], 0x1000, false),
+    (READ, START, &[0x1000], 0x1000, true),
+];
+
+// An order of another cell, and a check that nothing answers, change nothing; a host's restart drops
+// all.
+const AFTERWARDS: [Row; 8] = [
+    (Event::Order(SECOND, 0x2000), START, &[0x1000], 0x1000, true),
+    (WHOLE, START, &[0x1000], 0x1000, true),
+    (ACKED, START, &[0x1000], 0x1000, true),
+    (READ, START, &[0x1000], 0x1000, true),
+    (CHECK, START, &[0x1000], 0x1000, true),
+    (READ_LOST, START, &[0x1000], 0x1000, true),
+    (READ, START, &[0x1000], 0x1000, true),
+    (Event::RestartHost, UNKNOWN, &[], 0x1000, false),
+];
 
 #[test]
-fn a_confirmed_word_is_held(rt: HostRuntime) -> Result<(), SetupFault> {
-    let mut world = confirmed(&rt)?;
-    let rows = [
-        (Event::Order(SECOND, 0x2000), ORDERED, 0x34CD),
-        (WHOLE, ORDERED, 0x34CD),
-        (ACKED, ORDERED, 0x34CD),
-        (READ, ORDERED, 0x34CD),
-        (CHECK, ORDERED, 0x34CD),
-        (READ_LOST, ORDERED, 0x34CD),
-    ];
-    follow(&rt, &mut world, &rows);
-    assert_eq!(rt;
-        both(&world, SECOND),
-        Some((Standing::Confirmed(0x2000), 0x2000))
-    );
+fn the_host_says_what_it_can_know(rt: HostRuntime) -> Result<(), SetupFault> {
+    let mut lost = World::new(BASE, 2)?;
+    follow(&rt, &mut lost, &ANSWERS_LOST);
+    let mut world = World::new(BASE, 2)?;
+    follow(&rt, &mut world, &FALSELY_ACKED);
+    for cell in CELLS {
+        let words: &[u16] = if cell == FIRST { &[0x1000] } else { &[] };
+        assert!(rt; may_hold(&world, cell, words), "{cell:?}");
+    }
+    follow(&rt, &mut world, &AFTERWARDS);
     Ok(())
 }
 
+// Cells that were confirmed stay so when a restart is seen by another, but may hold any word.
 #[test]
-fn a_restarted_converter_holds_its_start_word(rt: HostRuntime) -> Result<(), SetupFault> {
-    let mut world = confirmed(&rt)?;
-    let rows = [
-        (Event::RestartDevice, ORDERED, 0x1000),
-        (CHECK, ORDERED, 0x1000),
-        (READ_LOST, ORDERED, 0x1000),
-        (READ, START, 0x1000),
-        (Event::RestartHost, UNKNOWN, 0x1000),
+fn a_restart_that_is_seen_leaves_what_was_confirmed(rt: HostRuntime) -> Result<(), SetupFault> {
+    let events = [
+        Event::Check(SECOND),
+        READ,
+        ORDER,
+        WHOLE,
+        ACKED,
+        READ,
+        Event::RestartDevice,
+        CHECK,
+        READ,
     ];
-    follow(&rt, &mut world, &rows);
-    assert!(rt; both(&world, Cell::Out(2, Reg::VoutCommand)).is_none());
+    let world = after(&rt, BASE, 2, &events)?;
+    assert!(rt; world.host().restart_seen());
+    assert_eq!(rt; standing(&world, SECOND), Some(START));
+    assert!(rt; may_hold(&world, SECOND, &[]) && may_hold(&world, FIRST, &[0x1000]));
     Ok(())
 }

@@ -1,6 +1,6 @@
 //! The example of the root of `pm_world`, word for word.
 
-use crate::confirmed::BASE;
+use crate::fixtures::BASE;
 use pm_device::Config;
 use pm_host::JobEnd;
 use pm_table::{Cell, Reg};

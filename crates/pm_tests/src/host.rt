@@ -1,17 +1,14 @@
+//! The host by itself, told what came of each frame.
+
 mod refusals;
 
 ghost use Rattle.std.specs.Prelude.{◌≡◌};
 ghost use Rattle.pm_table.specs.Cell.{IsCell};
 
+use crate::fixtures::{FIRST, SECOND};
 use pm_frame::{Frame, Message, answer, fits, pec};
 use pm_host::{Host, HostFault, JobEnd, Possible, Standing, Step, Told, transcripts_are_followed};
-use pm_num::NumFault;
 use pm_table::{Cell, Reg};
-
-// VOUT_COMMAND of both outputs.
-const FIRST: Cell = Cell::Out(0, Reg::VoutCommand);
-
-const SECOND: Cell = Cell::Out(1, Reg::VoutCommand);
 
 const READ_FIRST: Message = Message::PagePlusRead {
     page: 0,
@@ -74,11 +71,6 @@ impl Bench {
     fn learn(&mut self, output: u8) -> Result<(), HostFault> {
         transcripts_are_followed();
         self.host.learn(output)
-    }
-
-    fn clear(&mut self, output: u8) -> Result<(), HostFault> {
-        transcripts_are_followed();
-        self.host.clear(output)
     }
 
     fn restart(&mut self) {
@@ -157,51 +149,6 @@ fn an_order_is_done_by_a_good_answer_whatever_was_acknowledged(rt: HostRuntime) 
         assert!(rt; bench.may_hold(FIRST, &[0x34CD]) && bench.may_hold(SECOND, &[]));
         assert!(rt; bench.sends(&[]) && !bench.host.restart_seen());
     }
-}
-
-#[test]
-fn write_protect_goes_by_plain_packets_and_operation_as_a_byte(rt: HostRuntime) {
-    let mut bench = Bench::new();
-    assert_eq!(rt; bench.order(Cell::Protect, 0x40), Ok(()));
-    assert!(rt; bench.sends(&[0xB0, 0x10, 0x40, 0x7A]));
-    assert_eq!(rt; bench.finish(true), NEXT);
-    assert!(rt; bench.sends(&[0xB0, 0x10]) && bench.host.sending_reads());
-    assert_eq!(rt; bench.got(&[0xB1, 0x40, 0xA7]), DONE);
-    assert_eq!(rt; bench.standing(Cell::Protect), Standing::Confirmed(0x40));
-    assert_eq!(rt; bench.order(Cell::Out(1, Reg::Operation), 0xA8), Ok(()));
-    assert!(rt; bench.sends(&[0xB0, 0x05, 0x03, 0x01, 0x01, 0xA8, 0xB1]));
-    assert_eq!(rt; bench.finish(true), NEXT);
-    assert!(rt; bench.sends(&[0xB0, 0x06, 0x02, 0x01, 0x01]));
-}
-
-#[test]
-fn a_clear_ends_with_its_first_acknowledgement(rt: HostRuntime) {
-    let mut bench = Bench::new();
-    assert_eq!(rt; bench.clear(0), Ok(()));
-    assert!(rt; bench.sends(&[0xB0, 0x05, 0x02, 0x00, 0x03, 0x50]) && !bench.host.sending_reads());
-    assert_eq!(rt; bench.finish(false), NEXT);
-    assert_eq!(rt; bench.finish(false), UNKNOWN);
-    assert_eq!(rt; bench.finish(false), None);
-    assert_eq!(rt; bench.clear(0), Ok(()));
-    assert_eq!(rt; bench.finish(false), NEXT);
-    assert_eq!(rt; bench.finish(true), DONE);
-}
-
-#[test]
-fn an_order_that_nothing_answers_leaves_both_words_possible(rt: HostRuntime) {
-    let mut bench = Bench::new();
-    assert_eq!(rt; bench.check(FIRST), Ok(()));
-    assert_eq!(rt; bench.answered(READ_FIRST, &[0x00, 0x10]), DONE);
-    assert_eq!(rt; bench.standing(FIRST), Standing::Confirmed(0x1000));
-    assert_eq!(rt; bench.order(FIRST, 0x34CD), Ok(()));
-    assert_eq!(rt; bench.standing(FIRST), Standing::Unknown);
-    assert_eq!(rt; bench.finish(false), NEXT);
-    assert_eq!(rt; bench.got(&[]), NEXT);
-    assert!(rt; bench.sends(&[0xB0, 0x05, 0x04, 0x00, 0x21, 0xCD, 0x34, 0x5A]));
-    assert_eq!(rt; bench.finish(false), NEXT);
-    assert_eq!(rt; bench.got(&[]), UNKNOWN);
-    assert_eq!(rt; bench.standing(FIRST), Standing::Unknown);
-    assert!(rt; bench.may_hold(FIRST, &[0x1000, 0x34CD]));
 }
 
 #[test]

@@ -3,7 +3,11 @@
 #![tactic(auto)]
 
 #[cfg(test)]
+mod causes;
+#[cfg(test)]
 mod confirmed;
+#[cfg(test)]
+mod damage;
 #[cfg(test)]
 mod device;
 #[cfg(test)]
@@ -12,6 +16,8 @@ mod driver;
 mod example;
 #[cfg(test)]
 mod faults;
+#[cfg(test)]
+mod fixtures;
 pub mod further;
 #[cfg(test)]
 mod host;
@@ -20,4 +26,10 @@ mod model;
 #[cfg(test)]
 mod orders;
 #[cfg(test)]
+mod refusals;
+#[cfg(test)]
+mod restarts;
+#[cfg(test)]
 mod runs;
+#[cfg(test)]
+mod turns;

@@ -1,13 +1,12 @@
+//! The settings as a map, and what they command.
+
 ghost use Rattle.std.specs.Prelude.{◌≡◌, ◌<◌};
 
+use crate::fixtures::START;
 use pm_model::{Formats, Plain};
 use pm_num::{AnyFormat, Direct, NumFormat, Ulinear16};
 use pm_table::{Cell, Reg};
 use std::test::Fail;
-
-// Settings of two outputs: on, 1 V asked for, at most 4 V, margins at 1.0625 V and 0.9375 V, in
-// ULINEAR16 with N = -12.
-const START: [u16; 5] = [0x80, 0x1000, 0x4000, 0x1100, 0x0F00];
 
 #[test]
 fn each_cell_is_read_back_and_no_other_changes(rt: HostRuntime) {

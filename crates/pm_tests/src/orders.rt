@@ -1,63 +1,16 @@
+//! The world beside the order machine, which is told what each event is to it.
+
 ghost use Rattle.std.specs.Prelude.{◌≡◌};
 
-use pm_device::{Config, Converter, OutputStart};
+use crate::fixtures::{ACKED, BASE, CELLS, FIRST, NOT_ACKED, READ, SECOND, START, WHOLE, word};
 use pm_model::{OrderMachine, Plain};
-use pm_table::{Cell, Coefficients, Reg};
+use pm_table::Cell;
 use pm_world::{Arrival, Back, Event, SetupFault, World};
 use std::process::Abort;
 
-// Two outputs that are on, ask for 1 V and allow 4 V, margins at 1.0625 V and 0.9375 V, in ULINEAR16
-// with N = -12; and the same words for the order machine.
-const OUTPUT: OutputStart = OutputStart {
-    mode: 0x14,
-    operation: 0x80,
-    command: 0x1000,
-    max: 0x4000,
-    high: 0x1100,
-    low: 0x0F00,
-};
-
-const BASE: Config = Config {
-    addr: 0x58,
-    count: 2,
-    starts: [OUTPUT; 8],
-    protect: 0x00,
-    coefficients: Coefficients { m: 1, b: 0, r: 0 },
-};
-
-const START: [u16; 5] = [0x80, 0x1000, 0x4000, 0x1100, 0x0F00];
-
-// VOUT_COMMAND of both outputs.
-const FIRST: Cell = Cell::Out(0, Reg::VoutCommand);
-
-const SECOND: Cell = Cell::Out(1, Reg::VoutCommand);
-
-// Every cell that there is.
-const CELLS: [Cell; 11] = [
-    Cell::Out(0, Reg::Operation),
-    FIRST,
-    Cell::Out(0, Reg::VoutMax),
-    Cell::Out(0, Reg::MarginHigh),
-    Cell::Out(0, Reg::MarginLow),
-    Cell::Out(1, Reg::Operation),
-    SECOND,
-    Cell::Out(1, Reg::VoutMax),
-    Cell::Out(1, Reg::MarginHigh),
-    Cell::Out(1, Reg::MarginLow),
-    Cell::Protect,
-];
-
-const WHOLE: Event = Event::Deliver(Arrival::Whole);
-
 const CUT: Event = Event::Deliver(Arrival::Cut(5));
 
-const ACKED: Event = Event::Finish(true);
-
-const NOT_ACKED: Event = Event::Finish(false);
-
-const READ: Event = Event::Exchange(Arrival::Whole, Back::Whole);
-
-const READ_LOST: Event = Event::Exchange(Arrival::Cut(3), Back::Whole);
+const CUT_READ: Event = Event::Exchange(Arrival::Cut(3), Back::Whole);
 
 // What the order machine is told with an event.
 #[derive(Clone, Copy)]
@@ -95,14 +48,7 @@ fn tell(machine: &mut OrderMachine, told: Told) -> bool {
     }
 }
 
-// The word of a cell, in the converter and in the machine; 0 where there is no such cell.
-fn word(converter: &Converter, cell: Cell) -> u16 {
-    match cell {
-        Cell::Out(output, _) if output >= converter.count() => 0,
-        _ => converter.word(cell),
-    }
-}
-
+// The word of a cell in the machine; 0 where there is no such cell.
 fn copied(machine: &OrderMachine, cell: Cell) -> u16 {
     if machine.has(cell) {
         machine.word(cell)
@@ -143,7 +89,7 @@ fn an_order_takes_at_each_whole_delivery(rt: HostRuntime) -> Result<(), SetupFau
         (WHOLE, Told::Take),
         (WHOLE, Told::Take),
         (NOT_ACKED, nothing),
-        (READ_LOST, Told::End),
+        (CUT_READ, Told::End),
     ];
     follow(&rt, &rows)
 }

@@ -1,38 +1,14 @@
 //! Whole runs of events: lost answers, a false acknowledgement, a restart, a write that is blocked, and
 //! damage that the PEC doesn't betray.
 
-use crate::confirmed::{BASE, FIRST, OUTPUT, both};
-use pm_device::{Config, Ending};
-use pm_frame::Frame;
-use pm_host::{JobEnd, Standing};
-use pm_table::Coefficients;
-use pm_world::{Arrival, Back, Cause, Event, SetupFault, Stop, World};
-use std::process::Abort;
-
-// The base configuration, which blocks writes of voltages.
-const BLOCKED: Config = Config {
-    addr: 0x58,
-    count: 2,
-    starts: [OUTPUT; 8],
-    protect: 0x40,
-    coefficients: Coefficients { m: 1, b: 0, r: 0 },
+use crate::fixtures::{
+    ACKED, BASE, CHECK, FIRST, LOST, NOT_ACKED, ORDER, READ, READ_LOST, SECOND, WHOLE, arrival,
+    frame, standing, word,
 };
-
-const CHECK: Event = Event::Check(FIRST);
-
-const ORDER: Event = Event::Order(FIRST, 0x34CD);
-
-const WHOLE: Event = Event::Deliver(Arrival::Whole);
-
-const LOST: Event = Event::Deliver(Arrival::Cut(0));
-
-const ACKED: Event = Event::Finish(true);
-
-const NOT_ACKED: Event = Event::Finish(false);
-
-const READ: Event = Event::Exchange(Arrival::Whole, Back::Whole);
-
-const READ_LOST: Event = Event::Exchange(Arrival::Whole, Back::Cut(0));
+use pm_device::{Config, Ending};
+use pm_host::{JobEnd, Standing};
+use pm_world::{Arrival, Cause, Event, SetupFault, Stop, World};
+use std::process::Abort;
 
 // A run that takes all of its events ends so: the job's end, what the host says of the cell and what
 // the converter holds, and whether the host saw a restart.
@@ -47,7 +23,9 @@ fn ends(
     let (world, stop) = World::run(config, 2, events)?;
     assert_eq!(rt; stop, None);
     assert_eq!(rt; world.last_end(), Some(end));
-    assert_eq!(rt; both(&world, FIRST), Some(told));
+    let (stands, held) = told;
+    assert_eq!(rt; standing(&world, FIRST), Some(stands));
+    assert_eq!(rt; word(world.device(), FIRST), held);
     assert_eq!(rt; world.host().restart_seen(), seen);
     Ok(world)
 }
@@ -59,8 +37,14 @@ fn runs_end_as_their_events_say(rt: HostRuntime) -> Result<(), SetupFault> {
     ];
     let unknown = (Standing::Unknown, 0x34CD);
     ends(&rt, BASE, &answers_lost, JobEnd::Unknown, unknown, false)?;
-    let falsely_acked = [CHECK, READ, ORDER, LOST, ACKED, READ, WHOLE, ACKED, READ];
+    // The frame itself in its place, and a cut past its end, are heard whole.
     let done = (Standing::Confirmed(0x34CD), 0x34CD);
+    for heard in ["stop: B0 05 04 00 21 CD 34 5A", "cut 8", "cut 200"] {
+        let delivered = Event::Deliver(arrival(&rt, heard));
+        let honest = [ORDER, delivered, ACKED, READ];
+        ends(&rt, BASE, &honest, JobEnd::Done, done, false)?;
+    }
+    let falsely_acked = [CHECK, READ, ORDER, LOST, ACKED, READ, WHOLE, ACKED, READ];
     ends(&rt, BASE, &falsely_acked, JobEnd::Done, done, false)?;
     let restarted = [
         CHECK,
@@ -76,32 +60,26 @@ fn runs_end_as_their_events_say(rt: HostRuntime) -> Result<(), SetupFault> {
     let start = (Standing::Confirmed(0x1000), 0x1000);
     ends(&rt, BASE, &restarted, JobEnd::Done, start, true)?;
     let blocked = [ORDER, WHOLE, ACKED, READ, WHOLE, ACKED, READ];
-    let world = ends(
-        &rt,
-        BLOCKED,
-        &blocked,
-        JobEnd::Differs(0x1000),
-        start,
-        false,
-    )?;
+    let protected = Config {
+        protect: 0x40,
+        ..BASE
+    };
+    let differs = JobEnd::Differs(0x1000);
+    let world = ends(&rt, protected, &blocked, differs, start, false)?;
     assert_eq!(rt; world.device().status_cml(), 0x80);
     Ok(())
 }
 
 #[test]
 fn damage_that_the_pec_does_not_betray_stops_a_run(rt: HostRuntime) -> Result<(), SetupFault> {
-    let mut frame = Frame::new();
-    let bytes = [0xB0, 0x05, 0x04, 0x01, 0x21, 0xCD, 0x34, 0x4C];
-    assert!(rt; frame.try_extend_from_slice(&bytes).is_ok());
-    let events = [
-        ORDER,
-        Event::Deliver(Arrival::Bytes(frame, Ending::Stop)),
-        ACKED,
-    ];
+    let other = Arrival::Bytes(frame(&rt, "B0 05 04 01 21 CD 34 4C"), Ending::Stop);
+    let events = [ORDER, Event::Deliver(other), ACKED];
     let (world, stop) = World::run(BASE, 2, &events)?;
     let cause = Cause::NotBetrayed;
     assert_eq!(rt; stop, Some(Stop { at: 1, cause }));
-    assert_eq!(rt; both(&world, FIRST), Some((Standing::Unknown, 0x1000)));
+    assert_eq!(rt; standing(&world, FIRST), Some(Standing::Unknown));
+    assert_eq!(rt; word(world.device(), FIRST), 0x1000);
+    assert_eq!(rt; word(world.device(), SECOND), 0x1000);
     assert_eq!(rt; world.last_end(), None);
     Ok(())
 }

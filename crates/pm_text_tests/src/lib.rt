@@ -3,14 +3,28 @@
 #![tactic(auto)]
 
 #[cfg(test)]
+mod engine;
+#[cfg(test)]
+mod engines;
+#[cfg(test)]
 mod fakes;
+#[cfg(test)]
+mod faults;
+#[cfg(test)]
+mod memory;
 #[cfg(test)]
 mod replays;
 #[cfg(test)]
+mod reports;
+#[cfg(test)]
 mod scenarios;
+#[cfg(test)]
+mod sizes;
 #[cfg(test)]
 mod streams;
 #[cfg(test)]
 mod tool;
 #[cfg(test)]
 mod traces;
+#[cfg(test)]
+mod worked;

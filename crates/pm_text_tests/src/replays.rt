@@ -1,16 +1,16 @@
-//! Replays: the worked scenario and its report, from memory and a byte at a time, by the engine and by
-//! its parts; where a replay stops; and what no world is made of.
+//! Replays over the base configuration: where they stop, a restart at each place, what a hand-made run is
+//! reported as, and what is no scenario.
 
+use crate::engine::Engine;
 use crate::fakes::in_pieces;
-use pm_text::{Ran, ReplayEnd, Sink, Source, TextFault, read_scenario, render_report, replay};
-use pm_world::World;
+use crate::worked::{REPORT, SCENARIO};
+use pm_text::{Ran, TextFault, read_scenario, render_report};
+use pm_world::{Cause, Stop, World};
 use std::alloc::Global;
 use std::test::Fail;
 
 const HEAD: &str =
     "scenario 1\naddress 58\npasses 2\nprotect 00\ncoefficients 1 0 0\noutput 14 80 1000 4000 1100 0F00\noutput 14 80 1000 4000 1100 0F00\nbegin\n";
-
-const EVENTS: &str = "order 0 VOUT_COMMAND 34CD\ndeliver whole\nfinish ack\nexchange whole whole\n";
 
 const REST_OF_0: &str =
     "VOUT_MAX 4000 host unknown\nVOUT_MARGIN_HIGH 1100 host unknown\nVOUT_MARGIN_LOW 0F00 host unknown\nstatus 00 0000 00\n";
@@ -18,14 +18,22 @@ const REST_OF_0: &str =
 const OUTPUT_1: &str =
     "output 1 on commanded 4096/4096 1000000 uV\nOPERATION 80 host unknown\nVOUT_COMMAND 1000 host unknown\nVOUT_MAX 4000 host unknown\nVOUT_MARGIN_HIGH 1100 host unknown\nVOUT_MARGIN_LOW 0F00 host unknown\nstatus 00 0000 00\ncml 00\nrestart seen no\n";
 
-// A report over the base configuration: its first line, output 0's voltage and VOUT_COMMAND, the job.
-fn report(
-    alloc: Global,
-    first: &str,
-    voltage: &str,
-    command: &str,
-    job: &str,
-) -> Result<String, Fail> {
+/// Output 0's voltage after an order of 34CD was taken, and at the start.
+const HELD: &str = "13517/4096 3300048";
+
+const START: &str = "4096/4096 1000000";
+
+const CONFIRMED: &str = "34CD host confirmed 34CD";
+
+const UNKNOWN: &str = "1000 host unknown";
+
+/// What a report over the base configuration says: its first line, output 0's voltage and VOUT_COMMAND, the
+/// job.
+type Said = (&'static str, &'static str, &'static str, &'static str);
+
+// A whole report.
+fn report(alloc: Global, said: Said) -> Result<String, Fail> {
+    let (first, voltage, command, job) = said;
     let mut text = String::new(alloc);
     for part in [
         first,
@@ -45,103 +53,218 @@ fn report(
     Ok(text)
 }
 
-// What a replay of a scenario with these events comes to, read so many bytes at a time.
-fn replayed(
-    alloc: Global,
-    events: &str,
-    piece: usize,
-) -> Result<(Result<ReplayEnd, TextFault>, Vec<u8>), Fail> {
-    let mut text = String::new(alloc);
-    text.push_str(HEAD)?;
-    text.push_str(events)?;
-    let mut reader = Source::new(in_pieces(text.as_str().as_bytes(), piece));
-    let mut writer = Sink::new(Vec::new(alloc));
-    let end = replay(alloc, &mut reader, &mut writer);
-    Ok((end, writer.into_inner()))
+// What a replay of a scenario with these events comes to.
+fn replayed(alloc: Global, events: &str) -> Result<(Result<bool, TextFault>, Vec<u8>), Fail> {
+    let text = format!(in alloc; "{HEAD}{events}")?;
+    Ok(Engine::Replay.text_of(alloc, in_pieces(text.as_bytes(), 4096)))
 }
 
-const HELD: &str = "13517/4096 3300048";
-
-const START: &str = "4096/4096 1000000";
-
 #[test]
-fn replays_are_reported(rt: HostRuntime) -> Result<(), Fail> {
+fn a_replay_goes_on_to_the_first_event_that_is_not_taken(rt: HostRuntime) -> Result<(), Fail> {
     let alloc = rt.alloc();
-    let unknown = "1000 host unknown";
-    let rows = [
+    let rows: [(&str, Said); 18] = [
+        ("", ("ran 0", START, UNKNOWN, "none")),
         (
-            EVENTS,
-            ReplayEnd::Ran,
-            "ran 4",
-            HELD,
-            "34CD host confirmed 34CD",
-            "done",
+            "order 0 VOUT_COMMAND 34CD\nfinish ack\nexchange whole whole\nfinish ack\nexchange whole whole\n",
+            ("ran 5", START, "1000 host confirmed 1000", "differs 1000"),
         ),
-        ("", ReplayEnd::Ran, "ran 0", START, unknown, "none"),
+        (
+            "learn 0\nexchange whole whole\nvolts 0 VOUT_COMMAND 3300000\ndeliver whole\nfinish ack\nexchange whole whole\n",
+            ("ran 6", HELD, CONFIRMED, "done"),
+        ),
         (
             "order 0 VOUT_COMMAND 34CD\ndeliver bytes B005040121CD344C stop\n",
-            ReplayEnd::Stopped,
-            "stopped 1 S1 NotBetrayed",
-            START,
-            unknown,
-            "pending",
+            ("stopped 1 S1 NotBetrayed", START, UNKNOWN, "pending"),
+        ),
+        (
+            "check 0 VOUT_COMMAND\nexchange whole bytes B102CD34B9\n",
+            ("stopped 1 S1 NotBetrayed", START, UNKNOWN, "pending"),
         ),
         (
             "finish ack\n",
-            ReplayEnd::Stopped,
-            "stopped 0 S2 NothingSent",
-            START,
-            unknown,
-            "none",
+            ("stopped 0 S2 NothingSent", START, UNKNOWN, "none"),
+        ),
+        (
+            "deliver whole\n",
+            ("stopped 0 S2 NothingSent", START, UNKNOWN, "none"),
         ),
         (
             "check 0 VOUT_COMMAND\nfinish ack\n",
-            ReplayEnd::Stopped,
-            "stopped 1 S3 WrongKind",
-            START,
-            unknown,
-            "pending",
+            ("stopped 1 S3 WrongKind", START, UNKNOWN, "pending"),
+        ),
+        (
+            "order 0 VOUT_COMMAND 34CD\nexchange whole whole\n",
+            ("stopped 1 S3 WrongKind", START, UNKNOWN, "pending"),
         ),
         (
             "check 1 VOUT_MAX\nlearn 0\n",
-            ReplayEnd::Stopped,
-            "stopped 1 S4 Host H3 Busy",
-            START,
-            unknown,
-            "pending",
+            ("stopped 1 S4 Host H3 Busy", START, UNKNOWN, "pending"),
+        ),
+        (
+            "learn 2\n",
+            ("stopped 0 S4 Host H4 UnknownOutput", START, UNKNOWN, "none"),
+        ),
+        (
+            "order 0 OPERATION B0\n",
+            ("stopped 0 S4 Host H5 BadWord", START, UNKNOWN, "none"),
+        ),
+        (
+            "order 0 VOUT_COMMAND 34CD\ndeliver whole\nfinish ack\nexchange whole whole\nvolts 0 OPERATION 5\n",
+            ("stopped 4 S4 Host H5 BadWord", HELD, CONFIRMED, "done"),
         ),
         (
             "volts 0 VOUT_COMMAND 3300000\n",
-            ReplayEnd::Stopped,
-            "stopped 0 S4 Host H7 FormatUnknown",
-            START,
-            unknown,
-            "none",
+            ("stopped 0 S4 Host H7 FormatUnknown", START, UNKNOWN, "none"),
+        ),
+        (
+            "learn 0\nexchange whole whole\nvolts 1 VOUT_COMMAND 3300000\n",
+            (
+                "stopped 2 S4 Host H7 FormatUnknown",
+                START,
+                UNKNOWN,
+                "learned",
+            ),
+        ),
+        (
+            "learn 0\nexchange whole whole\nvolts 0 VOUT_COMMAND -1\n",
+            ("stopped 2 S4 Host N3 BelowLeast", START, UNKNOWN, "learned"),
         ),
         (
             "learn 0\nexchange whole whole\nvolts 0 VOUT_COMMAND 16000000\n",
-            ReplayEnd::Stopped,
-            "stopped 2 S4 Host N4 AboveGreatest",
-            START,
-            unknown,
-            "learned",
+            (
+                "stopped 2 S4 Host N4 AboveGreatest",
+                START,
+                UNKNOWN,
+                "learned",
+            ),
         ),
         (
-            "order 0 VOUT_COMMAND 34CD\nfinish ack\nexchange whole whole\nfinish ack\nexchange whole whole\n",
-            ReplayEnd::Ran,
-            "ran 5",
-            START,
-            "1000 host confirmed 1000",
-            "differs 1000",
+            "learn 0\nexchange whole whole\nvolts 0 VOUT_COMMAND 1000000000000001\n",
+            ("stopped 2 S4 Host N5 TooLarge", START, UNKNOWN, "learned"),
         ),
     ];
-    for (events, end, first, voltage, command, job) in rows {
-        for piece in [1, 4096] {
-            let (found, written) = replayed(alloc, events, piece)?;
-            assert_eq!(rt; found, Ok(end), "{events}");
-            let wanted = report(alloc, first, voltage, command, job)?;
-            assert_eq!(rt; written.as_slice(), wanted.as_str().as_bytes(), "{events}");
+    for (events, said) in rows {
+        let (end, written) = replayed(alloc, events)?;
+        assert_eq!(rt; end, Ok(said.0.starts_with("ran")), "{events}");
+        let wanted = report(alloc, said)?;
+        assert_eq!(rt; written.as_slice(), wanted.as_bytes(), "{events}");
+    }
+    Ok(())
+}
+
+#[test]
+fn a_restart_of_either_end_at_each_place_of_an_order(rt: HostRuntime) -> Result<(), Fail> {
+    let alloc = rt.alloc();
+    let order = [
+        "order 0 VOUT_COMMAND 34CD\n",
+        "deliver whole\n",
+        "finish ack\n",
+        "exchange whole whole\n",
+        "",
+    ];
+    // What starts again, and before which event of the order; 4 is after the last.
+    let rows: [(&str, usize, Said); 10] = [
+        ("device", 0, ("ran 5", HELD, CONFIRMED, "done")),
+        ("device", 1, ("ran 5", HELD, CONFIRMED, "done")),
+        ("device", 2, ("ran 5", START, UNKNOWN, "pending")),
+        ("device", 3, ("ran 5", START, UNKNOWN, "pending")),
+        (
+            "device",
+            4,
+            ("ran 5", START, "1000 host confirmed 34CD", "done"),
+        ),
+        ("host", 0, ("ran 5", HELD, CONFIRMED, "done")),
+        (
+            "host",
+            1,
+            ("stopped 2 S2 NothingSent", START, UNKNOWN, "none"),
+        ),
+        (
+            "host",
+            2,
+            (
+                "stopped 3 S2 NothingSent",
+                HELD,
+                "34CD host unknown",
+                "none",
+            ),
+        ),
+        (
+            "host",
+            3,
+            (
+                "stopped 4 S2 NothingSent",
+                HELD,
+                "34CD host unknown",
+                "none",
+            ),
+        ),
+        ("host", 4, ("ran 5", HELD, "34CD host unknown", "none")),
+    ];
+    for (end, place, said) in rows {
+        let mut events = String::new(alloc);
+        for (at, event) in order.iter().enumerate() {
+            if at == place {
+                events.push_str("restart ")?;
+                events.push_str(end)?;
+                events.push_str("\n")?;
+            }
+            events.push_str(event)?;
         }
+        let (_, written) = replayed(alloc, events.as_str())?;
+        let wanted = report(alloc, said)?;
+        assert_eq!(rt; written.as_slice(), wanted.as_bytes(), "{end} {place}");
+    }
+    Ok(())
+}
+
+#[test]
+fn a_seventeenth_possible_word_is_refused(rt: HostRuntime) -> Result<(), Fail> {
+    let alloc = rt.alloc();
+    let mut events = String::new(alloc);
+    events.push_str("check 0 VOUT_COMMAND\nexchange whole whole\n")?;
+    for word in 0x2000..0x2010 {
+        let order = format!(in alloc; "order 0 VOUT_COMMAND {word:04X}\n")?;
+        events.push_str(order.as_str())?;
+        for _ in 0..2 {
+            events.push_str("finish nack\nexchange whole cut 0\n")?;
+        }
+    }
+    let (_, written) = replayed(alloc, events.as_str())?;
+    let said = (
+        "stopped 77 S4 Host H6 TooUncertain",
+        START,
+        UNKNOWN,
+        "unknown",
+    );
+    let wanted = report(alloc, said)?;
+    assert_eq!(rt; written.as_slice(), wanted.as_bytes());
+    Ok(())
+}
+
+#[test]
+fn a_run_made_by_hand_is_reported(rt: HostRuntime) -> Result<(), Fail> {
+    let alloc = rt.alloc();
+    let full = Stop {
+        at: 281_474_976_710_656,
+        cause: Cause::Full,
+    };
+    let nothing = Stop {
+        at: 7,
+        cause: Cause::NothingSent,
+    };
+    // The count of a run that stopped isn't told, only where it stopped.
+    let rows = [
+        (u64::MAX, None, "ran 18446744073709551615"),
+        (3, Some(full), "stopped 281474976710656 S5 Full"),
+        (3, Some(nothing), "stopped 7 S2 NothingSent"),
+    ];
+    let scenario = read_scenario(alloc, HEAD.as_bytes())?;
+    for (taken, stop, first) in rows {
+        let (world, _) = World::run(scenario.config, scenario.passes, &[])?;
+        let text = render_report(alloc, &Ran { world, taken, stop })?;
+        let wanted = report(alloc, (first, START, UNKNOWN, "none"))?;
+        assert!(rt; text.as_str() == wanted.as_str(), "{first}");
     }
     Ok(())
 }
@@ -149,39 +272,27 @@ fn replays_are_reported(rt: HostRuntime) -> Result<(), Fail> {
 #[test]
 fn the_parts_of_a_replay_give_its_report(rt: HostRuntime) -> Result<(), Fail> {
     let alloc = rt.alloc();
-    let mut text = String::new(alloc);
-    text.push_str(HEAD)?;
-    text.push_str(EVENTS)?;
-    let Ok(scenario) = read_scenario(alloc, text.as_str().as_bytes()) else {
-        panic!(rt; "no scenario");
-    };
+    let scenario = read_scenario(alloc, SCENARIO.as_bytes())?;
     let events = scenario.events.as_slice();
-    let Ok((world, stop)) = World::run(scenario.config, scenario.passes, events) else {
-        panic!(rt; "no world");
-    };
+    let (world, stop) = World::run(scenario.config, scenario.passes, events)?;
     let run = Ran {
         world,
         taken: 4,
         stop,
     };
-    let Ok(written) = render_report(alloc, &run) else {
-        panic!(rt; "no report");
-    };
-    let wanted = report(alloc, "ran 4", HELD, "34CD host confirmed 34CD", "done")?;
-    assert!(rt; written.as_str() == wanted.as_str());
+    let text = render_report(alloc, &run)?;
+    assert_eq!(rt; text.as_str(), REPORT);
     Ok(())
 }
 
 #[test]
 fn a_faulty_scenario_writes_nothing(rt: HostRuntime) -> Result<(), Fail> {
-    let alloc = rt.alloc();
     let rows = [
         ("order 0 VOUT_COMMAND 34C\n", TextFault::BadHex(9)),
         ("finish ack\n\nfinish maybe\n", TextFault::Syntax(11)),
-        ("cut 3\n", TextFault::Syntax(9)),
     ];
     for (events, fault) in rows {
-        let (found, written) = replayed(alloc, events, 7)?;
+        let (found, written) = replayed(rt.alloc(), events)?;
         assert_eq!(rt; found, Err(fault), "{events}");
         assert!(rt; written.is_empty(), "{events}");
     }

@@ -2,10 +2,10 @@
 
 mod faults;
 
+use crate::worked::SCENARIO;
 use pm_device::{Config, OutputStart};
-use pm_lines::TextFault;
 use pm_table::Coefficients;
-use pm_text::{Scenario, read_scenario};
+use pm_text::{Scenario, TextFault, read_scenario};
 use std::alloc::{AllocError, Global};
 use std::test::Fail;
 
@@ -19,10 +19,6 @@ const HEAD: [&str; 7] = [
     "output 14 80 1000 4000 1100 0F00",
     "begin",
 ];
-
-/// A whole scenario of two outputs and four events.
-const WORKED: &str =
-    "scenario 1\naddress 58\npasses 2\nprotect 00\ncoefficients 1 0 0\noutput 14 80 1000 4000 1100 0F00\noutput 14 80 1000 4000 1100 0F00\nbegin\norder 0 VOUT_COMMAND 34CD\ndeliver whole\nfinish ack\nexchange whole whole\n";
 
 const START: OutputStart = OutputStart {
     mode: 0x14,
@@ -75,7 +71,7 @@ fn the_worked_scenario_is_read(rt: HostRuntime) -> Result<(), Fail> {
         config,
         passes,
         events,
-    } = read_scenario(rt.alloc(), WORKED.as_bytes())?;
+    } = read_scenario(rt.alloc(), SCENARIO.as_bytes())?;
     let mut starts = [NO_START; 8];
     starts[0] = START;
     starts[1] = START;

@@ -1,46 +1,32 @@
-//! Tests of `pm_text`: its readers and writers, whole texts, lines, words and bytes.
-use crate::fakes::{Endless, Failure, Paper, Pieces, blank_paper, in_pieces};
+//! Tests of `pm_lines`: its readers and writers, whole texts, lines, words and bytes.
+use crate::fakes::{FAILURES, Paper, Pieces, blank_paper, in_pieces};
 use pm_lines::{Line, Lines, Sink, Source, TextFault, Words, cut_at, push_bytes, read_text};
+use std::io::ErrorKind;
 use std::test::Fail;
-
-#[test]
-fn every_fault_has_its_words(rt: HostRuntime) {
-    let rows = [
-        (TextFault::Syntax(2), "X1 Syntax", Some(2)),
-        (TextFault::BadHex(3), "X2 BadHex", Some(3)),
-        (TextFault::TooLong, "X3 TooLong", None),
-        (TextFault::Read, "X4 Read", None),
-        (TextFault::Write, "X5 Write", None),
-        (TextFault::Memory, "X6 Memory", None),
-    ];
-    for (fault, words, line) in rows {
-        assert_eq!(rt; fault.words(), words);
-        assert_eq!(rt; fault.line(), line);
-    }
-}
 
 #[test]
 fn a_source_calls_its_reader_once_and_tells_its_failure(rt: HostRuntime) {
     // The call that fails, and what the first call answers.
     for (fails_at, wanted) in [(1, Err(TextFault::Read)), (2, Ok(3)), (0, Ok(3))] {
-        let mut source = Source::new(Pieces {
-            rest: b"abcdef",
-            piece: 3,
-            fails_at,
-            calls: 0,
-        });
-        let result = source.read(&mut [0; 4]);
-        assert_eq!(rt; result, wanted, "with a failure at {fails_at}");
-        assert_eq!(rt;
-            source.failed(),
-            wanted.is_err(),
-            "with a failure at {fails_at}"
-        );
-        assert_eq!(rt;
-            source.into_inner().calls,
-            1,
-            "with a failure at {fails_at}"
-        );
+        for kind in [ErrorKind::Other, ErrorKind::Interrupted] {
+            let mut source = Source::new(Pieces {
+                fails_at,
+                kind,
+                ..in_pieces(b"abcdef", 3)
+            });
+            let result = source.read(&mut [0; 4]);
+            assert_eq!(rt; result, wanted, "with a failure at {fails_at}");
+            assert_eq!(rt;
+                source.failed(),
+                wanted.is_err(),
+                "with a failure at {fails_at}"
+            );
+            assert_eq!(rt;
+                source.into_inner().calls,
+                1,
+                "with a failure at {fails_at}"
+            );
+        }
     }
 }
 
@@ -54,18 +40,14 @@ fn a_whole_text_is_read_to_the_first_failure(rt: HostRuntime) {
         let made = source.into_inner().calls;
         for fails_at in 1..=made {
             let mut source = Source::new(Pieces {
-                rest: text,
-                piece,
                 fails_at,
-                calls: 0,
+                ..in_pieces(text, piece)
             });
             let result = read_text(rt.alloc(), &mut source);
             assert!(rt; matches!(result, Err(TextFault::Read)) && source.failed());
             assert_eq!(rt; source.into_inner().calls, fails_at, "by {piece}");
         }
     }
-    let endless = read_text(rt.alloc(), &mut Source::new(Endless));
-    assert!(rt; matches!(endless, Err(TextFault::TooLong)));
 }
 
 #[test]
@@ -78,7 +60,7 @@ fn a_sink_writes_to_the_first_failure_and_flushes_when_asked(rt: HostRuntime) {
         assert_eq!(rt; (written.calls, written.flushes), (calls, 0), "by {piece}");
         assert_eq!(rt; written.taken.as_slice(), text.as_slice(), "by {piece}");
         for fails_at in 1..=calls {
-            for failure in [Failure::Error, Failure::Nothing] {
+            for failure in FAILURES {
                 let mut sink = Sink::new(Paper {
                     fails_at,
                     failure,

@@ -1,33 +1,23 @@
 //! Each change within eight neighbouring bits of an order's frame.
 
-use super::{BASE, OUTPUT, STOP, word};
-use pm_device::{Converter, Heard};
+use crate::fixtures::{BASE, CELLS, FIRST, ORDER, word};
+use pm_device::{ConfigFault, Converter, Ending, Heard};
 use pm_frame::Frame;
-use pm_table::{Cell, Reg};
 use pm_world::{Arrival, Event, World};
 use std::process::Abort;
 use std::test::Fail;
 
 // The eight bytes for VOUT_COMMAND of output 0 is 34CDh, the first one at the top.
-const ORDER: u64 = 0xB005_0400_21CD_345A;
-
-const ORDERED: Event = Event::Order(Cell::Out(0, Reg::VoutCommand), 0x34CD);
+const ORDER_BYTES: u64 = 0xB005_0400_21CD_345A;
 
 // Whether each cell of both outputs and of the device has its start word.
-fn is_at_start(converter: &Converter) -> bool {
-    let starts = [
-        (Reg::Operation, OUTPUT.operation),
-        (Reg::VoutCommand, OUTPUT.command),
-        (Reg::VoutMax, OUTPUT.max),
-        (Reg::MarginHigh, OUTPUT.high),
-        (Reg::MarginLow, OUTPUT.low),
-    ];
-    let mut same = converter.word(Cell::Protect) == BASE.protect;
-    for (register, start) in starts {
-        same = same && word(converter, 0, register) == start;
-        same = same && word(converter, 1, register) == start;
+fn is_at_start(converter: &Converter) -> Result<bool, ConfigFault> {
+    let started = Converter::new(BASE)?;
+    let mut same = true;
+    for cell in CELLS {
+        same = same && word(converter, cell) == word(&started, cell);
     }
-    same
+    Ok(same)
 }
 
 // A world in which the order's frame is being sent hears these bytes in its place, and a converter
@@ -35,31 +25,31 @@ fn is_at_start(converter: &Converter) -> bool {
 fn is_without_effect(rt: &impl Abort, world: &mut World, bytes: &[u8]) -> Result<(), Fail> {
     let mut frame = Frame::new();
     frame.try_extend_from_slice(bytes)?;
-    let delivered = world.step(&Event::Deliver(Arrival::Bytes(frame, STOP)));
+    let delivered = world.step(&Event::Deliver(Arrival::Bytes(frame, Ending::Stop)));
     assert!(rt; delivered.is_ok(), "{bytes:?} is a legal hearing");
-    assert!(rt; is_at_start(world.device()), "{bytes:?} in a world");
+    assert!(rt; is_at_start(world.device())?, "{bytes:?} in a world");
     let mut converter = Converter::new(BASE)?;
-    let heard = converter.hear(bytes, STOP);
+    let heard = converter.hear(bytes, Ending::Stop);
     let unheard = matches!(heard, Heard::Refused(_) | Heard::Silent);
     assert!(rt; unheard, "{heard:?} for {bytes:?}");
-    assert!(rt; is_at_start(&converter), "{bytes:?} alone");
+    assert!(rt; is_at_start(&converter)?, "{bytes:?} alone");
     Ok(())
 }
 
 #[test]
 fn short_bursts_change_no_word(rt: HostRuntime) -> Result<(), Fail> {
     let mut world = World::new(BASE, 2)?;
-    assert!(rt; world.step(&ORDERED).is_ok());
+    assert!(rt; world.step(&ORDER).is_ok());
     let mut tried = 0u32;
     for window in 0..57u32 {
         for change in 1..=255u64 {
-            let changed = ORDER ^ change << (56 - window);
+            let changed = ORDER_BYTES ^ change << (56 - window);
             is_without_effect(&rt, &mut world, &changed.to_be_bytes())?;
             tried = tried.saturating_add(1);
         }
     }
     assert_eq!(rt; tried, 14_535);
     assert!(rt; world.step(&Event::Deliver(Arrival::Whole)).is_ok());
-    assert_eq!(rt; word(world.device(), 0, Reg::VoutCommand), 0x34CD);
+    assert_eq!(rt; word(world.device(), FIRST), 0x34CD);
     Ok(())
 }

@@ -1,121 +1,200 @@
 //! Configurations, and the first fault of each that applies.
 
-use super::OUTPUT;
+use crate::fixtures::OUTPUT;
 use pm_device::{Config, ConfigFault, Converter, OutputStart};
 use pm_num::NumFault;
 use pm_table::{Cell, Coefficients, Reg, TableFault};
 
-// Outputs whose OPERATION has no meaning, of VID, and DIRECT.
-const BAD: OutputStart = OutputStart {
-    operation: 0xB0,
-    ..OUTPUT
-};
+const V1: Option<ConfigFault> = Some(ConfigFault::OutputCount);
 
-const VID: OutputStart = OutputStart {
-    mode: 0x20,
-    ..OUTPUT
-};
+// V2 of OPERATION of both outputs, and of WRITE_PROTECT.
+const V2_FIRST: Option<ConfigFault> = Some(ConfigFault::BadStart(Cell::Out(0, Reg::Operation)));
 
-const DIRECT: OutputStart = OutputStart {
-    mode: 0x40,
-    ..OUTPUT
-};
+const V2_SECOND: Option<ConfigFault> = Some(ConfigFault::BadStart(Cell::Out(1, Reg::Operation)));
 
-// The second output is the bad one; the second is VID and the third DIRECT.
-const ONE_BAD: [OutputStart; 8] = [OUTPUT, BAD, OUTPUT, OUTPUT, OUTPUT, OUTPUT, OUTPUT, OUTPUT];
+const V2_PROTECT: Option<ConfigFault> = Some(ConfigFault::BadStart(Cell::Protect));
 
-const MIXED: [OutputStart; 8] = [OUTPUT, VID, DIRECT, OUTPUT, OUTPUT, OUTPUT, OUTPUT, OUTPUT];
+const V3: Option<ConfigFault> = Some(ConfigFault::Address);
 
-// Coefficients with no slope, which have too great an exponent as well, and with that alone.
-const FLAT: Coefficients = Coefficients { m: 0, b: 0, r: 13 };
+// V4 of the first output, which is VID, and of the second.
+const V4_FIRST: Option<ConfigFault> = Some(ConfigFault::BadMode(0, TableFault::VidMode));
 
-const STEEP: Coefficients = Coefficients { m: 1, b: 0, r: 13 };
+const V4_VID: Option<ConfigFault> = Some(ConfigFault::BadMode(1, TableFault::VidMode));
 
-// What a configuration at the address, with the count, the starts, WRITE_PROTECT and the
-// coefficients, is refused for.
+const V4_HALF: Option<ConfigFault> = Some(ConfigFault::BadMode(1, TableFault::HalfMode));
+
+const V4_RELATIVE: Option<ConfigFault> = Some(ConfigFault::BadMode(1, TableFault::RelativeMode));
+
+const V4_PARAMETER: Option<ConfigFault> = Some(ConfigFault::BadMode(1, TableFault::BadParameter));
+
+const V5_SLOPE: Option<ConfigFault> = Some(ConfigFault::BadCoefficients(NumFault::ZeroSlope));
+
+const V5_EXPONENT: Option<ConfigFault> = Some(ConfigFault::BadCoefficients(
+    NumFault::ExponentRange,
+));
+
+// A count, OPERATION of the first output and of the others, WRITE_PROTECT, the address, VOUT_MODE of the
+// first output and of the others, m and R; and the fault.
 type Row = (
     u8,
-    u8,
-    [OutputStart; 8],
+    [u16; 2],
     u16,
-    Coefficients,
+    u8,
+    [u8; 2],
+    (i16, i8),
     Option<ConfigFault>,
 );
 
-const ROWS: [Row; 12] = [
+// Each fault alone, then each with each that comes after it, then what is no fault.
+const ROWS: [Row; 44] = [
+    (0, [0x80, 0x80], 0x00, 0x58, [0x14, 0x14], (1, 0), V1),
+    (9, [0x80, 0x80], 0x00, 0x58, [0x14, 0x14], (1, 0), V1),
+    (255, [0x80, 0x80], 0x00, 0x58, [0x14, 0x14], (1, 0), V1),
+    (2, [0xB0, 0x80], 0x00, 0x58, [0x14, 0x14], (1, 0), V2_FIRST),
     (
+        2,
+        [0x80, 0x180],
         0x00,
-        0,
-        [BAD; 8],
+        0x58,
+        [0x14, 0x14],
+        (1, 0),
+        V2_SECOND,
+    ),
+    (
+        2,
+        [0x80, 0x80],
         0x01,
-        FLAT,
-        Some(ConfigFault::OutputCount),
-    ),
-    (
         0x58,
-        9,
-        [BAD; 8],
-        0x00,
-        FLAT,
-        Some(ConfigFault::OutputCount),
+        [0x14, 0x14],
+        (1, 0),
+        V2_PROTECT,
     ),
+    (2, [0x80, 0x80], 0x00, 0x00, [0x14, 0x14], (1, 0), V3),
+    (2, [0x80, 0x80], 0x00, 0x07, [0x14, 0x14], (1, 0), V3),
+    (2, [0x80, 0x80], 0x00, 0x78, [0x14, 0x14], (1, 0), V3),
+    (2, [0x80, 0x80], 0x00, 0xD8, [0x14, 0x14], (1, 0), V3),
+    (2, [0x80, 0x80], 0x00, 0x58, [0x20, 0x14], (1, 0), V4_FIRST),
+    (2, [0x80, 0x80], 0x00, 0x58, [0x14, 0x3F], (1, 0), V4_VID),
+    (2, [0x80, 0x80], 0x00, 0x58, [0x14, 0x60], (1, 0), V4_HALF),
     (
-        0x00,
         2,
-        ONE_BAD,
-        0x01,
-        FLAT,
-        Some(ConfigFault::BadStart(Cell::Out(1, Reg::Operation))),
-    ),
-    (
+        [0x80, 0x80],
         0x00,
-        2,
-        MIXED,
-        0x01,
-        FLAT,
-        Some(ConfigFault::BadStart(Cell::Protect)),
-    ),
-    (0x78, 3, MIXED, 0x00, FLAT, Some(ConfigFault::Address)),
-    (
         0x58,
-        3,
-        MIXED,
-        0x00,
-        FLAT,
-        Some(ConfigFault::BadMode(1, TableFault::VidMode)),
+        [0x14, 0x94],
+        (1, 0),
+        V4_RELATIVE,
     ),
     (
-        0x58,
         2,
-        [DIRECT; 8],
+        [0x80, 0x80],
         0x00,
-        FLAT,
-        Some(ConfigFault::BadCoefficients(NumFault::ZeroSlope)),
+        0x58,
+        [0x14, 0xE1],
+        (1, 0),
+        V4_RELATIVE,
     ),
     (
-        0x58,
         2,
-        [DIRECT; 8],
+        [0x80, 0x80],
         0x00,
-        STEEP,
-        Some(ConfigFault::BadCoefficients(NumFault::ExponentRange)),
+        0x58,
+        [0x14, 0x41],
+        (1, 0),
+        V4_PARAMETER,
     ),
-    (0x58, 2, [OUTPUT; 8], 0x00, FLAT, None),
-    (0x58, 1, MIXED, 0x00, FLAT, None),
-    (0x08, 1, ONE_BAD, 0x80, STEEP, None),
-    (0x77, 8, [OUTPUT; 8], 0x40, FLAT, None),
+    (2, [0x80, 0x80], 0x00, 0x58, [0x40, 0x14], (0, 0), V5_SLOPE),
+    (2, [0x80, 0x80], 0x00, 0x58, [0x14, 0x40], (0, 0), V5_SLOPE),
+    (
+        2,
+        [0x80, 0x80],
+        0x00,
+        0x58,
+        [0x14, 0x40],
+        (1, 13),
+        V5_EXPONENT,
+    ),
+    (
+        2,
+        [0x80, 0x80],
+        0x00,
+        0x58,
+        [0x14, 0x40],
+        (1, -13),
+        V5_EXPONENT,
+    ),
+    (9, [0xB0, 0x80], 0x00, 0x58, [0x14, 0x14], (1, 0), V1),
+    (0, [0x80, 0x80], 0x01, 0x58, [0x14, 0x14], (1, 0), V1),
+    (0, [0x80, 0x80], 0x00, 0x78, [0x14, 0x14], (1, 0), V1),
+    (9, [0x80, 0x80], 0x00, 0x58, [0x20, 0x14], (1, 0), V1),
+    (9, [0x80, 0x80], 0x00, 0x58, [0x40, 0x14], (0, 0), V1),
+    (2, [0xB0, 0xB0], 0x00, 0x58, [0x14, 0x14], (1, 0), V2_FIRST),
+    (2, [0x80, 0xB0], 0x01, 0x58, [0x14, 0x14], (1, 0), V2_SECOND),
+    (2, [0x80, 0xB0], 0x00, 0x78, [0x14, 0x14], (1, 0), V2_SECOND),
+    (2, [0x80, 0xB0], 0x00, 0x58, [0x20, 0x14], (1, 0), V2_SECOND),
+    (2, [0x80, 0xB0], 0x00, 0x58, [0x40, 0x14], (0, 0), V2_SECOND),
+    (
+        2,
+        [0x80, 0x80],
+        0x60,
+        0x07,
+        [0x14, 0x14],
+        (1, 0),
+        V2_PROTECT,
+    ),
+    (
+        2,
+        [0x80, 0x80],
+        0x60,
+        0x58,
+        [0x20, 0x14],
+        (1, 0),
+        V2_PROTECT,
+    ),
+    (
+        2,
+        [0x80, 0x80],
+        0x60,
+        0x58,
+        [0x40, 0x14],
+        (0, 0),
+        V2_PROTECT,
+    ),
+    (2, [0x80, 0x80], 0x00, 0x78, [0x20, 0x14], (1, 0), V3),
+    (2, [0x80, 0x80], 0x00, 0x78, [0x40, 0x14], (0, 0), V3),
+    (2, [0x80, 0x80], 0x00, 0x58, [0x20, 0x60], (1, 0), V4_FIRST),
+    (2, [0x80, 0x80], 0x00, 0x58, [0x40, 0x20], (0, 0), V4_VID),
+    (2, [0x80, 0x80], 0x00, 0x58, [0x14, 0x40], (0, 13), V5_SLOPE),
+    (2, [0x80, 0x80], 0x00, 0x58, [0x14, 0x14], (1, 0), None),
+    (1, [0x80, 0xB0], 0x20, 0x08, [0x14, 0x20], (0, 13), None),
+    (8, [0x00, 0xAB], 0x40, 0x77, [0x00, 0x1F], (0, 13), None),
+    (1, [0x80, 0x80], 0x80, 0x58, [0x1F, 0x40], (0, 13), None),
+    (2, [0x80, 0x80], 0x00, 0x58, [0x40, 0x14], (1, 12), None),
+    (2, [0x80, 0x80], 0x00, 0x58, [0x14, 0x40], (-1, -12), None),
 ];
 
 #[test]
 fn a_configuration_has_the_first_fault_that_applies(rt: HostRuntime) {
-    for (addr, count, starts, protect, coefficients, wanted) in ROWS {
+    for (count, operations, protect, addr, modes, (m, r), wanted) in ROWS {
+        let others = OutputStart {
+            mode: modes[1],
+            operation: operations[1],
+            ..OUTPUT
+        };
+        let mut starts = [others; 8];
+        starts[0].mode = modes[0];
+        starts[0].operation = operations[0];
         let config = Config {
             addr,
             count,
             starts,
             protect,
-            coefficients,
+            coefficients: Coefficients { m, b: 0, r },
         };
-        assert_eq!(rt; Converter::new(config).err(), wanted, "{config:?}");
+        assert_eq!(rt;
+            Converter::new(config).err(),
+            wanted,
+            "{count} {protect:02X} {addr:02X} {m} {r}"
+        );
     }
 }

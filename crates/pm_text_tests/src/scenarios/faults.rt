@@ -1,9 +1,49 @@
 //! The faults of scenarios, and the numbers of their lines.
 
 use super::{fault_of, head_with, with_event};
-use pm_lines::{MAX_TEXT, TextFault};
-use pm_text::read_scenario;
+use crate::worked::SCENARIO;
+use pm_text::TextFault;
 use std::test::Fail;
+
+#[test]
+fn a_faulty_line_of_the_worked_scenario_is_told(rt: HostRuntime) -> Result<(), Fail> {
+    // The number of the line, and what stands there instead.
+    let rows = [
+        (1, "scenario 2", TextFault::Syntax(1)),
+        (3, "passes 256", TextFault::Syntax(3)),
+        (4, "protect 0", TextFault::BadHex(4)),
+        (6, "output 14 8Z 1000", TextFault::BadHex(6)),
+        (7, "output 14 80 1000 4000 1100", TextFault::Syntax(7)),
+        (9, "order 0 OPERATION 34CD", TextFault::BadHex(9)),
+        (9, "order 0 WRITE_PROTECT 40", TextFault::Syntax(9)),
+        (9, "order - VOUT_COMMAND 34CD", TextFault::Syntax(9)),
+        (
+            9,
+            "volts 0 VOUT_COMMAND 9223372036854775808",
+            TextFault::Syntax(9),
+        ),
+        (10, "deliver bytes B0050 stop", TextFault::BadHex(10)),
+        (
+            10,
+            "deliver bytes 000102030405060708090A0B0C0D0E0F10 stop",
+            TextFault::BadHex(10),
+        ),
+        (11, "finish", TextFault::Syntax(11)),
+    ];
+    for (number, line, fault) in rows {
+        let mut text = String::new(rt.alloc());
+        for (at, usual) in SCENARIO.split('\n').enumerate() {
+            text.push_str(if at.saturating_add(1) == number {
+                line
+            } else {
+                usual
+            })?;
+            text.push('\n')?;
+        }
+        assert_eq!(rt; fault_of(rt.alloc(), &text), Some(fault), "{line}");
+    }
+    Ok(())
+}
 
 #[test]
 fn a_word_that_is_not_what_stands_at_its_place_is_a_fault(rt: HostRuntime) -> Result<(), Fail> {
@@ -30,11 +70,11 @@ fn a_word_that_is_not_what_stands_at_its_place_is_a_fault(rt: HostRuntime) -> Re
         "volts 0 VOUT_COMMAND +1",
         "volts 0 VOUT_COMMAND -",
         "volts 0 VOUT_COMMAND 0x5",
-        "volts 0 VOUT_COMMAND 9223372036854775808",
         "volts 0 VOUT_COMMAND -9223372036854775809",
         "check",
         "check -",
         "check - VOUT_MAX",
+        "check - WRITE-PROTECT",
         "check 0",
         "check 0 VOUT_MAX 0",
         "learn",
@@ -56,7 +96,6 @@ fn a_word_that_is_not_what_stands_at_its_place_is_a_fault(rt: HostRuntime) -> Re
         "deliver bytes B0",
         "deliver bytes B0 begin",
         "deliver bytes B0 stop stop",
-        "finish",
         "finish Ack",
         "finish ack ack",
         "exchange whole",
@@ -92,7 +131,6 @@ fn a_word_that_should_be_hexadecimal_and_is_not_is_a_fault(rt: HostRuntime) -> R
         "deliver bytes B stop",
         "deliver bytes B0B stop",
         "deliver bytes ZZ x",
-        "deliver bytes 000102030405060708090A0B0C0D0E0F10 stop",
         "deliver bytes +0 stop",
         "exchange whole bytes B",
         "exchange bytes - whole",
@@ -122,7 +160,6 @@ fn a_faulty_line_before_the_events_is_told(rt: HostRuntime) -> Result<(), Fail> 
     // The place of the line, counted from 0, and the line.
     let rows = [
         (0, "scenario 01", TextFault::Syntax(1)),
-        (0, "scenario 2", TextFault::Syntax(1)),
         (0, "scenario 1 1", TextFault::Syntax(1)),
         (0, "scenario", TextFault::Syntax(1)),
         (0, " # x", TextFault::Syntax(1)),
@@ -132,11 +169,9 @@ fn a_faulty_line_before_the_events_is_told(rt: HostRuntime) -> Result<(), Fail> 
         (1, "address 058", TextFault::BadHex(2)),
         (1, "address +8", TextFault::BadHex(2)),
         (1, "address 5G 58", TextFault::BadHex(2)),
-        (2, "passes 256", TextFault::Syntax(3)),
         (2, "passes -0", TextFault::Syntax(3)),
         (2, "passes +1", TextFault::Syntax(3)),
         (2, "passes 1 1", TextFault::Syntax(3)),
-        (3, "protect 0", TextFault::BadHex(4)),
         (3, "protect 0000", TextFault::BadHex(4)),
         (3, "protect", TextFault::Syntax(4)),
         (4, "coefficients 1 0", TextFault::Syntax(5)),
@@ -146,7 +181,6 @@ fn a_faulty_line_before_the_events_is_told(rt: HostRuntime) -> Result<(), Fail> 
         (4, "coefficients 1 0 128", TextFault::Syntax(5)),
         (4, "coefficients +1 0 0", TextFault::Syntax(5)),
         (5, "output 14 80 begin", TextFault::BadHex(6)),
-        (5, "output 14 80 1000 4000 1100", TextFault::Syntax(6)),
         (
             5,
             "output 14 80 1000 4000 1100 0F00 0",
@@ -200,16 +234,5 @@ fn the_first_faulty_line_counts(rt: HostRuntime) -> Result<(), Fail> {
         let text = with_event(rt.alloc(), lines)?;
         assert_eq!(rt; fault_of(rt.alloc(), &text), Some(fault), "{lines}");
     }
-    Ok(())
-}
-
-#[test]
-fn a_text_has_no_more_than_its_most_bytes(rt: HostRuntime) -> Result<(), Fail> {
-    let mut text = vec![in rt.alloc(); b'#'; MAX_TEXT]?;
-    let fault = read_scenario(rt.alloc(), &text).err();
-    assert_eq!(rt; fault, Some(TextFault::Syntax(2)));
-    text.push(b'#')?;
-    let fault = read_scenario(rt.alloc(), &text).err();
-    assert_eq!(rt; fault, Some(TextFault::TooLong));
     Ok(())
 }

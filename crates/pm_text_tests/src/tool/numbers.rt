@@ -1,59 +1,17 @@
 //! Lines and refusals of `number`, over a writer with little room.
-ghost use Rattle.std.specs.Prelude.{◌≤◌};
-
+use crate::fakes::Sheet;
 use pm_num::NumFault;
 use pm_tool::{NumberFault, Sink, TextFault, number};
 use std::alloc::Global;
-use std::io;
-use std::io::Write;
 use std::process::Abort;
-
-/// A writer that takes five bytes at once at most, and none past its room.
-#[derive(Drop)]
-struct Page {
-    bytes: [u8; 100],
-    len: usize,
-    room: usize,
-    ghost written: { len ≤ room },
-    ghost held: { room ≤ 100 },
-}
-
-impl Page {
-    fn new(room: usize) -> Page
-        requires { room ≤ 100 }
-    {
-        Page {
-            bytes: [0; 100],
-            len: 0,
-            room,
-        }
-    }
-
-    fn text(&self) -> &[u8] {
-        &self.bytes[..self.len]
-    }
-}
-
-impl Write for Page {
-    fn write(&mut self, buf: &[u8]) -> io::Result<usize> {
-        let count = buf.len().min(5).min(self.room - self.len);
-        self.bytes[self.len..self.len + count].copy_from_slice(&buf[..count]);
-        self.len += count;
-        Ok(count)
-    }
-
-    fn flush(&mut self) -> io::Result<()> {
-        Ok(())
-    }
-}
 
 fn asked(
     alloc: Global,
     format: &str,
     word: Option<&str>,
     micro: Option<&str>,
-) -> (Result<(), NumberFault>, Page) {
-    let mut sink = Sink::new(Page::new(100));
+) -> (Result<(), NumberFault>, Sheet) {
+    let mut sink = Sink::new(Sheet::new(100));
     let result = number(alloc, &mut sink, format, word, micro);
     (result, sink.into_inner())
 }
@@ -64,9 +22,9 @@ fn expect_line(
     asked_for: (Option<&str>, Option<&str>),
     line: &str,
 ) {
-    let (result, page) = asked(rt.alloc(), format, asked_for.0, asked_for.1);
+    let (result, sheet) = asked(rt.alloc(), format, asked_for.0, asked_for.1);
     assert_eq!(rt; result, Ok(()), "{format}: {line}");
-    assert!(rt; page.text() == line.as_bytes(), "{format}: {line}");
+    assert!(rt; sheet.text() == line.as_bytes(), "{format}: {line}");
 }
 
 #[test]
@@ -113,6 +71,11 @@ fn words_are_shown_with_their_values(rt: HostRuntime) {
             "direct:-32768:32767:12",
             "8000",
             "word 8000 value 32767000000032768/32768000000000000 micro 999969\n",
+        ),
+        (
+            "direct:1:-32768:-12",
+            "7FFF",
+            "word 7FFF value 32767000000032768/1 micro 32767000000032768000000\n",
         ),
         (
             "direct:01:-0:003",
@@ -184,9 +147,9 @@ fn expect_fault(
     asked_for: (Option<&str>, Option<&str>),
     fault: NumberFault,
 ) {
-    let (result, page) = asked(rt.alloc(), format, asked_for.0, asked_for.1);
+    let (result, sheet) = asked(rt.alloc(), format, asked_for.0, asked_for.1);
     assert_eq!(rt; result, Err(fault), "{format}");
-    assert!(rt; page.text().is_empty(), "{format}");
+    assert!(rt; sheet.text().is_empty(), "{format}");
 }
 
 #[test]
@@ -287,7 +250,7 @@ fn numbers_without_a_word_are_refused(rt: HostRuntime) {
 fn a_full_writer_has_a_front_of_the_line(rt: HostRuntime) {
     let line = "word 87FF value -1/65536 micro -16\n".as_bytes();
     for room in 0..50 {
-        let mut sink = Sink::new(Page::new(room));
+        let mut sink = Sink::new(Sheet::new(room));
         let result = number(rt.alloc(), &mut sink, "linear11", Some("87FF"), None);
         let fits = line.len() <= room;
         assert_eq!(rt; sink.failed(), !fits, "room {room}");
@@ -297,48 +260,10 @@ fn a_full_writer_has_a_front_of_the_line(rt: HostRuntime) {
             Err(NumberFault::Text(TextFault::Write))
         };
         assert_eq!(rt; result, wanted, "room {room}");
-        let page = sink.into_inner();
-        assert!(rt; page.text() == &line[..room.min(line.len())], "room {room}");
-    }
-}
-
-#[test]
-fn refusals_are_said_with_their_status(rt: HostRuntime) {
-    for (fault, words, status) in [
-        (NumberFault::OneOf, "give one of --word and --micro", 2),
-        (NumberFault::Format, "bad format", 2),
-        (NumberFault::Word, "bad word", 2),
-        (NumberFault::Micro, "bad micro", 2),
-        (NumberFault::Num(NumFault::ZeroSlope), "N1 ZeroSlope", 1),
-        (
-            NumberFault::Num(NumFault::ExponentRange),
-            "N2 ExponentRange",
-            1,
-        ),
-        (NumberFault::Num(NumFault::BelowLeast), "N3 BelowLeast", 1),
-        (
-            NumberFault::Num(NumFault::AboveGreatest),
-            "N4 AboveGreatest",
-            1,
-        ),
-        (NumberFault::Num(NumFault::TooLarge), "N5 TooLarge", 1),
-        (NumberFault::Text(TextFault::Write), "X5 Write", 1),
-        (NumberFault::Text(TextFault::Memory), "X6 Memory", 1),
-    ] {
-        assert!(rt; fault.words() == words, "{words}");
-        assert_eq!(rt; fault.status(), status, "{words}");
-    }
-}
-
-/// For runs in which an allocation is refused: the line is there whole, or X6 is said and nothing
-/// is.
-#[test]
-fn want_of_memory_is_x6_or_the_whole_line(rt: HostRuntime) {
-    let (result, page) = asked(rt.alloc(), "linear11", Some("87FF"), None);
-    if result == Err(NumberFault::Text(TextFault::Memory)) {
-        assert!(rt; page.text().is_empty());
-    } else {
-        assert_eq!(rt; result, Ok(()));
-        assert!(rt; page.text() == b"word 87FF value -1/65536 micro -16\n".as_slice());
+        let sheet = sink.into_inner();
+        assert!(rt;
+            sheet.text() == &line[..room.min(line.len())],
+            "room {room}"
+        );
     }
 }

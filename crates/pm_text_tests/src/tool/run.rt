@@ -1,13 +1,11 @@
 ghost use Rattle.std.specs.Prelude.{IsFalse};
 
-use crate::fakes::{Endless, Failure, Paper, Pieces, blank_paper, in_pieces};
+use crate::fakes::{FAILURES, Paper, Pieces, blank_paper, in_pieces};
+use crate::worked::{FRAME, TAKEN};
 use pm_tool::{Sink, Source, run};
 use std::alloc::Global;
 use std::io::{ErrorKind, Read};
-
-const FRAME: &str = "B0 05 04 00 21 CD 34 5A";
-
-const TAKEN: &str = "taken\noutput 0 VOUT_COMMAND 34CD\noutput 1 VOUT_COMMAND 1000\n";
+use std::test::Fail;
 
 /// What a run over memory comes to: the status, and what was written on both streams.
 #[derive(Drop)]
@@ -164,52 +162,114 @@ fn replays_and_traces_have_their_status(rt: HostRuntime) {
 }
 
 #[test]
-fn a_refused_setup_is_told(rt: HostRuntime) {
-    for (text, errors) in [
+fn a_refused_setup_is_told(rt: HostRuntime) -> Result<(), Fail> {
+    let usual = "14 80 1000 4000 1100 0F00";
+    let vid = "21 80 1000 4000 1100 0F00";
+    let half = "60 80 1000 4000 1100 0F00";
+    let relative = "94 80 1000 4000 1100 0F00";
+    let parameter = "41 80 1000 4000 1100 0F00";
+    let direct = "40 80 1000 4000 1100 0F00";
+    let undefined = "14 B0 1000 4000 1100 0F00";
+    // The address, the passes, the protection, the coefficients and the outputs, and what is said.
+    let rows: [(&str, &str, &str, &str, &[&str], &str); 15] = [
+        ("58", "2", "00", "1 0 0", &[], "V1 OutputCount"),
+        ("58", "2", "00", "1 0 0", &[usual; 9], "V1 OutputCount"),
         (
-            "scenario 1\naddress 58\npasses 2\nprotect 00\ncoefficients 1 0 0\nbegin\n",
-            "pmb: X7 Setup V1 OutputCount\n",
+            "58",
+            "2",
+            "00",
+            "1 0 0",
+            &[undefined],
+            "V2 BadStart 0 OPERATION",
         ),
         (
-            "scenario 1\naddress 58\npasses 2\nprotect 00\ncoefficients 1 0 0\noutput 14 90 1000 4000 1100 0F00\nbegin\n",
-            "pmb: X7 Setup V2 BadStart 0 OPERATION\n",
+            "58",
+            "2",
+            "00",
+            "1 0 0",
+            &[usual, usual, usual, usual, usual, usual, usual, undefined],
+            "V2 BadStart 7 OPERATION",
         ),
         (
-            "scenario 1\naddress 58\npasses 2\nprotect 10\ncoefficients 1 0 0\noutput 14 80 1000 4000 1100 0F00\nbegin\n",
-            "pmb: X7 Setup V2 BadStart WRITE_PROTECT\n",
+            "58",
+            "2",
+            "10",
+            "1 0 0",
+            &[usual],
+            "V2 BadStart WRITE_PROTECT",
+        ),
+        ("07", "2", "00", "1 0 0", &[usual], "V3 Address"),
+        ("78", "2", "00", "1 0 0", &[usual], "V3 Address"),
+        ("58", "2", "00", "1 0 0", &[vid], "V4 BadMode 0 C1 VidMode"),
+        (
+            "58",
+            "2",
+            "00",
+            "1 0 0",
+            &[usual, half],
+            "V4 BadMode 1 C2 HalfMode",
         ),
         (
-            "scenario 1\naddress 07\npasses 2\nprotect 00\ncoefficients 1 0 0\noutput 14 80 1000 4000 1100 0F00\nbegin\n",
-            "pmb: X7 Setup V3 Address\n",
+            "58",
+            "2",
+            "00",
+            "1 0 0",
+            &[relative],
+            "V4 BadMode 0 C3 RelativeMode",
         ),
         (
-            "scenario 1\naddress 58\npasses 2\nprotect 00\ncoefficients 1 0 0\noutput 21 80 1000 4000 1100 0F00\nbegin\n",
-            "pmb: X7 Setup V4 BadMode 0 C1 VidMode\n",
+            "58",
+            "2",
+            "00",
+            "1 0 0",
+            &[usual, usual, parameter],
+            "V4 BadMode 2 C4 BadParameter",
         ),
         (
-            "scenario 1\naddress 58\npasses 2\nprotect 00\ncoefficients 0 0 0\noutput 40 80 1000 4000 1100 0F00\nbegin\n",
-            "pmb: X7 Setup V5 BadCoefficients N1 ZeroSlope\n",
+            "58",
+            "2",
+            "00",
+            "0 0 0",
+            &[direct],
+            "V5 BadCoefficients N1 ZeroSlope",
         ),
         (
-            "scenario 1\naddress 58\npasses 16\nprotect 00\ncoefficients 1 0 0\noutput 14 80 1000 4000 1100 0F00\nbegin\n",
-            "pmb: X7 Setup H2 Passes\n",
+            "58",
+            "2",
+            "00",
+            "1 0 13",
+            &[direct],
+            "V5 BadCoefficients N2 ExponentRange",
         ),
-    ] {
-        let found = run_on(rt.alloc(), &["pmb", "replay"], text);
-        assert!(rt; found.is(1, "", errors), "{errors}");
+        ("58", "0", "00", "1 0 0", &[usual], "H2 Passes"),
+        ("58", "16", "00", "1 0 0", &[usual], "H2 Passes"),
+    ];
+    let alloc = rt.alloc();
+    for (address, passes, protect, coefficients, outputs, words) in rows {
+        let mut text = format!(in alloc;
+            "scenario 1\naddress {address}\npasses {passes}\nprotect {protect}\ncoefficients {coefficients}\n"
+        )?;
+        for output in outputs {
+            text.push_str("output ")?;
+            text.push_str(output)?;
+            text.push_str("\n")?;
+        }
+        text.push_str("begin\n")?;
+        let errors = format!(in alloc; "pmb: X7 Setup {words}\n")?;
+        let found = run_on(alloc, &["pmb", "replay"], text.as_str());
+        assert!(rt; found.is(1, "", errors.as_str()), "{words}");
     }
+    Ok(())
 }
 
 #[test]
-fn a_failed_reader_and_an_endless_one_are_told(rt: HostRuntime) {
+fn a_failed_reader_and_a_long_text_are_told(rt: HostRuntime) -> Result<(), Fail> {
     let alloc = rt.alloc();
     let hear = ["pmb", "hear"];
     for fails_at in 1..=5 {
         let mut input = Source::new(Pieces {
-            rest: FRAME.as_bytes(),
-            piece: 7,
             fails_at,
-            calls: 0,
+            ..in_pieces(FRAME.as_bytes(), 7)
         });
         let found = run_with(
             alloc,
@@ -221,7 +281,8 @@ fn a_failed_reader_and_an_endless_one_are_told(rt: HostRuntime) {
         assert!(rt; found.is(1, "", "pmb: X4 Read\n"), "at {fails_at}");
         assert_eq!(rt; input.into_inner().calls, fails_at);
     }
-    let mut input = Source::new(Endless);
+    let long = vec![in alloc; b'#'; 1_048_577]?;
+    let mut input = Source::new(in_pieces(&long, 4096));
     let found = run_with(
         alloc,
         Ok(&hear),
@@ -230,6 +291,7 @@ fn a_failed_reader_and_an_endless_one_are_told(rt: HostRuntime) {
         blank_paper(alloc, 1),
     );
     assert!(rt; found.is(1, "", "pmb: X3 TooLong\n"));
+    Ok(())
 }
 
 #[test]
@@ -242,7 +304,7 @@ fn a_failed_output_is_told_and_holds_a_front(rt: HostRuntime) {
         (number.as_slice(), line),
     ] {
         for fails_at in 1..=text.len() {
-            for failure in [Failure::Error, Failure::Nothing] {
+            for failure in FAILURES {
                 let mut input = Source::new(in_pieces(FRAME.as_bytes(), 7));
                 let mut output = blank_paper(alloc, 1);
                 output.fails_at = fails_at;

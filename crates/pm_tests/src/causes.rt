@@ -1,0 +1,265 @@
+//! Why an event isn't taken, and which bytes are a legal hearing or a legal return.
+
+use crate::fixtures::{
+    BASE, CELLS, CHECK, FIRST, ORDER, OUTPUT, after, arrival, back, sends, standing, word,
+};
+use pm_device::{Config, ConfigFault, OutputStart};
+use pm_host::{HostFault, JobEnd, Standing};
+use pm_num::NumFault;
+use pm_table::{Cell, Coefficients, Reg, TableFault};
+use pm_world::{Cause, Event, SetupFault, World};
+use std::process::Abort;
+
+const S1: Cause = Cause::NotBetrayed;
+
+const S2: Cause = Cause::NothingSent;
+
+const S3: Cause = Cause::WrongKind;
+
+const S4_BUSY: Cause = Cause::Host(HostFault::Busy);
+
+// An event of the bus: a delivery as it arrives, an exchange as it arrives and comes back, the end of
+// a write.
+#[derive(Clone, Copy, Debug)]
+enum Bus {
+    Deliver(&'static str),
+    Exchange(&'static str, &'static str),
+    Finish(bool),
+}
+
+fn event(rt: &impl Abort, bus: Bus) -> Event {
+    match bus {
+        Bus::Deliver(heard) => Event::Deliver(arrival(rt, heard)),
+        Bus::Exchange(heard, came) => Event::Exchange(arrival(rt, heard), back(rt, came)),
+        Bus::Finish(acked) => Event::Finish(acked),
+    }
+}
+
+// A good packet that is no frame of the host's, and an answer with another word than is held.
+const OTHER: &str = "stop: B0 21 CD 34 38";
+
+const OTHER_ANSWER: &str = "B1 02 CD 34 B9";
+
+// While nothing is sent, while a write is, and while a read is.
+const IDLE: [(Bus, Cause); 6] = [
+    (Bus::Deliver("whole"), S2),
+    (Bus::Deliver(OTHER), S2),
+    (Bus::Finish(true), S2),
+    (Bus::Finish(false), S2),
+    (Bus::Exchange("whole", "whole"), S2),
+    (Bus::Exchange(OTHER, OTHER_ANSWER), S2),
+];
+
+const WRITING: [(Bus, Cause); 5] = [
+    (Bus::Exchange("whole", "whole"), S3),
+    (Bus::Exchange("cut 3", "cut 0"), S3),
+    (Bus::Exchange(OTHER, "whole"), S3),
+    (Bus::Exchange("whole", OTHER_ANSWER), S3),
+    (Bus::Deliver(OTHER), S1),
+];
+
+const READING: [(Bus, Cause); 7] = [
+    (Bus::Deliver("whole"), S3),
+    (Bus::Deliver("cut 0"), S3),
+    (Bus::Deliver(OTHER), S3),
+    (Bus::Finish(true), S3),
+    (Bus::Finish(false), S3),
+    (Bus::Exchange(OTHER, "whole"), S1),
+    (Bus::Exchange("whole", OTHER_ANSWER), S1),
+];
+
+// No event of the bus is taken, nor a further job where one is open; nothing changes.
+fn stops(
+    rt: &impl Abort,
+    job: &[Event],
+    sent: &str,
+    rows: &[(Bus, Cause)],
+) -> Result<(), SetupFault> {
+    let mut world = after(rt, BASE, 2, job)?;
+    for (bus, cause) in rows {
+        assert_eq!(rt; world.step(&event(rt, *bus)), Err(*cause), "{bus:?}");
+    }
+    if !job.is_empty() {
+        assert_eq!(rt; world.step(&CHECK), Err(S4_BUSY));
+    }
+    assert!(rt; sends(rt, &world, sent));
+    assert_eq!(rt; world.last_end(), None);
+    assert_eq!(rt; world.device().status_cml(), 0x00);
+    Ok(())
+}
+
+#[test]
+fn an_event_that_is_not_taken_has_its_first_cause(rt: HostRuntime) -> Result<(), SetupFault> {
+    stops(&rt, &[], "", &IDLE)?;
+    stops(&rt, &[ORDER], "B0 05 04 00 21 CD 34 5A", &WRITING)?;
+    stops(&rt, &[CHECK], "B0 06 02 00 21", &READING)
+}
+
+// What arrives of the order of 34CDh: the cause against it, or the word and STATUS_CML afterwards.
+const HEARINGS: [(&str, Result<(u16, u8), Cause>); 20] = [
+    ("whole", Ok((0x34CD, 0x00))),
+    ("cut 8", Ok((0x34CD, 0x00))),
+    ("cut 255", Ok((0x34CD, 0x00))),
+    ("cut 7", Ok((0x1000, 0x02))),
+    ("cut 0", Ok((0x1000, 0x00))),
+    ("stop: B0 05 04 00 21 CD 34 5A", Ok((0x34CD, 0x00))),
+    ("stop: B0 05 04 00 21 CD 34", Ok((0x1000, 0x02))),
+    ("stop: B0 05 04 00 21 CD 34 5B", Ok((0x1000, 0x20))),
+    ("stop: B0 05 04 00 21 CD 34 5A FF", Ok((0x1000, 0x02))),
+    ("stop: B0 21 CD 34 FF", Ok((0x1000, 0x20))),
+    ("stop: ", Ok((0x1000, 0x00))),
+    ("stop: 01", Ok((0x1000, 0x00))),
+    ("stop: 00", Err(S1)),
+    ("stop: B0 05 04 01 21 CD 34 4C", Err(S1)),
+    ("stop: B0 21 CD 34 38", Err(S1)),
+    ("stop: B0 03 46", Err(S1)),
+    ("stop: B0 05 04 00 21 CD 34 5A 00", Err(S1)),
+    ("restart: B0 05 04 00 21 CD 34 5A", Ok((0x1000, 0x80))),
+    ("restart: B0 05 04 01 21 CD 34 4C", Ok((0x1000, 0x80))),
+    ("restart: B0 06 02 00 21", Ok((0x1000, 0x00))),
+];
+
+// The order arrives so, whoever else's frame it is: no other cell changes, and the host knows nothing.
+#[test]
+fn a_write_is_heard_as_it_arrives(rt: HostRuntime) -> Result<(), SetupFault> {
+    for (heard, wanted) in HEARINGS {
+        let mut world = after(&rt, BASE, 2, &[ORDER])?;
+        let taken = world.step(&Event::Deliver(arrival(&rt, heard)));
+        assert_eq!(rt; taken, wanted.map(|_| ()), "{heard}");
+        let (held, cml) = wanted.unwrap_or((0x1000, 0x00));
+        assert_eq!(rt; world.device().status_cml(), cml, "{heard}");
+        let started = World::new(BASE, 2)?;
+        for cell in CELLS {
+            let start = word(started.device(), cell);
+            let wanted = if cell == FIRST { held } else { start };
+            assert_eq!(rt;
+                word(world.device(), cell),
+                wanted,
+                "{cell:?} after {heard}"
+            );
+        }
+        assert_eq!(rt; standing(&world, FIRST), Some(Standing::Unknown));
+    }
+    Ok(())
+}
+
+type Outcome = Result<(Option<JobEnd>, u8), Cause>;
+
+// A good answer.
+const DONE: Outcome = Ok((Some(JobEnd::Done), 0x00));
+
+// No good answer: what the converter heard was no fault, a wrong PEC, a cut frame, or a bad page.
+const NONE: Outcome = Ok((None, 0x00));
+
+const NO_PEC: Outcome = Ok((None, 0x20));
+
+const SHORT: Outcome = Ok((None, 0x02));
+
+const BAD_PAGE: Outcome = Ok((None, 0x40));
+
+type Return = (&'static str, &'static str, Outcome);
+
+// What arrives of a check's request, and what comes back: the cause against it, or the job's end, if
+// it has one, and STATUS_CML afterwards.
+const RETURNS: [Return; 28] = [
+    ("whole", "whole", DONE),
+    ("whole", "cut 5", DONE),
+    ("whole", "cut 255", DONE),
+    ("whole", "B1 02 00 10 41", DONE),
+    ("restart: B0 06 02 00 21", "whole", DONE),
+    ("restart: B0 06 02 00 21", "B1 02 00 10 41", DONE),
+    ("whole", "cut 4", NONE),
+    ("whole", "cut 0", NONE),
+    ("whole", "B1 02 00 0B", NONE),
+    ("whole", "B1 02 00 10 40", NONE),
+    ("whole", "B1 02 00 10 68", NONE),
+    ("whole", "B1 02 00 10 28", NONE),
+    ("whole", "B1 02 00 10 41 FF", NONE),
+    ("cut 5", "whole", NO_PEC),
+    ("cut 255", "whole", NO_PEC),
+    ("cut 3", "whole", NO_PEC),
+    ("cut 2", "whole", SHORT),
+    ("cut 0", "whole", NONE),
+    ("stop: B0 06 02 00 21", "whole", NO_PEC),
+    ("restart: B0 06 02 01 21", "whole", NONE),
+    ("restart: B0 06 02 02 21", "whole", BAD_PAGE),
+    ("stop: B0 21 CD 34 38", "whole", Err(S1)),
+    ("cut 5", "B1 02 00 10 41", Err(S1)),
+    ("restart: B0 06 02 01 21", "B1 02 00 10 41", Err(S1)),
+    ("whole", "B1 02 CD 34 B9", Err(S1)),
+    ("whole", "B1 02 00 10 00 C0", Err(S1)),
+    ("whole", "B1 01 00 10 FC", Err(S1)),
+    ("whole", "B0 02 00 10 57", Err(S1)),
+];
+
+#[test]
+fn a_request_is_heard_as_it_arrives_and_its_answer_as_it_comes_back(
+    rt: HostRuntime,
+) -> Result<(), SetupFault> {
+    for (heard, came, wanted) in RETURNS {
+        let mut world = after(&rt, BASE, 2, &[CHECK])?;
+        let taken = world.step(&Event::Exchange(arrival(&rt, heard), back(&rt, came)));
+        assert_eq!(rt; taken, wanted.map(|_| ()), "{heard}, {came}");
+        let (end, cml) = wanted.unwrap_or((None, 0x00));
+        assert_eq!(rt; world.last_end(), end, "{heard}, {came}");
+        assert_eq!(rt; world.device().status_cml(), cml, "{heard}, {came}");
+        let stands = match end {
+            Some(_) => Standing::Confirmed(0x1000),
+            None => Standing::Unknown,
+        };
+        assert_eq!(rt; standing(&world, FIRST), Some(stands), "{heard}, {came}");
+    }
+    Ok(())
+}
+
+// A count, OPERATION, WRITE_PROTECT, the address, VOUT_MODE and m, and the fault of the converter.
+type Setup = (u8, u16, u16, u8, u8, i16, Option<ConfigFault>);
+
+const SETUPS: [Setup; 7] = [
+    (0, 0xB0, 0x01, 0x00, 0x20, 0, Some(ConfigFault::OutputCount)),
+    (9, 0xB0, 0x01, 0x00, 0x20, 0, Some(ConfigFault::OutputCount)),
+    (2, 0xB0, 0x01, 0x00, 0x20, 0, V2),
+    (2, 0x80, 0x00, 0x00, 0x20, 0, Some(ConfigFault::Address)),
+    (2, 0x80, 0x00, 0x58, 0x20, 0, V4),
+    (2, 0x80, 0x00, 0x58, 0x40, 0, V5),
+    (2, 0x80, 0x00, 0x58, 0x14, 0, None),
+];
+
+const V2: Option<ConfigFault> = Some(ConfigFault::BadStart(Cell::Out(0, Reg::Operation)));
+
+const V4: Option<ConfigFault> = Some(ConfigFault::BadMode(0, TableFault::VidMode));
+
+const V5: Option<ConfigFault> = Some(ConfigFault::BadCoefficients(NumFault::ZeroSlope));
+
+// The converter's fault comes before that of the passes, and no event is looked at.
+#[test]
+fn a_world_has_the_converters_fault_before_the_hosts(rt: HostRuntime) {
+    for (count, operation, protect, addr, mode, m, fault) in SETUPS {
+        let start = OutputStart {
+            mode,
+            operation,
+            ..OUTPUT
+        };
+        let config = Config {
+            addr,
+            count,
+            starts: [start; 8],
+            protect,
+            coefficients: Coefficients { m, b: 0, r: 0 },
+        };
+        for (passes, is_bad) in [(0, true), (1, false), (15, false), (16, true), (255, true)] {
+            let wanted = match fault {
+                Some(fault) => Some(SetupFault::Device(fault)),
+                None if is_bad => Some(SetupFault::Host(HostFault::Passes)),
+                None => None,
+            };
+            assert_eq!(rt;
+                World::new(config, passes).err(),
+                wanted,
+                "{count} {addr:02X} {passes}"
+            );
+            let ran = World::run(config, passes, &[CHECK, CHECK]).err();
+            assert_eq!(rt; ran, wanted, "{count} {addr:02X} {passes}");
+        }
+    }
+}

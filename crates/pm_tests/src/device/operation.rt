@@ -1,0 +1,76 @@
+//! All 256 bytes of OPERATION.
+
+use super::{Wanted, commanded, hears};
+use crate::fixtures::{BASE, OUTPUT};
+use pm_device::{Config, ConfigFault, Converter, DeviceFault, Ending, OutputStart};
+use pm_frame::pec;
+use pm_table::{Cell, Reg};
+use std::process::Abort;
+use std::test::Fail;
+
+// The bytes that have a meaning, from the first to the last: whether the output is on, and the
+// numerator of what it commands over 4096.
+const MEANINGS: [(u8, u8, bool, i128); 7] = [
+    (0x00, 0x3F, false, 0x1000),
+    (0x40, 0x7F, false, 0x1000),
+    (0x80, 0x8F, true, 0x1000),
+    (0x94, 0x97, true, 0x0F00),
+    (0x98, 0x9B, true, 0x0F00),
+    (0xA4, 0xA7, true, 0x1100),
+    (0xA8, 0xAB, true, 0x1100),
+];
+
+fn meaning(byte: u8) -> Option<(bool, i128)> {
+    for (first, last, on, volts) in MEANINGS {
+        if first <= byte && byte <= last {
+            return Some((on, volts));
+        }
+    }
+    None
+}
+
+// What output 1 does with this byte as OPERATION.
+fn does(rt: &impl Abort, converter: &Converter, byte: u8, on: bool, volts: i128) {
+    if converter.count() > 1 {
+        let held = converter.word(Cell::Out(1, Reg::Operation));
+        assert_eq!(rt; held, u16::from(byte));
+        assert_eq!(rt; converter.is_on(1), on, "OPERATION {byte:02X}");
+    }
+    assert_eq!(rt;
+        commanded(converter, 1),
+        (volts, 4096),
+        "OPERATION {byte:02X}"
+    );
+}
+
+// Each byte as the start word of output 1, and written to it.
+#[test]
+fn each_byte_of_operation_has_its_meaning_or_none(rt: HostRuntime) -> Result<(), Fail> {
+    for byte in 0..=255 {
+        let start = OutputStart {
+            operation: u16::from(byte),
+            ..OUTPUT
+        };
+        let mut starts = [OUTPUT; 8];
+        starts[1] = start;
+        let made = Converter::new(Config { starts, ..BASE });
+        let mut converter = Converter::new(BASE)?;
+        let packet = [0xB0, 0x05, 0x03, 0x01, 0x01, byte];
+        let whole = [0xB0, 0x05, 0x03, 0x01, 0x01, byte, pec(&packet)];
+        match (meaning(byte), made) {
+            (Some((on, volts)), Ok(made)) => {
+                does(&rt, &made, byte, on, volts);
+                hears(&rt, &mut converter, &whole, Ending::Stop, Wanted::Taken);
+                does(&rt, &converter, byte, on, volts);
+            }
+            (None, Err(fault)) => {
+                assert_eq!(rt; fault, ConfigFault::BadStart(Cell::Out(1, Reg::Operation)));
+                let refused = Wanted::Refused(DeviceFault::UnsupportedData);
+                hears(&rt, &mut converter, &whole, Ending::Stop, refused);
+                does(&rt, &converter, 0x80, true, 0x1000);
+            }
+            _ => assert!(rt; false, "OPERATION {byte:02X} as a start word"),
+        }
+    }
+    Ok(())
+}

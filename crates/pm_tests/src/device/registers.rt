@@ -1,0 +1,345 @@
+//! What each code reads as and writes, over the bus.
+
+use super::{hears_row, hears_rows};
+use crate::fixtures::{BASE, OUTPUT};
+use pm_device::{Config, ConfigFault, Converter, DeviceFault, OutputStart};
+use pm_frame::FrameFault;
+use pm_table::{Code, Coefficients};
+use std::process::Abort;
+use std::test::Fail;
+
+// Two outputs of which every register has another word: the first at a margin above its VOUT_MAX, the
+// second off, and DIRECT.
+const MARGIN: OutputStart = OutputStart {
+    mode: 0x14,
+    operation: 0xA8,
+    command: 0x1234,
+    max: 0x2345,
+    high: 0x3456,
+    low: 0x4567,
+};
+
+const DIRECT: OutputStart = OutputStart {
+    mode: 0x40,
+    operation: 0x40,
+    command: 0x5678,
+    max: 0x6789,
+    high: 0x789A,
+    low: 0x09AB,
+};
+
+const TOLD_APART: Config = Config {
+    addr: 0x58,
+    count: 2,
+    starts: [
+        MARGIN, DIRECT, OUTPUT, OUTPUT, OUTPUT, OUTPUT, OUTPUT, OUTPUT,
+    ],
+    protect: 0x20,
+    coefficients: Coefficients {
+        m: 0x0201,
+        b: 0x0403,
+        r: 5,
+    },
+};
+
+// The readings: READ_VIN and READ_TEMPERATURE_1 of the device, READ_VOUT and READ_IOUT of both outputs.
+const READINGS: [(u8, u8, u16); 6] = [
+    (0, 0x88, 0x1A2B),
+    (0, 0x8B, 0x2B3C),
+    (1, 0x8B, 0x3C4D),
+    (0, 0x8C, 0x4D5E),
+    (1, 0x8C, 0x5E6F),
+    (0, 0x8D, 0x6F71),
+];
+
+// Each code that is read and carried, of both outputs.
+const CARRIED: [&str; 34] = [
+    "B0 06 02 00 01 / B1 01 A8 AB",
+    "B0 06 02 01 01 / B1 01 40 5F",
+    "B0 06 02 00 10 / B1 01 20 6B",
+    "B0 06 02 01 10 / B1 01 20 09",
+    "B0 06 02 00 19 / B1 01 80 A4",
+    "B0 06 02 01 19 / B1 01 80 C6",
+    "B0 06 02 00 20 / B1 01 14 4E",
+    "B0 06 02 01 20 / B1 01 40 87",
+    "B0 06 02 00 21 / B1 02 34 12 E2",
+    "B0 06 02 01 21 / B1 02 78 56 B7",
+    "B0 06 02 00 24 / B1 02 45 23 2F",
+    "B0 06 02 01 24 / B1 02 89 67 CC",
+    "B0 06 02 00 25 / B1 02 56 34 40",
+    "B0 06 02 01 25 / B1 02 9A 78 9B",
+    "B0 06 02 00 26 / B1 02 67 45 5A",
+    "B0 06 02 01 26 / B1 02 AB 09 81",
+    "B0 06 02 00 78 / B1 01 03 67",
+    "B0 06 02 01 78 / B1 01 42 C5",
+    "B0 06 02 00 79 / B1 02 03 80 64",
+    "B0 06 02 01 79 / B1 02 42 08 B2",
+    "B0 06 02 00 7A / B1 01 08 7A",
+    "B0 06 02 01 7A / B1 01 00 20",
+    "B0 06 02 00 7E / B1 01 A0 73",
+    "B0 06 02 01 7E / B1 01 A0 11",
+    "B0 06 02 00 88 / B1 02 2B 1A C6",
+    "B0 06 02 01 88 / B1 02 2B 1A EF",
+    "B0 06 02 00 8B / B1 02 3C 2B CB",
+    "B0 06 02 01 8B / B1 02 4D 3C 30",
+    "B0 06 02 00 8C / B1 02 5E 4D 08",
+    "B0 06 02 01 8C / B1 02 6F 5E B4",
+    "B0 06 02 00 8D / B1 02 71 6F E9",
+    "B0 06 02 01 8D / B1 02 71 6F C0",
+    "B0 06 02 00 98 / B1 01 33 93",
+    "B0 06 02 01 98 / B1 01 33 F1",
+];
+
+// Each code by itself, while PAGE is 0 and while it is 1.
+const PLAIN_0: [&str; 18] = [
+    "B0 00 / B1 00 C2",
+    "B0 01 / B1 A8 F8",
+    "B0 10 / B1 20 80",
+    "B0 19 / B1 80 D3",
+    "B0 20 / B1 14 ED",
+    "B0 21 / B1 34 12 4B",
+    "B0 24 / B1 45 23 25",
+    "B0 25 / B1 56 34 3E",
+    "B0 26 / B1 67 45 B8",
+    "B0 78 / B1 03 FD",
+    "B0 79 / B1 03 80 62",
+    "B0 7A / B1 08 1A",
+    "B0 7E / B1 A0 E0",
+    "B0 88 / B1 2B 1A BE",
+    "B0 8B / B1 3C 2B 2F",
+    "B0 8C / B1 5E 4D A7",
+    "B0 8D / B1 71 6F 32",
+    "B0 98 / B1 33 A3",
+];
+
+const PLAIN_1: [&str; 18] = [
+    "B0 00 / B1 01 C5",
+    "B0 01 / B1 40 6E",
+    "B0 10 / B1 20 80",
+    "B0 19 / B1 80 D3",
+    "B0 20 / B1 40 46",
+    "B0 21 / B1 78 56 37",
+    "B0 24 / B1 89 67 EF",
+    "B0 25 / B1 9A 78 CC",
+    "B0 26 / B1 AB 09 4A",
+    "B0 78 / B1 42 3D",
+    "B0 79 / B1 42 08 9D",
+    "B0 7A / B1 00 22",
+    "B0 7E / B1 A0 E0",
+    "B0 88 / B1 2B 1A BE",
+    "B0 8B / B1 4D 3C FD",
+    "B0 8C / B1 6F 5E 32",
+    "B0 8D / B1 71 6F 32",
+    "B0 98 / B1 33 A3",
+];
+
+// The coefficients of each code of a voltage, for both sides.
+const COEFFICIENTS: [&str; 10] = [
+    "B0 30 02 21 00 / B1 05 01 02 03 04 05 BC",
+    "B0 30 02 21 01 / B1 05 01 02 03 04 05 AF",
+    "B0 30 02 24 00 / B1 05 01 02 03 04 05 26",
+    "B0 30 02 24 01 / B1 05 01 02 03 04 05 35",
+    "B0 30 02 25 00 / B1 05 01 02 03 04 05 5F",
+    "B0 30 02 25 01 / B1 05 01 02 03 04 05 4C",
+    "B0 30 02 26 00 / B1 05 01 02 03 04 05 D4",
+    "B0 30 02 26 01 / B1 05 01 02 03 04 05 C7",
+    "B0 30 02 8B 00 / B1 05 01 02 03 04 05 B6",
+    "B0 30 02 8B 01 / B1 05 01 02 03 04 05 A5",
+];
+
+// A converter with each reading set, which refused an unknown code and a wrong PEC.
+fn told_apart(rt: &impl Abort) -> Result<Converter, ConfigFault> {
+    let mut converter = Converter::new(TOLD_APART)?;
+    for (output, code, word) in READINGS {
+        assert!(rt;
+            converter.set_reading(output, Code(code), word),
+            "{code:02X}"
+        );
+    }
+    let wrong_pec = DeviceFault::Frame(FrameFault::WrongPec(3));
+    hears_row(
+        rt,
+        &mut converter,
+        "B0 99 /",
+        Some(DeviceFault::UnsupportedCode),
+    );
+    hears_row(rt, &mut converter, "B0 10 40 00", Some(wrong_pec));
+    Ok(converter)
+}
+
+#[test]
+fn each_code_reads_its_own_register(rt: HostRuntime) -> Result<(), Fail> {
+    let mut converter = told_apart(&rt)?;
+    hears_rows(&rt, &mut converter, &CARRIED);
+    hears_rows(&rt, &mut converter, &PLAIN_0);
+    hears_rows(&rt, &mut converter, &["B0 00 01 ED"]);
+    hears_rows(&rt, &mut converter, &PLAIN_1);
+    hears_rows(&rt, &mut converter, &COEFFICIENTS);
+    Ok(())
+}
+
+// VOUT_COMMAND and the status are as at the start after a restart, and each reading is what it was.
+#[test]
+fn readings_are_kept_by_a_restart(rt: HostRuntime) -> Result<(), Fail> {
+    let mut converter = told_apart(&rt)?;
+    hears_rows(&rt, &mut converter, &["B0 21 CD 34 38", "B0 00 01 ED"]);
+    converter.restart();
+    let kept = [
+        "B0 00 / B1 00 C2",
+        "B0 21 / B1 34 12 4B",
+        "B0 7E / B1 00 89",
+        "B0 7A / B1 08 1A",
+        "B0 88 / B1 2B 1A BE",
+        "B0 8D / B1 71 6F 32",
+        "B0 06 02 00 8B / B1 02 3C 2B CB",
+        "B0 06 02 01 8B / B1 02 4D 3C 30",
+        "B0 06 02 00 8C / B1 02 5E 4D 08",
+        "B0 06 02 01 8C / B1 02 6F 5E B4",
+    ];
+    hears_rows(&rt, &mut converter, &kept);
+    Ok(())
+}
+
+// STATUS of an output whose VOUT_COMMAND is above its VOUT_MAX; then the coefficients of an output in
+// millivolts; then readings.
+const ABOVE: [&str; 6] = [
+    "B0 05 04 00 21 00 50 65",
+    "B0 06 02 00 78 / B1 01 01 69",
+    "B0 06 02 00 79 / B1 02 01 80 4E",
+    "B0 06 02 00 7A / B1 01 08 7A",
+    "B0 79 / B1 01 80 48",
+    "B0 7A / B1 08 1A",
+];
+
+const MILLIVOLTS: [&str; 10] = [
+    "B0 30 02 21 00 / B1 05 01 00 00 00 03 6B",
+    "B0 30 02 21 01 / B1 05 01 00 00 00 03 78",
+    "B0 30 02 24 00 / B1 05 01 00 00 00 03 F1",
+    "B0 30 02 24 01 / B1 05 01 00 00 00 03 E2",
+    "B0 30 02 25 00 / B1 05 01 00 00 00 03 88",
+    "B0 30 02 25 01 / B1 05 01 00 00 00 03 9B",
+    "B0 30 02 26 00 / B1 05 01 00 00 00 03 03",
+    "B0 30 02 26 01 / B1 05 01 00 00 00 03 10",
+    "B0 30 02 8B 00 / B1 05 01 00 00 00 03 61",
+    "B0 30 02 8B 01 / B1 05 01 00 00 00 03 72",
+];
+
+const MEASURED: [&str; 4] = [
+    "B0 88 / B1 34 12 12",
+    "B0 8D / B1 78 56 20",
+    "B0 06 02 01 8C / B1 02 34 12 CC",
+    "B0 06 02 01 8D / B1 02 78 56 D2",
+];
+
+#[test]
+fn simple_configurations_read_so(rt: HostRuntime) -> Result<(), Fail> {
+    let mut above = Converter::new(BASE)?;
+    hears_rows(&rt, &mut above, &ABOVE);
+    let start = OutputStart {
+        mode: 0x40,
+        ..OUTPUT
+    };
+    let mut direct = Converter::new(Config {
+        count: 1,
+        starts: [start; 8],
+        coefficients: Coefficients { m: 1, b: 0, r: 3 },
+        ..BASE
+    })?;
+    hears_rows(&rt, &mut direct, &MILLIVOLTS);
+    let mut measured = Converter::new(BASE)?;
+    for (output, code, word) in [(0, 0x88, 0x1234), (0, 0x8D, 0x5678), (1, 0x8C, 0x1234)] {
+        assert!(rt;
+            measured.set_reading(output, Code(code), word),
+            "{code:02X}"
+        );
+    }
+    hears_rows(&rt, &mut measured, &MEASURED);
+    measured.restart();
+    hears_rows(&rt, &mut measured, &MEASURED);
+    Ok(())
+}
+
+// Carried writes of both outputs, then a plain one while PAGE is 1; each register is read back.
+const WRITES: [&str; 44] = [
+    "B0 00 01 ED",
+    "B0 00 / B1 01 C5",
+    "B0 05 03 00 01 A8 DA",
+    "B0 05 03 01 01 94 05",
+    "B0 06 02 00 01 / B1 01 A8 AB",
+    "B0 06 02 01 01 / B1 01 94 7D",
+    "B0 01 40 38",
+    "B0 06 02 00 01 / B1 01 A8 AB",
+    "B0 06 02 01 01 / B1 01 40 5F",
+    "B0 01 / B1 40 6E",
+    "B0 05 04 00 21 11 11 E7",
+    "B0 05 04 01 21 22 22 AE",
+    "B0 06 02 00 21 / B1 02 11 11 04",
+    "B0 06 02 01 21 / B1 02 22 22 72",
+    "B0 21 33 03 7F",
+    "B0 06 02 00 21 / B1 02 11 11 04",
+    "B0 06 02 01 21 / B1 02 33 03 D7",
+    "B0 21 / B1 33 03 57",
+    "B0 05 04 00 24 44 44 C6",
+    "B0 05 04 01 24 55 55 E5",
+    "B0 06 02 00 24 / B1 02 44 44 08",
+    "B0 06 02 01 24 / B1 02 55 55 14",
+    "B0 24 66 66 CE",
+    "B0 06 02 00 24 / B1 02 44 44 08",
+    "B0 06 02 01 24 / B1 02 66 66 4B",
+    "B0 24 / B1 66 66 68",
+    "B0 05 04 00 25 77 07 A5",
+    "B0 05 04 01 25 88 08 49",
+    "B0 06 02 00 25 / B1 02 77 07 62",
+    "B0 06 02 01 25 / B1 02 88 08 B1",
+    "B0 25 99 09 78",
+    "B0 06 02 00 25 / B1 02 77 07 62",
+    "B0 06 02 01 25 / B1 02 99 09 F4",
+    "B0 25 / B1 99 09 A3",
+    "B0 05 04 00 26 AA 0A 68",
+    "B0 05 04 01 26 BB 0B 3B",
+    "B0 06 02 00 26 / B1 02 AA 0A B4",
+    "B0 06 02 01 26 / B1 02 BB 0B D8",
+    "B0 26 CC 0C 93",
+    "B0 06 02 00 26 / B1 02 AA 0A B4",
+    "B0 06 02 01 26 / B1 02 CC 0C 04",
+    "B0 26 / B1 CC 0C CF",
+    "B0 05 03 01 10 20 42",
+    "B0 10 / B1 20 80",
+];
+
+#[test]
+fn each_write_reaches_its_own_register(rt: HostRuntime) -> Result<(), Fail> {
+    let mut converter = Converter::new(BASE)?;
+    hears_rows(&rt, &mut converter, &WRITES);
+    Ok(())
+}
+
+// A reading of the device is set whatever output is named, one of an output where it is there.
+#[test]
+fn a_reading_is_of_an_output_that_is_there_or_of_the_device(rt: HostRuntime) -> Result<(), Fail> {
+    for count in 1..=8 {
+        let mut converter = Converter::new(Config { count, ..BASE })?;
+        let rows = [
+            (count, 0x8B, false),
+            (count, 0x8C, false),
+            (255, 0x8B, false),
+            (255, 0x8C, false),
+            (count - 1, 0x8B, true),
+            (count - 1, 0x8C, true),
+            (count, 0x88, true),
+            (255, 0x8D, true),
+            (0, 0x21, false),
+            (0, 0x7A, false),
+            (0, 0x8E, false),
+        ];
+        for (output, code, wanted) in rows {
+            let is_set = converter.set_reading(output, Code(code), 0x1234);
+            assert_eq!(rt;
+                is_set,
+                wanted,
+                "output {output} of {count}, code {code:02X}"
+            );
+        }
+    }
+    Ok(())
+}

@@ -1,0 +1,192 @@
+//! Latched status, bit by bit, and the bits by name.
+
+use super::{hears_row, hears_rows, status};
+use crate::fixtures::BASE;
+use bitflags::Flags;
+use pm_device::{Converter, DeviceFault, StatusByte, StatusCml, StatusVout, StatusWord};
+use pm_frame::FrameFault;
+use std::process::Abort;
+use std::test::Fail;
+
+const WRONG_PEC: DeviceFault = DeviceFault::Frame(FrameFault::WrongPec(7));
+
+// What latches each bit of STATUS_CML that can be.
+const LATCHES: [(u8, &str, DeviceFault); 4] = [
+    (0x80, "B0 03 /", DeviceFault::ReadOnly),
+    (0x40, "B0 00 02 E4", DeviceFault::BadPage),
+    (0x20, "B0 05 04 01 21 CD 34 5A", WRONG_PEC),
+    (0x02, "B0", DeviceFault::Frame(FrameFault::Short(1))),
+];
+
+// A byte with one bit, with none and with all, written to STATUS_CML plainly and carried.
+const CML_WRITES: [(u8, [&str; 2]); 10] = [
+    (0x80, ["B0 7E 80 17", "B0 05 03 01 7E 80 08"]),
+    (0x40, ["B0 7E 40 59", "B0 05 03 01 7E 40 46"]),
+    (0x20, ["B0 7E 20 7E", "B0 05 03 01 7E 20 61"]),
+    (0x10, ["B0 7E 10 EE", "B0 05 03 01 7E 10 F1"]),
+    (0x08, ["B0 7E 08 A6", "B0 05 03 01 7E 08 B9"]),
+    (0x04, ["B0 7E 04 82", "B0 05 03 01 7E 04 9D"]),
+    (0x02, ["B0 7E 02 90", "B0 05 03 01 7E 02 8F"]),
+    (0x01, ["B0 7E 01 99", "B0 05 03 01 7E 01 86"]),
+    (0x00, ["B0 7E 00 9E", "B0 05 03 01 7E 00 81"]),
+    (0xFF, ["B0 7E FF 6D", "B0 05 03 01 7E FF 72"]),
+];
+
+// Each bit latched alone, and all four, against each byte: what is written as 1 goes, and nothing else.
+#[test]
+fn a_bit_of_status_cml_goes_with_its_own(rt: HostRuntime) -> Result<(), Fail> {
+    for (byte, writes) in CML_WRITES {
+        for write in writes {
+            let mut all = Converter::new(BASE)?;
+            for (bit, row, fault) in LATCHES {
+                let mut converter = Converter::new(BASE)?;
+                hears_row(&rt, &mut converter, row, Some(fault));
+                hears_rows(&rt, &mut converter, &[write]);
+                assert_eq!(rt;
+                    converter.status_cml(),
+                    bit & !byte,
+                    "{bit:02X} by {byte:02X}"
+                );
+                hears_row(&rt, &mut all, row, Some(fault));
+            }
+            assert_eq!(rt; all.status_cml(), 0xE2);
+            hears_rows(&rt, &mut all, &[write]);
+            assert_eq!(rt; all.status_cml(), 0xE2 & !byte, "all by {byte:02X}");
+        }
+    }
+    Ok(())
+}
+
+// VOUT_COMMAND of both outputs was above VOUT_MAX.
+const WERE_ABOVE: [&str; 4] = [
+    "B0 05 04 00 21 00 50 65",
+    "B0 05 04 00 21 00 10 A2",
+    "B0 05 04 01 21 00 50 73",
+    "B0 05 04 01 21 00 10 B4",
+];
+
+const WARNED: (u16, u8) = (0x8001, 0x08);
+
+const CLEAN: (u16, u8) = (0x0000, 0x00);
+
+// A byte written to STATUS_VOUT of output 0, plainly and carried, and whether its warning goes.
+const VOUT_WRITES: [(&str, &str, bool); 11] = [
+    ("B0 7A 80 43", "B0 05 03 00 7A 80 37", false),
+    ("B0 7A 40 0D", "B0 05 03 00 7A 40 79", false),
+    ("B0 7A 20 2A", "B0 05 03 00 7A 20 5E", false),
+    ("B0 7A 10 BA", "B0 05 03 00 7A 10 CE", false),
+    ("B0 7A 08 F2", "B0 05 03 00 7A 08 86", true),
+    ("B0 7A 04 D6", "B0 05 03 00 7A 04 A2", false),
+    ("B0 7A 02 C4", "B0 05 03 00 7A 02 B0", false),
+    ("B0 7A 01 CD", "B0 05 03 00 7A 01 B9", false),
+    ("B0 7A 00 CA", "B0 05 03 00 7A 00 BE", false),
+    ("B0 7A FF 39", "B0 05 03 00 7A FF 4D", true),
+    ("B0 7A F7 01", "B0 05 03 00 7A F7 75", false),
+];
+
+// What both outputs show after rows, in a converter of its own where both are warned.
+fn shown(rt: &impl Abort, rows: &[&str]) -> Result<[(u16, u8); 2], Fail> {
+    let mut converter = Converter::new(BASE)?;
+    hears_rows(rt, &mut converter, &WERE_ABOVE);
+    hears_rows(rt, &mut converter, rows);
+    Ok([status(rt, &converter, 0), status(rt, &converter, 1)])
+}
+
+#[test]
+fn bit_3_written_clears_the_warning_of_one_output(rt: HostRuntime) -> Result<(), Fail> {
+    for (plain, carried, goes) in VOUT_WRITES {
+        let first = if goes { CLEAN } else { WARNED };
+        for row in [plain, carried] {
+            assert_eq!(rt; shown(&rt, &[row])?, [first, WARNED], "{row}");
+        }
+    }
+    // While PAGE is 1, a plain write of bit 3, a plain CLEAR_FAULTS, and one that is carried.
+    let page_1 = "B0 00 01 ED";
+    assert_eq!(rt; shown(&rt, &[page_1, "B0 7A 08 F2"])?, [WARNED, CLEAN]);
+    assert_eq!(rt; shown(&rt, &[page_1, "B0 03 46"])?, [WARNED, CLEAN]);
+    assert_eq!(rt;
+        shown(&rt, &[page_1, "B0 05 02 00 03 50"])?,
+        [CLEAN, WARNED]
+    );
+    Ok(())
+}
+
+// CLEAR_FAULTS, plain or carried, clears STATUS_CML too, a restart all that is latched. A cause that
+// holds still shows.
+#[test]
+fn clears_and_restarts_leave_what_holds(rt: HostRuntime) -> Result<(), Fail> {
+    for clear in ["B0 03 46", "B0 05 02 00 03 50"] {
+        let mut converter = Converter::new(BASE)?;
+        for (_, row, fault) in LATCHES {
+            hears_row(&rt, &mut converter, row, Some(fault));
+        }
+        hears_rows(&rt, &mut converter, &WERE_ABOVE);
+        assert_eq!(rt; status(&rt, &converter, 0), (0x8003, 0x08));
+        hears_rows(&rt, &mut converter, &[clear]);
+        assert_eq!(rt; converter.status_cml(), 0x00);
+        let after = [status(&rt, &converter, 0), status(&rt, &converter, 1)];
+        assert_eq!(rt; after, [CLEAN, WARNED]);
+        hears_row(&rt, &mut converter, "B0 03 /", Some(DeviceFault::ReadOnly));
+        converter.restart();
+        assert_eq!(rt; converter.status_cml(), 0x00);
+        assert_eq!(rt; status(&rt, &converter, 1), CLEAN);
+        let holds = ["B0 05 04 00 21 00 50 65", clear, "B0 7A 08 F2"];
+        hears_rows(&rt, &mut converter, &holds);
+        assert_eq!(rt; status(&rt, &converter, 0), WARNED);
+    }
+    Ok(())
+}
+
+// The names that are exported, by the standard's numbers.
+#[test]
+fn the_bits_have_the_numbers_of_the_standard(rt: HostRuntime) {
+    let bytes = [
+        (StatusByte::BUSY.bits(), 0x80),
+        (StatusByte::OFF.bits(), 0x40),
+        (StatusByte::VOUT_OV_FAULT.bits(), 0x20),
+        (StatusByte::IOUT_OC_FAULT.bits(), 0x10),
+        (StatusByte::VIN_UV_FAULT.bits(), 0x08),
+        (StatusByte::TEMPERATURE.bits(), 0x04),
+        (StatusByte::CML.bits(), 0x02),
+        (StatusByte::NONE_OF_THE_ABOVE.bits(), 0x01),
+        (StatusVout::OV_FAULT.bits(), 0x80),
+        (StatusVout::OV_WARNING.bits(), 0x40),
+        (StatusVout::UV_WARNING.bits(), 0x20),
+        (StatusVout::UV_FAULT.bits(), 0x10),
+        (StatusVout::MAX_WARNING.bits(), 0x08),
+        (StatusVout::TON_MAX_FAULT.bits(), 0x04),
+        (StatusVout::TOFF_MAX_WARNING.bits(), 0x02),
+        (StatusVout::TRACKING_ERROR.bits(), 0x01),
+        (StatusCml::COMMAND.bits(), 0x80),
+        (StatusCml::DATA.bits(), 0x40),
+        (StatusCml::PEC.bits(), 0x20),
+        (StatusCml::MEMORY.bits(), 0x10),
+        (StatusCml::PROCESSOR.bits(), 0x08),
+        (StatusCml::OTHER_COMMUNICATION.bits(), 0x02),
+        (StatusCml::OTHER.bits(), 0x01),
+    ];
+    for (place, (bits, wanted)) in bytes.into_iter().enumerate() {
+        assert_eq!(rt; bits, wanted, "row {place}");
+    }
+    let words = [
+        (StatusWord::VOUT.bits(), 0x8000),
+        (StatusWord::IOUT_POUT.bits(), 0x4000),
+        (StatusWord::INPUT.bits(), 0x2000),
+        (StatusWord::MFR_SPECIFIC.bits(), 0x1000),
+        (StatusWord::POWER_NOT_GOOD.bits(), 0x0800),
+        (StatusWord::FANS.bits(), 0x0400),
+        (StatusWord::OTHER.bits(), 0x0200),
+        (StatusWord::UNKNOWN.bits(), 0x0100),
+        (StatusWord::BUSY.bits(), 0x0080),
+        (StatusWord::OFF.bits(), 0x0040),
+        (StatusWord::VOUT_OV_FAULT.bits(), 0x0020),
+        (StatusWord::IOUT_OC_FAULT.bits(), 0x0010),
+        (StatusWord::VIN_UV_FAULT.bits(), 0x0008),
+        (StatusWord::TEMPERATURE.bits(), 0x0004),
+        (StatusWord::CML.bits(), 0x0002),
+        (StatusWord::NONE_OF_THE_ABOVE.bits(), 0x0001),
+    ];
+    for (place, (bits, wanted)) in words.into_iter().enumerate() {
+        assert_eq!(rt; bits, wanted, "row {place}");
+    }
+}

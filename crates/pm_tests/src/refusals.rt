@@ -1,0 +1,204 @@
+//! Which of the host's refusals comes first, where a call can have two.
+
+use crate::fixtures::{ACKED, BASE, CHECK, FIRST, NOT_ACKED, READ, READ_LOST, SECOND, after};
+use pm_host::HostFault;
+use pm_num::NumFault;
+use pm_table::{Cell, Reg};
+use pm_world::{Cause, Event, SetupFault, World};
+use std::process::Abort;
+
+const H3: HostFault = HostFault::Busy;
+
+const H4: HostFault = HostFault::UnknownOutput;
+
+const H5: HostFault = HostFault::BadWord;
+
+const H6: HostFault = HostFault::TooUncertain;
+
+const H7: HostFault = HostFault::FormatUnknown;
+
+const N3: HostFault = HostFault::Num(NumFault::BelowLeast);
+
+const N4: HostFault = HostFault::Num(NumFault::AboveGreatest);
+
+const N5: HostFault = HostFault::Num(NumFault::TooLarge);
+
+const OPERATION: Cell = Cell::Out(0, Reg::Operation);
+
+// Cells of an output that isn't there.
+const NO_OPERATION: Cell = Cell::Out(2, Reg::Operation);
+
+const NO_COMMAND: Cell = Cell::Out(2, Reg::VoutCommand);
+
+// One microvolt more than 10^15 in size.
+const FAR: i64 = 1_000_000_000_000_001;
+
+type Row = (Event, HostFault);
+
+// While no job is open and no format was learned.
+const IDLE: [Row; 22] = [
+    (Event::Order(NO_COMMAND, 0x1000), H4),
+    (Event::Order(NO_OPERATION, 0xB0), H4),
+    (Event::Order(Cell::Out(255, Reg::MarginLow), 0), H4),
+    (Event::Order(OPERATION, 0xB0), H5),
+    (Event::Order(OPERATION, 0x180), H5),
+    (Event::Order(Cell::Out(1, Reg::Operation), 0xFF), H5),
+    (Event::Order(Cell::Protect, 0x60), H5),
+    (Event::Order(Cell::Protect, 0x140), H5),
+    (Event::OrderMicro(NO_COMMAND, 0), H4),
+    (Event::OrderMicro(NO_COMMAND, FAR), H4),
+    (Event::OrderMicro(NO_OPERATION, 0), H4),
+    (Event::OrderMicro(OPERATION, 0), H5),
+    (Event::OrderMicro(OPERATION, FAR), H5),
+    (Event::OrderMicro(Cell::Protect, 0), H5),
+    (Event::OrderMicro(FIRST, 3_300_000), H7),
+    (Event::OrderMicro(FIRST, -1), H7),
+    (Event::OrderMicro(FIRST, FAR), H7),
+    (Event::Check(NO_COMMAND), H4),
+    (Event::Learn(2), H4),
+    (Event::Learn(255), H4),
+    (Event::Clear(2), H4),
+    (Event::Clear(255), H4),
+];
+
+// While no job is open and the format of output 0 is known, ULINEAR16 with N = -12.
+const LEARNED: [Row; 13] = [
+    (Event::OrderMicro(FIRST, -1), N3),
+    (Event::OrderMicro(FIRST, -1_000_000_000_000_000), N3),
+    (Event::OrderMicro(FIRST, -FAR), N5),
+    (Event::OrderMicro(FIRST, i64::MIN), N5),
+    (Event::OrderMicro(FIRST, 16_000_000), N4),
+    (Event::OrderMicro(FIRST, 1_000_000_000_000_000), N4),
+    (Event::OrderMicro(FIRST, FAR), N5),
+    (Event::OrderMicro(FIRST, i64::MAX), N5),
+    (Event::OrderMicro(SECOND, 3_300_000), H7),
+    (Event::OrderMicro(NO_COMMAND, 3_300_000), H4),
+    (Event::OrderMicro(OPERATION, FAR), H5),
+    (Event::OrderMicro(OPERATION, -1), H5),
+    (Event::OrderMicro(Cell::Protect, 0), H5),
+];
+
+// While a check is open, and nothing is known.
+const BUSY: [Row; 16] = [
+    (Event::Order(SECOND, 0x1000), H3),
+    (Event::Order(NO_COMMAND, 0x1000), H3),
+    (Event::Order(OPERATION, 0xB0), H3),
+    (Event::Order(Cell::Protect, 0x60), H3),
+    (Event::OrderMicro(FIRST, 3_300_000), H3),
+    (Event::OrderMicro(NO_COMMAND, 0), H3),
+    (Event::OrderMicro(OPERATION, 0), H3),
+    (Event::OrderMicro(Cell::Protect, 0), H3),
+    (Event::Check(FIRST), H3),
+    (Event::Check(Cell::Protect), H3),
+    (Event::Check(NO_COMMAND), H3),
+    (Event::Learn(0), H3),
+    (Event::Learn(2), H3),
+    (Event::Clear(0), H3),
+    (Event::Clear(2), H3),
+    (Event::Clear(255), H3),
+];
+
+// While output 0's VOUT_COMMAND may hold 16 words, and its format is known; then in a check too, and
+// while the format isn't known.
+const FULL: [Row; 5] = [
+    (Event::Order(FIRST, 0x2010), H6),
+    (Event::OrderMicro(FIRST, 3_300_000), H6),
+    (Event::OrderMicro(FIRST, -1), N3),
+    (Event::OrderMicro(FIRST, 16_000_000), N4),
+    (Event::OrderMicro(FIRST, FAR), N5),
+];
+
+const FULL_AND_BUSY: [Row; 5] = [
+    (Event::Order(FIRST, 0x2010), H3),
+    (Event::OrderMicro(FIRST, 3_300_000), H3),
+    (Event::OrderMicro(FIRST, -1), H3),
+    (Event::OrderMicro(FIRST, 16_000_000), H3),
+    (Event::OrderMicro(FIRST, FAR), H3),
+];
+
+const FULL_UNLEARNED: [Row; 2] = [
+    (Event::Order(FIRST, 0x2010), H6),
+    (Event::OrderMicro(FIRST, 3_300_000), H7),
+];
+
+// While output 0's OPERATION may hold 16 words.
+const FULL_OPERATION: [Row; 4] = [
+    (Event::Order(OPERATION, 0x4F), H6),
+    (Event::Order(OPERATION, 0xB0), H5),
+    (Event::OrderMicro(OPERATION, 0), H5),
+    (Event::OrderMicro(OPERATION, FAR), H5),
+];
+
+fn refuses(rt: &impl Abort, world: &mut World, rows: &[Row]) {
+    for (event, fault) in rows {
+        let refused = Err(Cause::Host(*fault));
+        assert_eq!(rt; world.step(event), refused, "{event:?}");
+    }
+}
+
+fn takes(rt: &impl Abort, world: &mut World, events: &[Event]) {
+    for event in events {
+        assert_eq!(rt; world.step(event), Ok(()), "{event:?}");
+    }
+}
+
+// Reads a cell, then orders these words of it one after another, each without an answer, in a world
+// of one pass.
+fn fill(rt: &impl Abort, world: &mut World, cell: Cell, words: [u16; 15]) {
+    takes(rt, world, &[Event::Check(cell), READ]);
+    for word in words {
+        let order = Event::Order(cell, word);
+        takes(rt, world, &[order, NOT_ACKED, READ_LOST]);
+    }
+}
+
+const WORDS: [u16; 15] = [
+    0x2001, 0x2002, 0x2003, 0x2004, 0x2005, 0x2006, 0x2007, 0x2008, 0x2009, 0x200A, 0x200B, 0x200C,
+    0x200D, 0x200E, 0x200F,
+];
+
+const SOFT_OFF: [u16; 15] = [
+    0x40, 0x41, 0x42, 0x43, 0x44, 0x45, 0x46, 0x47, 0x48, 0x49, 0x4A, 0x4B, 0x4C, 0x4D, 0x4E,
+];
+
+#[test]
+fn each_refusal_comes_before_those_after_it(rt: HostRuntime) -> Result<(), SetupFault> {
+    let mut idle = World::new(BASE, 2)?;
+    refuses(&rt, &mut idle, &IDLE);
+    takes(&rt, &mut idle, &[CHECK]);
+    refuses(&rt, &mut idle, &BUSY);
+    let mut learned = after(&rt, BASE, 2, &[Event::Learn(0), READ])?;
+    refuses(&rt, &mut learned, &LEARNED);
+    let mut full = after(&rt, BASE, 1, &[Event::Learn(0), READ])?;
+    fill(&rt, &mut full, FIRST, WORDS);
+    refuses(&rt, &mut full, &FULL);
+    takes(&rt, &mut full, &[CHECK]);
+    refuses(&rt, &mut full, &FULL_AND_BUSY);
+    let mut unlearned = World::new(BASE, 1)?;
+    fill(&rt, &mut unlearned, FIRST, WORDS);
+    refuses(&rt, &mut unlearned, &FULL_UNLEARNED);
+    let mut operation = World::new(BASE, 1)?;
+    fill(&rt, &mut operation, OPERATION, SOFT_OFF);
+    refuses(&rt, &mut operation, &FULL_OPERATION);
+    Ok(())
+}
+
+// Any of the 16 words is accepted again, also in microvolts, and any word of another cell.
+#[test]
+fn a_word_that_is_possible_is_accepted(rt: HostRuntime) -> Result<(), SetupFault> {
+    let mut world = after(&rt, BASE, 1, &[Event::Learn(0), READ])?;
+    fill(&rt, &mut world, FIRST, WORDS);
+    for word in [0x1000].into_iter().chain(WORDS) {
+        let order = Event::Order(FIRST, word);
+        takes(&rt, &mut world, &[order, NOT_ACKED, READ_LOST]);
+    }
+    let micro = Event::OrderMicro(FIRST, 1_000_000);
+    takes(&rt, &mut world, &[micro, NOT_ACKED, READ_LOST]);
+    takes(
+        &rt,
+        &mut world,
+        &[Event::Order(SECOND, 0x2010), ACKED, READ_LOST],
+    );
+    refuses(&rt, &mut world, &FULL);
+    Ok(())
+}

@@ -1,0 +1,263 @@
+//! Lists of events with a restart of either end at each place: what the world holds and says, beside a
+//! plain program that looks on.
+
+ghost use Rattle.std.specs.Prelude.{◌≡◌, ◌<◌};
+
+use crate::fixtures::{
+    ACKED, BASE, CELLS, CHECK, FIRST, LOST, NOT_ACKED, ORDER, READ, READ_LOST, SECOND, START,
+    WHOLE, arrival, may_hold, sends, standing, word,
+};
+use pm_device::{Config, Ending, Heard};
+use pm_host::{Possible, Standing};
+use pm_model::{OrderMachine, Plain};
+use pm_table::Cell;
+use pm_world::{Arrival, Back, Event, SetupFault, World};
+use std::process::Abort;
+
+// What is seen from outside: the settings under orders alone, whether the converter restarted since
+// the last good answer for VOUT_COMMAND of either output, and whether it did since the host's start.
+#[derive(Drop)]
+struct Watch {
+    machine: OrderMachine,
+    since_answer: [bool; 2],
+    since_start: bool,
+}
+
+impl Watch {
+    fn new(machine: OrderMachine) -> Watch {
+        Watch {
+            machine,
+            since_answer: [true; 2],
+            since_start: false,
+        }
+    }
+
+    // An order was accepted.
+    fn accepts(&mut self, cell: Cell, word: u16) {
+        match self.machine.pending() {
+            None if self.machine.has(cell) && cell.accepts(word) => self.machine.accept(cell, word),
+            _ => {}
+        }
+    }
+
+    // The converter took a write, a read was answered, either end restarted, or a job ended.
+    fn sees(&mut self, event: &Event, is_taken: bool, read: Option<bool>, has_ended: bool) {
+        if is_taken {
+            self.machine.take();
+        }
+        match read {
+            Some(true) => self.since_answer[1] = false,
+            Some(false) => self.since_answer[0] = false,
+            None => {}
+        }
+        match event {
+            Event::Order(cell, word) => self.accepts(*cell, *word),
+            Event::RestartDevice => {
+                self.machine.back();
+                self.since_answer = [true; 2];
+                self.since_start = true;
+            }
+            Event::RestartHost => {
+                self.machine.end();
+                self.since_start = false;
+            }
+            _ => {}
+        }
+        if has_ended {
+            self.machine.end();
+        }
+    }
+}
+
+// Whether the write that is sent would be taken, heard whole.
+fn would_take(world: &World) -> bool {
+    match world.host().sending() {
+        Some(sent) => matches!(
+            world.device().reply(sent.as_slice(), Ending::Stop),
+            Heard::Taken
+        ),
+        None => false,
+    }
+}
+
+// Which VOUT_COMMAND is read by the request that is sent: whether the second one.
+fn reads(rt: &impl Abort, world: &World) -> Option<bool> {
+    if sends(rt, world, "B0 06 02 00 21") {
+        Some(false)
+    } else if sends(rt, world, "B0 06 02 01 21") {
+        Some(true)
+    } else {
+        None
+    }
+}
+
+// An event that happens, where it is taken, to the world and before the watch.
+fn happens(rt: &impl Abort, world: &mut World, watch: &mut Watch, event: &Event) {
+    let delivered = matches!(event, Event::Deliver(Arrival::Whole)) && would_take(world);
+    let answered = match event {
+        Event::Exchange(Arrival::Whole, Back::Whole) => reads(rt, world),
+        _ => None,
+    };
+    if world.step(event).is_ok() {
+        watch.sees(event, delivered, answered, world.last_end().is_some());
+    }
+}
+
+// The word of a cell in the machine; 0 where there is no such cell.
+fn ordered(machine: &OrderMachine, cell: Cell) -> u16 {
+    if machine.has(cell) {
+        machine.word(cell)
+    } else {
+        0
+    }
+}
+
+// Whether the host says that the cell may hold the word.
+fn may_be(world: &World, cell: Cell, word: u16) -> bool {
+    match cell {
+        Cell::Out(output, _) if output >= world.device().count() => false,
+        _ => match world.host().possible(cell) {
+            Possible::Any => true,
+            Possible::Words(words) => words.as_slice().contains(&word),
+        },
+    }
+}
+
+// The settings are those of the machine. Where the converter didn't restart since the last good
+// answer, a confirmed word is held, and the word that is held is possible. A restart is seen where
+// the converter restarted since the host's start. Of cells that were never read nothing is said.
+fn agrees(rt: &impl Abort, world: &World, watch: &Watch, at: usize) {
+    for cell in CELLS {
+        let held = word(world.device(), cell);
+        assert_eq!(rt;
+            held,
+            ordered(&watch.machine, cell),
+            "{cell:?} after event {at}"
+        );
+        let [first, second] = watch.since_answer;
+        let restarted = match cell {
+            FIRST => first,
+            SECOND => second,
+            _ => {
+                assert!(rt; may_hold(world, cell, &[]), "{cell:?} after event {at}");
+                assert_eq!(rt; standing(world, cell), Some(Standing::Unknown));
+                true
+            }
+        };
+        let is_held = match standing(world, cell) {
+            Some(Standing::Confirmed(told)) => told == held,
+            _ => true,
+        };
+        assert!(rt;
+            restarted || is_held,
+            "{cell:?} is confirmed after event {at}"
+        );
+        assert!(rt;
+            restarted || may_be(world, cell, held),
+            "{cell:?} after event {at}"
+        );
+    }
+    let seen = world.host().restart_seen();
+    assert!(rt;
+        watch.since_start || !seen,
+        "a restart is seen after event {at}"
+    );
+}
+
+// The events with one more before the one at this place.
+fn follow(rt: &impl Abort, events: &[Event], more: &Event, place: usize) -> Result<(), SetupFault> {
+    let mut world = World::new(BASE, 2)?;
+    let mut watch = Watch::new(open());
+    for (at, event) in events.iter().enumerate() {
+        if at == place {
+            happens(rt, &mut world, &mut watch, more);
+            agrees(rt, &world, &watch, at);
+        }
+        happens(rt, &mut world, &mut watch, event);
+        agrees(rt, &world, &watch, at);
+    }
+    Ok(())
+}
+
+fn follow_restarts(rt: &impl Abort, events: &[Event]) -> Result<(), SetupFault> {
+    for place in 0..=events.len() {
+        follow(rt, events, &Event::RestartDevice, place)?;
+        follow(rt, events, &Event::RestartHost, place)?;
+    }
+    Ok(())
+}
+
+// Both answers of an order are lost; a lost write is acknowledged; and a restart is seen after that.
+// The second cell was read before.
+#[test]
+fn a_restart_at_any_place_leaves_true_what_the_host_says(
+    rt: HostRuntime,
+) -> Result<(), SetupFault> {
+    let second = Event::Check(SECOND);
+    let answers_lost = [
+        second, READ, CHECK, READ, ORDER, WHOLE, NOT_ACKED, READ_LOST, LOST, NOT_ACKED, READ_LOST,
+    ];
+    follow_restarts(&rt, &answers_lost)?;
+    let second = Event::Check(SECOND);
+    let falsely_acked = [
+        second, READ, CHECK, READ, ORDER, LOST, ACKED, READ, WHOLE, ACKED, READ,
+    ];
+    follow_restarts(&rt, &falsely_acked)?;
+    let second = Event::Check(SECOND);
+    let again = Event::RestartDevice;
+    let restart_seen = [
+        second, READ, CHECK, READ, ORDER, LOST, ACKED, READ, WHOLE, ACKED, READ, again, CHECK, READ,
+    ];
+    follow_restarts(&rt, &restart_seen)
+}
+
+// After each number of events a run holds what the order machine does.
+fn runs(
+    rt: &impl Abort,
+    config: Config,
+    machine: OrderMachine,
+    events: &[Event],
+) -> Result<(), SetupFault> {
+    let mut world = World::new(config, 2)?;
+    let mut watch = Watch::new(machine);
+    for (at, event) in events.iter().enumerate() {
+        let (ran, _) = World::run(config, 2, &events[..at])?;
+        for cell in CELLS {
+            let held = word(ran.device(), cell);
+            assert_eq!(rt;
+                held,
+                ordered(&watch.machine, cell),
+                "{cell:?} after {at} events"
+            );
+        }
+        happens(rt, &mut world, &mut watch, event);
+    }
+    Ok(())
+}
+
+// The order machine of two outputs, while no write is blocked.
+fn open() -> OrderMachine {
+    OrderMachine::new(Plain::new(2, [START; 8], 0x00))
+}
+
+#[test]
+fn a_run_holds_what_orders_alone_make(rt: HostRuntime) -> Result<(), SetupFault> {
+    let answers_lost = [
+        CHECK, READ, ORDER, WHOLE, NOT_ACKED, READ_LOST, LOST, NOT_ACKED, READ_LOST, CHECK,
+    ];
+    runs(&rt, BASE, open(), &answers_lost)?;
+    let restarted = Event::RestartDevice;
+    let falsely_acked = [
+        CHECK, READ, ORDER, LOST, ACKED, READ, WHOLE, ACKED, READ, restarted, CHECK, READ, CHECK,
+    ];
+    runs(&rt, BASE, open(), &falsely_acked)?;
+    let other = Event::Deliver(arrival(&rt, "stop: B0 05 04 01 21 CD 34 4C"));
+    runs(&rt, BASE, open(), &[ORDER, other, ACKED, READ])?;
+    let blocked = OrderMachine::new(Plain::new(2, [START; 8], 0x40));
+    let protected = Config {
+        protect: 0x40,
+        ..BASE
+    };
+    let events = [ORDER, WHOLE, ACKED, READ, WHOLE, ACKED, READ, CHECK];
+    runs(&rt, protected, blocked, &events)
+}

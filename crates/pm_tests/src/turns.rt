@@ -1,0 +1,244 @@
+//! The frame that the host sends at each turn of each job, and how each job ends.
+
+use crate::fixtures::{
+    ACKED, BASE, CHECK, FIRST, LOST, NOT_ACKED, ORDER, OUTPUT, READ, READ_LOST, SECOND, WHOLE,
+    after, sends, standing,
+};
+use pm_device::{Config, OutputStart};
+use pm_host::{JobEnd, Standing};
+use pm_table::{Cell, Coefficients, Reg};
+use pm_world::{Event, SetupFault, World};
+use std::process::Abort;
+
+const DIRECT: OutputStart = OutputStart {
+    mode: 0x40,
+    ..OUTPUT
+};
+
+// The first output is ULINEAR16 with N = -12, the second DIRECT, in millivolts.
+const MIXED: Config = Config {
+    addr: 0x58,
+    count: 2,
+    starts: [
+        OUTPUT, DIRECT, OUTPUT, OUTPUT, OUTPUT, OUTPUT, OUTPUT, OUTPUT,
+    ],
+    protect: 0x00,
+    coefficients: Coefficients { m: 1, b: 0, r: 3 },
+};
+
+const PASSES: u8 = 3;
+
+// The word of each cell that is ordered, the write and the request.
+const ORDERS: [(Cell, u16, &str, &str); 11] = [
+    (
+        Cell::Out(0, Reg::Operation),
+        0x94,
+        "B0 05 03 00 01 94 6E",
+        "B0 06 02 00 01",
+    ),
+    (
+        Cell::Out(0, Reg::VoutCommand),
+        0x34CD,
+        "B0 05 04 00 21 CD 34 5A",
+        "B0 06 02 00 21",
+    ),
+    (
+        Cell::Out(0, Reg::VoutMax),
+        0x5678,
+        "B0 05 04 00 24 78 56 BD",
+        "B0 06 02 00 24",
+    ),
+    (
+        Cell::Out(0, Reg::MarginHigh),
+        0x1234,
+        "B0 05 04 00 25 34 12 AA",
+        "B0 06 02 00 25",
+    ),
+    (
+        Cell::Out(0, Reg::MarginLow),
+        0x0ABC,
+        "B0 05 04 00 26 BC 0A 41",
+        "B0 06 02 00 26",
+    ),
+    (
+        Cell::Out(1, Reg::Operation),
+        0x94,
+        "B0 05 03 01 01 94 05",
+        "B0 06 02 01 01",
+    ),
+    (
+        Cell::Out(1, Reg::VoutCommand),
+        0x34CD,
+        "B0 05 04 01 21 CD 34 4C",
+        "B0 06 02 01 21",
+    ),
+    (
+        Cell::Out(1, Reg::VoutMax),
+        0x5678,
+        "B0 05 04 01 24 78 56 AB",
+        "B0 06 02 01 24",
+    ),
+    (
+        Cell::Out(1, Reg::MarginHigh),
+        0x1234,
+        "B0 05 04 01 25 34 12 BC",
+        "B0 06 02 01 25",
+    ),
+    (
+        Cell::Out(1, Reg::MarginLow),
+        0x0ABC,
+        "B0 05 04 01 26 BC 0A 57",
+        "B0 06 02 01 26",
+    ),
+    (Cell::Protect, 0x40, "B0 10 40 7A", "B0 10"),
+];
+
+// An event is taken, and what the host sends then.
+fn goes(rt: &impl Abort, world: &mut World, event: &Event, text: &str) {
+    assert_eq!(rt; world.step(event), Ok(()), "{event:?}");
+    assert!(rt; sends(rt, world, text), "{event:?} is followed by {text:?}");
+}
+
+// Each pass of an order writes once and reads once, each try of a check reads once, all in vain.
+#[test]
+fn orders_and_checks_send_the_same_frames_in_each_pass(rt: HostRuntime) -> Result<(), SetupFault> {
+    let mut world = World::new(MIXED, PASSES)?;
+    for (cell, word, write, request) in ORDERS {
+        goes(&rt, &mut world, &Event::Order(cell, word), write);
+        for next in [write, write, ""] {
+            goes(&rt, &mut world, &NOT_ACKED, request);
+            goes(&rt, &mut world, &READ_LOST, next);
+        }
+        assert_eq!(rt; world.last_end(), Some(JobEnd::Unknown));
+        goes(&rt, &mut world, &Event::Check(cell), request);
+        assert_eq!(rt; world.last_end(), None);
+        for next in [request, request, ""] {
+            goes(&rt, &mut world, &READ_LOST, next);
+        }
+        assert_eq!(rt; world.last_end(), Some(JobEnd::Unknown));
+    }
+    Ok(())
+}
+
+// Delivered and read back: what was ordered is confirmed, of each cell.
+#[test]
+fn each_cell_is_ordered_and_confirmed(rt: HostRuntime) -> Result<(), SetupFault> {
+    for (cell, word, write, request) in ORDERS {
+        let mut world = World::new(MIXED, PASSES)?;
+        goes(&rt, &mut world, &Event::Order(cell, word), write);
+        goes(&rt, &mut world, &WHOLE, write);
+        goes(&rt, &mut world, &ACKED, request);
+        goes(&rt, &mut world, &READ, "");
+        assert_eq!(rt; world.last_end(), Some(JobEnd::Done));
+        assert_eq!(rt; standing(&world, cell), Some(Standing::Confirmed(word)));
+    }
+    Ok(())
+}
+
+#[test]
+fn a_clear_sends_clear_faults_until_it_is_acknowledged(rt: HostRuntime) -> Result<(), SetupFault> {
+    let mut world = World::new(MIXED, PASSES)?;
+    for (output, frame) in [(0, "B0 05 02 00 03 50"), (1, "B0 05 02 01 03 45")] {
+        goes(&rt, &mut world, &Event::Clear(output), frame);
+        for next in [frame, frame, ""] {
+            goes(&rt, &mut world, &NOT_ACKED, next);
+        }
+        assert_eq!(rt; world.last_end(), Some(JobEnd::Unknown));
+        goes(&rt, &mut world, &Event::Clear(output), frame);
+        goes(&rt, &mut world, &NOT_ACKED, frame);
+        goes(&rt, &mut world, &ACKED, "");
+        assert_eq!(rt; world.last_end(), Some(JobEnd::Done));
+    }
+    Ok(())
+}
+
+// VOUT_MODE of both outputs, and the coefficients of VOUT_COMMAND.
+const MODE_0: &str = "B0 06 02 00 20";
+
+const MODE_1: &str = "B0 06 02 01 20";
+
+const COEFFICIENTS: &str = "B0 30 02 21 00";
+
+// Each of a learn's two reads has tries of its own; a learn that fails leaves the format from before.
+#[test]
+fn a_learn_reads_the_mode_and_then_the_coefficients(rt: HostRuntime) -> Result<(), SetupFault> {
+    let mut world = World::new(MIXED, PASSES)?;
+    let learn = Event::Learn(1);
+    goes(&rt, &mut world, &learn, MODE_1);
+    for (event, next) in [
+        (READ_LOST, MODE_1),
+        (READ_LOST, MODE_1),
+        (READ, COEFFICIENTS),
+        (READ_LOST, COEFFICIENTS),
+        (READ_LOST, COEFFICIENTS),
+        (READ, ""),
+    ] {
+        goes(&rt, &mut world, &event, next);
+    }
+    assert_eq!(rt; world.last_end(), Some(JobEnd::Learned));
+    goes(&rt, &mut world, &learn, MODE_1);
+    for next in [MODE_1, MODE_1, ""] {
+        goes(&rt, &mut world, &READ_LOST, next);
+    }
+    assert_eq!(rt; world.last_end(), Some(JobEnd::Unknown));
+    goes(&rt, &mut world, &learn, MODE_1);
+    goes(&rt, &mut world, &READ, COEFFICIENTS);
+    for next in [COEFFICIENTS, COEFFICIENTS, ""] {
+        goes(&rt, &mut world, &READ_LOST, next);
+    }
+    assert_eq!(rt; world.last_end(), Some(JobEnd::Unknown));
+    // 3.3 V, as 3300 millivolts.
+    let micro = Event::OrderMicro(SECOND, 3_300_000);
+    goes(&rt, &mut world, &micro, "B0 05 04 01 21 E4 0C F7");
+    Ok(())
+}
+
+// A format is that of the output that was learned: 3.3 V as 3300 millivolts or as 13517/4096.
+#[test]
+fn each_output_is_learned_by_itself(rt: HostRuntime) -> Result<(), SetupFault> {
+    let mut world = World::new(MIXED, PASSES)?;
+    goes(&rt, &mut world, &Event::Learn(0), MODE_0);
+    goes(&rt, &mut world, &READ, "");
+    assert_eq!(rt; world.last_end(), Some(JobEnd::Learned));
+    let second = Event::OrderMicro(SECOND, 3_300_000);
+    assert!(rt; world.step(&second).is_err());
+    goes(&rt, &mut world, &Event::Learn(1), MODE_1);
+    goes(&rt, &mut world, &READ, COEFFICIENTS);
+    goes(&rt, &mut world, &READ, "");
+    let first = Event::OrderMicro(FIRST, 3_300_000);
+    goes(&rt, &mut world, &first, "B0 05 04 00 21 CD 34 5A");
+    for event in [WHOLE, ACKED, READ] {
+        assert_eq!(rt; world.step(&event), Ok(()));
+    }
+    goes(&rt, &mut world, &second, "B0 05 04 01 21 E4 0C F7");
+    Ok(())
+}
+
+// What ends a job: the end that a run tells, and how the cell stands then.
+#[test]
+fn each_job_has_its_ends(rt: HostRuntime) -> Result<(), SetupFault> {
+    let differs = Some(JobEnd::Differs(0x1000));
+    let unknown = Standing::Unknown;
+    let start = Standing::Confirmed(0x1000);
+    let rows: [(&[Event], Option<JobEnd>, Standing); 9] = [
+        (&[], None, unknown),
+        (&[CHECK], None, unknown),
+        (&[CHECK, READ], Some(JobEnd::Done), start),
+        (&[CHECK, READ_LOST], Some(JobEnd::Unknown), unknown),
+        (&[CHECK, READ, Event::RestartHost], None, unknown),
+        (&[ORDER, LOST, ACKED, READ], differs, start),
+        (
+            &[ORDER, LOST, ACKED, READ_LOST],
+            Some(JobEnd::Unknown),
+            unknown,
+        ),
+        (&[Event::Learn(0), READ], Some(JobEnd::Learned), unknown),
+        (&[Event::Clear(0), ACKED], Some(JobEnd::Done), unknown),
+    ];
+    for (place, (events, end, stands)) in rows.iter().enumerate() {
+        let world = after(&rt, BASE, 1, events)?;
+        assert_eq!(rt; world.last_end(), *end, "row {place}");
+        assert_eq!(rt; standing(&world, FIRST), Some(*stands), "row {place}");
+    }
+    Ok(())
+}

@@ -1,0 +1,150 @@
+//! The faults of texts and of numbers: their words, what stands beside them, and their derived texts.
+
+use pm_device::ConfigFault;
+use pm_host::HostFault;
+use pm_num::NumFault;
+use pm_table::{Cell, Reg, TableFault};
+use pm_text::TextFault;
+use pm_tool::NumberFault;
+use pm_world::SetupFault;
+use std::test::Fail;
+
+// No world is made, for this fault of the configuration.
+fn device(fault: ConfigFault) -> TextFault {
+    TextFault::Setup(SetupFault::Device(fault))
+}
+
+#[test]
+fn each_fault_of_a_text_has_its_words(rt: HostRuntime) -> Result<(), Fail> {
+    let start = ConfigFault::BadStart(Cell::Out(0, Reg::Operation));
+    let rows = [
+        (
+            TextFault::Syntax(2),
+            "X1 Syntax",
+            Some(2),
+            "an unexpected line 2",
+        ),
+        (
+            TextFault::BadHex(3),
+            "X2 BadHex",
+            Some(3),
+            "bad hexadecimal in line 3",
+        ),
+        (
+            TextFault::TooLong,
+            "X3 TooLong",
+            None,
+            "a text of more than 1048576 bytes",
+        ),
+        (TextFault::Read, "X4 Read", None, "a failed read"),
+        (TextFault::Write, "X5 Write", None, "a failed write"),
+        (TextFault::Memory, "X6 Memory", None, "want of memory"),
+        (
+            device(ConfigFault::OutputCount),
+            "X7 Setup",
+            None,
+            "an impossible setup: the device: a number of outputs outside 1 to 8",
+        ),
+        (
+            device(start),
+            "X7 Setup",
+            None,
+            "an impossible setup: the device: a start word that its cell doesn't accept",
+        ),
+        (
+            device(ConfigFault::Address),
+            "X7 Setup",
+            None,
+            "an impossible setup: the device: a reserved address",
+        ),
+        (
+            device(ConfigFault::BadMode(7, TableFault::HalfMode)),
+            "X7 Setup",
+            None,
+            "an impossible setup: the device: an unsupported mode of output 7: a half precision mode",
+        ),
+        (
+            device(ConfigFault::BadCoefficients(NumFault::ZeroSlope)),
+            "X7 Setup",
+            None,
+            "an impossible setup: the device: unsupported coefficients: slope is zero",
+        ),
+        (
+            TextFault::Setup(SetupFault::Host(HostFault::Passes)),
+            "X7 Setup",
+            None,
+            "an impossible setup: the host: a number of passes other than 1 to 15",
+        ),
+    ];
+    for (fault, words, line, text) in rows {
+        assert_eq!(rt; fault.words(), words);
+        assert_eq!(rt; fault.line(), line, "{text}");
+        let derived = format!(in rt.alloc(); "{fault}")?;
+        assert_eq!(rt; derived.as_str(), text);
+    }
+    Ok(())
+}
+
+#[test]
+fn each_refusal_of_a_number_has_its_words_and_status(rt: HostRuntime) -> Result<(), Fail> {
+    let rows = [
+        (
+            NumberFault::OneOf,
+            "give one of --word and --micro",
+            2,
+            "not exactly one of word and micro",
+        ),
+        (NumberFault::Format, "bad format", 2, "bad format"),
+        (NumberFault::Word, "bad word", 2, "bad word"),
+        (NumberFault::Micro, "bad micro", 2, "bad micro"),
+        (
+            NumberFault::Num(NumFault::ZeroSlope),
+            "N1 ZeroSlope",
+            1,
+            "slope is zero",
+        ),
+        (
+            NumberFault::Num(NumFault::ExponentRange),
+            "N2 ExponentRange",
+            1,
+            "exponent out of range",
+        ),
+        (
+            NumberFault::Num(NumFault::BelowLeast),
+            "N3 BelowLeast",
+            1,
+            "below the least value",
+        ),
+        (
+            NumberFault::Num(NumFault::AboveGreatest),
+            "N4 AboveGreatest",
+            1,
+            "above the greatest value",
+        ),
+        (
+            NumberFault::Num(NumFault::TooLarge),
+            "N5 TooLarge",
+            1,
+            "number too large",
+        ),
+        (
+            NumberFault::Text(TextFault::Write),
+            "X5 Write",
+            1,
+            "a failed write",
+        ),
+        (
+            NumberFault::Text(TextFault::Memory),
+            "X6 Memory",
+            1,
+            "want of memory",
+        ),
+    ];
+    for (fault, words, status, text) in rows {
+        assert_eq!(rt; fault.words(), words);
+        assert_eq!(rt; fault.status(), status, "{words}");
+        let derived = format!(in rt.alloc(); "{fault}")?;
+        assert_eq!(rt; derived.as_str(), text);
+    }
+    Ok(())
+}
