@@ -1,0 +1,157 @@
+#!/usr/bin/env python3
+"""Holds README.md, docs/ and examples/README.md to the program: runs each line that begins with `$` and compares what
+it prints; runs the commands of examples/README.md; has `pmb` read the lines that docs/texts.md shows; and looks
+whether files that pages name are there, the README's listing is the test's, and the manual page has no fault. What is
+wrong is printed, and the status is then 1.
+
+    scripts/try_pages.py
+
+It runs the built program, or the one that the environment variable PMB names.
+"""
+import glob
+import os
+import re
+import shutil
+import subprocess
+import sys
+import tempfile
+
+sys.dont_write_bytecode = True
+
+import program  # noqa: E402
+
+BUILT = "crates/pmb/out/pmb"
+MOST_LINES = {"README.md": 120}
+FILE = re.compile(r"(?:\.\./)?(?:crates|scripts|docs|examples|bench|attacks)/[\w./-]*\w")
+
+
+def pages():
+    """The pages, by name from the root."""
+    for path in ["README.md", "examples/README.md", *sorted(glob.glob("docs/*.*", root_dir=program.ROOT))]:
+        with open(os.path.join(program.ROOT, path), encoding="utf-8") as file:
+            yield path, file.read()
+
+
+def shown(text):
+    """Each `$` line of a page with the lines after it, up to the next one or the block's end."""
+    for _, block in re.findall(r"^(```\w*|\.Bd [^\n]*)\n(.*?)^(?:```|\.Ed)$", text, re.M | re.S):
+        for part in re.split(r"^\$ ", block, flags=re.M)[1:]:
+            command, _, output = part.partition("\n")
+            yield command, output
+
+
+class Shell:
+    """Runs commands at the root, with the program as `pmb` and at its built place."""
+
+    def __init__(self, pmb, folder):
+        self.pmb = pmb
+        os.symlink(pmb, os.path.join(folder, "pmb"))
+        self.around = {**os.environ, "PMB": pmb, "PATH": folder + os.pathsep + os.environ["PATH"], "LC_ALL": "C.UTF-8"}
+
+    def run(self, command):
+        words = command.replace(BUILT, self.pmb)
+        return subprocess.run(["bash", "-c", words], cwd=program.ROOT, env=self.around, capture_output=True, text=True)
+
+
+def command_faults(shell, found):
+    for command, output in shown(found):
+        ran = shell.run(command)
+        if ran.stdout + ran.stderr != output:
+            yield f"$ {command}: it prints {ran.stdout + ran.stderr!r}, and not {output!r}"
+
+
+def example_faults(shell, found):
+    """The commands of the table, each of which answers with what is stored."""
+    answers = {"scenario": "report", "frames": "answers", "trace": "lines"}
+    for command in re.findall(r"\| `([^`]+)` \|$", found, re.M):
+        ran, (name, kind) = shell.run(command), re.search(r"examples/([\w-]+)\.(\w+)", command).groups()
+        if command.startswith(BUILT):
+            with open(os.path.join(program.ROOT, f"examples/{name}.{answers[kind]}"), encoding="utf-8") as file:
+                if ran.stdout != file.read():
+                    yield f"{command}: not what is stored"
+        if not ran.stdout or ran.stderr:
+            yield f"{command}: it says {ran.stderr!r}"
+    for path in glob.glob(os.path.join(program.ROOT, "examples/*.*")):
+        name, _, kind = os.path.basename(path).partition(".")
+        if kind in answers and f"examples/{name}.{kind}" not in found:
+            yield f"the page doesn't name {name}.{kind}"
+
+
+def rows_of(found, title):
+    """The cells of the table below a line of heads."""
+    rows = found[found.index(title):].split("\n\n")[0].splitlines()[2:]
+    return [re.split(r"\s*\|\s*", row.strip("| ")) for row in rows]
+
+
+def text_faults(shell, found):
+    """The lines of docs/texts.md: a trace's lines are told as the page says, and a scenario's examples are one."""
+    trace, told = zip(*[re.findall(r"`([^`]+)`", " ".join(row))[:2] for row in rows_of(found, "| line | what is told |")])
+    ran = subprocess.run([shell.pmb, "decode"], input="\n".join(trace), capture_output=True, text=True)
+    if ran.stdout.splitlines()[:len(told)] != list(told):
+        yield f"a trace's lines are told as {ran.stdout!r}"
+    head = [row[-1].strip("` ") for row in rows_of(found, "| line | fields | example |")]
+    ran = subprocess.run([shell.pmb, "replay"], input="\n".join(head), capture_output=True, text=True)
+    if ran.returncode:
+        yield f"the examples of a scenario's lines are refused: {ran.stderr!r}"
+    for row in rows_of(found, "| event | what happens | example |"):
+        event = row[-1].strip("` ")
+        ran = subprocess.run([shell.pmb, "replay"], input="\n".join([*head, event]), capture_output=True, text=True)
+        if ran.stderr:
+            yield f"the event {event!r} is refused: {ran.stderr!r}"
+
+
+def name_faults(name, found):
+    """The files that a page names, and links."""
+    links = [it for it in re.findall(r"\]\(([^)#]+)\)", found) if "://" not in it]
+    files = [it for it in FILE.findall(found) if not it.startswith((BUILT, "crates/NAME", "crates/X", "attacks/NAME"))]
+    places = [os.path.join(os.path.dirname(name), it) for it in links] + files
+    for place in places:
+        if not os.path.exists(os.path.join(program.ROOT, place)) and "/out" not in place:
+            yield f"{place} isn't there"
+    if found.count("\n") > MOST_LINES.get(name, 1000):
+        yield f"more than {MOST_LINES[name]} lines"
+
+
+def listing_fault(found):
+    """The README's loop is the test's, whose clauses it leaves out."""
+    listing = re.search(r"^```rust\n(.*?)^```", found, re.M | re.S)[1]
+    with open(os.path.join(program.ROOT, "crates/pm_tests/src/driver.rt"), encoding="utf-8") as file:
+        body = re.search(r"^fn carry_out.*?^}\n", file.read(), re.M | re.S)[0]
+    plain = [" ".join(re.sub(r"^ *ensures .*$", "", it, flags=re.M).split()) for it in (listing, body)]
+    return [] if plain[0] == plain[1] else ["its listing isn't that of crates/pm_tests/src/driver.rt"]
+
+
+def manual_faults():
+    """What mandoc and man say of the manual page, each where it is there."""
+    path = os.path.join(program.ROOT, "docs/pmb.1")
+    for words in ["mandoc", "-T", "lint", "-W", "warning", path], ["man", "--warnings", "-E", "UTF-8", "-l", "-Tutf8", path]:
+        if shutil.which(words[0]):
+            ran = subprocess.run(words, capture_output=True, text=True)
+            said = ran.stderr if words[0] == "man" else ran.stdout + ran.stderr
+            if said or ran.returncode:
+                yield f"{words[0]}: {said}"
+
+
+def main():
+    program.answer_help(__doc__)
+    faults, count = [], 0
+    with tempfile.TemporaryDirectory() as folder:
+        shell = Shell(program.needed(), folder)
+        for name, found in pages():
+            told = [*command_faults(shell, found), *name_faults(name, found)]
+            if name == "examples/README.md":
+                told += example_faults(shell, found)
+            if name == "docs/texts.md":
+                told += text_faults(shell, found)
+            if name == "README.md":
+                told += listing_fault(found)
+            if name == "docs/pmb.1":
+                told += manual_faults()
+            count += len(list(shown(found)))
+            faults += [f"{name}: {fault}" for fault in told]
+    print("\n".join([*faults, f"{count} commands run, {len(faults)} faults"]))
+    return 1 if faults else 0
+
+
+if __name__ == "__main__":
+    sys.exit(main())
