@@ -16,6 +16,11 @@ def needed():
     return os.path.abspath(found)
 
 
+def main():
+    answer_help("Prints where the built program stands, or the one that the environment variable PMB names.")
+    print(needed())
+
+
 def answer_help(text):
     """Ends the script with its own text where its arguments ask for help."""
     if "--help" in sys.argv[1:] or "-h" in sys.argv[1:]:
@@ -33,3 +38,7 @@ def one_file(text):
             return file.read()
     except OSError as fault:
         sys.exit(f"{sys.argv[1]}: {fault.strerror}")
+
+
+if __name__ == "__main__":
+    main()

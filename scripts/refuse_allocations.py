@@ -2,21 +2,23 @@
 """Makes each allocation of a run of `pmb` fail in turn, for each run of the table below.
 
 What comes of it must be `pmb: X6 Memory` alone, with status 1 and nothing written (by `decode`, which
-writes line by line, a front of the text), or the very result of the run in which no allocation fails,
+writes line by line, a first part of the text), or the very result of the run in which no allocation fails,
 where that one could be done without. Anything else is printed, and the status is then 1.
 
-It needs the program, (cd crates/pmb && rt run -- replay < stdin), or the environment variable PMB that
-names one, a C compiler and glibc. With the
-toolchain alone `rt try --fail-alloc N -- hear < stdin` in crates/pmb does the same for one
+    scripts/refuse_allocations.py
+
+It runs the built program, or the one that the environment variable PMB names, and needs a C compiler
+and glibc. With the toolchain alone `rt try --fail-alloc N -- hear < stdin` in crates/pmb does the same for one
 allocation, the Nth, of one run, and takes some 20 seconds.
 """
-import os
+import shutil
 import subprocess
 import sys
 import tempfile
 
-ROOT = os.path.dirname(os.path.dirname(os.path.abspath(__file__)))
-PROGRAM = os.environ.get("PMB", os.path.join(ROOT, "crates/pmb/out/pmb"))
+sys.dont_write_bytecode = True
+
+import program  # noqa: E402
 
 # Stands before the C library: counts the allocations, refuses one, and tells how many there were.
 REFUSER = r"""
@@ -158,21 +160,25 @@ WANT_OF_MEMORY = b"pmb: X6 Memory\n"
 
 
 def wants_memory(arguments, found, whole):
-    """Whether a result is want of memory, with nothing written, or by `decode` a front of the text."""
+    """Whether a result is want of memory, with nothing written, or by `decode` a first part of the text."""
     status, written, told = found
-    is_front = written == b"" or arguments == ["decode"] and whole[1].startswith(written)
-    return status == 1 and is_front and told == WANT_OF_MEMORY
+    is_first_part = written == b"" or arguments == ["decode"] and whole[1].startswith(written)
+    return status == 1 and is_first_part and told == WANT_OF_MEMORY
 
 
 def result_of(refuser, arguments, text, refused=0):
     """The status and what was written on either stream, and how many allocations were made."""
     environment = {"LD_PRELOAD": refuser, "REFUSED_ALLOCATION": str(refused)}
-    ran = subprocess.run([PROGRAM, *arguments], input=text, capture_output=True, env=environment)
+    ran = subprocess.run([program.PROGRAM, *arguments], input=text, capture_output=True, env=environment)
     told, _, made = ran.stderr.rpartition(b"allocations ")
     return (ran.returncode, ran.stdout, told), int(made)
 
 
 def main():
+    program.answer_help(__doc__)
+    program.needed()
+    if not shutil.which("cc"):
+        sys.exit("no C compiler: cc")
     faults = 0
     with tempfile.TemporaryDirectory() as folder:
         source, refuser = f"{folder}/refuser.c", f"{folder}/refuser.so"

@@ -1,8 +1,8 @@
 #!/usr/bin/env python3
 """Holds README.md, docs/ and examples/README.md to the program: runs each line that begins with `$` and compares what
 it prints; runs the commands of examples/README.md; has `pmb` read the lines that docs/texts.md shows; and looks
-whether files that pages name are there, the README's listing is the test's, and the manual page has no fault. What is
-wrong is printed, and the status is then 1.
+whether files that pages name are there, the README's listing is the test's, the manual page has no fault, and scripts
+answer --help. What is wrong is printed, and the status is then 1.
 
     scripts/try_pages.py
 
@@ -132,11 +132,27 @@ def manual_faults():
                 yield f"{words[0]}: {said}"
 
 
+def script_faults(shell):
+    """Each script answers --help, and those that run the program say in one line what to build where there is none."""
+    for path in sorted(glob.glob("scripts/*.py", root_dir=program.ROOT) + glob.glob("bench/**/*.*", root_dir=program.ROOT, recursive=True)):
+        if not os.access(os.path.join(program.ROOT, path), os.X_OK):
+            continue
+        ran = shell.run(f"{path} --help")
+        if ran.returncode or not ran.stdout or ran.stderr:
+            yield f"{path} --help has status {ran.returncode} and says {ran.stderr!r}"
+        if "variable PMB" not in ran.stdout or path == "scripts/program.py":
+            continue
+        ran = shell.run(f"PMB=/nowhere {path} examples/one-order.scenario")
+        if ran.returncode != 1 or ran.stdout or not re.fullmatch(r"no program at /nowhere: .*\n", ran.stderr):
+            yield f"{path} with no program has status {ran.returncode} and says {ran.stderr!r}"
+
+
 def main():
     program.answer_help(__doc__)
     faults, count = [], 0
     with tempfile.TemporaryDirectory() as folder:
         shell = Shell(program.needed(), folder)
+        faults += script_faults(shell)
         for name, found in pages():
             told = [*command_faults(shell, found), *name_faults(name, found)]
             if name == "examples/README.md":
