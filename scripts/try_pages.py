@@ -1,8 +1,8 @@
 #!/usr/bin/env python3
-"""Holds README.md, docs/ and examples/README.md to the program: runs each line that begins with `$` and compares what
-it prints; runs the commands of examples/README.md; has `pmb` read the lines that docs/texts.md shows; and looks
-whether files that pages name are there, the README's listing is the test's, the manual page has no fault, and scripts
-answer --help. What is wrong is printed, and the status is then 1.
+"""Holds README.md, docs/ and examples/README.md to the program. It runs each line that begins with `$` and compares
+what it prints, runs the commands of examples/README.md, and has `pmb` read the lines that docs/texts.md shows. The
+table of docs/commands.md must be the plain model's, the README's listing the test's; files that pages name must be
+there, the manual page have no fault, and each script answer --help. What is wrong is printed, and the status is then 1.
 
     scripts/try_pages.py
 
@@ -19,6 +19,8 @@ import tempfile
 sys.dont_write_bytecode = True
 
 import program  # noqa: E402
+from plain import packets  # noqa: E402
+from plain.converter import ALLOWED  # noqa: E402
 
 BUILT = "crates/pmb/out/pmb"
 MOST_LINES = {"README.md": 120}
@@ -100,6 +102,22 @@ def text_faults(shell, found):
             yield f"the event {event!r} is refused: {ran.stderr!r}"
 
 
+def table_faults(found):
+    """The command table of the page is the plain model's."""
+    rows = {row[0]: row[1:] for row in rows_of(found, "| code | name |")}
+    for code, (name, length, is_read, is_written, scope) in packets.TABLE.items():
+        is_block = code in (0x05, 0x06, 0x30)
+        told = [name, "block" if is_block else str(length), "yes" if is_read else "no",
+                "send" if is_written and not is_block and not length else "yes" if is_written else "no",
+                {"device": "the device", "output": "an output", "wrapper": "carries a code"}[scope]]
+        levels = [0, *(level for level, codes in ALLOWED.items() if code in codes or code == 0x03)]
+        told += [f"{max(levels):02X}h"] if is_written and not is_block else []
+        if rows.pop(f"{code:02X}", None) != told:
+            yield f"the table's line of {code:02X} isn't {told}"
+    if rows:
+        yield f"the table has {rows}"
+
+
 def name_faults(name, found):
     """The files that a page names, and links."""
     links = [it for it in re.findall(r"\]\(([^)#]+)\)", found) if "://" not in it]
@@ -157,6 +175,8 @@ def main():
             told = [*command_faults(shell, found), *name_faults(name, found)]
             if name == "examples/README.md":
                 told += example_faults(shell, found)
+            if name == "docs/commands.md":
+                told += table_faults(found)
             if name == "docs/texts.md":
                 told += text_faults(shell, found)
             if name == "README.md":
