@@ -3,7 +3,7 @@
 all kinds, with damage, false acknowledgements, repeats and restarts of either end, holds the plain model of
 scripts/plain to every promise after each event, and the program's report to that of the model and to the
 promises on its own. What is broken is printed, and the status is then 1; at the end stands how many lists
-came to what.
+met what.
 
     scripts/search_promises.py [SEED [LISTS]]
 

@@ -59,7 +59,8 @@ def main():
     except Refused as refused:
         letter = in_words(str(refused))
         sys.exit(f"{refused}: {letter}" if letter else str(refused))
-    print("\n".join(timeline(run)))
+    for line in timeline(run):
+        print(line)
     return 1 if run.stopping else 0
 
 

@@ -152,7 +152,8 @@ def manual_faults():
 
 def script_faults(shell):
     """Each script answers --help, and those that run the program say in one line what to build where there is none."""
-    for path in sorted(glob.glob("scripts/*.py", root_dir=program.ROOT) + glob.glob("bench/**/*.*", root_dir=program.ROOT, recursive=True)):
+    paths = [it for form in ("scripts/*.py", "bench/**/*.*") for it in glob.glob(form, root_dir=program.ROOT, recursive=True)]
+    for path in sorted(paths):
         if not os.access(os.path.join(program.ROOT, path), os.X_OK):
             continue
         ran = shell.run(f"{path} --help")

@@ -133,6 +133,10 @@ class Drawn:
         heads = [(x, words) for x, y, words, _ in self.texts if y == self.tops[0] - 12]
         self.columns = {x: words for x, words in heads if words in names or words.startswith("VOUT_")}
 
+    def output_at(self, x):
+        """The output whose lane is here; None before the first."""
+        return max(((lane, output) for output, lane in self.lanes.items() if lane < x), default=(0, None))[1]
+
     def bars(self):
         """By output, name and row: the bar's kind, its words, and whether it is marked as false."""
         found = {}
@@ -141,12 +145,12 @@ class Drawn:
             if title is None:
                 continue
             x, y, height = (float(bar.get(name)) for name in ("x", "y", "height"))
-            output = max((lane, it) for it, lane in self.lanes.items() if lane < x)[1] if self.columns[x] != "WRITE_PROTECT" else None
+            output = self.output_at(x)
             kind, _, words = title.text.partition(" ")
             for place, top in enumerate(self.tops):
                 if y <= top + 14 <= y + height:
-                    told = kind, [int(word, 16) for word in words.split(", ") if word], bar.get("stroke") == picture.FAULT
-                    found[output, self.columns[x], place] = told
+                    exact = [int(word, 16) for word in words.split(", ") if word]
+                    found[output, self.columns[x], place] = kind, exact, bar.get("stroke") == picture.FAULT
         return found
 
     def paths(self, colour, width):
@@ -160,7 +164,7 @@ class Drawn:
         found = {}
         for x, top, other, end in self.paths(picture.LINE, 3):
             if x == other and end > top:
-                output = max((lane, it) for it, lane in self.lanes.items() if lane < x)[1]
+                output = self.output_at(x)
                 found[output, self.tops.index(top)] = x - self.lanes[output]
         return found
 
@@ -186,8 +190,8 @@ def word_faults(drawn, plain):
         said = next(words for left, base, words, _ in drawn.texts if (left, base) == (x + picture.BELIEF / 2, y + 17))
         kind, _, exact = bar.find(SVG + "title").text.partition(" ")
         exact = exact.split(", ") if exact else []
-        name, output = drawn.columns[x], max([(lane, it) for it, lane in drawn.lanes.items() if lane < x] or [(0, None)])[1]
-        values = [plain.model.volts((output, name), int(word, 16)) for word in exact]
+        register = drawn.output_at(x), drawn.columns[x]
+        values = [plain.model.volts(register, int(word, 16)) for word in exact]
         numbers = said.removeprefix("confirmed ").removeprefix("only ").removesuffix(" V").replace(" or ", ", ").split(", ")
         wanted = [exact, [f"{len(exact)} words"], [f"{float(it):.4g}" for it in values if it is not None]]
         if numbers not in wanted if exact else said != "any word":
@@ -199,8 +203,7 @@ def value_faults(drawn, plain):
     found = {}
     for x, y, words, it in drawn.texts:
         if it.get("fill") == picture.LINE:
-            output = max((lane, it) for it, lane in drawn.lanes.items() if lane < x)[1]
-            found[output, drawn.tops.index(y - 19)] = words
+            found[drawn.output_at(x), drawn.tops.index(y - 19)] = words
     for output in drawn.lanes:
         told = None
         for place, after in enumerate(plain.reports):
@@ -255,7 +258,8 @@ def box(x, y, words, it):
 def layout_faults(drawn):
     """Labels that overlap each other or a voltage's line, or leave the picture."""
     boxes = [(box(*it), it[2]) for it in drawn.texts if it[2]]
-    lines = [((x - 1.5, top, x + 1.5, end), "a voltage") for x, top, other, end in drawn.paths(picture.LINE, 3) if x == other]
+    paths = [path for path in drawn.paths(picture.LINE, 3) if path[0] == path[2]]
+    lines = [((x - 1.5, top, x + 1.5, end), "a voltage") for x, top, _, end in paths]
     for place, ((left, top, right, end), words) in enumerate(boxes):
         if left < 0 or top < 0 or right > drawn.width or end > drawn.height:
             yield f"{words!r} leaves the picture"
@@ -298,7 +302,7 @@ def timeline_faults(run, plain, events):
             yield f"the stop is {stop!r}, and not {plain.stop}"
         found = found[:found.index(stop)] if stop else found
     if found != wanted:
-        yield f"the timeline has {[it for it in found if it not in wanted]}, and not {[it for it in wanted if it not in found]}"
+        yield f"the timeline has {[it for it in found if it not in wanted]}"
 
 
 def faults_of(name, text):
