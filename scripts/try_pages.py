@@ -1,8 +1,9 @@
 #!/usr/bin/env python3
-"""Holds README.md, docs/ and examples/README.md to the program. It runs each line that begins with `$` and compares
-what it prints, runs the commands of examples/README.md, and has `pmb` read the lines that docs/texts.md shows. The
-table of docs/commands.md must be the plain model's, the README's listing the test's; files that pages name must be
-there, the manual page have no fault, and each script answer --help. What is wrong is printed, and the status is then 1.
+"""Holds README.md, docs/ and examples/README.md to the program. It runs each line that begins with `$`, those of the
+helps too, and compares what it prints, runs the commands of examples/README.md, and has `pmb` read the lines of
+docs/texts.md. The table of docs/commands.md must be the plain model's, the README's listing the test's; files that
+pages name must be there, the manual page have no fault, and each script answer --help. What is wrong is printed, and
+the status is then 1.
 
     scripts/try_pages.py
 
@@ -60,6 +61,17 @@ def command_faults(shell, found):
         ran = shell.run(command)
         if ran.stdout + ran.stderr != output:
             yield f"$ {command}: it prints {ran.stdout + ran.stderr!r}, and not {output!r}"
+
+
+def help_faults(shell):
+    """The `$` lines of each help: what they print stands below, where anything does."""
+    for command in "", "replay", "hear", "decode", "number":
+        told = shell.run(f"pmb {command} --help").stdout
+        for example, output in re.findall(r"^ +\$ (.*)\n((?: +[^ $].*(?:\n|$))*)", told, re.M):
+            ran = shell.run(example)
+            wanted = "".join(line.strip() + "\n" for line in output.splitlines())
+            if ran.returncode or ran.stderr or (ran.stdout != wanted if wanted else not ran.stdout):
+                yield f"pmb {command} --help: $ {example}: it prints {ran.stdout + ran.stderr!r}, and not {wanted!r}"
 
 
 def example_faults(shell, found):
@@ -171,7 +183,7 @@ def main():
     faults, count = [], 0
     with tempfile.TemporaryDirectory() as folder:
         shell = Shell(program.needed(), folder)
-        faults += script_faults(shell)
+        faults += [*script_faults(shell), *help_faults(shell)]
         for name, found in pages():
             told = [*command_faults(shell, found), *name_faults(name, found)]
             if name == "examples/README.md":
