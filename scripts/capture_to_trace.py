@@ -23,7 +23,7 @@ sys.dont_write_bytecode = True
 from program import answer_help  # noqa: E402
 
 SIGROK = re.compile(r"(?:^|[ :])(Start repeat|Start|Stop|NACK|(Address|Data) (read|write): ([0-9A-Fa-f]{2}))\s*$")
-LINUX = re.compile(r"i2c_(write|read|reply|result): i2c-(\d+) (.*)")
+LINUX = re.compile(r"i2c_(write|read|reply|result):\s+i2c-(\d+) (.*)")
 MESSAGE = re.compile(r"#(\d+) a=([0-9a-f]+) f=([0-9a-f]+) l=(\d+)(?: \[([0-9a-f-]*)\])?")
 TEN_BITS, READS = 0x10, 0x01
 

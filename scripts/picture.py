@@ -54,6 +54,18 @@ def fitting(candidates, room, size):
     return next((it for it in candidates if width_of(it, size) <= room), "")
 
 
+def wrapped(words, room, size):
+    """Words in lines that fit; a unit stays with its number, and `or` with what comes after it."""
+    lines = []
+    for word in words.replace(" V", "\N{NO-BREAK SPACE}V").replace("or ", "or\N{NO-BREAK SPACE}").split(" "):
+        word = word.replace("\N{NO-BREAK SPACE}", " ")
+        if lines and width_of(f"{lines[-1]} {word}", size) <= room:
+            lines[-1] += f" {word}"
+        else:
+            lines.append(word)
+    return lines
+
+
 def shortened(label):
     return label if len(label) <= MOST_LABEL else label[:24] + ".." + label[26 - MOST_LABEL:]
 
@@ -135,6 +147,11 @@ class Picture:
             return [f"confirmed {it}" for it in named] + named
         return ([f"only {it}" for it in named] if len(words) == 1 else named) + [f"{len(words)} words"]
 
+    def lines_of(self, register, belief, rows):
+        """What the bar says, in at most as many lines as it has rows."""
+        choices = [wrapped(words, BELIEF - 12, 12) for words in self.words_of(register, belief)]
+        return next(lines for lines in choices if len(lines) <= rows)
+
     def bars(self, register):
         """The rows in a run that say the same: the first, the one after the last, the belief, and whether the
         converter's word isn't among its words."""
@@ -159,8 +176,8 @@ class Picture:
             self.parts.append(
                 f'<rect x="{x:.1f}" y="{top:.1f}" width="{BELIEF}" height="{height:.1f}" rx="4" fill="{fill}"{edge}>'
                 f"<title>{belief[0]} {words}</title></rect>")
-            said = fitting(self.words_of(register, belief), BELIEF - 12, 12)
-            self.parts.append(text(x + BELIEF / 2, top + 17, said, fill=ink, anchor="middle"))
+            for place, said in enumerate(self.lines_of(register, belief, end - first)):
+                self.parts.append(text(x + BELIEF / 2, top + 17 + ROW * place, said, fill=ink, anchor="middle"))
 
     # The rest.
 

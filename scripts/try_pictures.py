@@ -186,8 +186,9 @@ def word_faults(drawn, plain):
     for bar in drawn.root.iter(SVG + "rect"):
         if bar.find(SVG + "title") is None:
             continue
-        x, y = float(bar.get("x")), float(bar.get("y"))
-        said = next(words for left, base, words, _ in drawn.texts if (left, base) == (x + picture.BELIEF / 2, y + 17))
+        x, y, height = (float(bar.get(name)) for name in ("x", "y", "height"))
+        said = " ".join(words for left, base, words, _ in drawn.texts
+                        if left == x + picture.BELIEF / 2 and y < base < y + height)
         kind, _, exact = bar.find(SVG + "title").text.partition(" ")
         exact = exact.split(", ") if exact else []
         register = drawn.output_at(x), drawn.columns[x]
