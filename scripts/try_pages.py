@@ -1,9 +1,9 @@
 #!/usr/bin/env python3
 """Holds README.md, docs/ and examples/README.md to the program. It runs each line that begins with `$`, those of the
 helps too, and compares what it prints, runs the commands of examples/README.md, and has `pmb` read the lines of
-docs/texts.md. The table of docs/commands.md must be the plain model's, the README's listing the test's; files that
-pages name must be there, the manual page have no fault, and each script answer --help. What is wrong is printed, and
-the status is then 1.
+docs/texts.md. The table of docs/commands.md must be the plain model's, the README's listing the test's; the files,
+calls, definitions, tests and planted bugs that pages name must be there, the manual page have no fault, and each script
+answer --help. What is wrong is printed, and the status is then 1.
 
     scripts/try_pages.py
 
@@ -142,6 +142,38 @@ def name_faults(name, found):
         yield f"more than {MOST_LINES[name]} lines"
 
 
+def source_words():
+    """The words of the sources, of the scripts, and of the names of planted bugs."""
+    words = set()
+    for form in "crates/*/src/**/*.rt", "crates/*/specs/**/*.antt", "crates/*/must-fail/*", "attacks/**/*", "scripts/**/*.py":
+        for path in glob.glob(os.path.join(program.ROOT, form), recursive=True):
+            words.add(os.path.basename(path).partition(".")[0])
+            if path.endswith((".rt", ".antt", ".py")):
+                with open(path, encoding="utf-8") as file:
+                    words.update(re.findall(r"\w+", file.read()))
+    with open(os.path.join(program.ROOT, "crates.txt"), encoding="utf-8") as file:
+        return words | set(re.findall(r"\w+", file.read()))
+
+
+def word_faults(found, known):
+    """Names of calls, definitions, tests and planted bugs that a page gives, and no source has."""
+    for name in sorted(set(re.findall(r"`([A-Za-z][\w:]{3,})`", found))):
+        if not re.fullmatch("[0-9a-f]{16}", name) and not set(re.findall(r"\w+", name)) <= known:
+            yield f"no source has {name}"
+
+
+def toolchain_faults(shell, found):
+    """The toolchain that the README trusts is the one that is installed, if one is, and its crates those that stand in
+    crates.txt."""
+    trusted = set(re.findall(r"`([\w-]+)`", found[found.index("Trusted: "):]))
+    installed = set(shell.run("rt version").stdout.split()) - {"logic"} if shutil.which("rt") else set()
+    with open(os.path.join(program.ROOT, "crates.txt"), encoding="utf-8") as file:
+        lines = [line.partition(":") for line in file if not line.startswith("#")]
+    libraries = {word for _, _, rest in lines for word in rest.split()} - {name.split()[0] for name, _, _ in lines}
+    if trusted != libraries | (installed or trusted - libraries):
+        yield f"it trusts {sorted(trusted)}, and not {sorted(libraries | installed)}"
+
+
 def listing_fault(found):
     """The README's loop is the test's, whose clauses it leaves out."""
     listing = re.search(r"^```rust\n(.*?)^```", found, re.M | re.S)[1]
@@ -184,8 +216,9 @@ def main():
     with tempfile.TemporaryDirectory() as folder:
         shell = Shell(program.needed(), folder)
         faults += [*script_faults(shell), *help_faults(shell)]
+        known = source_words()
         for name, found in pages():
-            told = [*command_faults(shell, found), *name_faults(name, found)]
+            told = [*command_faults(shell, found), *name_faults(name, found), *word_faults(found, known)]
             if name == "examples/README.md":
                 told += example_faults(shell, found)
             if name == "docs/commands.md":
@@ -193,7 +226,7 @@ def main():
             if name == "docs/texts.md":
                 told += text_faults(shell, found)
             if name == "README.md":
-                told += listing_fault(found)
+                told += [*listing_fault(found), *toolchain_faults(shell, found)]
             if name == "docs/pmb.1":
                 told += manual_faults()
             count += len(list(shown(found)))
