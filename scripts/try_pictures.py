@@ -15,7 +15,6 @@ import random
 import re
 import sys
 import xml.etree.ElementTree as tree
-from fractions import Fraction
 
 sys.dont_write_bytecode = True
 
@@ -98,7 +97,7 @@ class Plain:
     def __init__(self, text):
         setup, passes, events = read_scenario(text)
         world = World(setup, passes)
-        self.model, self.reports, self.thoughts, self.volts = Model(text), [], [], []
+        self.model, self.reports, self.thoughts = Model(text), [], []
         self.note(world)
         for event in events:
             world.stop = world.step(event)
@@ -108,7 +107,7 @@ class Plain:
             self.note(world)
         # A stop's row, which shows what stood before.
         if world.stop:
-            for those in self.reports, self.thoughts, self.volts:
+            for those in self.reports, self.thoughts:
                 those.append(those[-1])
         self.stop = world.stop
 
@@ -116,7 +115,6 @@ class Plain:
         self.reports.append(Report("\n".join(report(world))))
         host, cells = world.host, world.device.cells
         self.thoughts.append({cell: (host.standing(cell), host.possible(cell), cells[cell]) for cell in cells})
-        self.volts.append({output: Fraction(*world.device.commanded(output)) for output in world.device.outputs})
 
 
 class Drawn:
@@ -223,16 +221,16 @@ def rounded(volts):
 
 
 def volt_faults(drawn, plain):
-    """Each place must be the same straight function of the voltage."""
-    places = drawn.places()
-    pairs = [(plain.volts[place][output], x) for (output, place), x in places.items()]
-    if len(pairs) != sum(map(len, plain.volts)):
-        yield f"{len(pairs)} voltages are drawn, and not {sum(map(len, plain.volts))}"
+    """Each place must be the same straight function of the voltage, in microvolts."""
+    pairs = [(plain.reports[place].outputs[output][1], x) for (output, place), x in drawn.places().items()]
+    wanted = sum(len(it.outputs) for it in plain.reports)
+    if len(pairs) != wanted:
+        yield f"{len(pairs)} voltages are drawn, and not {wanted}"
     (least, left), (most, right) = min(pairs), max(pairs)
-    for volts, x in pairs:
-        wanted = left if most == least else left + float((volts - least) / (most - least)) * (right - left)
+    for micro, x in pairs:
+        wanted = left if most == least else left + (micro - least) / (most - least) * (right - left)
         if abs(x - wanted) > 0.2 or most > least and right <= left:
-            yield f"{float(volts)} V stands at {x}, and not at {wanted:.1f}"
+            yield f"{micro} uV stands at {x}, and not at {wanted:.1f}"
 
 
 def row_faults(drawn, plain, events):
