@@ -179,7 +179,7 @@ def main():
     program.needed()
     if not shutil.which("cc"):
         sys.exit("no C compiler: cc")
-    faults = 0
+    faults = seen = 0
     with tempfile.TemporaryDirectory() as folder:
         source, refuser = f"{folder}/refuser.c", f"{folder}/refuser.so"
         with open(source, "w", encoding="utf-8") as file:
@@ -188,6 +188,7 @@ def main():
         for arguments, text in RUNS:
             whole, made = result_of(refuser, arguments, text)
             wanting = unneeded = 0
+            seen += made
             for refused in range(1, made + 1):
                 found, _ = result_of(refuser, arguments, text, refused)
                 is_wanting = wants_memory(arguments, found, whole)
@@ -198,6 +199,8 @@ def main():
                     print(f"allocation {refused} refused: {found}")
             shown = text[:24].decode() + (" .." if len(text) > 24 else "")
             print(f"{arguments[:4]} {shown!r}: {made} allocations, {wanting} wanted, {unneeded} done without")
+    if not seen:
+        sys.exit("no allocation was seen: the program takes its memory elsewhere, as one of `rt try` does")
     print("each refusal is X6, or changes nothing" if not faults else f"{faults} faults")
     return 1 if faults else 0
 
