@@ -14,7 +14,8 @@ use Rattle.pm_world.specs.declared.event.Event.TheVariants.{OrderMicro, RestartD
 use Rattle.pm_world.specs.declared.stop.Cause.{Cause}
 use Rattle.pm_world.specs.declared.stop.Cause.TheVariants.{Full}
 use Rattle.pm_world.specs.Confirmed.{restarts_converter}
-use Rattle.pm_world.specs.State.{State, asked, share_of, share_beside, tells, shared, counted, next, rule, refused, event_cause, cause_beside, cause_of, event_limit, IsTaken}
+use Rattle.pm_world.specs.State.{State, asked, share_of, share_beside, tells, shared, counted, next, rule, refused, event_cause}
+use Rattle.pm_world.specs.State.{cause_beside, cause_of, event_limit, IsTaken}
 
 -- of two, none
 pub or-none : {A : Type 0} (a b : Option A) → option_or a b ≡ None → (a ≡ None) × (b ≡ None)

@@ -1,5 +1,6 @@
 -- Each cell's word is its own: the start word, or that of an order for this very cell.
-use Rattle.std.proofs.Common.{◌≡◌, inl, inr, ℕ, zero, suc, ◌<◌, Bool, true, false, ◌&&◌, cond, List, [], ◌∷◌, Option, Some, None, is_some, is_none, refl, ◌∙◌, ap, subst, arith}
+use Rattle.std.proofs.Common.{◌≡◌, inl, inr, ℕ, zero, suc, ◌<◌, Bool, true, false, ◌&&◌, cond, List, [], ◌∷◌, Option, Some, None, is_some}
+use Rattle.std.proofs.Common.{is_none, refl, ◌∙◌, ap, subst, arith}
 use Rattle.std.specs.List.{Contains}
 use Rattle.std.specs.Option.{option_map_or}
 use Rattle.std.proofs.lemmas.List.Elements.{Contains-append_cases}
@@ -18,7 +19,8 @@ use Rattle.pm_world.specs.Below.{Below}
 use Rattle.pm_world.specs.declared.event.Event.{Event}
 use Rattle.pm_world.specs.declared.event.Event.TheVariants.{Deliver, Exchange, RestartDevice, RestartHost}
 use Rattle.pm_world.specs.Life.{now}
-use Rattle.pm_world.specs.Retelling.{start_settings, open_order, order_of, accepts, told, told_beside, Retells, nothing, tells, takes, IsOrderRun, WasOrdered, IsOwnWord, CommandsOwn}
+use Rattle.pm_world.specs.Retelling.{start_settings, open_order, order_of, accepts, told, told_beside, Retells, nothing, tells, takes}
+use Rattle.pm_world.specs.Retelling.{IsOrderRun, WasOrdered, IsOwnWord, CommandsOwn}
 use Rattle.pm_world.specs.State.{asked}
 use Rattle.pm_world.proofs.Lives.{IsLived, now-config}
 use Rattle.pm_world.proofs.Retellings.{life-run}

@@ -1,5 +1,6 @@
 -- A host whose known formats are the converter's, event by event.
-use Rattle.std.proofs.Common.{◌≡◌, ℕ, ◌+◌, ◌<◌, Bool, true, false, cond, eqb, List, length, get_or, set, replicate, Option, Some, None, Result, Ok, Err, option_map, option_and_then, refl, sym, ◌∙◌, ap, subst, inl, inr, arith}
+use Rattle.std.proofs.Common.{◌≡◌, ℕ, ◌+◌, ◌<◌, Bool, true, false, cond, eqb, List, length, get_or, set, replicate, Option, Some, None}
+use Rattle.std.proofs.Common.{Result, Ok, Err, option_map, option_and_then, refl, sym, ◌∙◌, ap, subst, inl, inr, arith}
 use Rattle.std.specs.Result.{result_ok}
 use Rattle.std.proofs.lemmas.Bool.{cases_eq, cases_lt}
 use Rattle.std.proofs.lemmas.List.{get_or-set_same, get_or-set_other, get_or-replicate, get_or_past}
@@ -26,7 +27,9 @@ use Rattle.pm_host.specs.Answers.{good_payload, good_word, good_mode, good_coeff
 use Rattle.pm_table.specs.Coefficients.{coefficients_of}
 use Rattle.pm_host.specs.Messages.{mode_read, coefficients_read}
 use Rattle.pm_host.specs.Sound.{IsStage, IsSound as IsSoundHost}
-use Rattle.pm_host.specs.Summary.{Summary, Change, next as host_next, begins, finished, answered, read_back, checked, learned, mode_taken, mode_answered, coefficients_answered, another, ends, goes_on, writes, idle, marked, no_formats, sending_in, stage_message}
+use Rattle.pm_host.specs.Summary.{Summary, Change, next as host_next, begins, finished, answered, read_back, checked, learned, mode_taken}
+use Rattle.pm_host.specs.Summary.{mode_answered, coefficients_answered, another, ends, goes_on, writes, idle, marked, no_formats}
+use Rattle.pm_host.specs.Summary.{sending_in, stage_message}
 use Rattle.pm_host.specs.Marks.{Good}
 use Rattle.pm_host.specs.Transcript as host
 use Rattle.pm_world.specs.Below.{Below}
@@ -37,7 +40,8 @@ use Rattle.pm_world.specs.declared.event.Back.{Back}
 use Rattle.pm_world.specs.Honest.{IsSpelled}
 use Rattle.pm_world.specs.Legal.{frame_of, heard_bytes, heard_ending, answer_in, back_bytes}
 use Rattle.pm_world.specs.State.{State, asked, share_beside, exchanged, host_after, next, event_cause, exchange_cause, answer_to}
-use Rattle.pm_world.proofs.Learned.{ToldTrue, AsksSo, Agree, IsTrueHost, from_some, good-faultless, legal-good, exchange-legal, mode-true, coefficients-true}
+use Rattle.pm_world.proofs.Learned.{ToldTrue, AsksSo, Agree, IsTrueHost, from_some, good-faultless, legal-good, exchange-legal, mode-true}
+use Rattle.pm_world.proofs.Learned.{coefficients-true}
 use Rattle.pm_world.proofs.Causes.{asked-next, beside-next}
 use Rattle.pm_world.proofs.Sending.{told-nothing}
 

@@ -1,5 +1,6 @@
 -- An order whose write is delivered whole, and whose read nothing disturbs.
-use Rattle.std.proofs.Common.{◌≡◌, ℕ, ◌≤◌, Bool, true, ◌||◌, eqb, List, [], ◌∷◌, ◌++◌, length, Option, Some, None, option_map, refl, sym, ◌∙◌, ap, subst, arith}
+use Rattle.std.proofs.Common.{◌≡◌, ℕ, ◌≤◌, Bool, true, ◌||◌, eqb, List, [], ◌∷◌, ◌++◌, length, Option, Some, None, option_map, refl, sym}
+use Rattle.std.proofs.Common.{◌∙◌, ap, subst, arith}
 use Rattle.std.specs.Prelude.{option_to_list}
 use Rattle.std.specs.List.{list_any}
 use Rattle.std.proofs.lemmas.Bool.{eq-eqb, cond-true}
@@ -29,7 +30,8 @@ use Rattle.pm_host.specs.Marks.{Good, marks}
 use Rattle.pm_host.specs.Messages.{cell_write, cell_read}
 use Rattle.pm_host.specs.Now.{now as host_now}
 use Rattle.pm_host.specs.Sound.{IsOrdering, IsStage, IsSound as IsSoundHost}
-use Rattle.pm_host.specs.Summary.{Summary, Change, next as host_next, step_of, change, finished, answered, read_back, idle, marked, ends, sending_in, stage_message, standing_at}
+use Rattle.pm_host.specs.Summary.{Summary, Change, next as host_next, step_of, change, finished, answered, read_back, idle, marked, ends}
+use Rattle.pm_host.specs.Summary.{sending_in, stage_message, standing_at}
 use Rattle.pm_host.specs.Standing.{standing_of}
 use Rattle.pm_host.specs.Transcript as host
 use Rattle.pm_world.specs.Below.{Below}
