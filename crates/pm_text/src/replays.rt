@@ -22,6 +22,8 @@ use std::io::{Read, Write};
 /// Reads a scenario, lets its events happen between a host and a converter, up to the first that isn't
 /// taken, and writes the report. Neither stream may have failed before.
 ///
+/// Takes memory for the text as it is read, for the events as they come, and once for the report.
+///
 /// # Errors
 ///
 /// X3 where the text has more than 1,048,576 bytes; X4 where the reader failed; X1 or X2 for the

@@ -25,6 +25,8 @@ const ROOM: usize = 4096;
 /// that it commands, its settings, each with what the host says of it, and STATUS_BYTE,
 /// STATUS_WORD and STATUS_VOUT; STATUS_CML; whether the host saw a restart; and its job.
 ///
+/// Takes memory once, 4096 bytes, which every report fits.
+///
 /// # Errors
 ///
 /// X6 alone.

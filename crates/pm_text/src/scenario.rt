@@ -43,6 +43,8 @@ pub struct Scenario {
 /// Whether a world can be made of the scenario isn't judged here: more than eight outputs are
 /// counted, up to 255, and the starts of the first eight are kept.
 ///
+/// Takes memory for the events alone, which grows as they come.
+///
 /// # Errors
 ///
 /// X3 where the text has more than 1,048,576 bytes; otherwise the fault of the first faulty line: X2

@@ -157,7 +157,7 @@ exchanged-words laws s arrival back (Some message) fits h =
     heard-words s.device (heard_bytes (frame_of s.host.setup.addr message) arrival) (heard_ending message arrival)
     ∙ hears-request laws s.device s.host.setup.addr message (heard_bytes (frame_of s.host.setup.addr message) arrival)
     (heard_ending message arrival)
-    (not-false (is_read_message message) (rule-none (not (is_read_message message)) WrongKind kinds.0)) (fits message refl)
+    (not-false (is_read_message message) (rule-none (not (is_read_message message)) WrongKind kinds.0), fits message refl)
     (not-false _ (rule-none _ NotBetrayed hears.0))
 
 -- and keeps an order open, or ends it

@@ -108,13 +108,13 @@ unfolding next step_of
 next-done s event cell word bytes told done = ap (end_after s.host s.end) told ∙ ap (λ (t : Change). end_by t.step) done
 
 -- the word is confirmed
-next-confirmed : Below → (s : State) (event : Event) (cell : Cell) (word : ℕ) (bytes : List ℕ) →
+next-confirmed : Below → (s : State) (event : Event) (cell : Cell) {word : ℕ} {bytes : List ℕ} →
     (share_of s event).told ≡ Some (host.Got bytes) →
     change s.host (host.Got bytes) ≡ ends (marked (idle s.host) (Good cell word)) Done → length s.host.known.standing ≡ places →
     IsCell 8 cell →
     standing_at (next s event).host cell ≡ Confirmed word
 unfolding next host_next
-next-confirmed laws s event cell word bytes told done long there =
+next-confirmed laws s event cell {word = word} told done long there =
     ap (λ o. standing_at (host_after s.host o) cell) told
     ∙ (ap (λ (t : Change). standing_at t.after cell) done
     ∙ get_or-set_same s.host.known.standing (place_of cell) (Confirmed word) Unknown
@@ -138,7 +138,7 @@ ended laws s cell word fixed stage held long =
       good = good;
       told = told;
       done = next-done s (Exchange Whole back.Whole) cell word answer told done;
-      confirmed = next-confirmed laws s (Exchange Whole back.Whole) cell word answer told done long
+      confirmed = next-confirmed laws s (Exchange Whole back.Whole) cell told done long
           (eight s.device.config.count cell fixed.few fixed.there);
       held = ap (λ w. word_at w cell)
           (next-heard laws s (Exchange Whole back.Whole) _ (exchange-heard s (cell_read cell) sending (read-restart cell))) ∙ held;
