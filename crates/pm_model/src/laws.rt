@@ -25,7 +25,8 @@ pub fn outputs_stand_alone()
     ensures { OutputsStandAlone }
 {}
 
-/// No output commands a value above that of its VOUT_MAX.
+/// No output commands a value above that of its VOUT_MAX (`most`), and none below that of its VOUT_MIN
+/// unless that is above the one of VOUT_MAX (`least`).
 #[tactic(auto, unfolding(crate::specs::Commanded::commanded))]
 pub fn commands_are_limited()
     ensures { CommandsAreLimited }
