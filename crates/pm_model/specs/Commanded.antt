@@ -2,7 +2,7 @@
 -- selected, and VOUT_MAX and VOUT_MIN limit its value. Values are compared as fractions and never as
 -- words. That VOUT_COMMAND is selected while an output is off, and that VOUT_MAX decides where VOUT_MIN
 -- is above it, is this project's own choice.
-use Rattle.std.specs.Prelude.{ℕ, ◌/◌, ◌*ℤ◌, Bool, ◌||◌, ◌&&◌, if◌then◌else◌, ◌==◌, pos, int_lt, List, slice_index_or}
+use Rattle.std.specs.Prelude.{◌≡◌, ℕ, ◌/◌, ◌*ℤ◌, Bool, ◌||◌, ◌&&◌, if◌then◌else◌, ◌==◌, pos, int_lt, List, slice_index_or}
 use Rattle.pm_num.specs.Ratio.{Ratio}
 use Rattle.pm_num.specs.AnyFormat.{any_value}
 use Rattle.pm_num.specs.declared.any_format.AnyFormat.{AnyFormat}
@@ -24,6 +24,12 @@ selected_register byte =
 unfoldable pub selected : Words → ℕ → ℕ
 selected words output =
     word_at words (Out output (selected_register (word_at words (Out output Operation))))
+
+-- the words by which an output commands are the same in both: the selected one and those of its limits
+pub record CommandAlike (words others : Words) (output : ℕ) : Type 0 where
+  pub selected : selected words output ≡ selected others output
+  pub most : word_at words (Out output VoutMax) ≡ word_at others (Out output VoutMax)
+  pub least : word_at words (Out output VoutMin) ≡ word_at others (Out output VoutMin)
 
 -- the first fraction is the greater one
 abbrev pub is_above : Ratio → Ratio → Bool

@@ -1,7 +1,7 @@
 -- The cells: the settings of a power converter that hold a word. An output has one for each of its
 -- registers, and WRITE_PROTECT is the device's. The list of registers stands here alone: every other
 -- question on them asks it, or their line of the command table.
-use Rattle.std.specs.Prelude.{◌≡◌, ℕ, ◌+◌, ◌*◌, ◌/◌, ◌%◌, ◌<◌, ◌≤◌, ◌↔◌, Bool, true, false, IsTrue, ◌&&◌, ◌||◌, List, [], ◌∷◌, length, find, position, slice_index_or, unwrap_or, Option, Some, None, if◌then◌else◌, ◌==◌}
+use Rattle.std.specs.Prelude.{ℕ, ◌+◌, ◌*◌, ◌/◌, ◌%◌, ◌<◌, Bool, true, false, ◌&&◌, ◌||◌, List, [], ◌∷◌, length, find, position, slice_index_or, unwrap_or, Option, Some, if◌then◌else◌, ◌==◌}
 use Rattle.std.specs.Option.{option_map, option_map_or}
 use Rattle.pm_table.specs.declared.cell.Reg.{Reg}
 use Rattle.pm_table.specs.declared.cell.Reg.TheVariants.{Operation, VoutCommand, VoutMax, MarginHigh, MarginLow, VoutMin}
