@@ -27,6 +27,7 @@ const START: OutputStart = OutputStart {
     max: 0x4000,
     high: 0x1100,
     low: 0x0F00,
+    min: 0x0000,
 };
 
 const NO_START: OutputStart = OutputStart {
@@ -36,6 +37,7 @@ const NO_START: OutputStart = OutputStart {
     max: 0,
     high: 0,
     low: 0,
+    min: 0,
 };
 
 // The lines before the events, with another one at this place, counted from 0.
