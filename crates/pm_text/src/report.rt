@@ -17,7 +17,7 @@ use pm_world::{Cause, Stop, World};
 use settings::push_setting;
 use std::alloc::{AllocError, Global};
 
-/// The bytes that are reserved for a report: those of eight outputs have some 2500.
+/// The bytes that are reserved for a report: those of eight outputs have some 2800.
 const ROOM: usize = 4096;
 
 /// The report of a run. Its first line is `ran N`, or `stopped N` and the cause, where an event wasn't
