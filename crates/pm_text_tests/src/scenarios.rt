@@ -70,6 +70,7 @@ fn event_of(alloc: Global, text: &str) -> Result<String, Fail> {
 #[test]
 fn the_worked_scenario_is_read(rt: HostRuntime) -> Result<(), Fail> {
     let Scenario {
+        version,
         config,
         passes,
         events,
@@ -85,7 +86,7 @@ fn the_worked_scenario_is_read(rt: HostRuntime) -> Result<(), Fail> {
         coefficients: Coefficients { m: 1, b: 0, r: 0 },
     };
     assert_eq!(rt; config, wanted);
-    assert_eq!(rt; passes, 2);
+    assert_eq!(rt; (version, passes), (1, 2));
     assert_eq!(rt; events.as_slice().len(), 4);
     let text = format!(in rt.alloc(); "{:?}", events.into_vec())?;
     assert_eq!(rt;
