@@ -20,7 +20,7 @@ import sys
 
 from crate_copy import crates_below, read
 
-REGISTERS = ("Operation", "VoutCommand", "VoutMax", "MarginHigh", "MarginLow")
+REGISTERS = ("Operation", "VoutCommand", "VoutMax", "MarginHigh", "MarginLow", "VoutMin")
 NEAR = 5
 LETTER = re.compile(r'"([FHKNSTVX][1-9][0-9]?)(?: [A-Z][A-Za-z]+)?[" ]')
 HEX = re.compile(r"0x[0-9A-F]{2}(?![0-9A-Fa-f_])")

@@ -18,10 +18,11 @@ pub(crate) const OUTPUT: OutputStart = OutputStart {
     max: 0x4000,
     high: 0x1100,
     low: 0x0F00,
+    min: 0x0000,
 };
 
 /// The words of such an output, as the settings and the order machine take them.
-pub(crate) const START: [u16; 5] = [0x80, 0x1000, 0x4000, 0x1100, 0x0F00];
+pub(crate) const START: [u16; 6] = [0x80, 0x1000, 0x4000, 0x1100, 0x0F00, 0x0000];
 
 /// Two such outputs at address 58h, and no write blocked.
 pub(crate) const BASE: Config = Config {
@@ -38,17 +39,19 @@ pub(crate) const FIRST: Cell = Cell::Out(0, Reg::VoutCommand);
 pub(crate) const SECOND: Cell = Cell::Out(1, Reg::VoutCommand);
 
 /// Every cell of two outputs.
-pub(crate) const CELLS: [Cell; 11] = [
+pub(crate) const CELLS: [Cell; 13] = [
     Cell::Out(0, Reg::Operation),
     FIRST,
     Cell::Out(0, Reg::VoutMax),
     Cell::Out(0, Reg::MarginHigh),
     Cell::Out(0, Reg::MarginLow),
+    Cell::Out(0, Reg::VoutMin),
     Cell::Out(1, Reg::Operation),
     SECOND,
     Cell::Out(1, Reg::VoutMax),
     Cell::Out(1, Reg::MarginHigh),
     Cell::Out(1, Reg::MarginLow),
+    Cell::Out(1, Reg::VoutMin),
     Cell::Protect,
 ];
 

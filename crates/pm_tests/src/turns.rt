@@ -29,7 +29,7 @@ const MIXED: Config = Config {
 const PASSES: u8 = 3;
 
 // The word of each cell that is ordered, the write and the request.
-const ORDERS: [(Cell, u16, &str, &str); 11] = [
+const ORDERS: [(Cell, u16, &str, &str); 13] = [
     (
         Cell::Out(0, Reg::Operation),
         0x94,
@@ -61,6 +61,12 @@ const ORDERS: [(Cell, u16, &str, &str); 11] = [
         "B0 06 02 00 26",
     ),
     (
+        Cell::Out(0, Reg::VoutMin),
+        0x0123,
+        "B0 05 04 00 2B 23 01 C3",
+        "B0 06 02 00 2B",
+    ),
+    (
         Cell::Out(1, Reg::Operation),
         0x94,
         "B0 05 03 01 01 94 05",
@@ -89,6 +95,12 @@ const ORDERS: [(Cell, u16, &str, &str); 11] = [
         0x0ABC,
         "B0 05 04 01 26 BC 0A 57",
         "B0 06 02 01 26",
+    ),
+    (
+        Cell::Out(1, Reg::VoutMin),
+        0x0123,
+        "B0 05 04 01 2B 23 01 D5",
+        "B0 06 02 01 2B",
     ),
     (Cell::Protect, 0x40, "B0 10 40 7A", "B0 10"),
 ];

@@ -115,7 +115,12 @@ fn run_of(scenario: &Scenario) -> Result<Ran, SetupFault>
     let events = scenario.events.as_slice();
     let (world, stop) = World::run(scenario.config, scenario.passes, events)?;
     let taken = taken_of(&stop, events.len());
-    Ok(Ran { world, taken, stop })
+    Ok(Ran {
+        version: scenario.version,
+        world,
+        taken,
+        stop,
+    })
 }
 
 // How many of all events a run took that stops so.

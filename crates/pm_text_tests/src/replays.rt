@@ -262,7 +262,15 @@ fn a_run_made_by_hand_is_reported(rt: HostRuntime) -> Result<(), Fail> {
     let scenario = read_scenario(alloc, HEAD.as_bytes())?;
     for (taken, stop, first) in rows {
         let (world, _) = World::run(scenario.config, scenario.passes, &[])?;
-        let text = render_report(alloc, &Ran { world, taken, stop })?;
+        let text = render_report(
+            alloc,
+            &Ran {
+                version: 1,
+                world,
+                taken,
+                stop,
+            },
+        )?;
         let wanted = report(alloc, (first, START, UNKNOWN, "none"))?;
         assert!(rt; text.as_str() == wanted.as_str(), "{first}");
     }
@@ -276,6 +284,7 @@ fn the_parts_of_a_replay_give_its_report(rt: HostRuntime) -> Result<(), Fail> {
     let events = scenario.events.as_slice();
     let (world, stop) = World::run(scenario.config, scenario.passes, events)?;
     let run = Ran {
+        version: scenario.version,
         world,
         taken: 4,
         stop,

@@ -6,7 +6,7 @@ use Rattle.std.specs.Option.{option_map_or}
 use Rattle.std.proofs.lemmas.List.Elements.{Contains-append_cases}
 use Rattle.pm_table.specs.declared.cell.Cell.{Cell}
 use Rattle.pm_table.specs.declared.cell.Cell.TheVariants.{Out}
-use Rattle.pm_table.specs.declared.cell.Reg.TheVariants.{Operation, VoutMax}
+use Rattle.pm_table.specs.declared.cell.Reg.TheVariants.{Operation, VoutMax, VoutMin}
 use Rattle.pm_table.specs.Cell.{IsCell}
 use Rattle.pm_model.specs.Commanded.{selected_register, selected, is_cut, commanded}
 use Rattle.pm_model.specs.OrderMachine.{Step, Accept, Take, End, Back, machine_of}
@@ -131,9 +131,11 @@ life-commands laws config passes events output lived here =
     record {
       operation = operation;
       selected = word_at words (Out output (selected_register operation));
+      least = word_at words (Out output VoutMin);
       most = word_at words (Out output VoutMax);
       own_operation = life-own laws config passes events (Out output Operation) lived here;
       own_selected = life-own laws config passes events (Out output (selected_register operation)) lived here;
+      own_least = life-own laws config passes events (Out output VoutMin) lived here;
       own_most = life-own laws config passes events (Out output VoutMax) lived here;
       cut = ap (λ (k : Config). commanded (value_for k output) words output) (now-config config passes events);
     }

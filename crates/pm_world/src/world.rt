@@ -101,7 +101,8 @@ impl World {
     ///   events. In it exactly the orders are accepted, each in its place and with its word, and an order
     ///   takes only at a delivery between its acceptance and the end of its job.
     /// - `own`: each cell has its start word, or the word of an order for that very cell.
-    /// - `commanded`: each output commands the value of one of its own words, cut to its own VOUT_MAX.
+    /// - `commanded`: each output commands the value of one of its own words, cut to its own VOUT_MIN and
+    ///   VOUT_MAX.
     /// - `confirmed`: a word that the host calls confirmed is the one that the converter holds, unless
     ///   the converter restarted since the host read the cell.
     /// - `possible`: where the host lists the words that are possible for a cell, the converter's is among

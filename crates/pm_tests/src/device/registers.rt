@@ -1,6 +1,6 @@
 //! What each code reads as and writes, over the bus.
 
-use super::{hears_row, hears_rows};
+use super::{commanded, hears_row, hears_rows};
 use crate::fixtures::{BASE, OUTPUT};
 use pm_device::{Config, ConfigFault, Converter, DeviceFault, OutputStart};
 use pm_frame::FrameFault;
@@ -17,6 +17,7 @@ const MARGIN: OutputStart = OutputStart {
     max: 0x2345,
     high: 0x3456,
     low: 0x4567,
+    min: 0x0101,
 };
 
 const DIRECT: OutputStart = OutputStart {
@@ -26,6 +27,7 @@ const DIRECT: OutputStart = OutputStart {
     max: 0x6789,
     high: 0x789A,
     low: 0x09AB,
+    min: 0x8000,
 };
 
 const TOLD_APART: Config = Config {
@@ -53,7 +55,7 @@ const READINGS: [(u8, u8, u16); 6] = [
 ];
 
 // Each code that is read and carried, of both outputs.
-const CARRIED: [&str; 34] = [
+const CARRIED: [&str; 36] = [
     "B0 06 02 00 01 / B1 01 A8 AB",
     "B0 06 02 01 01 / B1 01 40 5F",
     "B0 06 02 00 10 / B1 01 20 6B",
@@ -70,6 +72,8 @@ const CARRIED: [&str; 34] = [
     "B0 06 02 01 25 / B1 02 9A 78 9B",
     "B0 06 02 00 26 / B1 02 67 45 5A",
     "B0 06 02 01 26 / B1 02 AB 09 81",
+    "B0 06 02 00 2B / B1 02 01 01 FE",
+    "B0 06 02 01 2B / B1 02 00 80 4C",
     "B0 06 02 00 78 / B1 01 03 67",
     "B0 06 02 01 78 / B1 01 42 C5",
     "B0 06 02 00 79 / B1 02 03 80 64",
@@ -91,7 +95,7 @@ const CARRIED: [&str; 34] = [
 ];
 
 // Each code by itself, while PAGE is 0 and while it is 1.
-const PLAIN_0: [&str; 18] = [
+const PLAIN_0: [&str; 19] = [
     "B0 00 / B1 00 C2",
     "B0 01 / B1 A8 F8",
     "B0 10 / B1 20 80",
@@ -101,6 +105,7 @@ const PLAIN_0: [&str; 18] = [
     "B0 24 / B1 45 23 25",
     "B0 25 / B1 56 34 3E",
     "B0 26 / B1 67 45 B8",
+    "B0 2B / B1 01 01 16",
     "B0 78 / B1 03 FD",
     "B0 79 / B1 03 80 62",
     "B0 7A / B1 08 1A",
@@ -112,7 +117,7 @@ const PLAIN_0: [&str; 18] = [
     "B0 98 / B1 33 A3",
 ];
 
-const PLAIN_1: [&str; 18] = [
+const PLAIN_1: [&str; 19] = [
     "B0 00 / B1 01 C5",
     "B0 01 / B1 40 6E",
     "B0 10 / B1 20 80",
@@ -122,6 +127,7 @@ const PLAIN_1: [&str; 18] = [
     "B0 24 / B1 89 67 EF",
     "B0 25 / B1 9A 78 CC",
     "B0 26 / B1 AB 09 4A",
+    "B0 2B / B1 00 80 8D",
     "B0 78 / B1 42 3D",
     "B0 79 / B1 42 08 9D",
     "B0 7A / B1 00 22",
@@ -134,7 +140,7 @@ const PLAIN_1: [&str; 18] = [
 ];
 
 // The coefficients of each code of a voltage, for both sides.
-const COEFFICIENTS: [&str; 10] = [
+const COEFFICIENTS: [&str; 12] = [
     "B0 30 02 21 00 / B1 05 01 02 03 04 05 BC",
     "B0 30 02 21 01 / B1 05 01 02 03 04 05 AF",
     "B0 30 02 24 00 / B1 05 01 02 03 04 05 26",
@@ -143,6 +149,8 @@ const COEFFICIENTS: [&str; 10] = [
     "B0 30 02 25 01 / B1 05 01 02 03 04 05 4C",
     "B0 30 02 26 00 / B1 05 01 02 03 04 05 D4",
     "B0 30 02 26 01 / B1 05 01 02 03 04 05 C7",
+    "B0 30 02 2B 00 / B1 05 01 02 03 04 05 8F",
+    "B0 30 02 2B 01 / B1 05 01 02 03 04 05 9C",
     "B0 30 02 8B 00 / B1 05 01 02 03 04 05 B6",
     "B0 30 02 8B 01 / B1 05 01 02 03 04 05 A5",
 ];
@@ -200,6 +208,39 @@ fn readings_are_kept_by_a_restart(rt: HostRuntime) -> Result<(), Fail> {
     Ok(())
 }
 
+// Writes of VOUT_MIN over the base configuration, each alone: what output 0 commands then in 2^-12 volts, and
+// its STATUS_VOUT and STATUS_WORD.
+const LIMITS: [(&str, i128, &str, &str); 3] = [
+    (
+        "B0 05 04 00 2B 00 20 B5",
+        8192,
+        "B0 7A / B1 08 1A",
+        "B0 79 / B1 01 80 48",
+    ),
+    (
+        "B0 05 04 00 2B 00 50 E2",
+        16384,
+        "B0 7A / B1 08 1A",
+        "B0 79 / B1 01 80 48",
+    ),
+    (
+        "B0 05 04 00 2B 00 10 25",
+        4096,
+        "B0 7A / B1 00 22",
+        "B0 79 / B1 00 00 D4",
+    ),
+];
+
+#[test]
+fn an_output_commands_no_less_than_its_vout_min(rt: HostRuntime) -> Result<(), Fail> {
+    for (write, wanted, vout, word) in LIMITS {
+        let mut converter = Converter::new(BASE)?;
+        hears_rows(&rt, &mut converter, &[write, vout, word]);
+        assert_eq!(rt; commanded(&converter, 0), (wanted, 4096), "{write}");
+    }
+    Ok(())
+}
+
 // STATUS of an output whose VOUT_COMMAND is above its VOUT_MAX; then the coefficients of an output in
 // millivolts; then readings.
 const ABOVE: [&str; 6] = [
@@ -211,7 +252,7 @@ const ABOVE: [&str; 6] = [
     "B0 7A / B1 08 1A",
 ];
 
-const MILLIVOLTS: [&str; 10] = [
+const MILLIVOLTS: [&str; 12] = [
     "B0 30 02 21 00 / B1 05 01 00 00 00 03 6B",
     "B0 30 02 21 01 / B1 05 01 00 00 00 03 78",
     "B0 30 02 24 00 / B1 05 01 00 00 00 03 F1",
@@ -220,6 +261,8 @@ const MILLIVOLTS: [&str; 10] = [
     "B0 30 02 25 01 / B1 05 01 00 00 00 03 9B",
     "B0 30 02 26 00 / B1 05 01 00 00 00 03 03",
     "B0 30 02 26 01 / B1 05 01 00 00 00 03 10",
+    "B0 30 02 2B 00 / B1 05 01 00 00 00 03 58",
+    "B0 30 02 2B 01 / B1 05 01 00 00 00 03 4B",
     "B0 30 02 8B 00 / B1 05 01 00 00 00 03 61",
     "B0 30 02 8B 01 / B1 05 01 00 00 00 03 72",
 ];
@@ -260,7 +303,7 @@ fn simple_configurations_read_so(rt: HostRuntime) -> Result<(), Fail> {
 }
 
 // Carried writes of both outputs, then a plain one while PAGE is 1; each register is read back.
-const WRITES: [&str; 44] = [
+const WRITES: [&str; 52] = [
     "B0 00 01 ED",
     "B0 00 / B1 01 C5",
     "B0 05 03 00 01 A8 DA",
@@ -303,6 +346,14 @@ const WRITES: [&str; 44] = [
     "B0 06 02 00 26 / B1 02 AA 0A B4",
     "B0 06 02 01 26 / B1 02 CC 0C 04",
     "B0 26 / B1 CC 0C CF",
+    "B0 05 04 00 2B DD 0A 30",
+    "B0 05 04 01 2B EE 0B E7",
+    "B0 06 02 00 2B / B1 02 DD 0A 89",
+    "B0 06 02 01 2B / B1 02 EE 0B 61",
+    "B0 2B FF 0C C4",
+    "B0 06 02 00 2B / B1 02 DD 0A 89",
+    "B0 06 02 01 2B / B1 02 FF 0C 36",
+    "B0 2B / B1 FF 0C F7",
     "B0 05 03 01 10 20 42",
     "B0 10 / B1 20 80",
 ];
