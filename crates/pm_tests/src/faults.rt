@@ -77,7 +77,10 @@ const HOST: [(HostFault, &str); 10] = [
     (HostFault::Passes, "a number of passes other than 1 to 15"),
     (HostFault::Busy, "an open job"),
     (HostFault::UnknownOutput, "an unknown output"),
-    (HostFault::BadWord, "a word that the cell doesn't accept"),
+    (
+        HostFault::BadWord,
+        "a word or a voltage that the cell doesn't take",
+    ),
     (HostFault::TooUncertain, "too many possible words"),
     (HostFault::FormatUnknown, "an unknown format"),
     (
