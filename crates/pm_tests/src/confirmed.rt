@@ -146,6 +146,10 @@ fn a_restart_that_is_seen_leaves_what_was_confirmed(rt: HostRuntime) -> Result<(
         }
         takes(&rt, &mut world, &[Event::RestartHost]);
         assert!(rt; !world.host().restart_seen(), "{cell:?}");
+        for told in CELLS {
+            assert_eq!(rt; standing(&world, told), Some(UNKNOWN), "{told:?}");
+            assert!(rt; may_hold(&world, told, &[]), "{told:?} by {cell:?}");
+        }
     }
     Ok(())
 }
