@@ -138,6 +138,8 @@ fn each_fault_has_its_text(rt: HostRuntime) -> Result<(), Fail> {
     for (fault, text) in HOST {
         assert_eq!(rt; fault.to_string(rt.alloc())?.as_str(), text);
     }
+    // The one letter that no text shows: of a world the converter's fault comes first.
+    assert_eq!(rt; HostFault::OutputCount.words(), "H1 OutputCount");
     for (cause, text) in CAUSES {
         assert_eq!(rt; cause.to_string(rt.alloc())?.as_str(), text);
     }

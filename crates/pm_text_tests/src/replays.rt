@@ -62,7 +62,7 @@ fn replayed(alloc: Global, events: &str) -> Result<(Result<bool, TextFault>, Vec
 #[test]
 fn a_replay_goes_on_to_the_first_event_that_is_not_taken(rt: HostRuntime) -> Result<(), Fail> {
     let alloc = rt.alloc();
-    let rows: [(&str, Said); 18] = [
+    let rows: [(&str, Said); 19] = [
         ("", ("ran 0", START, UNKNOWN, "none")),
         (
             "order 0 VOUT_COMMAND 34CD\nfinish ack\nexchange whole whole\nfinish ack\nexchange whole whole\n",
@@ -79,6 +79,11 @@ fn a_replay_goes_on_to_the_first_event_that_is_not_taken(rt: HostRuntime) -> Res
         (
             "check 0 VOUT_COMMAND\nexchange whole bytes B102CD34B9\n",
             ("stopped 1 S1 NotBetrayed", START, UNKNOWN, "pending"),
+        ),
+        // The answer of output 0 to a check of output 1, which its PEC betrays.
+        (
+            "check 1 VOUT_COMMAND\nexchange whole bytes B102CD34B9\n",
+            ("ran 2", START, UNKNOWN, "pending"),
         ),
         (
             "finish ack\n",
