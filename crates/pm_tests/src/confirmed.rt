@@ -105,8 +105,9 @@ fn an_order_differs_by_its_last_answer_alone(rt: HostRuntime) -> Result<(), Setu
 }
 
 // A word of each cell that isn't its start word.
-const OTHERS: [u16; 11] = [
-    0x40, 0x34CD, 0x5678, 0x1234, 0x0ABC, 0x94, 0x0FFF, 0x5679, 0x1235, 0x0ABD, 0x20,
+const OTHERS: [u16; 13] = [
+    0x40, 0x34CD, 0x5678, 0x1234, 0x0ABC, 0x0100, 0x94, 0x0FFF, 0x5679, 0x1235, 0x0ABD, 0x0101,
+    0x20,
 ];
 
 fn takes(rt: &impl Abort, world: &mut World, events: &[Event]) {
@@ -119,6 +120,7 @@ fn takes(rt: &impl Abort, world: &mut World, events: &[Event]) {
 // others stay confirmed, but may hold any word. No job but the host's own restart forgets what was seen.
 #[test]
 fn a_restart_that_is_seen_leaves_what_was_confirmed(rt: HostRuntime) -> Result<(), SetupFault> {
+    assert_eq!(rt; CELLS.len(), OTHERS.len());
     for (cell, other) in CELLS.into_iter().zip(OTHERS) {
         let mut world = World::new(BASE, 2)?;
         for checked in CELLS {

@@ -111,9 +111,13 @@ fn bit_3_written_clears_the_warning_of_one_output(rt: HostRuntime) -> Result<(),
     Ok(())
 }
 
-// Writes of output 0 after which nothing is above VOUT_MAX any more, and whether something was: by
-// VOUT_MAX, by OPERATION, by a margin that is selected, and not by one that isn't.
-const WARNINGS: [(&[&str], bool); 6] = [
+// Writes of output 0 after which it is within its limits again, and whether it was outside them: by
+// VOUT_MAX, by VOUT_MIN, by OPERATION, by a margin that is selected, and not by one that isn't.
+const WARNINGS: [(&[&str], bool); 7] = [
+    (
+        &["B0 05 04 00 2B 00 20 B5", "B0 05 04 00 2B 00 00 55"],
+        true,
+    ),
     (
         &["B0 05 04 00 24 00 08 2A", "B0 05 04 00 24 00 40 D5"],
         true,
@@ -153,7 +157,7 @@ const WARNINGS: [(&[&str], bool); 6] = [
 ];
 
 #[test]
-fn whatever_is_above_vout_max_warns_until_it_is_cleared(rt: HostRuntime) -> Result<(), Fail> {
+fn what_was_outside_its_limits_warns_until_it_is_cleared(rt: HostRuntime) -> Result<(), Fail> {
     for (rows, warns) in WARNINGS {
         let mut converter = Converter::new(BASE)?;
         hears_rows(&rt, &mut converter, rows);

@@ -49,6 +49,8 @@ fn a_faulty_line_of_the_worked_scenario_is_told(rt: HostRuntime) -> Result<(), F
 fn a_word_that_is_not_what_stands_at_its_place_is_a_fault(rt: HostRuntime) -> Result<(), Fail> {
     let rows = [
         " # x",
+        "; learn 1",
+        "// learn 1",
         "learn\t1",
         "Learn 1",
         "begin",

@@ -319,7 +319,7 @@ const FAULTY: [(&str, &str); 71] = [
 ];
 
 /// Lines that are no packet, and what they say.
-const BAD: [(&str, &str, TextFault); 11] = [
+const BAD: [(&str, &str, TextFault); 12] = [
     ("B0 // B1", "X1 Syntax", TextFault::Syntax(1)),
     ("B0 / B1 / B2", "X1 Syntax", TextFault::Syntax(1)),
     ("B0 / B1 / B", "X2 BadHex", TextFault::BadHex(1)),
@@ -327,6 +327,7 @@ const BAD: [(&str, &str, TextFault); 11] = [
     ("B/0", "X2 BadHex", TextFault::BadHex(1)),
     ("B0 9", "X2 BadHex", TextFault::BadHex(1)),
     (" # x", "X2 BadHex", TextFault::BadHex(1)),
+    ("; B0", "X2 BadHex", TextFault::BadHex(1)),
     ("b010 80 34\r\r", "X2 BadHex", TextFault::BadHex(1)),
     ("B0 1\r0 80 34", "X2 BadHex", TextFault::BadHex(1)),
     ("b0\t10 80 34", "X2 BadHex", TextFault::BadHex(1)),
