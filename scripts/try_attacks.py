@@ -10,8 +10,8 @@ proved; --alone tries one at a time. The verdicts:
     refused   a function that the edit changes isn't proved: the note says why
     renamed   a proof by hand names a goal that the edit renamed, which says nothing of the bug
     broken    it doesn't compile, or a text doesn't stand once in its file
-    PROVED    and then whether a test fails with it: the crate's own, and those of pm_tests, or of pm_text_tests
-              where pm_tests doesn't stand on the crate
+    PROVED    and then whether a test fails with it: the crate's own, and those of the first two test crates that
+              stand on it
 
 --only-tests proves nothing: it says of each edit which test notices it, if one does.
 

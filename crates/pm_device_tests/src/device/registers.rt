@@ -1,7 +1,8 @@
 //! What each code reads as and writes, over the bus.
 
 use super::{commanded, hears_row, hears_rows};
-use crate::fixtures::{BASE, CELLS, OUTPUT, word};
+use crate::fixtures::{BASE, CELLS, OUTPUT};
+use crate::frames::word;
 use pm_device::{Config, ConfigFault, Converter, DeviceFault, OutputStart};
 use pm_frame::FrameFault;
 use pm_table::{Code, Coefficients};
