@@ -51,7 +51,9 @@ fn commands(format: AnyFormat, words: [u16; 6]) -> (i128, i128, bool) {
 }
 
 #[test]
-fn the_selected_value_is_cut_to_those_of_vout_min_and_vout_max(rt: HostRuntime) -> Result<(), Fail> {
+fn the_selected_value_is_cut_to_those_of_vout_min_and_vout_max(
+    rt: HostRuntime,
+) -> Result<(), Fail> {
     let Some(linear) = Ulinear16::new(-12) else {
         unreachable!()
     };

@@ -102,8 +102,9 @@ const ORDERED: [(&str, &str, &str, &str); 4] = [
 #[test]
 fn version_2_orders_vout_min(rt: HostRuntime) -> Result<(), Fail> {
     for (event, first, second, third) in ORDERED {
-        let events =
-            format!(in rt.alloc(); "{event}\ndeliver whole\nfinish ack\nexchange whole whole\n")?;
+        let events = format!(in rt.alloc();
+            "{event}\ndeliver whole\nfinish ack\nexchange whole whole\n"
+        )?;
         let text = text_with(rt.alloc(), 8, "", &events)?;
         let (end, written) = replayed(rt.alloc(), &text);
         assert_eq!(rt; end, Ok(true), "{event}");
@@ -136,8 +137,7 @@ const HEARD: [(&str, &str); 3] = [
 fn hear_takes_vout_min_and_shows_what_it_cuts(rt: HostRuntime) -> Result<(), Fail> {
     let outputs = "output 0 VOUT_COMMAND 1000\noutput 1 VOUT_COMMAND 1000\n";
     for (text, answers) in HEARD {
-        let (end, written) =
-            Engine::Hear.text_of(rt.alloc(), in_pieces(text.as_bytes(), 4096));
+        let (end, written) = Engine::Hear.text_of(rt.alloc(), in_pieces(text.as_bytes(), 4096));
         assert_eq!(rt; end, Ok(true), "{text}");
         let wanted = format!(in rt.alloc(); "{answers}{outputs}")?;
         assert_eq!(rt; written.as_slice(), wanted.as_bytes(), "{text}");
@@ -150,11 +150,7 @@ const FAULTY: [(usize, &str, TextFault); 10] = [
     (0, "scenario 3", TextFault::Syntax(1)),
     (0, "scenario 02", TextFault::Syntax(1)),
     (0, "scenario 2 2", TextFault::Syntax(1)),
-    (
-        5,
-        "output 14 80 1000 4000 1100 0F00",
-        TextFault::Syntax(6),
-    ),
+    (5, "output 14 80 1000 4000 1100 0F00", TextFault::Syntax(6)),
     (
         6,
         "output 14 80 1000 4000 1100 0F00 0000 0000",
@@ -222,7 +218,9 @@ const LEAST: [(&str, &str, u16); 8] = [
 fn version_1_has_the_least_vout_min(rt: HostRuntime) -> Result<(), Fail> {
     let alloc = rt.alloc();
     for (mode, m, wanted) in LEAST {
-        let text = format!(in alloc; "scenario 1\naddress 58\npasses 2\nprotect 00\ncoefficients {m} 5 3\noutput {mode} 80 1000 4000 1100 0F00\nbegin\n")?;
+        let text = format!(in alloc;
+            "scenario 1\naddress 58\npasses 2\nprotect 00\ncoefficients {m} 5 3\noutput {mode} 80 1000 4000 1100 0F00\nbegin\n"
+        )?;
         let scenario = read_scenario(alloc, text.as_bytes())?;
         let [start, ..] = scenario.config.starts;
         assert_eq!(rt; start.min, wanted, "{mode} {m}");
@@ -231,7 +229,10 @@ fn version_1_has_the_least_vout_min(rt: HostRuntime) -> Result<(), Fail> {
     let text = text_with(alloc, 8, "", "check 1 VOUT_MIN\n")?;
     let scenario = read_scenario(alloc, text.as_bytes())?;
     let [first, second, ..] = scenario.config.starts;
-    assert_eq!(rt; (first.min, second.min, scenario.version), (0x0800, 0x07D0, 2));
+    assert_eq!(rt;
+        (first.min, second.min, scenario.version),
+        (0x0800, 0x07D0, 2)
+    );
     let events = format!(in alloc; "{:?}", scenario.events.as_slice())?;
     assert_eq!(rt; events.as_str(), "[Check(Out(1, VoutMin))]");
     Ok(())
@@ -240,7 +241,9 @@ fn version_1_has_the_least_vout_min(rt: HostRuntime) -> Result<(), Fail> {
 #[test]
 fn bytes_of_vout_min_are_judged_by_the_table_in_version_1(rt: HostRuntime) -> Result<(), Fail> {
     // The count says that one byte follows the code, and VOUT_MIN has two: a faulty frame of a known code.
-    let text = format!(in rt.alloc(); "{SCENARIO}order 0 VOUT_COMMAND 34CD\ndeliver bytes B00503002BCD00 stop\n")?;
+    let text = format!(in rt.alloc();
+        "{SCENARIO}order 0 VOUT_COMMAND 34CD\ndeliver bytes B00503002BCD00 stop\n"
+    )?;
     let (end, written) = replayed(rt.alloc(), &text);
     assert_eq!(rt; end, Ok(true));
     let told = std::str::from_utf8(&written)?;
