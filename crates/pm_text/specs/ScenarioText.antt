@@ -1,6 +1,7 @@
 -- The text of a scenario, line by line: what both ends are made from, and what happens between them.
 -- The form is this project's own choice.
-use Rattle.std.specs.Prelude.{⊤, ℕ, pos, int_lt, suc, nat_lt, min, if◌then◌else◌, List, [], ◌∷◌, ◌++◌, length, replicate, take, Option, Some, None, Result, Ok, Err, IsOk, IsOkAnd, codes}
+use Rattle.std.specs.Prelude.{⊤, ℕ, suc, nat_lt, min, if◌then◌else◌, List, [], ◌∷◌, ◌++◌, length, replicate, take, Option, Some, None, Result, Ok, Err, IsOk, IsOkAnd, codes}
+use Rattle.pm_num.specs.Value.{direct_least}
 use Rattle.pm_table.specs.declared.coefficients.Coefficients.{Coefficients}
 use Rattle.pm_table.specs.VoutMode.{mode_of}
 use Rattle.pm_device.specs.declared.config.Config.{Config}
@@ -58,11 +59,10 @@ coefficients_line = do
   r ← field fault.Syntax (signed_of 8)
   gives (record { m = m; b = b; r = r })
 
--- a word of the least value that an output's voltages have, by its VOUT_MODE byte and the coefficients: it
--- is VOUT_MIN where a text doesn't name one, and cuts nothing
+-- the word of the least value that an output's voltages have, by its VOUT_MODE byte and the coefficients: it
+-- is VOUT_MIN where a text doesn't name one
 abbrev pub lowest_word : ℕ → Coefficients → ℕ
-lowest_word mode c = if is_direct (mode_of mode)
-    then (if int_lt c.m (pos 0) then 0x7FFF else 0x8000) else 0x0000
+lowest_word mode c = if is_direct (mode_of mode) then direct_least c.m else 0x0000
 
 -- MIN, which the first form doesn't have
 abbrev pub least_field : Form → ℕ → Coefficients → Field ℕ
