@@ -101,10 +101,7 @@ fn count_code(codes: &mut IndexMap<u8, u64>, code: u8) -> Result<(), AllocError>
     ensures err { OnErr result (codes.new.entries ≡ codes.old.entries) }
     ensures absent { OnErr result (has_code codes.old.entries code ≡ false) }
 {
-    if let Some(count) = codes.get_mut(&code) {
-        *count += 1;
-        return Ok(());
-    }
-    codes.insert(code, 1)?;
+    let before = codes.get(&code).copied().unwrap_or(0);
+    codes.insert(code, before + 1)?;
     Ok(())
 }
