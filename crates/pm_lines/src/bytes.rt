@@ -6,7 +6,7 @@ ghost use Rattle.pm_lines.specs.Lines.{words_of};
 ghost use Rattle.pm_lines.specs.Pairs.{behind_pairs, paired_bytes};
 
 use crate::fault::TextFault;
-use crate::hex_digit::pair_of;
+use crate::hex_digit::{pair_of, spaced_pair};
 use crate::line::Line;
 use std::alloc::AllocError;
 
@@ -50,6 +50,12 @@ fn push_pairs<'a>(digits: &'a [u8], bytes: &mut Vec<u8>) -> Result<&'a [u8], All
 {
     let mut rest = digits;
     'pairs: loop {
+        // most pairs have a space behind them
+        if let Some((byte, more)) = spaced_pair(rest) {
+            bytes.push(byte)?;
+            rest = more;
+            continue 'pairs;
+        }
         match rest {
             [b' ', more @ ..] => rest = more,
             [high, low, more @ ..] => {

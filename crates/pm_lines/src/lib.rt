@@ -24,7 +24,7 @@ pub use bytes::push_bytes;
 pub use cut::cut_at;
 pub use digits::{read_byte, read_i8, read_i16, read_i64, read_u8, read_word};
 pub use fault::TextFault;
-pub use hex_digit::{byte_of, is_digit, pair_of};
+pub use hex_digit::{byte_of, is_digit, pair_of, spaced_pair};
 pub use line::Line;
 pub use lines::{Lines, is_blank};
 pub use number_text::{

@@ -34,8 +34,12 @@ pub(super) fn read_event(line: Line<'_>, frame: &mut Vec<u8>) -> Result<LineEven
         read_restart(line)?;
         return Ok(LineEvent::Restart);
     }
-    let (front, rest) = cut_at(line.text, b'/');
     frame.clear();
+    if !line.text.contains(&b'/') {
+        push_bytes(line, frame)?;
+        return Ok(LineEvent::Frame(Ending::Stop));
+    }
+    let (front, rest) = cut_at(line.text, b'/');
     push_bytes(
         Line {
             number: line.number,
@@ -43,9 +47,6 @@ pub(super) fn read_event(line: Line<'_>, frame: &mut Vec<u8>) -> Result<LineEven
         },
         frame,
     )?;
-    if !line.text.contains(&b'/') {
-        return Ok(LineEvent::Frame(Ending::Stop));
-    }
     if is_blank(rest) {
         return Ok(LineEvent::Frame(Ending::Restart));
     }
