@@ -250,7 +250,7 @@ own_level given once =
     ∙ ap (λ k. or_else k (check_fault number_built (finished number_built.rules (with_rows (map row given)).held) false))
     (defaults_pass number_built.rules (map row given) refl)
 
--- nor has the walk of the whole command line one
+-- nor has the walk of the whole command line
 whole_walk : (words : List Text) → walk_fault top (names_of (built pmb)) (walk_from nothing_held) (codes "number" ∷ words) ≡ []
 unfolding clap_on_literals
 whole_walk words = stopped_fault top (names_of (built pmb)) (walk_from nothing_held) (codes "number", []) words

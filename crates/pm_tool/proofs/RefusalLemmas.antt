@@ -42,8 +42,9 @@ module _ (asked : Question) (can_be : IsFormat asked.format) (none : (fault : Nu
   refused_by_value TooLarge = (λ e. (can_be, (by_value TooLarge).0 e), λ h. (by_value TooLarge).1 h.1)
 
 -- what holds of the coefficients of a format holds of the numbers that it was made from
-pub with_coefficients : (P : ℤ → ℤ → ℤ → Type 0) (m b r m' b' r' : ℤ) → m' ≡ m → b' ≡ b → r' ≡ r → P m' b' r' → P m b r
-with_coefficients P m b r m' b' r' em eb er h = subst (λ z. P m b z) er (subst (λ z. P m z r') eb (subst (λ z. P z b' r') em h))
+pub with_coefficients : {m b r m' b' r' : ℤ} (P : ℤ → ℤ → ℤ → Type 0) → m' ≡ m → b' ≡ b → r' ≡ r → P m' b' r' → P m b r
+with_coefficients {m = m} {b = b} {b' = b'} {r' = r'} P em eb er h =
+    subst (λ z. P m b z) er (subst (λ z. P m z r') eb (subst (λ z. P z b' r') em h))
 
 module _ (m b r : ℤ) (slope : m ≢ pos 0) (decimal : IsDecimal r) (asked : Asked) (res : Result Answer NumFault)
     (by_value : (fault : NumFault)

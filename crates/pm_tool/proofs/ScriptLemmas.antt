@@ -28,12 +28,12 @@ prepended-joined done event (Ok events) = ap Ok (sym (append_assoc done (event �
 prepended-joined done event (Err fault) = refl
 
 module _ (done : List Event) (line : Numbered) (lines : List Numbered) where
-  -- a line that asks for an event adds this one
+  -- a line that asks for an event adds it
   pub events-more : (event : Event) → line_event line ≡ Ok event
       → prepended done (events_in (line ∷ lines)) ≡ prepended (done ++ event ∷ []) (events_in lines)
   events-more event is = ap (λ e. prepended done (joined_events e (events_in lines))) is ∙ prepended-joined done event (events_in lines)
 
-  -- a faulty line is the fault
+  -- a faulty line's fault is that of all lines
   pub events-fault : (fault : TextFault) → line_event line ≡ Err fault → prepended done (events_in (line ∷ lines)) ≡ Err fault
   events-fault fault is = ap (λ e. prepended done (joined_events e (events_in lines))) is
 

@@ -13,14 +13,14 @@ use Rattle.pm_tool.proofs.GivenOptions.{first_text, number_met, number_passes, r
 use Rattle.pm_tool.proofs.commandline.chosen.Goals as goal
 
 -- where the parser meets a subcommand and finds no fault, what is chosen is that subcommand, unless memory ran out
-met : (r : Result Chosen Error) (words : List Text) (name : Text) (rows : List Row) (P : Chosen → Type 0)
+met : (r : Result Chosen Error) (words : List Text) {name : Text} {rows : List Row} (P : Chosen → Type 0)
     → IfOk r (λ chosen. IsSomeAnd (subcommand_of pmb words) (λ met. Asks met.0 met.1 chosen))
-    → FailsBy (fault_of pmb words) r → subcommand_of pmb words ≡ Some (name, rows) → fault_of pmb words ≡ [] → ((chosen : Chosen)
-    → Asks name rows chosen → P chosen) → UnlessMemory r P
-met (Ok chosen) words name rows P named kinds found none gives = gives chosen (subst (λ (o : Option (Text × List Row)). IsSomeAnd o
-    (λ met. Asks met.0 met.1 chosen)) found named)
-met (Err e) words name rows P named kinds found none gives = ⊎_elim (λ memory. memory) (λ other. absurd other) (subst (λ
-    (k : Kinds). HasKind k e) none kinds)
+    → FailsBy (fault_of pmb words) r → subcommand_of pmb words ≡ Some (name, rows) → fault_of pmb words ≡ []
+    → ((chosen : Chosen) → Asks name rows chosen → P chosen) → UnlessMemory r P
+met (Ok chosen) words P named kinds found none gives =
+    gives chosen (subst (λ (o : Option (Text × List Row)). IsSomeAnd o (λ met. Asks met.0 met.1 chosen)) found named)
+met (Err e) words P named kinds found none gives =
+    ⊎_elim (λ memory. memory) (λ other. absurd other) (subst (λ (k : Kinds). HasKind k e) none kinds)
 
 -- where the parser finds a fault, the call refuses
 refused : (r : Result Chosen Error) (words : List Text) (kind : ErrorKind) (kinds : Kinds) → FailsBy (fault_of pmb words) r
@@ -117,7 +117,7 @@ missing_fault program = refl
 
 pub returns-clause-hear : goal.returns-clause-hear
 returns-clause-hear c = λ program e.
-    met c.parsed.result (program ∷ codes "hear" ∷ []) (codes "hear") [] (λ chosen. chosen ≡ Hear)
+    met c.parsed.result (program ∷ codes "hear" ∷ []) (λ chosen. chosen ≡ Hear)
     (subst (λ (t : List Text). IfOk c.parsed.result (λ chosen. IsSomeAnd (subcommand_of pmb t)
     (λ met. Asks met.0 met.1 chosen))) e c.parsed.ensures.named)
     (subst (λ (t : List Text). FailsBy (fault_of pmb t) c.parsed.result) e c.parsed.ensures.kinds)
@@ -125,7 +125,7 @@ returns-clause-hear c = λ program e.
 
 pub returns-clause-replay : goal.returns-clause-replay
 returns-clause-replay c = λ program e.
-    met c.parsed.result (program ∷ codes "replay" ∷ []) (codes "replay") [] (λ chosen. chosen ≡ Replay)
+    met c.parsed.result (program ∷ codes "replay" ∷ []) (λ chosen. chosen ≡ Replay)
     (subst (λ (t : List Text). IfOk c.parsed.result (λ chosen. IsSomeAnd (subcommand_of pmb t)
     (λ met. Asks met.0 met.1 chosen))) e c.parsed.ensures.named)
     (subst (λ (t : List Text). FailsBy (fault_of pmb t) c.parsed.result) e c.parsed.ensures.kinds)
@@ -133,7 +133,7 @@ returns-clause-replay c = λ program e.
 
 pub returns-clause-decode : goal.returns-clause-decode
 returns-clause-decode c = λ program e.
-    met c.parsed.result (program ∷ codes "decode" ∷ []) (codes "decode") [] (λ chosen. chosen ≡ Decode)
+    met c.parsed.result (program ∷ codes "decode" ∷ []) (λ chosen. chosen ≡ Decode)
     (subst (λ (t : List Text). IfOk c.parsed.result (λ chosen. IsSomeAnd (subcommand_of pmb t)
     (λ met. Asks met.0 met.1 chosen))) e c.parsed.ensures.named)
     (subst (λ (t : List Text). FailsBy (fault_of pmb t) c.parsed.result) e c.parsed.ensures.kinds)
@@ -141,7 +141,7 @@ returns-clause-decode c = λ program e.
 
 pub returns-clause-number : goal.returns-clause-number
 returns-clause-number c = λ program given once e.
-    met c.parsed.result (number_words program given) (codes "number") (map row given) (HasValuesOf given)
+    met c.parsed.result (number_words program given) (HasValuesOf given)
     (subst (λ (t : List Text). IfOk c.parsed.result (λ chosen. IsSomeAnd (subcommand_of pmb t)
     (λ met. Asks met.0 met.1 chosen))) e c.parsed.ensures.named)
     (subst (λ (t : List Text). FailsBy (fault_of pmb t) c.parsed.result) e c.parsed.ensures.kinds)
