@@ -4,6 +4,7 @@ use Rattle.std.specs.Prelude.{decimal}
 use Rattle.pm_tool.specs.Execution.{refusal_line}
 
 module _ (words w detail s d : List ℕ) (is_words : w ≡ words) (is_detail : s ++ d ≡ detail) where
+  -- the detail and its line feed, from the two parts that it is written in
   detailed : s ++ (d ++ codes "\n") ≡ detail ++ codes "\n"
   detailed = sym (append_assoc s d (codes "\n")) ∙ ap (λ l. l ++ codes "\n") is_detail
 

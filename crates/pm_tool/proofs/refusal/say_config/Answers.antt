@@ -8,6 +8,7 @@ use Rattle.pm_tool.proofs.EndLemmas.{put_said}
 use Rattle.pm_tool.proofs.SetupLemmas.{line-none, line-some}
 use Rattle.pm_tool.proofs.refusal.say_config.Goals as goal
 
+-- the detail of a fault after a space, where it has one
 abbrev detail_of : ConfigFault → List ℕ
 detail_of fault = option_map_or (λ t. codes " " ++ t) (config_fault_detail fault) []
 
