@@ -307,6 +307,7 @@ module _ (old new : Option (List ℕ)) where
     pub too_long : fault ≡ TooLong → GaveMore old new
     pub memory : fault ≡ Memory → GaveSome old new
 
+  -- a refusal of `replay` is one of the program
   pub replay_refuses : (fault : TextFault) → ReplayClauses fault → fault ≢ Write → ReplayRefuses old new fault
   replay_refuses (Syntax line) is other = is.syntax_line line refl
   replay_refuses (BadHex line) is other = is.bad_hex line refl
@@ -335,6 +336,7 @@ usage_ends remaining input words kind end of (inr memory) = inr (inr (refl, memo
 
 -- ---- the arguments
 
+-- arguments that are no texts
 pub other_words : (kind : IoKind) → kind ≢ IoMemory → no_words_end kind ≡ Refused 2 (codes "bad arguments")
 other_words IoMemory other = absurd (other refl)
 other_words _ other = refl

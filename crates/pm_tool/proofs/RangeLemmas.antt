@@ -27,6 +27,7 @@ not_below x low h l = omega (arith, ints)
 -- what `nearest` refuses of so many millionths
 module _ (least greatest : Ratio) (dl : 0 < least.den) (dg : 0 < greatest.den) (order : AtMost least greatest) (k : ℤ)
     (small : unsigned_abs k ≤ 10 ^ 15) where
+  -- a value outside the range is refused
   refuses : (fault : NumFault) → IsOutside least greatest (micros k) fault → RefusesValue least greatest (Nearest k) fault
   refuses BelowLeast out = (small, out)
   refuses AboveGreatest out = (small, out)
@@ -34,6 +35,7 @@ module _ (least greatest : Ratio) (dl : 0 < least.den) (dg : 0 < greatest.den) (
   refuses ExponentRange out = absurd out
   refuses TooLarge out = absurd out
 
+  -- for one reason
   same_fault : (e fault : NumFault) → IsOutside least greatest (micros k) e → RefusesValue least greatest (Nearest k) fault → e ≡ fault
   same_fault BelowLeast BelowLeast out h = refl
   same_fault BelowLeast AboveGreatest out h = absurd (one_side (micros k) least greatest (omega arith) dl dg order out h.1)
@@ -46,6 +48,7 @@ module _ (least greatest : Ratio) (dl : 0 < least.den) (dg : 0 < greatest.den) (
   same_fault e ZeroSlope out h = absurd h.1
   same_fault e ExponentRange out h = absurd h.1
 
+  -- a value that is refused isn't inside
   not_inside : (fault : NumFault) → RefusesValue least greatest (Nearest k) fault → IsBetween least greatest (micros k) → ⊥
   not_inside BelowLeast h inside = not_below (micros k) least inside.from_least h.1
   not_inside AboveGreatest h inside = not_below greatest (micros k) inside.to_greatest h.1
@@ -53,6 +56,7 @@ module _ (least greatest : Ratio) (dl : 0 < least.den) (dg : 0 < greatest.den) (
   not_inside ZeroSlope h inside = h.1
   not_inside ExponentRange h inside = h.1
 
+  -- a value is refused exactly outside the range
   pub refused_outside : (r : Result ℕ NumFault) → (IsOk r ↔ IsBetween least greatest (micros k))
       → IfErr r (IsOutside least greatest (micros k))
       → (fault : NumFault) → (r ≡ Err fault) ↔ RefusesValue least greatest (Nearest k) fault

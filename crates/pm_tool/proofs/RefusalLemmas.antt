@@ -11,10 +11,12 @@ use Rattle.pm_tool.specs.declared.numbers.question.Asked.TheVariants.{Word, Near
 use Rattle.pm_tool.specs.declared.numbers.question.FormatText.TheVariants.{Direct}
 use Rattle.pm_tool.specs.declared.numbers.question.Question.{Question}
 
+-- a value isn't refused for the slope
 not_of_slope : (least greatest : Ratio) (asked : Asked) → RefusesValue least greatest asked ZeroSlope → ⊥
 not_of_slope least greatest (Word word) h = h
 not_of_slope least greatest (Nearest k) h = h.1
 
+-- nor for the exponent
 not_of_exponent : (least greatest : Ratio) (asked : Asked) → RefusesValue least greatest asked ExponentRange → ⊥
 not_of_exponent least greatest (Word word) h = h
 not_of_exponent least greatest (Nearest k) h = h.1
@@ -23,6 +25,7 @@ module _ (asked : Question) (can_be : IsFormat asked.format) (none : (fault : Nu
     → ⊥) (r : Result Answer NumFault)
     (by_value : (fault : NumFault)
     → (r ≡ Err fault) ↔ RefusesValue (least_in asked.format) (greatest_in asked.format) asked.asked fault) where
+  -- a question is refused by its value
   pub refused_by_value : (fault : NumFault) → (r ≡ Err fault) ↔ Refuses asked fault
   refused_by_value ZeroSlope = (
     λ e. absurd (not_of_slope (least_in asked.format) (greatest_in asked.format) asked.asked
@@ -45,6 +48,7 @@ with_coefficients P m b r m' b' r' em eb er h = subst (λ z. P m b z) er (subst 
 module _ (m b r : ℤ) (slope : m ≢ pos 0) (decimal : IsDecimal r) (asked : Asked) (res : Result Answer NumFault)
     (by_value : (fault : NumFault)
     → (res ≡ Err fault) ↔ RefusesValue (least_in (Direct m b r)) (greatest_in (Direct m b r)) asked fault) where
+  -- the format isn't refused
   none : (fault : NumFault) → RefusesFormat (Direct m b r) fault → ⊥
   none ZeroSlope h = slope h
   none ExponentRange h = h.1 decimal
@@ -52,5 +56,6 @@ module _ (m b r : ℤ) (slope : m ≢ pos 0) (decimal : IsDecimal r) (asked : As
   none AboveGreatest h = h
   none TooLarge h = h
 
+  -- the same of a format with coefficients
   pub direct_refused : (fault : NumFault) → (res ≡ Err fault) ↔ Refuses (record { format = Direct m b r; asked = asked }) fault
   direct_refused = refused_by_value (record { format = Direct m b r; asked = asked }) (slope, decimal) none res by_value

@@ -1,6 +1,7 @@
 -- The events of a text, line by line, and the lines that are written of them.
 use Rattle.std.proofs.Common.{◌≡◌, ◌∙◌, ◌<◌, ℕ, List, [], ◌∷◌, ◌++◌, length, Result, Ok, Err, refl, sym, ap, append_assoc, append-nil}
-use Rattle.std.proofs.Common.{arith}
+use Rattle.std.proofs.Common.{◌+◌, ◌||◌, Bool, true, false, cond, not, suc, take, arith}
+use Rattle.std.specs.List.{before_first, list_any, position_or_len}
 use Rattle.pm_device.specs.Effect.{Event}
 use Rattle.pm_device.specs.Held.{Held}
 use Rattle.pm_device.specs.History.{next, start_of}
@@ -10,6 +11,18 @@ use Rattle.pm_tool.specs.Base.{base}
 use Rattle.pm_tool.specs.ReplyText.{as_line}
 use Rattle.pm_tool.specs.Script.{event_lines, event_words, events_in, heard_text, held_after, joined_events, line_event, output_lines}
 use Rattle.pm_tool.specs.Script.{printed_text, text_by}
+
+-- a line without a mark stands before it as a whole
+pub uncut : (mark : ℕ → Bool) (line : List ℕ) → list_any mark line ≡ false → before_first mark line ≡ line
+uncut mark [] none = refl
+uncut mark (x ∷ xs) none = by (mark x) none (uncut mark xs)
+  where
+    by : (b : Bool) → (b || list_any mark xs) ≡ false → (list_any mark xs ≡ false → before_first mark xs ≡ xs)
+        → take (cond (not b) (1 + position_or_len mark xs) 0) (x ∷ xs) ≡ x ∷ xs
+    by true none rest = absurd (cc)
+    by false none rest =
+        let more : 1 + position_or_len mark xs ≡ suc (position_or_len mark xs) = omega arith in
+        rw more (ap (λ l. x ∷ l) (rest none))
 
 -- events before those of the lines that are left
 abbrev pub prepended : List Event → Result (List Event) TextFault → Result (List Event) TextFault
@@ -32,6 +45,7 @@ module _ (done : List Event) (line : Numbered) (lines : List Numbered) where
       → prepended done (events_in (line ∷ lines)) ≡ prepended (done ++ event ∷ []) (events_in lines)
   events-more event is = ap (λ e. prepended done (joined_events e (events_in lines))) is ∙ prepended-joined done event (events_in lines)
 
+  -- a faulty line ends the events
   pub events-fault : (fault : TextFault) → line_event line ≡ Err fault → prepended done (events_in (line ∷ lines)) ≡ Err fault
   events-fault fault is = ap (λ e. prepended done (joined_events e (events_in lines))) is
 
@@ -39,11 +53,13 @@ module _ (done : List Event) (line : Numbered) (lines : List Numbered) where
 pub events-end : (done : List Event) (lines : List Numbered) → lines ≡ [] → prepended done (events_in lines) ≡ Ok done
 events-end done lines none = ap (λ l. prepended done (events_in l)) none ∙ ap Ok (append-nil done)
 
+-- one event more was heard
 pub held_after-push : (held : Held) (done : List Event) (event : Event)
     → held_after held (done ++ event ∷ []) ≡ next (held_after held done) event
 held_after-push held [] event = refl
 held_after-push held (first ∷ done) event = held_after-push (next held first) done event
 
+-- one line more was written
 pub event_lines-push : (held : Held) (done : List Event) (event : Event)
     → event_lines held (done ++ event ∷ []) ≡ event_lines held done ++ as_line (event_words (held_after held done) event)
 event_lines-push held [] event = append-nil _
@@ -56,6 +72,7 @@ unskipped-nil : unskipped_from 1 [] ≡ []
 unfolding unskipped_from lines_of
 unskipped-nil = refl
 
+-- a text with a line has bytes
 pub unskipped-some : (text : List ℕ) → 0 < length (unskipped_from 1 text) → 0 < length text
 unskipped-some [] some = let none : length (unskipped_from 1 []) ≡ 0 = ap length unskipped-nil in absurd (omega arith)
 unskipped-some (x ∷ xs) some = omega arith
@@ -66,6 +83,7 @@ pub printed-text : (input : List ℕ) (events : List Event) → events_in (unski
 unfolding printed_text
 printed-text input events are = ap text_by are
 
+-- a faulty text prints nothing
 pub printed-fault : (input : List ℕ) (fault : TextFault) → events_in (unskipped_from 1 input) ≡ Err fault → printed_text input ≡ Err fault
 unfolding printed_text
 printed-fault input fault is = ap text_by is
@@ -78,6 +96,7 @@ lines-more start held done event other text more written is same added =
     added ∙ ap (λ t. t ++ as_line (event_words held other)) written ∙ ap (λ h. event_lines start done ++ as_line (event_words h other)) is
     ∙ ap (λ e. event_lines start done ++ as_line (event_words (held_after start done) e)) same ∙ sym (event_lines-push start done event)
 
+-- what the converter holds after one event more
 pub held-more : (start held after : Held) (done : List Event) (event other : Event) → held ≡ held_after start done → other ≡ event
     → after ≡ next held other → after ≡ held_after start (done ++ event ∷ [])
 held-more start held after done event other is same one =

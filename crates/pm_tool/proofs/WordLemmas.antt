@@ -12,12 +12,14 @@ last_digit k n acc small =
     let none : eqb (n / 16) 0 ≡ true = eq-eqb (n / 16) 0 (omega arith) in
     ap (λ (b : Bool). cond b (digit_glyph true (n % 16) ∷ acc) (digits_onto k 16 true (n / 16) (digit_glyph true (n % 16) ∷ acc))) none
 
+-- one digit more
 one_more : (k n : ℕ) (acc : List ℕ) → 16 ≤ n
     → digits_onto (suc k) 16 true n acc ≡ digits_onto k 16 true (n / 16) (digit_glyph true (n % 16) ∷ acc)
 one_more k n acc large =
     let some : eqb (n / 16) 0 ≡ false = ne_eqb (n / 16) 0 (λ e. omega arith) in
     ap (λ (b : Bool). cond b (digit_glyph true (n % 16) ∷ acc) (digits_onto k 16 true (n / 16) (digit_glyph true (n % 16) ∷ acc))) some
 
+-- a number of three digits
 three_digits : (n : ℕ) → 256 ≤ n → n < 4096
     → digits 16 true n ≡ digit_glyph true (n / 256) ∷ digit_glyph true (n / 16 % 16) ∷ digit_glyph true (n % 16) ∷ []
 unfolding digits
@@ -26,6 +28,7 @@ three_digits n large small =
     one_more 63 n [] (omega arith) ∙ one_more 62 (n / 16) _ (omega arith) ∙ last_digit 61 (n / 16 / 16) _ (omega arith)
     ∙ ap (λ d. digit_glyph true d ∷ digit_glyph true (n / 16 % 16) ∷ digit_glyph true (n % 16) ∷ []) high
 
+-- a number of four digits
 four_digits : (n : ℕ) → 4096 ≤ n → n < 65536 → digits 16 true n ≡ hex_word n
 unfolding digits
 four_digits n large small =
@@ -61,6 +64,7 @@ hex_word_is n small = elim (cases_lt n 16) [
   ]
 ]
 
+-- nine pieces in either grouping
 pub regrouped : (a b c d e f g h i : List ℕ)
     → a ++ (b ++ (c ++ (d ++ (e ++ (f ++ (g ++ (h ++ i))))))) ≡ a ++ b ++ c ++ d ++ e ++ f ++ g ++ h ++ i
 regrouped a b c d e f g h i = sym (simp append_assoc)

@@ -38,48 +38,58 @@ apart a b same differs = absurd (true≢false (sym (eq-eqb a b same) ∙ differs
 
 -- ---- what the parser makes of the words of the laws
 
+-- the parser meets `hear`
 hear_met : (program : Text) → subcommand_of pmb (program ∷ codes "hear" ∷ []) ≡ Some (codes "hear", [])
 unfolding clap_on_literals
 hear_met program = refl
 
+-- and finds no fault
 hear_passes : (program : Text) → fault_of pmb (program ∷ codes "hear" ∷ []) ≡ []
 unfolding clap_on_literals
 hear_passes program = refl
 
+-- so that is chosen
 hear_chosen : (rows : List Row) (chosen : Chosen) → Asks (codes "hear") rows chosen → chosen ≡ Hear
 hear_chosen rows Hear asks = refl
 hear_chosen rows Replay asks = apart 104 114 (ap first_byte asks) refl
 hear_chosen rows Decode asks = apart 104 100 (ap first_byte asks) refl
 hear_chosen rows (Number format word micro) asks = apart 104 110 (ap first_byte asks.0) refl
 
+-- the parser meets `replay`
 replay_met : (program : Text) → subcommand_of pmb (program ∷ codes "replay" ∷ []) ≡ Some (codes "replay", [])
 unfolding clap_on_literals
 replay_met program = refl
 
+-- and finds no fault
 replay_passes : (program : Text) → fault_of pmb (program ∷ codes "replay" ∷ []) ≡ []
 unfolding clap_on_literals
 replay_passes program = refl
 
+-- so that is chosen
 replay_chosen : (rows : List Row) (chosen : Chosen) → Asks (codes "replay") rows chosen → chosen ≡ Replay
 replay_chosen rows Hear asks = apart 114 104 (ap first_byte asks) refl
 replay_chosen rows Replay asks = refl
 replay_chosen rows Decode asks = apart 114 100 (ap first_byte asks) refl
 replay_chosen rows (Number format word micro) asks = apart 114 110 (ap first_byte asks.0) refl
 
+-- the parser meets `decode`
 decode_met : (program : Text) → subcommand_of pmb (program ∷ codes "decode" ∷ []) ≡ Some (codes "decode", [])
 unfolding clap_on_literals
 decode_met program = refl
 
+-- and finds no fault
 decode_passes : (program : Text) → fault_of pmb (program ∷ codes "decode" ∷ []) ≡ []
 unfolding clap_on_literals
 decode_passes program = refl
 
+-- so that is chosen
 decode_chosen : (rows : List Row) (chosen : Chosen) → Asks (codes "decode") rows chosen → chosen ≡ Decode
 decode_chosen rows Hear asks = apart 100 104 (ap first_byte asks) refl
 decode_chosen rows Replay asks = apart 100 114 (ap first_byte asks) refl
 decode_chosen rows Decode asks = refl
 decode_chosen rows (Number format word micro) asks = apart 100 110 (ap first_byte asks.0) refl
 
+-- `number` has the values that are given
 given_chosen : (given : List Given) (chosen : Chosen) → Asks (codes "number") (map row given) chosen → HasValuesOf given chosen
 given_chosen given Hear asks = apart 110 104 (ap first_byte asks) refl
 given_chosen given Replay asks = apart 110 114 (ap first_byte asks) refl
@@ -90,14 +100,17 @@ given_chosen given (Number format word micro) asks = (
   asks.3 ∙ first_text (codes "micro") given,
 )
 
+-- help was asked for
 help_fault : (program : Text) → fault_of pmb (program ∷ codes "--help" ∷ []) ≡ DisplayHelp ∷ []
 unfolding clap_on_literals
 help_fault program = refl
 
+-- the version was asked for
 version_fault : (program : Text) → fault_of pmb (program ∷ codes "--version" ∷ []) ≡ DisplayVersion ∷ []
 unfolding clap_on_literals
 version_fault program = refl
 
+-- a command is missing
 missing_fault : (program : Text) → fault_of pmb (program ∷ []) ≡ MissingSubcommand ∷ []
 unfolding clap_on_literals
 missing_fault program = refl
