@@ -1,6 +1,7 @@
 -- The events of a text, line by line, and the lines that are written of them.
 use Rattle.std.proofs.Common.{◌≡◌, ◌∙◌, ◌<◌, ℕ, List, [], ◌∷◌, ◌++◌, length, Result, Ok, Err, refl, sym, ap, append_assoc, append-nil}
-use Rattle.std.proofs.Common.{arith}
+use Rattle.std.proofs.Common.{◌+◌, ◌||◌, Bool, true, false, cond, not, suc, take, arith}
+use Rattle.std.specs.List.{before_first, list_any, position_or_len}
 use Rattle.pm_device.specs.Effect.{Event}
 use Rattle.pm_device.specs.Held.{Held}
 use Rattle.pm_device.specs.History.{next, start_of}
@@ -10,6 +11,18 @@ use Rattle.pm_tool.specs.Base.{base}
 use Rattle.pm_tool.specs.ReplyText.{as_line}
 use Rattle.pm_tool.specs.Script.{event_lines, event_words, events_in, heard_text, held_after, joined_events, line_event, output_lines}
 use Rattle.pm_tool.specs.Script.{printed_text, text_by}
+
+-- a line without a mark stands before it as a whole
+pub uncut : (mark : ℕ → Bool) (line : List ℕ) → list_any mark line ≡ false → before_first mark line ≡ line
+uncut mark [] none = refl
+uncut mark (x ∷ xs) none = by (mark x) none (uncut mark xs)
+  where
+    by : (b : Bool) → (b || list_any mark xs) ≡ false → (list_any mark xs ≡ false → before_first mark xs ≡ xs)
+        → take (cond (not b) (1 + position_or_len mark xs) 0) (x ∷ xs) ≡ x ∷ xs
+    by true none rest = absurd (cc)
+    by false none rest =
+        let more : 1 + position_or_len mark xs ≡ suc (position_or_len mark xs) = omega arith in
+        rw more (ap (λ l. x ∷ l) (rest none))
 
 -- events before those of the lines that are left
 abbrev pub prepended : List Event → Result (List Event) TextFault → Result (List Event) TextFault
