@@ -23,7 +23,7 @@ import refusals
 from crate_copy import crates_below, read
 from program import answer_help
 
-REGISTERS = ("Operation", "VoutCommand", "VoutMax", "MarginHigh", "MarginLow")
+REGISTERS = ("Operation", "VoutCommand", "VoutMax", "MarginHigh", "MarginLow", "VoutMin")
 NEAR = 5
 LETTER = re.compile(r'"([FHKNSTVX][1-9][0-9]?)(?: [A-Z][A-Za-z]+)?[" ]')
 HEX = re.compile(r"0x[0-9A-F]{2}(?![0-9A-Fa-f_])")

@@ -5,7 +5,7 @@ import subprocess
 import sys
 import tempfile
 
-TESTS = ("pm_tests", "pm_text_tests")
+TESTS = ("pm_device_tests", "pm_tests", "pm_text_tests")
 
 
 def run(folder, *words):
@@ -45,13 +45,13 @@ def crates_below():
 
 
 class CrateCopy:
-    """The copy, its crate's folder, and the crates whose tests are its: its own, and pm_tests or, where that
-    doesn't stand on the crate, pm_text_tests."""
+    """The copy, its crate's folder, and the crates whose tests are its: its own, and the first two test crates
+    that stand on it."""
 
     def __init__(self, crate, jobs):
         uses = crates_below()
         self.crate, self.jobs = crate, jobs
-        self.tests = [crate] + [name for name in TESTS if crate in uses.get(name, [])][:1]
+        self.tests = [crate] + [name for name in TESTS if crate in uses.get(name, [])][:2]
         self.top = tempfile.mkdtemp(prefix="copy-")
         self.home = os.path.join(self.top, "crates", crate)
         checked, more = set(), [crate]

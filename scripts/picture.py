@@ -110,7 +110,7 @@ class Picture:
         for place, row in enumerate(self.seen.rows):
             is_on, micro = row.report.outputs[output]
             x, top = self.x_of(micro / 1e6, output), self.top_of(place)
-            told = is_on, micro, output in row.cut
+            told = is_on, micro, row.cut.get(output)
             if shown and shown[1] != micro:
                 before = self.x_of(shown[1] / 1e6, output)
                 self.parts.append(line(before, top, x, top, LINE, 3, ' stroke-linecap="square"'))
@@ -120,11 +120,11 @@ class Picture:
             shown = told
 
     def label_volts(self, x, top, output, told):
-        """The value beside the line, which is at `x` of the lane: `max` where VOUT_MAX cuts it."""
-        is_on, micro, is_cut = told
+        """The value beside the line, which is at `x` of the lane, with the limit that cuts it."""
+        is_on, micro, limit = told
         is_left = x < VOLTS / 2
         rounded = [f"{micro / 1e6:.{digits}g} V" for digits in (4, 3, 2, 1)]
-        words = [f"max {it}" for it in rounded] * is_cut + rounded if is_on else ["off"]
+        words = [f"{limit} {it}" for it in rounded if limit] + rounded if is_on else ["off"]
         said = fitting(words, VOLTS - 8 - x if is_left else x - 8, 12)
         x += self.volts_at[output] + (8 if is_left else -8)
         self.parts.append(text(x, top + 19, said, fill=LINE, anchor="start" if is_left else "end"))

@@ -85,7 +85,8 @@ CODES = [
     ("B0 7E 00 9E", "STATUS_CML", "write 00"), ("B0 03 46", "CLEAR_FAULTS", "send"),
     ("B0 21 00 10 C0", "VOUT_COMMAND", "write 1000"), ("B0 24 00 10 00", "VOUT_MAX", "write 1000"),
     ("B0 25 00 10 6B", "VOUT_MARGIN_HIGH", "write 1000"),
-    ("B0 26 00 20 46", "VOUT_MARGIN_LOW", "write 2000"), ("B0 19 / B1 00 5A", "CAPABILITY", "read 00"),
+    ("B0 26 00 20 46", "VOUT_MARGIN_LOW", "write 2000"), ("B0 2B 00 10 47", "VOUT_MIN", "write 1000"),
+    ("B0 19 / B1 00 5A", "CAPABILITY", "read 00"),
     ("B0 20 / B1 14 ED", "VOUT_MODE", "read 14"),
     ("B0 30 02 21 00 / B1 05 01 00 00 00 03 6B", "COEFFICIENTS", "of 21 side 0 read m 1 b 0 r 3"),
     ("B0 78 / B1 00 F4", "STATUS_BYTE", "read 00"), ("B0 79 / B1 01 80 48", "STATUS_WORD", "read 8001"),
@@ -99,13 +100,13 @@ def codes():
     """The run of the trace of each code, in either order."""
     for rows in CODES, CODES[::-1]:
         said = [f"{number} 58 {name} {words}" for number, (_, name, words) in enumerate(rows, 1)]
-        said += [f"count {name} 1" for _, name, _ in rows] + ["lines 20 accepted 20 faults 0 bad 0"]
+        said += [f"count {name} 1" for _, name, _ in rows] + [f"lines {len(rows)} accepted {len(rows)} faults 0 bad 0"]
         yield ["decode"], "\n".join(row[0] for row in rows).encode(), 0, ("\n".join(said) + "\n").encode(), b""
 
 
 # Each line that is faulty by itself in the scenario of one order: its place, the line, what is said.
 FAULTY_LINES = [
-    (1, "scenario 2", "X1 Syntax"), (3, "passes 256", "X1 Syntax"), (4, "protect 0", "X2 BadHex"),
+    (1, "scenario 3", "X1 Syntax"), (3, "passes 256", "X1 Syntax"), (4, "protect 0", "X2 BadHex"),
     (6, "output 14 8Z 1000", "X2 BadHex"), (7, "output 14 80 1000 4000 1100", "X1 Syntax"),
     (9, "order 0 OPERATION 34CD", "X2 BadHex"), (9, "order 0 WRITE_PROTECT 40", "X1 Syntax"),
     (9, "order - VOUT_COMMAND 34CD", "X1 Syntax"),

@@ -20,6 +20,7 @@ import program  # noqa: E402
 from plain.draw_scenarios import chance, draw_events, draw_setup, event_words, setup_lines  # noqa: E402
 from plain.promises import Watch  # noqa: E402
 from plain.report import report  # noqa: E402
+from plain.scenario import registers_of  # noqa: E402
 from plain.world import World, world_fault  # noqa: E402
 
 
@@ -56,7 +57,8 @@ def program_faults(text, watch, cause):
     if told != "".join(line + "\n" for line in report(watch.world)):
         yield "the report is that of the plain model"
     words = [line.split(" ") for line in told.splitlines() if " host " in line]
-    cells = [(None, 0x10), *watch.cells[1:]]
+    shown = registers_of(watch.world.device.setup["version"])
+    cells = [(None, 0x10), *(cell for cell in watch.cells[1:] if cell[1] in shown)]
     for cell, line in zip(cells, words):
         if int(line[1], 16) not in watch.own[cell]:
             yield "a word that is told is a start word or one ordered for that very cell"

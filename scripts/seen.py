@@ -3,22 +3,25 @@ that the host thinks possible, which no report has, and what came of each event 
 from fractions import Fraction
 
 from lived import lived
-from plain.converter import PROTECT, format_of
+from plain.converter import MAX, MIN, PROTECT, format_of
 from plain.numbers import value_of
 from plain.packets import CODES, name_of
 from plain.scenario import read_scenario
 from plain.world import World
 
+# How a picture names the limits.
+LIMITS = {MAX: "max", MIN: "min"}
+
 
 class Row:
     """One event, or the start: `number` and `label` of its line, `mark` (a kind and words), the `report` after it,
-    by shown register the belief (confirmed, possible or any, with words), and which outputs VOUT_MAX cuts."""
+    by shown register the belief (confirmed, possible or any, with words), and by output the limit that cuts it."""
 
     def __init__(self, number, label, mark, report, model):
         self.number, self.label, self.mark, self.report = number, label, mark, report
         self.beliefs = {register: model.belief(register) for register in model.registers}
         device = model.world.device
-        self.cut = {output for output in device.outputs if device.is_cut(output)}
+        self.cut = {output: LIMITS[device.commanding(output)] for output in device.outputs if device.is_cut(output)}
 
 
 class Model:

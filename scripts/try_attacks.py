@@ -1,7 +1,7 @@
 #!/usr/bin/env python3
 """Tries the planted bugs of attacks/CRATE on a copy, and says which stay proved.
 
-    scripts/try_attacks.py CRATE [NAME ..] [--folder F] [--alone] [--no-tests] [--jobs N]
+    scripts/try_attacks.py CRATE [NAME ..] [--folder F] [--alone] [--no-tests | --only-tests] [--jobs N]
 
 An edit has lines `file: src/x.rt` and pairs `old: ..`, `new: ..`, each text one line that stands once in that
 file. Edits of different functions are tried together, in one check that says of each function whether it's
@@ -10,8 +10,10 @@ proved; --alone tries one at a time. The verdicts:
     refused   a function that the edit changes isn't proved: the note says why
     renamed   a proof by hand names a goal that the edit renamed, which says nothing of the bug
     broken    it doesn't compile, or a text doesn't stand once in its file
-    PROVED    and then whether a test fails with it: the crate's own, and those of pm_tests, or of pm_text_tests
-              where pm_tests doesn't stand on the crate
+    PROVED    and then whether a test fails with it: the crate's own, and those of the first two test crates that
+              stand on it
+
+--only-tests proves nothing: it says of each edit which test notices it, if one does.
 
 Run it at the top of the repository after an `rt check` of the crate, whose work the copy keeps. --folder takes
 the edits from elsewhere, as crates/CRATE/must-fail.
@@ -158,12 +160,17 @@ def judged(copy, edits):
     return found
 
 
+def noticed(copy, edit):
+    """What the tests say of an edit."""
+    kept = copy.write(edit.texts)
+    line = copy.failed_test()
+    copy.write(kept)
+    return "a test notices: " + line if line else "NO TEST NOTICES"
+
+
 def report(copy, edit, verdict, note, tests, seconds):
     if verdict == "PROVED" and tests:
-        kept = copy.write(edit.texts)
-        line = copy.failed_test()
-        copy.write(kept)
-        note = "a test notices: " + line if line else "NO TEST NOTICES"
+        note = noticed(copy, edit)
     print("%-8s %-55s %3d s  %s" % (verdict, edit.name, seconds, note[:200]), flush=True)
 
 
@@ -188,6 +195,14 @@ def try_all(copy, edits, alone, tests):
             groups.append(left)
 
 
+def test_all(copy, edits):
+    """Runs the tests with each edit in turn, and prints what they say."""
+    for edit in edits:
+        start = time.time()
+        verdict, note = ("broken", edit.why) if edit.why else ("tested", noticed(copy, edit))
+        report(copy, edit, verdict, note, False, time.time() - start)
+
+
 def main():
     answer_help(__doc__)
     words = sys.argv[1:]
@@ -195,7 +210,7 @@ def main():
     folder = taken(words, "--folder")
     flags = [word for word in words if word.startswith("--")]
     words = [word for word in words if not word.startswith("--")]
-    if not words or set(flags) - {"--alone", "--no-tests"}:
+    if not words or set(flags) - {"--alone", "--no-tests", "--only-tests"}:
         sys.exit(__doc__)
     crate, names = words[0], words[1:]
     folder = folder or os.path.join("attacks", crate)
@@ -208,11 +223,14 @@ def main():
     if unknown:
         sys.exit("no edit has the name %s" % ", ".join(sorted(unknown)))
     copy = CrateCopy(crate, jobs)
+    chosen = [edit for edit in edits if not names or edit.name in names]
     try:
+        if "--only-tests" in flags:
+            test_all(copy, chosen)
+            return
         lines, verdict = copy.check()
         if verdict != "logic=proved":
             sys.exit("the crate isn't proved as it stands: " + why_not(lines))
-        chosen = [edit for edit in edits if not names or edit.name in names]
         try_all(copy, chosen, "--alone" in flags, "--no-tests" not in flags)
     finally:
         copy.drop()

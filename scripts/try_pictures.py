@@ -23,6 +23,7 @@ import program  # noqa: E402
 import search_promises  # noqa: E402
 from lived import Report, lived  # noqa: E402
 from plain.lines import numbered  # noqa: E402
+from plain.converter import MAX, MIN  # noqa: E402
 from plain.packets import CODES  # noqa: E402
 from plain.report import report  # noqa: E402
 from plain.scenario import read_scenario  # noqa: E402
@@ -43,22 +44,23 @@ MARKS = {
                               *CONFIRMS[1:]],
     "restart-noticed": ["", "reads 1000: done", *CONFIRMS, "the converter restarts", "",
                         "reads 1000: done, restart seen"],
+    "floor": [*CONFIRMS[:3], "reads 0400: done", *CONFIRMS[:3], "reads 5000: done"],
     "direct-negative-slope": ["", "reads 40", "reads coefficients: learned", "", "the write is taken", "acknowledged",
                               "reads 06A4: done", "", "the write is taken", "acknowledged", "reads 01F4: done"],
 }
-EIGHT = b"""scenario 1
+EIGHT = b"""scenario 2
 address 58
 passes 2
 protect 00
 coefficients -1 5 3
-output 14 80 1000 4000 1100 0F00
-output 40 A4 0BB8 03E8 0A8C 0CE4
-output 1F 80 FFFF FFFF 1100 0F00
-output 0F 80 FFFF 4000 1100 0F00
-output 14 00 1000 4000 1100 0F00
-output 14 94 1000 4000 1100 0F00
-output 1A 80 1234 FFFF 1100 0F00
-output 14 80 1000 0FFF 1100 0F00
+output 14 80 1000 4000 1100 0F00 1001
+output 40 A4 0BB8 03E8 0A8C 0CE4 7FFF
+output 1F 80 FFFF FFFF 1100 0F00 0000
+output 0F 80 FFFF 4000 1100 0F00 0000
+output 14 00 1000 4000 1100 0F00 0000
+output 14 94 1000 4000 1100 0F00 0000
+output 1A 80 1234 FFFF 1100 0F00 0000
+output 14 80 1000 0FFF 1100 0F00 2000
 begin
 check 7 VOUT_COMMAND
 exchange whole whole
@@ -97,7 +99,7 @@ class Plain:
     def __init__(self, text):
         setup, passes, events = read_scenario(text)
         world = World(setup, passes)
-        self.model, self.reports, self.thoughts = Model(text), [], []
+        self.model, self.reports, self.thoughts, self.limits = Model(text), [], [], []
         self.note(world)
         for event in events:
             world.stop = world.step(event)
@@ -107,13 +109,15 @@ class Plain:
             self.note(world)
         # A stop's row, which shows what stood before.
         if world.stop:
-            for those in self.reports, self.thoughts:
+            for those in self.reports, self.thoughts, self.limits:
                 those.append(those[-1])
         self.stop = world.stop
 
     def note(self, world):
         self.reports.append(Report("\n".join(report(world))))
-        host, cells = world.host, world.device.cells
+        host, cells, device = world.host, world.device.cells, world.device
+        self.limits.append({it: {MAX: "max ", MIN: "min "}.get(device.commanding(it)) for it in device.outputs
+                            if device.is_cut(it) and device.is_on(it)})
         self.thoughts.append({cell: (host.standing(cell), host.possible(cell), cells[cell]) for cell in cells})
 
 
@@ -210,7 +214,9 @@ def value_faults(drawn, plain):
             said = found.get((output, place))
             if said is None and told and told != (is_on, micro):
                 yield f"row {place}: output {output} has no value"
-            number = (said or "").removeprefix("max ").removesuffix(" V")
+            number = (said or "").removeprefix("max ").removeprefix("min ").removesuffix(" V")
+            if said and said[:4] in ("max ", "min ") and said[:4] != plain.limits[place].get(output):
+                yield f"row {place}: output {output} isn't cut as {said!r}"
             if said and (said == "off") == is_on or is_on and said and number not in rounded(micro / 1e6):
                 yield f"row {place}: output {output} has {said!r}, and not {micro} uV"
             told = is_on, micro

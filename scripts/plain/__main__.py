@@ -60,7 +60,7 @@ for end, place, first, command, job in RESTARTS:
 
 # Lines that take the place of one line of the scenario of one order, and the refusal.
 FAULTY = [
-    (0, "scenario 2", "X1"), (0, "scenario 01", "X1"), (2, "passes 256", "X1"), (3, "protect 0", "X2"),
+    (0, "scenario 3", "X1"), (0, "scenario 02", "X1"), (0, "scenario 01", "X1"), (2, "passes 256", "X1"), (3, "protect 0", "X2"),
     (5, "output 14 80 1000 4000 1100", "X1"), (5, "output 14 8Z 1000", "X2"), (5, "output 14 80 begin", "X2"),
     (8, "order 0 OPERATION 34CD", "X2"), (8, "order 0 WRITE_PROTECT 40", "X1"), (8, "order 0 34CD", "X1"),
     (8, "order - VOUT_COMMAND 34CD", "X1"), (8, "volts 0 VOUT_COMMAND 9223372036854775808", "X1"),
@@ -68,6 +68,23 @@ FAULTY = [
     (8, "volts - WRITE_PROTECT 5", "X1"), (8, "volts 0 WRITE_PROTECT 5", "X1"), (8, " # x", "X1"),
     (9, "deliver bytes B0050 stop", "X2"), (9, "deliver bytes stop", "X2"),
     (9, "deliver bytes " + 17 * "B0" + " stop", "X2"), (9, "deliver cut 256", "X1"), (10, "finish", "X1"),
+]
+# The same of version 2, and of an event that names VOUT_MIN in version 1.
+FAULTY_SECOND = [
+    (5, "output 14 80 1000 4000 1100 0F00", "X1"), (6, "output 14 80 1000 4000 1100 0F00 0000 0000", "X1"),
+    (6, "output 14 80 1000 4000 1100 0F00 00Z0", "X2"), (6, "output 14 80 1000 4000 1100 0F00 begin", "X2"),
+    (8, "order 0 VOUT_MIN 0A", "X2"), (8, "order - VOUT_MIN 0A00", "X1"),
+]
+FAULTY_FIRST = [
+    (8, "order 0 VOUT_MIN 0A00", "X1"), (8, "check 1 VOUT_MIN", "X1"), (8, "volts 0 VOUT_MIN 5", "X1"),
+    (6, "output 14 80 1000 4000 1100 0F00 0000", "X1"),
+]
+SECOND = {0: "scenario 2", 5: OUTPUT + " 0000", 6: OUTPUT + " 0000"}
+# What output 0 commands and shows after a write of VOUT_MIN over the base configuration.
+LIMITED = [
+    ("B00504002B0020B5", "8192/4096 2000000 uV", "01 8001 08"),
+    ("B00504002B0050E2", "16384/4096 4000000 uV", "01 8001 08"),
+    ("B00504002B001025", "4096/4096 1000000 uV", "00 0000 00"),
 ]
 SETUPS = [
     ({5: None, 6: None}, "V1 OutputCount"), ({6: "\n".join([OUTPUT] * 8)}, "V1 OutputCount"),
@@ -175,6 +192,25 @@ def host_cases():
     yield host.order(cell, 7), None
 
 
+def limit_cases():
+    """VOUT_MIN beside VOUT_MAX, in both versions."""
+    for frame, commanded, status in LIMITED:
+        found = hear(f"{frame}\nB07A/\nB079/".encode())[1].splitlines()[:3]
+        vout, word = status[-2:], [int(status[5:7], 16), int(status[3:5], 16)]
+        answers = [answer_of(0x58, ("read", None, code), data)
+                   for code, data in ((0x7A, [int(vout, 16)]), (0x79, word))]
+        yield found, ["taken", *("answer " + bytes(it).hex(" ").upper() for it in answers)]
+        least = frame[12:14] + frame[10:12]
+        lines = replay(text_of([f"order 0 VOUT_MIN {least}", *PASS], SECOND))[1].splitlines()
+        yield (lines[2], lines[8], lines[9]), (
+            f"output 0 on commanded {commanded}", f"VOUT_MIN {least} host confirmed {least}", f"status {status}")
+    direct = {0: "scenario 2", 4: "coefficients -1 5 3", 5: "output 40 80 0BB8 03E8 0BB8 0BB8 07D0", 6: None}
+    yield replay(text_of([], direct))[1].splitlines()[2], "output 0 on commanded 3000/1000 3000000 uV"
+    for text in ("B00503002BCD00", "B00503002BCD"):
+        yield replay(text_of([ORDER, f"deliver bytes {text} stop"]))[1].splitlines()[-3], "cml 02"
+    yield len(replay(text_of([]))[1].splitlines()) + 2, len(replay(text_of([], SECOND))[1].splitlines())
+
+
 def cases():
     yield from host_cases()
     refused = replay(text_of([ORDER, *PASS, *PASS], {3: "protect 40"}))[1].splitlines()
@@ -193,9 +229,12 @@ def cases():
     direct = {4: "coefficients -1 5 3", 5: "output 40 80 03E8 0BB8 0000 0000", 6: None}
     lines = replay(text_of([], direct))[1].splitlines()
     yield (lines[2], lines[8]), ("output 0 on commanded 2000/1000 2000000 uV", "status 01 8001 08")
-    for place, line, fault in FAULTY:
-        words = {"X1": "X1 Syntax", "X2": "X2 BadHex"}[fault]
-        yield replay(text_of([ORDER, *PASS], {place: line})), (1, "", f"pmb: {words} line {place + 1}\n")
+    for rows, changed in ((FAULTY + FAULTY_FIRST, {}), (FAULTY_SECOND, SECOND)):
+        for place, line, fault in rows:
+            words = {"X1": "X1 Syntax", "X2": "X2 BadHex"}[fault]
+            told = replay(text_of([ORDER, *PASS], {**changed, place: line}))
+            yield told, (1, "", f"pmb: {words} line {place + 1}\n")
+    yield from limit_cases()
     for changed, fault in SETUPS:
         yield replay(text_of([], changed)), (1, "", f"pmb: X7 Setup {fault}\n")
     yield replay(b""), (1, "", "pmb: X1 Syntax line 1\n")

@@ -1,11 +1,11 @@
 """Status, standard output and standard error of `pmb hear` and `pmb number`."""
 import re
 
-from .converter import COMMAND, HIGH, LOW, MAX, OPERATION, Converter
+from .converter import COMMAND, HIGH, LOW, MAX, MIN, OPERATION, Converter
 from .lines import MOST_BYTES, numbered, words_of
 from .numbers import coefficients_fault, millionths, nearest, value_of
 
-START = {OPERATION: 0x80, COMMAND: 0x1000, MAX: 0x4000, HIGH: 0x1100, LOW: 0x0F00}
+START = {OPERATION: 0x80, COMMAND: 0x1000, MAX: 0x4000, HIGH: 0x1100, LOW: 0x0F00, MIN: 0x0000}
 BASE = {
     "address": 0x58, "count": 2, "outputs": [(0x14, dict(START)), (0x14, dict(START))], "protect": 0x00,
     "coefficients": (1, 0, 0),

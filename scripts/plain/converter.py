@@ -11,8 +11,8 @@ from .packets import (
     write_fault, write_message,
 )
 
-OPERATION, COMMAND, MAX, HIGH, LOW = 0x01, 0x21, 0x24, 0x25, 0x26
-REGISTERS = (OPERATION, COMMAND, MAX, HIGH, LOW)
+OPERATION, COMMAND, MAX, HIGH, LOW, MIN = 0x01, 0x21, 0x24, 0x25, 0x26, 0x2B
+REGISTERS = (OPERATION, COMMAND, MAX, HIGH, LOW, MIN)
 PROTECT = (None, 0x10)
 # A cell is an output and one of the registers, or PROTECT.
 
@@ -101,11 +101,19 @@ class Converter:
         operation = self.cells[output, OPERATION]
         return HIGH if operation >> 4 == 0xA else LOW if operation >> 4 == 0x9 else COMMAND
 
+    def commanding(self, output):
+        """The register whose value is commanded: the selected one lies between the two limits, or is cut."""
+        selected, most, least = (
+            Fraction(*self.value(output, it)) for it in (self.selected(output), MAX, MIN))
+        if least <= selected <= most:
+            return self.selected(output)
+        return MIN if selected < least <= most else MAX
+
     def is_cut(self, output):
-        return Fraction(*self.value(output, self.selected(output))) > Fraction(*self.value(output, MAX))
+        return self.commanding(output) != self.selected(output)
 
     def commanded(self, output):
-        return self.value(output, MAX if self.is_cut(output) else self.selected(output))
+        return self.value(output, self.commanding(output))
 
     def is_on(self, output):
         return self.cells[output, OPERATION] >= 0x80

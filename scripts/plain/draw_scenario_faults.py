@@ -26,10 +26,11 @@ LINES = [
     b"exchange cut 1", b"exchange whole cut 256", b"restart", b"restart both",
     b"reading 0 READ_VIN 0000", b"reading - READ_VOUT 0000", b"reading 0 READ_VOUT 00",
     b"reading 0 READ_VOUT", b"reading - READ_TEMPERATURE_1 12345", b" # comment", b"\t", b"\r\r",
-    b"store", b"restore", b"scenario 1", b"begin", b"output 14 80 1000 4000 1100 0F00",
+    b"store", b"restore", b"scenario 1", b"scenario 2", b"scenario 02", b"scenario 3", b"begin", b"output 14 80 1000 4000 1100 0F00",
     b"output 14 80 begin", b"output 14 8Z 1000", b"output 14 80 1000 4000 1100",
-    b"output 14 80 1000 4000 1100 0F00 0000", b"passes 1", b"B0 05 04 00 21 CD 34 5A",
-    b"order 0 VOUT_MIN 0000",
+    b"output 14 80 1000 4000 1100 0F00 0000", b"output 14 80 1000 4000 1100 0F00 00ZZ",
+    b"output 14 80 1000 4000 1100 0F00 0000 0000", b"passes 1", b"B0 05 04 00 21 CD 34 5A",
+    b"order 0 VOUT_MIN 0000", b"volts 0 VOUT_MIN 5", b"check 0 VOUT_MIN",
 ]
 SKIPPED = [b"", b" ", b"   ", b"#", b"# comment", b"#order 0 VOUT_COMMAND 34CD"]
 

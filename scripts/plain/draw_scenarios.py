@@ -1,9 +1,10 @@
 """Random scenarios. The drawing follows a world, so that jobs go on: a frame that is being sent is mostly
 delivered and finished, or exchanged; now and then it is lost, cut or damaged, or an end restarts."""
-from .converter import MAX, OPERATION, PROTECT, REGISTERS, accepts
+from .converter import MAX, MIN, OPERATION, PROTECT, REGISTERS
 from .draw_lines import digits, near_value, spelled, text_of_lines
 from .draw_scenario_faults import with_faults
 from .packets import CODES, length_of, name_of, pec, write_part
+from .scenario import least_of, registers_of
 from .world import World, world_fault
 
 OPERATIONS = [0x80, 0x80, 0x80, 0x94, 0x98, 0xA4, 0xA8, 0x40, 0x00, 0x8F, 0x97, 0xAB]
@@ -18,21 +19,26 @@ def chance(dice, part):
 
 
 def draw_setup(dice):
-    """A configuration and passes, mostly sound."""
+    """A configuration of either version and passes, mostly sound."""
+    version = dice.choice([1, 2])
     strange = dice.choice([0, 0, 0, 0, 0, 0, 0.1])
     modes = dice.choice([[0x14], [0x14, 0x00, 0x1F, 0x10, 0x0F], [0x40], [0x14, 0x40], [0x40, 0x16, 0x18]])
     pick = lambda good, bad: dice.choice(bad if chance(dice, strange) else good)
     count = pick([1, 1, 2, 2, 2, 3, 4, 8], [0, 9, 10, 255, 256, 264])
-    outputs = []
+    coefficients, outputs = pick(COEFFICIENTS, BAD_COEFFICIENTS), []
     for _ in range(count):
         words = {code: dice.choice([*STARTS, dice.randrange(65536)]) for code in REGISTERS}
         words[MAX] = dice.choice([words[MAX], 0x4000, 0xF000])
+        words[MIN] = dice.choice([words[MIN], 0x0000, 0x0F00, 0x7FFF])
         words[OPERATION] = pick(OPERATIONS, [0x90, 0xB0, 0xFF, 0x93, 0xA0, 0xAC])
-        outputs.append((pick(modes, [0x80, 0xFF, 0x20, 0x3F, 0x60, 0x7F, 0x41, 0x5F]), words))
+        mode = pick(modes, [0x80, 0xFF, 0x20, 0x3F, 0x60, 0x7F, 0x41, 0x5F])
+        if version == 1:
+            words[MIN] = least_of(mode, coefficients)
+        outputs.append((mode, words))
     setup = {
         "address": pick([0x58, 0x58, 0x08, 0x77, 0x10], [0x00, 0x07, 0x78, 0xFF]), "count": count,
         "outputs": outputs, "protect": pick([0, 0, 0, 0, 0, 0x20, 0x40, 0x80], [1, 0x10, 0xFF, 0x60]),
-        "coefficients": pick(COEFFICIENTS, BAD_COEFFICIENTS),
+        "coefficients": coefficients, "version": version,
     }
     return setup, pick([1, 2, 2, 3, 15], [0, 16, 255])
 
@@ -43,7 +49,7 @@ def draw_cell(dice, setup):
     output = dice.randrange(max(setup["count"], 1))
     if chance(dice, 0.01):
         output = min(setup["count"] + dice.choice([0, 0, 100]), 255)
-    return output, dice.choice([0x21, 0x21, *REGISTERS])
+    return output, dice.choice([0x21, 0x21, *registers_of(setup["version"])])
 
 
 def draw_word(dice, cell):
@@ -70,7 +76,7 @@ def draw_job(dice, world, setup, likely):
     if kind == "check":
         return kind, cell
     if kind == "volts":
-        cell = (output, dice.choice(REGISTERS[1:]) if chance(dice, 0.97) else OPERATION)
+        cell = (output, dice.choice(registers_of(setup["version"])[1:]) if chance(dice, 0.97) else OPERATION)
         if world.host.format(output) is None and not chance(dice, 0.06):
             return "learn", output
         return kind, cell, draw_micro(dice, world, output)
@@ -188,9 +194,10 @@ def draw_surprise(dice, setup):
 def draw_latched(dice, setup):
     """Outputs that were cut and aren't any more; then the status of one is cleared."""
     outputs = range(min(setup["count"], 2))
+    limit = dice.choice([it for it in registers_of(setup["version"]) if it in (MAX, MIN)])
     for word in (0x0000, 0x7FFF, 0xFFFF):
         for output in outputs:
-            yield from whole_order((output, MAX), word)
+            yield from whole_order((output, limit), word)
     yield from [("clear", dice.choice(outputs)), ("deliver", ("whole",)), ("finish", True)]
 
 
@@ -256,13 +263,14 @@ def event_words(dice, event):
 
 
 def setup_lines(dice, setup, passes):
-    yield [b"scenario", b"1"]
+    yield [b"scenario", b"%d" % setup["version"]]
     yield [b"address", digits(dice, setup["address"])]
     yield [b"passes", b"%d" % passes]
     yield [b"protect", digits(dice, setup["protect"])]
     yield [b"coefficients", *(b"%d" % it for it in setup["coefficients"])]
     for mode, words in setup["outputs"]:
-        fields = [digits(dice, words[code], 2 if code == OPERATION else 4) for code in REGISTERS]
+        codes = registers_of(setup["version"])
+        fields = [digits(dice, words[code], 2 if code == OPERATION else 4) for code in codes]
         yield [b"output", digits(dice, mode), *fields]
     yield [b"begin"]
 

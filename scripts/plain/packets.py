@@ -13,7 +13,8 @@ TABLE = {
     0x19: ("CAPABILITY", 1, True, False, "device"), 0x20: ("VOUT_MODE", 1, True, False, "output"),
     0x21: ("VOUT_COMMAND", 2, True, True, "output"), 0x24: ("VOUT_MAX", 2, True, True, "output"),
     0x25: ("VOUT_MARGIN_HIGH", 2, True, True, "output"),
-    0x26: ("VOUT_MARGIN_LOW", 2, True, True, "output"), 0x30: ("COEFFICIENTS", 0, True, False, "device"),
+    0x26: ("VOUT_MARGIN_LOW", 2, True, True, "output"), 0x2B: ("VOUT_MIN", 2, True, True, "output"),
+    0x30: ("COEFFICIENTS", 0, True, False, "device"),
     0x78: ("STATUS_BYTE", 1, True, False, "output"), 0x79: ("STATUS_WORD", 2, True, False, "output"),
     0x7A: ("STATUS_VOUT", 1, True, True, "output"), 0x7E: ("STATUS_CML", 1, True, True, "device"),
     0x88: ("READ_VIN", 2, True, False, "device"), 0x8B: ("READ_VOUT", 2, True, False, "output"),
@@ -23,7 +24,7 @@ TABLE = {
 }
 CODES = {row[0]: code for code, row in TABLE.items()}
 NOT_CARRIED = (0x00, 0x05, 0x06, 0x30)
-VOUT_CODES = (0x21, 0x24, 0x25, 0x26, 0x8B)
+VOUT_CODES = (0x21, 0x24, 0x25, 0x26, 0x2B, 0x8B)
 PLACELESS = ("F1 NotOurs", None)
 
 

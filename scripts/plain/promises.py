@@ -3,7 +3,7 @@ to something that it wasn't written from. Nothing here asks a converter or a hos
 looks at the events, at the words of the cells, and at what the host says."""
 from fractions import Fraction
 
-from .converter import ALLOWED, HIGH, LOW, COMMAND, MAX, OPERATION, PROTECT, REGISTERS
+from .converter import ALLOWED, HIGH, LOW, COMMAND, MAX, MIN, OPERATION, PROTECT, REGISTERS
 from .draw_scenarios import scenario_text
 from .host import ANY, write_of
 from .numbers import value_of
@@ -104,10 +104,10 @@ class Watch:
             words = self.own[output, OPERATION]
             registers = {HIGH if it >> 4 == 0xA else LOW if it >> 4 == 0x9 else COMMAND for it in words}
             selected = {Fraction(*value_of(form, word)) for it in registers for word in self.own[output, it]}
-            most = {Fraction(*value_of(form, word)) for word in self.own[output, MAX]}
+            least, most = ({Fraction(*value_of(form, word)) for word in self.own[output, it]} for it in (MIN, MAX))
             voltage = Fraction(*self.world.device.commanded(output))
-            if not any(voltage == min(one, other) for one in selected for other in most):
-                yield "an output commands a value of its own, cut to its own VOUT_MAX"
+            if not any(voltage == min(max(one, low), high) for one in selected for low in least for high in most):
+                yield "an output commands a value of its own, cut to its own VOUT_MIN and VOUT_MAX"
 
     def of_knowledge(self, known):
         host = self.world.host

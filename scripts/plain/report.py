@@ -1,9 +1,9 @@
 """The report of a scenario."""
-from .converter import PROTECT, REGISTERS
+from .converter import PROTECT
 from .lines import hex_word
 from .numbers import millionths
 from .packets import length_of, name_of
-from .scenario import read_scenario
+from .scenario import read_scenario, registers_of
 from .world import World, world_fault
 
 
@@ -25,7 +25,7 @@ def report(world):
         num, den = device.commanded(output)
         state = "on" if device.is_on(output) else "off"
         yield f"output {output} {state} commanded {num}/{den} {millionths((num, den))} uV"
-        for register in REGISTERS:
+        for register in registers_of(device.setup["version"]):
             yield cell_line(world, name_of(register), (output, register))
         yield (f"status {device.status_byte(output):02X} {device.status_word(output):04X}"
                f" {device.status_vout(output):02X}")

@@ -1,7 +1,19 @@
 """The reader of scenarios."""
-from .converter import OPERATION, PROTECT, REGISTERS
+from .converter import MIN, OPERATION, PROTECT, REGISTERS
 from .lines import MOST_BYTES, TextFault, decimal, hexadecimal, lines_of, numbered, words_of
 from .packets import CODES, length_of, name_of
+
+
+def registers_of(version):
+    """The registers that a scenario of this version, its events and its report name."""
+    return [code for code in REGISTERS if version > 1 or code != MIN]
+
+
+def least_of(mode, coefficients):
+    """VOUT_MIN of an output of version 1: a word of the least value."""
+    if mode != 0x40:
+        return 0x0000
+    return 0x7FFF if coefficients[0] < 0 else 0x8000
 
 
 class Words:
@@ -35,13 +47,13 @@ class Words:
     def frame(self):
         return hexadecimal(self.next(), 1, 16)
 
-    def cell(self, may_be_protect=True):
+    def cell(self, version, may_be_protect=True):
         word = self.next()
         if word == b"-" and may_be_protect:
             self.one_of([b"WRITE_PROTECT"])
             return PROTECT
         output = decimal(word, 0, 255)
-        return output, CODES[self.one_of([name_of(code).encode() for code in REGISTERS])]
+        return output, CODES[self.one_of([name_of(code).encode() for code in registers_of(version)])]
 
 
 def read_arrival(words):
@@ -69,17 +81,17 @@ def read_reading(words):
     return "reading", output, CODES[words.one_of(names)], words.word(2)
 
 
-def read_event(words):
+def read_event(words, version):
     kind = words.one_of(
         [b"order", b"volts", b"check", b"learn", b"clear", b"deliver", b"finish", b"exchange", b"restart",
          b"reading"])
     if kind == "order":
-        cell = words.cell()
+        cell = words.cell(version)
         return kind, cell, words.word(length_of(cell[1]))
     if kind == "volts":
-        return kind, words.cell(may_be_protect=False), words.number(-2**63, 2**63 - 1)
+        return kind, words.cell(version, may_be_protect=False), words.number(-2**63, 2**63 - 1)
     if kind == "check":
-        return kind, words.cell()
+        return kind, words.cell(version)
     if kind in ("learn", "clear"):
         return kind, words.number(0, 255)
     if kind == "deliver":
@@ -93,14 +105,17 @@ def read_event(words):
     return read_reading(words)
 
 
-def read_output(words):
-    mode = words.word(1)
-    return mode, {code: words.word(1 if code == OPERATION else 2) for code in REGISTERS}
+def read_output(words, version, coefficients):
+    mode, least = words.word(1), {}
+    if version == 1:
+        least = {MIN: least_of(mode, coefficients)}
+    read = {code: words.word(1 if code == OPERATION else 2) for code in registers_of(version)}
+    return mode, {**read, **least}
 
 
 def read_head(key, words):
     if key == b"scenario":
-        return words.one_of([b"1"])
+        return int(words.one_of([b"1", b"2"]))
     if key in (b"address", b"protect"):
         return words.word(1)
     if key == b"passes":
@@ -124,11 +139,11 @@ def read_scenario(text):
                 found[key] = read_head(key, words)
             elif not has_begun:
                 if words.one_of([b"output", b"begin"]) == "output":
-                    outputs.append(read_output(words))
+                    outputs.append(read_output(words, found[b"scenario"], found[b"coefficients"]))
                 else:
                     has_begun = True
             else:
-                events.append(read_event(words))
+                events.append(read_event(words, found[b"scenario"]))
             words.end()
         except TextFault as fault:
             return f"{fault} line {number}"
@@ -137,5 +152,6 @@ def read_scenario(text):
     setup = {
         "address": found[b"address"], "count": min(len(outputs), 255), "outputs": outputs[:8],
         "protect": found[b"protect"], "coefficients": found[b"coefficients"],
+        "version": found[b"scenario"],
     }
     return setup, found[b"passes"], events

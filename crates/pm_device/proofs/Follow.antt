@@ -208,7 +208,8 @@ unfolding is_output_cut
 is_output_cut-kept map alone config words cell word output (are, here, there, other) =
     ap (λ b. ltb output config.count && b)
     (alone.cut (value_for config output) (with_word words cell word) words output
-    (λ register. map.read words cell (Out output register) word are here there ∙ cond-false _ _ _ (other register)))
+    (alone.own (with_word words cell word) words output
+    (λ register. map.read words cell (Out output register) word are here there ∙ cond-false _ _ _ (other register))))
 
 -- the cells of two outputs are two
 other-output : (place output : ℕ) (register second : Reg) → output ≢ place →

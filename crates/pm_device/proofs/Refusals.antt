@@ -123,7 +123,7 @@ cml-looked_up config past Data = refl
 cml-looked_up config past Pec = refl
 cml-looked_up config past Other = refl
 
--- what is above VOUT_MAX now shows
+-- what is outside its limits now shows
 cut-now : (config : Config) (words : Words) (output : ℕ) → output < config.count → is_cut (value_for config output) words output ≡ true
     → is_output_cut config words output ≡ true
 unfolding is_output_cut

@@ -68,7 +68,7 @@ start_of config = record {
   faults = no_faults;
 }
 
--- an output's latch that is cleared, or set: what is above VOUT_MAX now shows at once
+-- an output's latch that is cleared, or set: what is outside its limits now shows at once
 abbrev pub cleared : Config → Words → List Bool → ℕ → List Bool
 cleared config words cut output = slice_set cut output (is_output_cut config words output)
 

@@ -9,7 +9,7 @@ use Rattle.pm_num.specs.declared.any_format.AnyFormat.{AnyFormat}
 use Rattle.pm_num.specs.declared.any_format.AnyFormat.TheVariants.{Linear11}
 use Rattle.pm_num.specs.declared.fault.NumFault.{NumFault}
 use Rattle.pm_table.specs.declared.cell.Reg.{Reg}
-use Rattle.pm_table.specs.declared.cell.Reg.TheVariants.{Operation, VoutCommand, VoutMax, MarginHigh, MarginLow}
+use Rattle.pm_table.specs.declared.cell.Reg.TheVariants.{Operation, VoutCommand, VoutMax, MarginHigh, MarginLow, VoutMin}
 use Rattle.pm_table.specs.declared.cell.Cell.{Cell}
 use Rattle.pm_table.specs.declared.cell.Cell.TheVariants.{Out, Protect}
 use Rattle.pm_table.specs.declared.vout_mode.VoutMode.{VoutMode}
@@ -33,6 +33,7 @@ register_start VoutCommand start = start.command
 register_start VoutMax start = start.max
 register_start MarginHigh start = start.high
 register_start MarginLow start = start.low
+register_start VoutMin start = start.min
 
 -- an output's start words, in the order of its registers
 abbrev pub start_row : OutputStart → List ℕ
@@ -64,7 +65,7 @@ has_direct config = list_any (λ start. is_direct (mode_of start.mode)) (outputs
 
 -- a start that stands for an output that isn't there
 abbrev pub no_start : OutputStart
-no_start = record { mode = 0; operation = 0; command = 0; max = 0; high = 0; low = 0 }
+no_start = record { mode = 0; operation = 0; command = 0; max = 0; high = 0; low = 0; min = 0 }
 
 -- an output's first register that doesn't accept its start word
 abbrev pub bad_register : ℕ → OutputStart → Option Cell

@@ -121,13 +121,13 @@ sets_cml bit (Heard (Answers request)) = false
 sets_cml bit Restarts = false
 sets_cml bit (Measures output code word) = false
 
--- the output is there, and its selected value is above VOUT_MAX
+-- the output is there, and its selected value is above VOUT_MAX or below VOUT_MIN
 unfoldable pub is_output_cut : Config → Words → ℕ → Bool
 is_output_cut config words output =
     nat_lt output config.count && is_cut (value_for config output) words output
 
--- bit 3 of an output's STATUS_VOUT after a past: its selected value was above VOUT_MAX at some
--- moment from the last clearing on
+-- bit 3 of an output's STATUS_VOUT after a past: its selected value was above VOUT_MAX or below
+-- VOUT_MIN at some moment from the last clearing on
 unfoldable pub vout_in : Config → List Event → ℕ → Bool
 vout_in config past output = list_any (λ moment. is_output_cut config moment.words output)
     (from_last (clears (act_clears_vout output)) (moments config past))
@@ -149,7 +149,7 @@ is_on held output = has_bit (word_at held.words (Out output Operation)) 0x80
 abbrev pub cut_at : List Bool → ℕ → Bool
 cut_at cut output = slice_index_or cut output false
 
--- STATUS_VOUT: bit 3, VOUT_MAX warning
+-- STATUS_VOUT: bit 3, VOUT_MAX_MIN warning
 abbrev pub status_vout : Held → ℕ → ℕ
 status_vout held output = marked 0x08 (cut_at held.cut output)
 

@@ -27,6 +27,8 @@ pub struct OutputStart {
     pub high: u16,
     /// VOUT_MARGIN_LOW.
     pub low: u16,
+    /// VOUT_MIN.
+    pub min: u16,
 }
 
 impl OutputStart {
@@ -40,6 +42,7 @@ impl OutputStart {
         max: 0,
         high: 0,
         low: 0,
+        min: 0,
     };
 
     /// The start word of a register.
@@ -52,6 +55,7 @@ impl OutputStart {
             Reg::VoutMax => self.max,
             Reg::MarginHigh => self.high,
             Reg::MarginLow => self.low,
+            Reg::VoutMin => self.min,
         }
     }
 }

@@ -2,7 +2,7 @@ ghost use Rattle.std.specs.Prelude.{◌≡◌, ◌<◌, true, false, IfOk, OnOk}
 ghost use Rattle.std.specs.Result.{result_err};
 ghost use Rattle.pm_table.specs.Cell.{cell_accepts, IsCell};
 ghost use Rattle.pm_model.specs.Settings.{word_at};
-ghost use Rattle.pm_model.specs.Commanded.{commanded, greatest_value, is_above};
+ghost use Rattle.pm_model.specs.Commanded.{commanded, greatest_value, least_value, is_above};
 ghost use Rattle.pm_device.specs.Held.{is_reading, value_for};
 ghost use Rattle.pm_device.specs.Start.{IsSound, config_fault as spec_config_fault};
 ghost use Rattle.pm_device.specs.Effect.{Hearing, Restarted, Reading};
@@ -167,12 +167,18 @@ impl Converter {
     }
 
     /// The voltage that an output which is there commands, in volts, on or off: the value of the
-    /// word that OPERATION selects, or that of VOUT_MAX where that is less.
+    /// word that OPERATION selects, cut to those of VOUT_MIN and VOUT_MAX; where VOUT_MIN is above
+    /// VOUT_MAX, what is cut is VOUT_MAX.
     pub fn commanded(&self, output: u8) -> Frac
         requires { output < self.now.config.count }
         ensures value { result ≡ commanded (value_for self.now.config output) self.now.words output }
         ensures limited { is_above result
             (greatest_value (value_for self.now.config output) self.now.words output) ≡ false }
+        ensures floored { is_above
+            (least_value (value_for self.now.config output) self.now.words output)
+            (greatest_value (value_for self.now.config output) self.now.words output) ≡ false →
+            is_above (least_value (value_for self.now.config output) self.now.words output)
+            result ≡ false }
     {
         self.settings.commanded(&self.formats, output)
     }

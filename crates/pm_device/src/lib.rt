@@ -22,6 +22,7 @@
 //!         max: 0x4000,
 //!         high: 0x1100,
 //!         low: 0x0F00,
+//!         min: 0x0000,
 //!     };
 //!     let mut converter = Converter::new(Config {
 //!         addr: 0x58,

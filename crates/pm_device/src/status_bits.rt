@@ -70,7 +70,7 @@ bitflag_items! {
         const UV_WARNING = 0x20;
         /// Bit 4, never set here: an undervoltage fault.
         const UV_FAULT = 0x10;
-        /// Bit 3, latched: the selected value was above VOUT_MAX.
+        /// Bit 3, latched, VOUT_MAX_MIN_Warning: the selected value was above VOUT_MAX or below VOUT_MIN.
         const MAX_WARNING = 0x08;
         /// Bit 2, never set here: the output came on too slowly.
         const TON_MAX_FAULT = 0x04;
@@ -255,7 +255,7 @@ impl StatusWord {
 }
 
 impl StatusVout {
-    /// What an output shows whose selected value was above VOUT_MAX.
+    /// What an output shows whose selected value was above VOUT_MAX or below VOUT_MIN, or wasn't.
     pub(crate) fn new(cut: bool) -> StatusVout
         ensures { result.0 ≡ marked 0x08 cut }
     {

@@ -1,8 +1,11 @@
 /// A command that a job sends until it is acknowledged.
 #[derive(Clone, Copy, Debug)]
-pub(crate) enum Command {
+pub enum Command {
     /// CLEAR_FAULTS: clears the latched status of an output.
-    ClearFaults { output: u8 },
+    ClearFaults {
+        /// The output, by its page.
+        output: u8,
+    },
 }
 
 impl Command {

@@ -19,7 +19,7 @@ pub enum HostFault {
     #[error("an unknown output")]
     UnknownOutput,
     /// H5: the cell doesn't accept the word, or isn't a voltage.
-    #[error("a word that the cell doesn't accept")]
+    #[error("a word or a voltage that the cell doesn't take")]
     BadWord,
     /// H6: 16 words are already possible for the cell, and this isn't one of them.
     #[error("too many possible words")]

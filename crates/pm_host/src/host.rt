@@ -11,7 +11,7 @@ ghost use Rattle.pm_num.specs.Nearest.{IsNearest};
 ghost use Rattle.pm_num.specs.Ratio.{micros};
 ghost use Rattle.pm_host.specs.Frames.{frames_left};
 ghost use Rattle.pm_host.specs.Messages.{IsFrameOf};
-ghost use Rattle.pm_host.specs.Refusals.{IsSetup, setup_fault, output_fault, cell_fault, order_fault, micro_fault, micro_word, may_come, sends_read};
+ghost use Rattle.pm_host.specs.Refusals.{IsSetup, setup_fault, output_fault, cell_fault, command_fault, order_fault, micro_fault, micro_word, may_come, sends_read};
 ghost use Rattle.pm_host.specs.Summary.{start, next, step_of, possible_at, standing_at, format_at, sending_in};
 ghost use Rattle.pm_host.specs.Told.{entry_told, OnEnded};
 ghost use Rattle.pm_host.specs.Transcript.{Setup, Accepted, Restarted, Order, Check, Learn, Send};
@@ -185,9 +185,24 @@ impl Host {
         Ok(())
     }
 
-    /// Begins a clear: CLEAR_FAULTS is sent for the output until one is acknowledged, at most `passes`
-    /// times. `Done` says no more than this acknowledgement, `Unknown` that none came. H3 where a job
-    /// is open, otherwise H4 where the output isn't there.
+    /// Begins to send a command, until it is acknowledged, at most `passes` times. `Done` says no more
+    /// than this acknowledgement, `Unknown` that none came. H3 where a job is open, otherwise H4 where
+    /// the command names an output that isn't there.
+    #[tactic(auto, unfolding(crate::specs::Summary::next))]
+    pub fn send(&mut self, command: Command) -> Result<(), HostFault>
+        ensures fault { result_err result ≡ command_fault self.old command }
+        ensures ok { OnOk result (self.new ≡ next self.old (Accepted (Send command))) }
+        ensures err { OnErr result (self.new ≡ self.old) }
+        ensures kept { self.new.setup ≡ self.old.setup }
+        ensures left { OnOk result (frames_left self.new ≤ 2 * self.new.setup.passes) }
+    {
+        self.is_free(command.is_there(self.outputs))?;
+        self.go_on(Stage::Sends { command, tries: 0 });
+        Ok(())
+    }
+
+    /// Begins a clear: sends CLEAR_FAULTS for the output. H3 where a job is open, otherwise H4 where the
+    /// output isn't there.
     #[tactic(auto, unfolding(crate::specs::Summary::next))]
     pub fn clear(&mut self, output: u8) -> Result<(), HostFault>
         ensures fault { result_err result ≡ output_fault self.old output }

@@ -48,6 +48,7 @@ mod step;
 mod told;
 mod turn;
 
+pub use command::Command;
 pub use fault::HostFault;
 pub use host::Host;
 pub use job_end::JobEnd;

@@ -1,7 +1,7 @@
 //! Hexadecimal digits, in either case, and the pairs that write a byte.
-ghost use Rattle.std.specs.Prelude.{◌≡◌, ◌≤◌, unwrap_or};
+ghost use Rattle.std.specs.Prelude.{◌≡◌, ◌≤◌, ◌<◌, ◌∷◌, length, unwrap_or, IfSome};
 ghost use Rattle.hex.specs.Hex.{hex_digit_value, is_hex_digit};
-ghost use Rattle.pm_lines.specs.Pairs.{byte_of as spec_byte_of, digit_value, pair_of as spec_pair_of};
+ghost use Rattle.pm_lines.specs.Pairs.{byte_of as spec_byte_of, digit_value, pair_of as spec_pair_of, paired_bytes, behind_pairs};
 
 // The value of each byte that is a digit, and 255 of each other one.
 #[rattlefmt::skip]
@@ -34,6 +34,19 @@ pub fn pair_of(high: u8, low: u8) -> Option<u8>
         Some(high * 16 + low)
     } else {
         None
+    }
+}
+
+/// The byte of the two digits that stand first, and what follows the space after them. None
+/// where no pair of digits and a space stand first.
+pub fn spaced_pair(digits: &[u8]) -> Option<(u8, &[u8])>
+    ensures byte { IfSome result (λ pair. paired_bytes digits.now ≡ pair.0 ∷ paired_bytes pair.1.now) }
+    ensures rest { IfSome result (λ pair. behind_pairs digits.now ≡ behind_pairs pair.1.now) }
+    ensures fewer { IfSome result (λ pair. length pair.1.now < length digits.now) }
+{
+    match digits {
+        [high, low, b' ', more @ ..] => Some((pair_of(*high, *low)?, more)),
+        _ => None,
     }
 }
 

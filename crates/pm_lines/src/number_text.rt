@@ -1,32 +1,27 @@
 //! Numbers in a text.
-ghost use Rattle.std.specs.Prelude.{◌≡◌, ◌+◌, ◌<◌, ◌++◌, ◌∷◌, true, OnOk, decimal, string_bytes};
+ghost use Rattle.std.specs.Prelude.{◌≡◌, ◌+◌, ◌<◌, ◌++◌, ◌∷◌, [], true, OnOk, decimal, string_bytes};
 ghost use Rattle.std.specs.Fmt.{digit_glyph, signed_decimal};
 ghost use Rattle.pm_lines.specs.Numbers.{hex_byte, hex_number, hex_word};
 
 use std::alloc::AllocError;
 
-/// Appends a number in decimal.
+// The digits of hexadecimal numbers, in order, of which the first ten are those of decimal ones.
+const DIGITS: &str = "0123456789ABCDEF";
+
+/// Appends a number in decimal. Takes memory as the text grows.
 #[tactic(auto, using(crate::proofs::Joins::digit_joins))]
 pub fn push_decimal(text: &mut String, number: u64) -> Result<(), AllocError>
     ensures { OnOk result (string_bytes text.new ≡ string_bytes text.old ++ decimal number) }
 {
     if number < 10 {
-        return text.push(decimal_glyph(number as u8));
+        return text.push_str(digit_text(number as u8));
     }
     let mut digits = itoa::Buffer::new();
     text.push_str(digits.format(number))
 }
 
-// The digit of a value.
-fn decimal_glyph(value: u8) -> char
-    requires { value < 10 }
-    ensures digit { result ≡ 48 + value }
-    ensures ascii { result < 128 }
-{
-    char::from(b'0' + value)
-}
-
-/// Appends a number in decimal, with `-` before it where it is negative.
+/// Appends a number in decimal, with `-` before it where it is negative. Takes memory as the text
+/// grows.
 pub fn push_signed(text: &mut String, number: i128) -> Result<(), AllocError>
     ensures { OnOk result (string_bytes text.new ≡ string_bytes text.old ++ signed_decimal number) }
 {
@@ -34,16 +29,18 @@ pub fn push_signed(text: &mut String, number: i128) -> Result<(), AllocError>
     text.push_str(digits.format(number))
 }
 
-/// Appends a byte in hexadecimal, as two digits in upper case.
+/// Appends a byte in hexadecimal, as two digits in upper case. Takes memory as the text
+/// grows.
 #[tactic(auto, using(crate::proofs::Joins::joins), unfolding(crate::specs::Numbers::hex_byte))]
 pub fn push_hex(text: &mut String, byte: u8) -> Result<(), AllocError>
     ensures { OnOk result (string_bytes text.new ≡ string_bytes text.old ++ hex_byte byte) }
 {
-    text.push(hex_digit(byte / 16))?;
-    text.push(hex_digit(byte % 16))
+    text.push_str(digit_text(byte / 16))?;
+    text.push_str(digit_text(byte % 16))
 }
 
-/// Appends a word in hexadecimal, as four digits in upper case.
+/// Appends a word in hexadecimal, as four digits in upper case. Takes memory as the text
+/// grows.
 #[tactic(auto, using(crate::proofs::Joins::joins), unfolding(crate::specs::Numbers::hex_word))]
 pub fn push_hex_word(text: &mut String, word: u16) -> Result<(), AllocError>
     ensures { OnOk result (string_bytes text.new ≡ string_bytes text.old ++ hex_word word) }
@@ -52,7 +49,8 @@ pub fn push_hex_word(text: &mut String, word: u16) -> Result<(), AllocError>
     push_hex(text, (word % 256) as u8)
 }
 
-/// Appends a number in hexadecimal; `bytes` is the number, low byte first.
+/// Appends a number in hexadecimal; `bytes` is the number, low byte first. Takes memory as the text
+/// grows.
 #[tactic(auto, using(crate::proofs::Joins::joins))]
 pub fn push_hex_number(text: &mut String, bytes: &[u8]) -> Result<(), AllocError>
     ensures { OnOk result (string_bytes text.new ≡ string_bytes text.old ++ hex_number bytes.now) }
@@ -78,24 +76,19 @@ pub fn hex_digits(byte: u8) -> [u8; 2]
     [hex_glyph(byte / 16), hex_glyph(byte % 16)]
 }
 
-// The digit of a value.
-fn hex_digit(value: u8) -> char
+// The digit of a value, as a text.
+fn digit_text(value: u8) -> &'static str
     requires { value < 16 }
-    ensures digit { result ≡ digit_glyph true value }
-    ensures ascii { result < 128 }
+    ensures { result.now ≡ digit_glyph true value ∷ [] }
 {
-    char::from(hex_glyph(value))
+    let at = usize::from(value);
+    &DIGITS[at..at + 1]
 }
 
 // The byte of a value's digit.
 fn hex_glyph(value: u8) -> u8
     requires { value < 16 }
-    ensures digit { result ≡ digit_glyph true value }
-    ensures ascii { result < 128 }
+    ensures { result ≡ digit_glyph true value }
 {
-    if value < 10 {
-        b'0' + value
-    } else {
-        b'A' - 10 + value
-    }
+    DIGITS.as_bytes()[usize::from(value)]
 }

@@ -1,5 +1,5 @@
 -- In a run of the order machine each cell has its start word, or one that was accepted for it.
-use Rattle.std.proofs.Common.{◌≡◌, inl, inr, ℕ, ◌≤◌, Bool, true, false, cond, IsTrue, ◌↔◌, List, [], ◌∷◌, Option, Some, None, refl, sym, ap}
+use Rattle.std.proofs.Common.{◌≡◌, inl, inr, ℕ, ◌≤◌, Bool, true, false, cond, List, [], ◌∷◌, Option, Some, None, refl, sym, ap}
 use Rattle.std.proofs.Common.{subst, arith}
 use Rattle.std.specs.List.{Contains}
 use Rattle.std.proofs.lemmas.List.Elements.{Contains-append_left, Contains-append_right, Contains-push}
@@ -8,7 +8,7 @@ use Rattle.pm_table.specs.declared.cell.Cell.TheVariants.{Out, Protect}
 use Rattle.pm_table.specs.Cell.{IsCell, same_cell}
 use Rattle.pm_table.specs.Laws.{CellsAreToldApart}
 use Rattle.pm_model.specs.declared.pending_order.PendingOrder.{PendingOrder}
-use Rattle.pm_model.specs.Settings.{Settings, Words, AreWords, word_at, with_word}
+use Rattle.pm_model.specs.Settings.{Settings, Words, AreWords, word_at}
 use Rattle.pm_model.specs.Laws.{SettingsAreAMap}
 use Rattle.pm_model.specs.OrderMachine.{Step, Accept, Take, End, Back, with_order, machine_of, IsRun, IsOwnWord, IsAccepted}
 

@@ -3,7 +3,7 @@ use Rattle.std.specs.Prelude.{◌≡◌, ℕ, ◌≤◌, false, List, if◌then�
 use Rattle.pm_table.specs.declared.cell.Cell.{Cell}
 use Rattle.pm_table.specs.Cell.{same_cell, IsCell}
 use Rattle.pm_model.specs.Settings.{Settings, Words, AreWords, word_at, with_word, words_of, HaveSameRegisters}
-use Rattle.pm_model.specs.Commanded.{Scale, commanded, greatest_value, is_above, is_cut}
+use Rattle.pm_model.specs.Commanded.{CommandAlike, Scale, commanded, greatest_value, least_value, is_above, is_cut}
 use Rattle.pm_model.specs.OrderMachine.{Step, IsAccepted, IsOwnWord, IsRun, machine_of}
 
 -- the words of the cells of eight outputs are a map: a cell that was written has the new word and
@@ -27,19 +27,26 @@ pub record SettingsAreAMap : Type 0 where
       ((cell : Cell) → IsCell 8 cell → word_at words cell ≡ word cell) →
       words ≡ words_of word
 
--- what an output commands, and whether it is cut, depends on that output's own registers alone
+-- what an output commands, and whether it is cut, depends on three words alone: the selected one, that
+-- of VOUT_MAX and that of VOUT_MIN; and these are the output's own
 pub record OutputsStandAlone : Type 0 where
+  pub own : (words others : Words) (output : ℕ) →
+      HaveSameRegisters words others output → CommandAlike words others output
   pub commanded : (value : Scale) (words others : Words) (output : ℕ) →
-      HaveSameRegisters words others output →
+      CommandAlike words others output →
       commanded value words output ≡ commanded value others output
   pub cut : (value : Scale) (words others : Words) (output : ℕ) →
-      HaveSameRegisters words others output →
+      CommandAlike words others output →
       is_cut value words output ≡ is_cut value others output
 
--- no output commands a value above that of its VOUT_MAX
-abbrev pub CommandsAreLimited : Type 0
-CommandsAreLimited = (value : Scale) (words : Words) (output : ℕ) →
-    is_above (commanded value words output) (greatest_value value words output) ≡ false
+-- no output commands a value above that of its VOUT_MAX, and none below that of its VOUT_MIN unless
+-- that is above the one of VOUT_MAX
+pub record CommandsAreLimited : Type 0 where
+  pub most : (value : Scale) (words : Words) (output : ℕ) →
+      is_above (commanded value words output) (greatest_value value words output) ≡ false
+  pub least : (value : Scale) (words : Words) (output : ℕ) →
+      is_above (least_value value words output) (greatest_value value words output) ≡ false →
+      is_above (least_value value words output) (commanded value words output) ≡ false
 
 -- in a run of the order machine, which starts with a word for each cell of at most eight outputs,
 -- each cell that there is has its start word or one that was accepted for that very cell, a pending

@@ -1,6 +1,7 @@
 use pm_num::AnyFormat;
 
-/// What the words of each output's voltages stand for: of VOUT_COMMAND, VOUT_MAX and both margins.
+/// What the words of each output's voltages stand for: of VOUT_COMMAND, its two limits and both
+/// margins.
 #[derive(Clone, Copy, Debug)]
 pub struct Formats {
     /// How many outputs there are.

@@ -19,13 +19,15 @@ pub fn settings_are_a_map()
     cells_are_told_apart();
 }
 
-/// What an output commands, and whether it is cut, depends on that output's own registers alone.
+/// What an output commands, and whether it is cut, depends on three words alone, those that OPERATION
+/// selects, of VOUT_MAX and of VOUT_MIN (`commanded`, `cut`), and these are the output's own (`own`).
 #[tactic(auto, unfolding(crate::specs::Commanded::commanded, crate::specs::Commanded::is_cut, crate::specs::Commanded::selected))]
 pub fn outputs_stand_alone()
     ensures { OutputsStandAlone }
 {}
 
-/// No output commands a value above that of its VOUT_MAX.
+/// No output commands a value above that of its VOUT_MAX (`most`), and none below that of its VOUT_MIN
+/// unless that is above the one of VOUT_MAX (`least`).
 #[tactic(auto, unfolding(crate::specs::Commanded::commanded))]
 pub fn commands_are_limited()
     ensures { CommandsAreLimited }

@@ -3,7 +3,8 @@
 //!
 //! [`Plain`] is the map of a converter with one to eight outputs, [`OrderMachine`] is such a map under
 //! orders alone, and [`Formats`] says what the words of each output's voltages stand for.
-//! [`Plain::commanded`] is the voltage that an output asks for, cut to that of its VOUT_MAX.
+//! [`Plain::commanded`] is the voltage that an output asks for, cut to its VOUT_MIN and
+//! VOUT_MAX.
 //!
 //! It hears no frame and keeps no page, no reading and no status: `pm_device` does. It takes no
 //! memory.

@@ -2,7 +2,7 @@ ghost use Rattle.std.specs.Prelude.{◌≡◌, ◌↔◌, ◌≤◌, ◌<◌, �
 ghost use Rattle.pm_table.specs.Cell.{cell_accepts, protect_place, register_accepts, register_count, register_number, IsCell};
 ghost use Rattle.pm_table.specs.declared.cell.Reg.{Reg as Register};
 ghost use Rattle.pm_model.specs.Settings.{word_at, with_word, AreSettings, AreWords};
-ghost use Rattle.pm_model.specs.Commanded.{commanded, greatest_value, is_above as spec_is_above, is_cut, scale_at, selected_register as spec_selected_register, selected_value};
+ghost use Rattle.pm_model.specs.Commanded.{commanded, greatest_value, least_value, is_above as spec_is_above, is_outside as spec_is_outside, is_cut, scale_at, selected_register as spec_selected_register, selected_value};
 
 use crate::formats::Formats;
 use crate::laws::{commands_are_limited, settings_are_a_map};
@@ -127,8 +127,8 @@ impl Plain {
     }
 
     /// The voltage that an output which is there commands: the value of the word that OPERATION
-    /// selects, VOUT_COMMAND or a margin, or the value of VOUT_MAX where that is less. Volts; an
-    /// output that is off keeps it.
+    /// selects, VOUT_COMMAND or a margin, cut to those of VOUT_MIN and VOUT_MAX; where VOUT_MIN is
+    /// above VOUT_MAX, what is cut is VOUT_MAX. Volts; an output that is off keeps it.
     #[tactic(auto, unfolding(crate::specs::Commanded::commanded, crate::specs::Commanded::is_cut))]
     pub fn commanded(&self, formats: &Formats, output: u8) -> Frac
         requires { output < self.now.count }
@@ -136,24 +136,36 @@ impl Plain {
             ≡ commanded (scale_at formats.now.each output) self.now.words output }
         ensures limited { spec_is_above result
             (greatest_value (scale_at formats.now.each output) self.now.words output) ≡ false }
+        ensures floored { spec_is_above
+            (least_value (scale_at formats.now.each output) self.now.words output)
+            (greatest_value (scale_at formats.now.each output) self.now.words output) ≡ false →
+            spec_is_above (least_value (scale_at formats.now.each output) self.now.words output)
+            result ≡ false }
     {
-        // For the clause `limited`.
+        // For the clauses `limited` and `floored`.
         commands_are_limited();
-        if self.is_cut(formats, output) {
-            self.greatest(formats, output)
+        let selected = self.selected(formats, output);
+        let least = self.least(formats, output);
+        let greatest = self.greatest(formats, output);
+        if !is_outside(&selected, &least, &greatest) {
+            selected
+        } else if is_above(&selected, &greatest) || is_above(&least, &greatest) {
+            greatest
         } else {
-            self.selected(formats, output)
+            least
         }
     }
 
-    /// Whether the value of the word that OPERATION selects is greater than that of VOUT_MAX.
+    /// Whether the value of the word that OPERATION selects is above that of VOUT_MAX, or below that
+    /// of VOUT_MIN.
     #[tactic(auto, unfolding(crate::specs::Commanded::is_cut))]
     pub fn is_cut(&self, formats: &Formats, output: u8) -> bool
         requires { output < self.now.count }
         ensures { result ≡ is_cut (scale_at formats.now.each output) self.now.words output }
     {
-        is_above(
+        is_outside(
             &self.selected(formats, output),
+            &self.least(formats, output),
             &self.greatest(formats, output),
         )
     }
@@ -167,6 +179,14 @@ impl Plain {
     {
         let operation = self.get(Cell::Out(output, Reg::Operation));
         self.value(formats, output, selected_register(operation))
+    }
+
+    // The value of the output's VOUT_MIN.
+    fn least(&self, formats: &Formats, output: u8) -> Frac
+        requires { output < self.now.count }
+        ensures { result ≡ least_value (scale_at formats.now.each output) self.now.words output }
+    {
+        self.value(formats, output, Reg::VoutMin)
     }
 
     // The value of the output's VOUT_MAX.
@@ -200,6 +220,13 @@ fn selected_register(operation: u16) -> Reg
         0b101001 | 0b101010 => Reg::MarginHigh,
         _ => Reg::VoutCommand,
     }
+}
+
+// Whether the selected fraction is above the greatest one, or below the least one.
+fn is_outside(selected: &Frac, least: &Frac, greatest: &Frac) -> bool
+    ensures { result ≡ spec_is_outside selected.now least.now greatest.now }
+{
+    is_above(selected, greatest) || is_above(least, selected)
 }
 
 // Whether the first fraction is the greater one.

@@ -12,10 +12,12 @@ abbrev are_short : List Row → Bool
 are_short [] = true
 are_short (row ∷ rows) = leb row.line.length 2 && are_short rows
 
+-- where one of two lines is chosen, both being short
 IsShort-cond : (b : Bool) (line rest : Option Line) → IsShort line → IsShort rest → IsShort (cond b line rest)
 IsShort-cond true line rest here there = here
 IsShort-cond false line rest here there = there
 
+-- the line of a code among rows that are all short
 IsShort-line_among : (rows : List Row) (code : ℕ) → are_short rows ≡ true → IsShort (line_among rows code)
 IsShort-line_among [] code h = lit≤ tt
 IsShort-line_among (row ∷ rows) code h =

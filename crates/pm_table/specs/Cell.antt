@@ -1,10 +1,10 @@
 -- The cells: the settings of a power converter that hold a word. An output has one for each of its
 -- registers, and WRITE_PROTECT is the device's. The list of registers stands here alone: every other
 -- question on them asks it, or their line of the command table.
-use Rattle.std.specs.Prelude.{◌≡◌, ℕ, ◌+◌, ◌*◌, ◌/◌, ◌%◌, ◌<◌, ◌≤◌, ◌↔◌, Bool, true, false, IsTrue, ◌&&◌, ◌||◌, List, [], ◌∷◌, length, find, position, slice_index_or, unwrap_or, Option, Some, None, if◌then◌else◌, ◌==◌}
+use Rattle.std.specs.Prelude.{ℕ, ◌+◌, ◌*◌, ◌/◌, ◌%◌, ◌<◌, Bool, true, false, ◌&&◌, ◌||◌, List, [], ◌∷◌, length, find, position, slice_index_or, unwrap_or, Option, Some, if◌then◌else◌, ◌==◌}
 use Rattle.std.specs.Option.{option_map, option_map_or}
 use Rattle.pm_table.specs.declared.cell.Reg.{Reg}
-use Rattle.pm_table.specs.declared.cell.Reg.TheVariants.{Operation, VoutCommand, VoutMax, MarginHigh, MarginLow}
+use Rattle.pm_table.specs.declared.cell.Reg.TheVariants.{Operation, VoutCommand, VoutMax, MarginHigh, MarginLow, VoutMin}
 use Rattle.pm_table.specs.declared.cell.Cell.{Cell}
 use Rattle.pm_table.specs.declared.cell.Cell.TheVariants.{Out, Protect}
 use Rattle.pm_table.specs.Codes as command
@@ -12,7 +12,7 @@ use Rattle.pm_table.specs.Commands.{name_of}
 
 -- the registers of an output, in their order
 abbrev pub registers : List Reg
-registers = Operation ∷ VoutCommand ∷ VoutMax ∷ MarginHigh ∷ MarginLow ∷ []
+registers = Operation ∷ VoutCommand ∷ VoutMax ∷ MarginHigh ∷ MarginLow ∷ VoutMin ∷ []
 
 -- how many registers an output has
 abbrev pub register_count : ℕ
@@ -25,6 +25,7 @@ register_code VoutCommand = command.vout_command
 register_code VoutMax = command.vout_max
 register_code MarginHigh = command.vout_margin_high
 register_code MarginLow = command.vout_margin_low
+register_code VoutMin = command.vout_min
 
 -- OPERATION is a byte, every other register a voltage of two bytes
 abbrev pub is_voltage : Reg → Bool

@@ -38,6 +38,9 @@ vout_margin_high = 0x25
 abbrev pub vout_margin_low : ℕ
 vout_margin_low = 0x26
 
+abbrev pub vout_min : ℕ
+vout_min = 0x2B
+
 abbrev pub coefficients : ℕ
 coefficients = 0x30
 

@@ -75,6 +75,7 @@ rows =
     row command.vout_max (setting (codes "VOUT_MAX") 2 true) ∷
     row command.vout_margin_high (setting (codes "VOUT_MARGIN_HIGH") 2 true) ∷
     row command.vout_margin_low (setting (codes "VOUT_MARGIN_LOW") 2 true) ∷
+    row command.vout_min (setting (codes "VOUT_MIN") 2 true) ∷
     row command.coefficients (reading (codes "COEFFICIENTS") 0 false) ∷
     row command.status_byte (reading (codes "STATUS_BYTE") 1 true) ∷
     row command.status_word (reading (codes "STATUS_WORD") 2 true) ∷

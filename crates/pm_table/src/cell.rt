@@ -10,7 +10,7 @@ use crate::commands::Code;
 pub enum Reg {
     /// OPERATION: on, off and margins. One byte.
     Operation,
-    /// VOUT_COMMAND: the voltage that is asked for. A word in the output's format, as the three
+    /// VOUT_COMMAND: the voltage that is asked for. A word in the output's format, as the four
     /// below.
     VoutCommand,
     /// VOUT_MAX: the greatest voltage that may be commanded.
@@ -19,13 +19,15 @@ pub enum Reg {
     MarginHigh,
     /// VOUT_MARGIN_LOW: the voltage while OPERATION asks for margin low.
     MarginLow,
+    /// VOUT_MIN: the least voltage that may be commanded, where VOUT_MAX isn't below it.
+    VoutMin,
 }
 
 impl Reg {
     ghost use Rattle.pm_table.specs.Cell.{is_voltage, register_code, register_count, register_number, register_of};
 
     /// How many registers an output has.
-    pub const COUNT: usize = 5;
+    pub const COUNT: usize = 6;
 
     /// The registers of an output, in their order.
     pub const ALL: [Reg; Reg::COUNT] = [
@@ -34,6 +36,7 @@ impl Reg {
         Reg::VoutMax,
         Reg::MarginHigh,
         Reg::MarginLow,
+        Reg::VoutMin,
     ];
 
     /// The command code that reads and writes the register.
@@ -46,6 +49,7 @@ impl Reg {
             Reg::VoutMax => Code::VOUT_MAX,
             Reg::MarginHigh => Code::VOUT_MARGIN_HIGH,
             Reg::MarginLow => Code::VOUT_MARGIN_LOW,
+            Reg::VoutMin => Code::VOUT_MIN,
         }
     }
 
@@ -205,12 +209,13 @@ mod tests {
         (0b1111_1100, 0b1010_1000),
     ];
 
-    const REGISTERS: [(u8, Reg); 5] = [
+    const REGISTERS: [(u8, Reg); 6] = [
         (0x01, Reg::Operation),
         (0x21, Reg::VoutCommand),
         (0x24, Reg::VoutMax),
         (0x25, Reg::MarginHigh),
         (0x26, Reg::MarginLow),
+        (0x2B, Reg::VoutMin),
     ];
 
     #[test]
@@ -254,6 +259,7 @@ mod tests {
                 Cell::Out(0, Reg::MarginLow).accepts(word),
                 "word {word:04X}"
             );
+            assert!(rt; Cell::Out(0, Reg::VoutMin).accepts(word), "word {word:04X}");
         }
     }
 
@@ -273,11 +279,12 @@ mod tests {
                 Cell::Out(255, Reg::MarginLow).accepts(word),
                 "word {word:04X}"
             );
+            assert!(rt; Cell::Out(2, Reg::VoutMin).accepts(word), "word {word:04X}");
         }
     }
 
     #[test]
-    fn six_codes_mean_a_cell_and_no_other_does(rt: HostRuntime) {
+    fn seven_codes_mean_a_cell_and_no_other_does(rt: HostRuntime) {
         for code in 0..=u8::MAX {
             let register = REGISTERS.iter().find(|row| row.0 == code).map(|row| row.1);
             let first = register.map(|register| Cell::Out(0, register));

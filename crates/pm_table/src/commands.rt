@@ -34,6 +34,8 @@ impl Code {
     pub const VOUT_MARGIN_HIGH: Code = Code(0x25);
     /// VOUT_MARGIN_LOW.
     pub const VOUT_MARGIN_LOW: Code = Code(0x26);
+    /// VOUT_MIN.
+    pub const VOUT_MIN: Code = Code(0x2B);
     /// COEFFICIENTS.
     pub const COEFFICIENTS: Code = Code(0x30);
     /// STATUS_BYTE.
@@ -75,6 +77,7 @@ impl Code {
             Code::VOUT_MAX => Some(setting(2, true)),
             Code::VOUT_MARGIN_HIGH => Some(setting(2, true)),
             Code::VOUT_MARGIN_LOW => Some(setting(2, true)),
+            Code::VOUT_MIN => Some(setting(2, true)),
             Code::COEFFICIENTS => Some(reading(0, false)),
             Code::STATUS_BYTE => Some(reading(1, true)),
             Code::STATUS_WORD => Some(reading(2, true)),
@@ -147,6 +150,7 @@ impl Code {
             Code::VOUT_MAX => "VOUT_MAX",
             Code::VOUT_MARGIN_HIGH => "VOUT_MARGIN_HIGH",
             Code::VOUT_MARGIN_LOW => "VOUT_MARGIN_LOW",
+            Code::VOUT_MIN => "VOUT_MIN",
             Code::COEFFICIENTS => "COEFFICIENTS",
             Code::STATUS_BYTE => "STATUS_BYTE",
             Code::STATUS_WORD => "STATUS_WORD",

@@ -2,9 +2,9 @@
 
 use crate::fixtures::{
     ACKED, BASE, CELLS, CHECK, FIRST, LOST, NOT_ACKED, ORDER, READ, READ_LOST, SECOND, WHOLE,
-    after, may_hold, standing, word,
+    may_hold, standing, word,
 };
-use pm_host::Standing;
+use pm_host::{JobEnd, Standing};
 use pm_world::{Event, SetupFault, World};
 use std::process::Abort;
 
@@ -85,23 +85,73 @@ fn the_host_says_what_it_can_know(rt: HostRuntime) -> Result<(), SetupFault> {
     Ok(())
 }
 
-// Cells that were confirmed stay so when a restart is seen by another, but may hold any word.
+// The first pass reads the old word, and nothing answers the second: the order's end is unknown.
+const LAST_ANSWER_LOST: [Row; 7] = [
+    (ORDER, UNKNOWN, &[], 0x1000, false),
+    (LOST, UNKNOWN, &[], 0x1000, false),
+    (ACKED, UNKNOWN, &[], 0x1000, false),
+    (READ, UNKNOWN, &[0x1000, 0x34CD], 0x1000, false),
+    (WHOLE, UNKNOWN, &[0x1000, 0x34CD], 0x34CD, false),
+    (ACKED, UNKNOWN, &[0x1000, 0x34CD], 0x34CD, false),
+    (READ_LOST, UNKNOWN, &[0x1000, 0x34CD], 0x34CD, false),
+];
+
+#[test]
+fn an_order_differs_by_its_last_answer_alone(rt: HostRuntime) -> Result<(), SetupFault> {
+    let mut world = World::new(BASE, 2)?;
+    follow(&rt, &mut world, &LAST_ANSWER_LOST);
+    assert_eq!(rt; world.last_end(), Some(JobEnd::Unknown));
+    Ok(())
+}
+
+// A word of each cell that isn't its start word.
+const OTHERS: [u16; 13] = [
+    0x40, 0x34CD, 0x5678, 0x1234, 0x0ABC, 0x0100, 0x94, 0x0FFF, 0x5679, 0x1235, 0x0ABD, 0x0101,
+    0x20,
+];
+
+fn takes(rt: &impl Abort, world: &mut World, events: &[Event]) {
+    for event in events {
+        assert_eq!(rt; world.step(event), Ok(()), "{event:?}");
+    }
+}
+
+// Each cell was confirmed; then one of them, whichever it is, shows that the converter restarted. The
+// others stay confirmed, but may hold any word. No job but the host's own restart forgets what was seen.
 #[test]
 fn a_restart_that_is_seen_leaves_what_was_confirmed(rt: HostRuntime) -> Result<(), SetupFault> {
-    let events = [
-        Event::Check(SECOND),
-        READ,
-        ORDER,
-        WHOLE,
-        ACKED,
-        READ,
-        Event::RestartDevice,
-        CHECK,
-        READ,
-    ];
-    let world = after(&rt, BASE, 2, &events)?;
-    assert!(rt; world.host().restart_seen());
-    assert_eq!(rt; standing(&world, SECOND), Some(START));
-    assert!(rt; may_hold(&world, SECOND, &[]) && may_hold(&world, FIRST, &[0x1000]));
+    assert_eq!(rt; CELLS.len(), OTHERS.len());
+    for (cell, other) in CELLS.into_iter().zip(OTHERS) {
+        let mut world = World::new(BASE, 2)?;
+        for checked in CELLS {
+            takes(&rt, &mut world, &[Event::Check(checked), READ]);
+        }
+        let order = Event::Order(cell, other);
+        takes(&rt, &mut world, &[order, WHOLE, ACKED, READ]);
+        assert!(rt; !world.host().restart_seen(), "{cell:?}");
+        let check = Event::Check(cell);
+        takes(&rt, &mut world, &[Event::RestartDevice, check, READ]);
+        for told in CELLS {
+            let start = word(world.device(), told);
+            let confirmed = Some(Standing::Confirmed(start));
+            assert_eq!(rt; standing(&world, told), confirmed, "{told:?} by {cell:?}");
+            let words: &[u16] = if told == cell { &[start] } else { &[] };
+            assert!(rt; may_hold(&world, told, words), "{told:?} by {cell:?}");
+        }
+        for events in [
+            [Event::Clear(0), ACKED],
+            [Event::Learn(1), READ],
+            [CHECK, READ],
+        ] {
+            takes(&rt, &mut world, &events);
+            assert!(rt; world.host().restart_seen(), "{events:?} after {cell:?}");
+        }
+        takes(&rt, &mut world, &[Event::RestartHost]);
+        assert!(rt; !world.host().restart_seen(), "{cell:?}");
+        for told in CELLS {
+            assert_eq!(rt; standing(&world, told), Some(UNKNOWN), "{told:?}");
+            assert!(rt; may_hold(&world, told, &[]), "{told:?} by {cell:?}");
+        }
+    }
     Ok(())
 }

@@ -77,7 +77,10 @@ const HOST: [(HostFault, &str); 10] = [
     (HostFault::Passes, "a number of passes other than 1 to 15"),
     (HostFault::Busy, "an open job"),
     (HostFault::UnknownOutput, "an unknown output"),
-    (HostFault::BadWord, "a word that the cell doesn't accept"),
+    (
+        HostFault::BadWord,
+        "a word or a voltage that the cell doesn't take",
+    ),
     (HostFault::TooUncertain, "too many possible words"),
     (HostFault::FormatUnknown, "an unknown format"),
     (
@@ -135,6 +138,8 @@ fn each_fault_has_its_text(rt: HostRuntime) -> Result<(), Fail> {
     for (fault, text) in HOST {
         assert_eq!(rt; fault.to_string(rt.alloc())?.as_str(), text);
     }
+    // The one letter that no text shows: of a world the converter's fault comes first.
+    assert_eq!(rt; HostFault::OutputCount.words(), "H1 OutputCount");
     for (cause, text) in CAUSES {
         assert_eq!(rt; cause.to_string(rt.alloc())?.as_str(), text);
     }

@@ -1,56 +1,14 @@
-//! What the tests share: a converter's configuration, cells, events, and frames written as texts.
+//! What the tests share: events, and frames written as texts.
 
 ghost use Rattle.std.specs.Prelude.{◌≡◌, ◌<◌};
 
-use pm_device::{Config, Converter, Ending, OutputStart};
+use pm_device::{Config, Converter, Ending};
+pub(crate) use pm_device_tests::{BASE, CELLS, FIRST, OUTPUT, SECOND, START};
 use pm_frame::Frame;
 use pm_host::{Possible, Standing};
-use pm_table::{Cell, Coefficients, Reg};
+use pm_table::Cell;
 use pm_world::{Arrival, Back, Event, SetupFault, World};
 use std::process::Abort;
-
-/// An output that is on, asks for 1 V and allows 4 V, margins at 1.0625 V and 0.9375 V, in ULINEAR16
-/// with N = -12.
-pub(crate) const OUTPUT: OutputStart = OutputStart {
-    mode: 0x14,
-    operation: 0x80,
-    command: 0x1000,
-    max: 0x4000,
-    high: 0x1100,
-    low: 0x0F00,
-};
-
-/// The words of such an output, as the settings and the order machine take them.
-pub(crate) const START: [u16; 5] = [0x80, 0x1000, 0x4000, 0x1100, 0x0F00];
-
-/// Two such outputs at address 58h, and no write blocked.
-pub(crate) const BASE: Config = Config {
-    addr: 0x58,
-    count: 2,
-    starts: [OUTPUT; 8],
-    protect: 0x00,
-    coefficients: Coefficients { m: 1, b: 0, r: 0 },
-};
-
-/// VOUT_COMMAND of both outputs.
-pub(crate) const FIRST: Cell = Cell::Out(0, Reg::VoutCommand);
-
-pub(crate) const SECOND: Cell = Cell::Out(1, Reg::VoutCommand);
-
-/// Every cell of two outputs.
-pub(crate) const CELLS: [Cell; 11] = [
-    Cell::Out(0, Reg::Operation),
-    FIRST,
-    Cell::Out(0, Reg::VoutMax),
-    Cell::Out(0, Reg::MarginHigh),
-    Cell::Out(0, Reg::MarginLow),
-    Cell::Out(1, Reg::Operation),
-    SECOND,
-    Cell::Out(1, Reg::VoutMax),
-    Cell::Out(1, Reg::MarginHigh),
-    Cell::Out(1, Reg::MarginLow),
-    Cell::Protect,
-];
 
 /// A check of the first cell, and an order of 34CDh for it.
 pub(crate) const CHECK: Event = Event::Check(FIRST);

@@ -1,7 +1,7 @@
 //! After `World::run` one goes on with `World::step`, and has each of its promises for the longer list of
 //! events too, by the laws of worlds and with no proof by hand.
 
-ghost use Rattle.std.specs.Prelude.{◌≡◌, ◌∷◌, ◌<◌, ℕ, [], IfOk, IfSome, OnSome, OnOk, reverse};
+ghost use Rattle.std.specs.Prelude.{◌≡◌, ◌∷◌, ◌<◌, ◌≤◌, ℕ, [], Some, IfOk, IfSome, OnSome, OnOk, reverse};
 ghost use Rattle.pm_table.specs.declared.cell.Cell.{Cell};
 ghost use Rattle.pm_table.specs.Cell.{IsCell};
 ghost use Rattle.pm_model.specs.Commanded.{commanded};
@@ -15,6 +15,9 @@ ghost use Rattle.pm_world.specs.Setup.{setup_of};
 ghost use Rattle.pm_world.specs.Life.{AreTaken, now};
 ghost use Rattle.pm_world.specs.Possible.{PossibleIsHeld, SeenIsTrue};
 ghost use Rattle.pm_world.specs.Retelling.{CommandsOwn, IsOrderRun, IsOwnWord};
+ghost use Rattle.pm_world.specs.State.{State, cause_of, event_cause};
+ghost use Rattle.pm_world.specs.declared.event.Event.{Event as Happening};
+ghost use Rattle.pm_world.specs.declared.stop.Cause.TheVariants.{Full};
 
 use pm_device::Config;
 use pm_world::{
@@ -112,3 +115,14 @@ pub fn words_after_a_step(
     possible_words_are_held();
     run_and_step(c, passes, events, more)
 }
+
+/// A world takes 281,474,976,710,656 events: from then on each is refused as that, whatever else is
+/// against it, and before it none is. No list of events is so long, so this row is one of the
+/// definition, and proved.
+#[tactic(auto, unfolding(pm_world::specs::State::cause_of))]
+pub fn a_full_world_takes_no_event()
+    ensures full { (s : State) (event : Happening) →
+        281474976710656 ≤ s.taken → cause_of s event ≡ Some Full }
+    ensures room { (s : State) (event : Happening) →
+        s.taken < 281474976710656 → cause_of s event ≡ event_cause s event }
+{}

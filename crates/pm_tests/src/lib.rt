@@ -1,15 +1,13 @@
-//! Tests over the public calls of the converter, the host and the world, a module for each thing that
-//! is tested, and in `further` what is proved of a world that goes on after a run.
+//! Tests over the public calls of the host and of the world, a module for each thing that is tested,
+//! and in `further` what is proved of a world that goes on after a run.
 #![tactic(auto)]
 
+#[cfg(test)]
+mod bursts;
 #[cfg(test)]
 mod causes;
 #[cfg(test)]
 mod confirmed;
-#[cfg(test)]
-mod damage;
-#[cfg(test)]
-mod device;
 #[cfg(test)]
 mod driver;
 #[cfg(test)]
@@ -21,8 +19,6 @@ mod fixtures;
 pub mod further;
 #[cfg(test)]
 mod host;
-#[cfg(test)]
-mod model;
 #[cfg(test)]
 mod orders;
 #[cfg(test)]

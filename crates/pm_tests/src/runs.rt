@@ -5,8 +5,9 @@ use crate::fixtures::{
     ACKED, BASE, CHECK, FIRST, LOST, NOT_ACKED, ORDER, READ, READ_LOST, SECOND, WHOLE, arrival,
     frame, standing, word,
 };
-use pm_device::{Config, Ending};
+use pm_device::{Config, Ending, Heard};
 use pm_host::{JobEnd, Standing};
+use pm_table::Code;
 use pm_world::{Arrival, Cause, Event, SetupFault, Stop, World};
 use std::process::Abort;
 
@@ -81,5 +82,40 @@ fn damage_that_the_pec_does_not_betray_stops_a_run(rt: HostRuntime) -> Result<()
     assert_eq!(rt; word(world.device(), FIRST), 0x1000);
     assert_eq!(rt; word(world.device(), SECOND), 0x1000);
     assert_eq!(rt; world.last_end(), None);
+    Ok(())
+}
+
+// Readings of the device and of each output are answered from then on; one of no output, and one of a
+// code that is no reading, are taken too, and change nothing.
+#[test]
+fn a_reading_is_answered_by_the_converter(rt: HostRuntime) -> Result<(), SetupFault> {
+    let mut world = World::new(BASE, 2)?;
+    for (output, code, reading) in [
+        (0, 0x88, 0x1A2B),
+        (0, 0x8B, 0x2B3C),
+        (1, 0x8B, 0x3C4D),
+        (1, 0x8C, 0x5E6F),
+        (255, 0x8D, 0x6F71),
+        (2, 0x8B, 0x7777),
+        (0, 0x21, 0x7777),
+    ] {
+        let event = Event::Reading(output, Code(code), reading);
+        assert_eq!(rt; world.step(&event), Ok(()), "{code:02X}");
+    }
+    for (request, answer) in [
+        ("B0 06 02 00 88", "B1 02 2B 1A C6"),
+        ("B0 06 02 00 8B", "B1 02 3C 2B CB"),
+        ("B0 06 02 01 8B", "B1 02 4D 3C 30"),
+        ("B0 06 02 01 8C", "B1 02 6F 5E B4"),
+        ("B0 06 02 00 8D", "B1 02 71 6F E9"),
+        ("B0 06 02 00 21", "B1 02 00 10 41"),
+    ] {
+        let reply = world
+            .device()
+            .reply(frame(&rt, request).as_slice(), Ending::Restart);
+        let wanted = frame(&rt, answer);
+        let same = matches!(&reply, Heard::Answer(got) if got.as_slice() == wanted.as_slice());
+        assert!(rt; same, "{reply:?} for {request}");
+    }
     Ok(())
 }

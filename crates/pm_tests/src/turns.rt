@@ -5,9 +5,9 @@ use crate::fixtures::{
     after, sends, standing,
 };
 use pm_device::{Config, OutputStart};
-use pm_host::{JobEnd, Standing};
+use pm_host::{HostFault, JobEnd, Standing, Turn};
 use pm_table::{Cell, Coefficients, Reg};
-use pm_world::{Event, SetupFault, World};
+use pm_world::{Cause, Event, SetupFault, World};
 use std::process::Abort;
 
 const DIRECT: OutputStart = OutputStart {
@@ -29,7 +29,7 @@ const MIXED: Config = Config {
 const PASSES: u8 = 3;
 
 // The word of each cell that is ordered, the write and the request.
-const ORDERS: [(Cell, u16, &str, &str); 11] = [
+const ORDERS: [(Cell, u16, &str, &str); 13] = [
     (
         Cell::Out(0, Reg::Operation),
         0x94,
@@ -61,6 +61,12 @@ const ORDERS: [(Cell, u16, &str, &str); 11] = [
         "B0 06 02 00 26",
     ),
     (
+        Cell::Out(0, Reg::VoutMin),
+        0x0123,
+        "B0 05 04 00 2B 23 01 C3",
+        "B0 06 02 00 2B",
+    ),
+    (
         Cell::Out(1, Reg::Operation),
         0x94,
         "B0 05 03 01 01 94 05",
@@ -90,6 +96,12 @@ const ORDERS: [(Cell, u16, &str, &str); 11] = [
         "B0 05 04 01 26 BC 0A 57",
         "B0 06 02 01 26",
     ),
+    (
+        Cell::Out(1, Reg::VoutMin),
+        0x0123,
+        "B0 05 04 01 2B 23 01 D5",
+        "B0 06 02 01 2B",
+    ),
     (Cell::Protect, 0x40, "B0 10 40 7A", "B0 10"),
 ];
 
@@ -99,10 +111,12 @@ fn goes(rt: &impl Abort, world: &mut World, event: &Event, text: &str) {
     assert!(rt; sends(rt, world, text), "{event:?} is followed by {text:?}");
 }
 
-// Each pass of an order writes once and reads once, each try of a check reads once, all in vain.
+// Each pass of an order writes once and reads once, each try of a check reads once, all in vain; the host
+// has started again before.
 #[test]
 fn orders_and_checks_send_the_same_frames_in_each_pass(rt: HostRuntime) -> Result<(), SetupFault> {
     let mut world = World::new(MIXED, PASSES)?;
+    goes(&rt, &mut world, &Event::RestartHost, "");
     for (cell, word, write, request) in ORDERS {
         goes(&rt, &mut world, &Event::Order(cell, word), write);
         for next in [write, write, ""] {
@@ -211,6 +225,106 @@ fn each_output_is_learned_by_itself(rt: HostRuntime) -> Result<(), SetupFault> {
         assert_eq!(rt; world.step(&event), Ok(()));
     }
     goes(&rt, &mut world, &second, "B0 05 04 01 21 E4 0C F7");
+    Ok(())
+}
+
+// Eight outputs in ULINEAR16, with N from -12 to -5.
+const EIGHT: Config = Config {
+    addr: 0x58,
+    count: 8,
+    starts: [
+        OUTPUT,
+        OutputStart {
+            mode: 0x15,
+            ..OUTPUT
+        },
+        OutputStart {
+            mode: 0x16,
+            ..OUTPUT
+        },
+        OutputStart {
+            mode: 0x17,
+            ..OUTPUT
+        },
+        OutputStart {
+            mode: 0x18,
+            ..OUTPUT
+        },
+        OutputStart {
+            mode: 0x19,
+            ..OUTPUT
+        },
+        OutputStart {
+            mode: 0x1A,
+            ..OUTPUT
+        },
+        OutputStart {
+            mode: 0x1B,
+            ..OUTPUT
+        },
+    ],
+    protect: 0x00,
+    coefficients: Coefficients { m: 1, b: 0, r: 0 },
+};
+
+// The request of VOUT_MODE of each, and the write of 1 V in its format.
+const LEARNS: [(&str, &str); 8] = [
+    ("B0 06 02 00 20", "B0 05 04 00 21 00 10 A2"),
+    ("B0 06 02 01 20", "B0 05 04 01 21 00 08 FC"),
+    ("B0 06 02 02 20", "B0 05 04 02 21 00 04 E2"),
+    ("B0 06 02 03 20", "B0 05 04 03 21 00 02 E6"),
+    ("B0 06 02 04 20", "B0 05 04 04 21 00 01 8D"),
+    ("B0 06 02 05 20", "B0 05 04 05 21 80 00 2A"),
+    ("B0 06 02 06 20", "B0 05 04 06 21 40 00 FD"),
+    ("B0 06 02 07 20", "B0 05 04 07 21 20 00 1E"),
+];
+
+#[test]
+fn each_of_eight_outputs_has_a_format_of_its_own(rt: HostRuntime) -> Result<(), SetupFault> {
+    let mut world = World::new(EIGHT, 1)?;
+    for (output, (request, _)) in (0..8).zip(LEARNS) {
+        goes(&rt, &mut world, &Event::Learn(output), request);
+        goes(&rt, &mut world, &READ, "");
+        assert_eq!(rt; world.last_end(), Some(JobEnd::Learned));
+    }
+    for (output, (_, write)) in (0..8).zip(LEARNS) {
+        let volt = Event::OrderMicro(Cell::Out(output, Reg::VoutCommand), 1_000_000);
+        goes(&rt, &mut world, &volt, write);
+        assert_eq!(rt; world.step(&NOT_ACKED), Ok(()));
+        assert_eq!(rt; world.step(&READ_LOST), Ok(()));
+    }
+    // The host's restart forgets each of them.
+    goes(&rt, &mut world, &Event::RestartHost, "");
+    for output in 0..8 {
+        let volt = Event::OrderMicro(Cell::Out(output, Reg::VoutCommand), 1_000_000);
+        let unknown = Err(Cause::Host(HostFault::FormatUnknown));
+        assert_eq!(rt; world.step(&volt), unknown, "output {output}");
+    }
+    Ok(())
+}
+
+#[test]
+fn a_request_says_how_many_bytes_its_answer_has(rt: HostRuntime) -> Result<(), SetupFault> {
+    let learn = [Event::Learn(1), READ];
+    let rows: [(&[Event], &str, usize); 5] = [
+        (&[Event::Check(Cell::Protect)], "B0 10", 3),
+        (
+            &[Event::Check(Cell::Out(0, Reg::Operation))],
+            "B0 06 02 00 01",
+            4,
+        ),
+        (&[CHECK], "B0 06 02 00 21", 5),
+        (&learn[..1], MODE_1, 4),
+        (&learn, COEFFICIENTS, 8),
+    ];
+    for (events, request, wanted) in rows {
+        let world = after(&rt, MIXED, PASSES, events)?;
+        assert!(rt; sends(&rt, &world, request), "{request}");
+        match world.host().turn() {
+            Turn::Request { bytes, .. } => assert_eq!(rt; bytes, wanted, "{request}"),
+            _ => assert!(rt; false, "{request} is no request"),
+        }
+    }
     Ok(())
 }
 

@@ -1,14 +1,13 @@
 -- The outputs of a scenario, one after another.
-use Rattle.std.proofs.Common.{◌≡◌, ℕ, zero, suc, ◌+◌, ◌≤◌, List, [], ◌∷◌, ◌++◌, length, Some, None, Result, Ok, Err, refl, ap, sym, ◌∙◌}
-use Rattle.std.proofs.Common.{arith, add-one, append_assoc, append-nil, length-append, length-take-le}
+use Rattle.std.proofs.Common.{◌≡◌, ℕ, zero, suc, ◌+◌, ◌≤◌, List, [], ◌∷◌, ◌++◌, length, Option, Some, None}
+use Rattle.std.proofs.Common.{Result, Ok, Err, refl, ap, sym, ◌∙◌, arith, add-one, append_assoc, append-nil, length-append, length-take-le}
 use Rattle.std.specs.Prelude.{replicate, slice_set, take}
 use Rattle.std.proofs.lemmas.List.{take-replicate}
 use Rattle.pm_device.specs.declared.config.OutputStart.{OutputStart}
 use Rattle.pm_device.specs.Start.{no_start}
 use Rattle.pm_lines.specs.Lines.{Numbered}
-use Rattle.pm_text.specs.Readers.{Rest, line_as}
-use Rattle.pm_text.specs.ScenarioText.{counted, first_eight, output_line, outputs_in, start_before, starts_of}
-use Rattle.pm_text.specs.declared.form.Form.{Form}
+use Rattle.pm_text.specs.Readers.{Field, Rest, line_as}
+use Rattle.pm_text.specs.ScenarioText.{counted, first_eight, outputs_in, start_before, starts_of}
 use Rattle.pm_text.specs.declared.scenario.fault.ScenarioFault.{ScenarioFault}
 use Rattle.pm_text.specs.declared.scenario.fault.ScenarioFault.TheVariants.{Syntax}
 use Rattle.pm_text.specs.declared.scenario.starts.Starts.{Starts}
@@ -47,9 +46,9 @@ behind-nil (Err first) = refl
 behind-nil (Ok got) = refl
 
 -- no line is left
-pub behind-end : (form : Form) (given : List OutputStart) (count : ℕ) (lines : List Numbered) (fault : ScenarioFault)
-    → lines ≡ [] → fault ≡ Syntax (count + 1) → behind given (outputs_in form count lines) ≡ Err fault
-behind-end form given count lines fault empty is = rw (empty, is, add-one) refl
+pub behind-end : (output : Field (Option OutputStart)) (given : List OutputStart) (count : ℕ) (lines : List Numbered)
+    (fault : ScenarioFault) → lines ≡ [] → fault ≡ Syntax (count + 1) → behind given (outputs_in output count lines) ≡ Err fault
+behind-end output given count lines fault empty is = rw (empty, is, add-one) refl
 
 -- one output more
 behind-push : (given : List OutputStart) (start : OutputStart) (more : Result (List OutputStart × Rest) ScenarioFault) (rest : Rest)
@@ -57,19 +56,20 @@ behind-push : (given : List OutputStart) (start : OutputStart) (more : Result (L
 behind-push given start (Err first) rest = refl
 behind-push given start (Ok got) rest = ap (λ starts. Ok (starts, got.1)) (sym (append_assoc given (start ∷ []) got.0))
 
-module _ (form : Form) (given : List OutputStart) (rest next : Rest) (line : Numbered) (split : rest.lines ≡ line ∷ next.lines)
-    (same : next.count ≡ rest.count) where
+module _ (output : Field (Option OutputStart)) (given : List OutputStart) (rest next : Rest) (line : Numbered)
+    (split : rest.lines ≡ line ∷ next.lines) (same : next.count ≡ rest.count) where
   -- a line that is an output
-  pub behind-output : (start : OutputStart) → line_as (output_line form) line ≡ Ok (Some start)
-      → behind given (outputs_in form rest.count rest.lines) ≡ behind (given ++ start ∷ []) (outputs_in form next.count next.lines)
+  pub behind-output : (start : OutputStart) → line_as output line ≡ Ok (Some start)
+      → behind given (outputs_in output rest.count rest.lines)
+      ≡ behind (given ++ start ∷ []) (outputs_in output next.count next.lines)
   behind-output start read =
-      rw (← same, split, read) (behind-push given start (outputs_in form next.count next.lines) next)
+      rw (← same, split, read) (behind-push given start (outputs_in output next.count next.lines) next)
 
   -- the line `begin`
-  pub behind-begin : line_as (output_line form) line ≡ Ok None → behind given (outputs_in form rest.count rest.lines) ≡ Ok (given, next)
+  pub behind-begin : line_as output line ≡ Ok None → behind given (outputs_in output rest.count rest.lines) ≡ Ok (given, next)
   behind-begin read = rw (← same, split, read) (ap (λ starts. Ok (starts, next)) (append-nil given))
 
   -- a faulty line
-  pub behind-fault : (fault : ScenarioFault) → line_as (output_line form) line ≡ Err fault
-      → behind given (outputs_in form rest.count rest.lines) ≡ Err fault
+  pub behind-fault : (fault : ScenarioFault) → line_as output line ≡ Err fault
+      → behind given (outputs_in output rest.count rest.lines) ≡ Err fault
   behind-fault fault read = rw (split, read) refl

@@ -21,9 +21,9 @@ use Rattle.pm_text.specs.Readers.{row}
 use Rattle.pm_text.specs.ScenarioText.{HasEvent, IsOfScenario, scenario_of}
 use Rattle.pm_text.specs.declared.ran.Ran.{Ran}
 use Rattle.pm_text.specs.declared.scenario.Scenario.{Scenario}
+use Rattle.pm_text.specs.Kinds.{form_of}
 use Rattle.pm_text.specs.Report.{report_text}
 use Rattle.pm_text.specs.Replay.{IsOfReplay, end_by, ran_by, replay_by, replay_of, run_of, stop_after, taken_by, told, told_or}
-use Rattle.pm_text.specs.declared.form.Form.TheVariants.{First}
 use Rattle.pm_text.specs.declared.replay_end.ReplayEnd.{ReplayEnd}
 
 -- ---- where a run stops
@@ -94,7 +94,8 @@ taken-length config passes events (Some stop) stops =
     sym (length-reverse (take stop.at events) ∙ length-take-le stop.at events (omega (arith, there)))
 
 -- what a run of these events left is the run of the scenario that has them
-pub run-is : (scenario : Scenario) (ran : Ran) (events : List Event) → events ≡ scenario.events
+pub run-is : (scenario : Scenario) (ran : Ran) (events : List Event)
+    → (ran.version ≡ scenario.version) × (events ≡ scenario.events)
     → AreTaken scenario.config scenario.passes (taken_events events ran.stop) → StopsAt scenario.config scenario.passes events ran.stop
     → ran.world ≡ now scenario.config scenario.passes (taken_events events ran.stop)
     → ran.taken ≡ taken_by ran.stop (length events) → ran ≡ run_of scenario
@@ -103,8 +104,11 @@ run-is scenario ran events same are stops world taken =
     let c = scenario.config in
     let p = scenario.passes in
     let counted = taken ∙ taken-length c p events ran.stop stops in
-    let made : ran ≡ ran_by c p events ran.stop = λ i. record { world = world i; taken = counted i; stop = ran.stop } in
-    made ∙ ap (ran_by c p events) (sym (stop-is c p events ran.stop are stops)) ∙ ap (λ es. ran_by c p es (stop_after c p [] es)) same
+    let v = scenario.version in
+    let made : ran ≡ ran_by v c p events ran.stop =
+    λ i. record { version = same.0 i; world = world i; taken = counted i; stop = ran.stop } in
+    made ∙ ap (ran_by v c p events) (sym (stop-is c p events ran.stop are stops))
+    ∙ ap (λ es. ran_by v c p es (stop_after c p [] es)) same.1
 
 -- ---- the replay of a text
 
@@ -124,7 +128,7 @@ pub record IsTold (input text : List ℕ) (end : ReplayEnd) (scenario : Scenario
   pub reads : scenario_of input ≡ Ok scenario
   pub made : None ≡ setup_fault scenario.config scenario.passes
   pub runs : ran ≡ run_of scenario
-  pub text_is : text ≡ report_text First ran.world ran.taken ran.stop
+  pub text_is : text ≡ report_text (form_of ran.version) ran.world ran.taken ran.stop
   pub end_is : end ≡ end_by ran.stop
 
 -- which is the input's replay

@@ -1,21 +1,31 @@
 -- The kinds of a scenario's words. The forms are this project's own choice; names are printed as in
 -- PMBus 1.3 Part II.
-use Rattle.std.specs.Prelude.{ℕ, ◌*◌, ◌&&◌, nat_le, if◌then◌else◌, List, [], ◌∷◌, length, map, Option, Some, None, option_map, option_and_then, bytes_eq, codes}
+use Rattle.std.specs.Prelude.{ℕ, ◌*◌, ◌&&◌, ◌==◌, not, nat_le, if◌then◌else◌, List, [], ◌∷◌, length, map, Option, Some, None, option_map, option_and_then, bytes_eq, codes}
+use Rattle.std.specs.List.{filter}
 use Rattle.pm_table.specs.declared.cell.Cell.{Cell}
 use Rattle.pm_table.specs.declared.cell.Cell.TheVariants.{Protect}
 use Rattle.pm_table.specs.declared.cell.Reg.{Reg}
-use Rattle.pm_table.specs.Cell.{cell_bytes, cell_name, register_code, registers}
+use Rattle.pm_table.specs.declared.cell.Reg.TheVariants.{VoutMin}
+use Rattle.pm_table.specs.Cell.{cell_bytes, cell_name, register_code, registers, same_register}
 use Rattle.pm_table.specs.Codes as command
 use Rattle.pm_table.specs.Commands.{name_of}
 use Rattle.pm_lines.specs.Bytes.{word_bytes}
 use Rattle.pm_lines.specs.Digits.{hex_of, small_of}
 use Rattle.pm_text.specs.Readers.{named}
 use Rattle.pm_text.specs.declared.form.Form.{Form}
-use Rattle.pm_text.specs.declared.form.Form.TheVariants.{First}
+use Rattle.pm_text.specs.declared.form.Form.TheVariants.{First, Second}
 
 -- the form of a text that calls itself so
 abbrev pub form_named : List ℕ → Option Form
-form_named = named ((codes "1", First) ∷ [])
+form_named = named ((codes "1", First) ∷ (codes "2", Second) ∷ [])
+
+-- the version that a form is, and the form of a version: every version but 1 has the second one
+abbrev pub version_of : Form → ℕ
+version_of First = 1
+version_of Second = 2
+
+abbrev pub form_of : ℕ → Form
+form_of version = if version == 1 then First else Second
 
 -- this word and no other
 abbrev pub is_word : List ℕ → List ℕ → Option (Unit {0})
@@ -26,9 +36,10 @@ abbrev pub output_or_device : List ℕ → Option (Option ℕ)
 output_or_device text = if bytes_eq text (codes "-") then Some None
     else option_map (λ output. Some output) (small_of text)
 
--- the registers that texts of a form name
+-- the registers that texts of a form name: the first form doesn't know VOUT_MIN
 abbrev pub registers_of : Form → List Reg
-registers_of First = registers
+registers_of First = filter (λ register. not (same_register register VoutMin)) registers
+registers_of Second = registers
 
 -- a register by its name in the command table
 abbrev pub with_name : Reg → List ℕ × Reg

@@ -1,6 +1,7 @@
 -- What the crate promises.
 pub mod EventLines
 pub mod Kinds
+pub mod Laws
 pub mod Readers
 pub mod Replay
 pub mod Report

@@ -11,9 +11,9 @@ use Rattle.pm_world.specs.declared.stop.Stop.{Stop}
 use Rattle.pm_lines.specs.Streams.{max_text}
 use Rattle.pm_lines.specs.declared.fault.TextFault.{TextFault}
 use Rattle.pm_lines.specs.declared.fault.TextFault.TheVariants.{Syntax, BadHex, TooLong, Read, Write, Memory, Setup}
+use Rattle.pm_text.specs.Kinds.{form_of}
 use Rattle.pm_text.specs.Report.{report_text}
 use Rattle.pm_text.specs.ScenarioText.{scenario_of}
-use Rattle.pm_text.specs.declared.form.Form.TheVariants.{First}
 use Rattle.pm_text.specs.declared.ran.Ran.{Ran}
 use Rattle.pm_text.specs.declared.replay_end.ReplayEnd.{ReplayEnd}
 use Rattle.pm_text.specs.declared.replay_end.ReplayEnd.TheVariants.{Ran as AllTaken, Stopped}
@@ -39,9 +39,11 @@ abbrev pub taken_by : Option Stop → ℕ → ℕ
 taken_by None all = all
 taken_by (Some stop) all = stop.at
 
--- the run of events that stops so: the world that the taken ones leave, and how many they are
-abbrev pub ran_by : Config → ℕ → List Event → Option Stop → Ran
-ran_by config passes events stop = record {
+-- the run of events, told by this version, that stops so: the world that the taken ones leave, and how many
+-- they are
+abbrev pub ran_by : ℕ → Config → ℕ → List Event → Option Stop → Ran
+ran_by version config passes events stop = record {
+  version = version;
   world = now config passes (taken_events events stop);
   taken = length (taken_events events stop);
   stop = stop;
@@ -49,7 +51,7 @@ ran_by config passes events stop = record {
 
 -- the run of a scenario's events
 unfoldable pub run_of : Scenario → Ran
-run_of scenario = ran_by scenario.config scenario.passes scenario.events
+run_of scenario = ran_by scenario.version scenario.config scenario.passes scenario.events
     (stop_after scenario.config scenario.passes [] scenario.events)
 
 -- ---- the replay of a text
@@ -59,9 +61,9 @@ abbrev pub end_by : Option Stop → ReplayEnd
 end_by None = AllTaken
 end_by (Some stop) = Stopped
 
--- the report of a run, and how the replay ended
+-- the report of a run by its version, and how the replay ended
 abbrev pub told : Ran → List ℕ × ReplayEnd
-told ran = (report_text First ran.world ran.taken ran.stop, end_by ran.stop)
+told ran = (report_text (form_of ran.version) ran.world ran.taken ran.stop, end_by ran.stop)
 
 -- no world is made, or the run of the scenario is told
 abbrev pub told_or : Option SetupFault → Scenario → Result (List ℕ × ReplayEnd) TextFault

@@ -1,10 +1,12 @@
 -- The text of a scenario, line by line: what both ends are made from, and what happens between them.
 -- The form is this project's own choice.
 use Rattle.std.specs.Prelude.{⊤, ℕ, suc, nat_lt, min, if◌then◌else◌, List, [], ◌∷◌, ◌++◌, length, replicate, take, Option, Some, None, Result, Ok, Err, IsOk, IsOkAnd, codes}
+use Rattle.pm_num.specs.Value.{direct_least}
 use Rattle.pm_table.specs.declared.coefficients.Coefficients.{Coefficients}
+use Rattle.pm_table.specs.VoutMode.{mode_of}
 use Rattle.pm_device.specs.declared.config.Config.{Config}
 use Rattle.pm_device.specs.declared.config.OutputStart.{OutputStart}
-use Rattle.pm_device.specs.Start.{no_start}
+use Rattle.pm_device.specs.Start.{is_direct, no_start}
 use Rattle.pm_world.specs.declared.event.Event.{Event}
 use Rattle.pm_lines.specs.Digits.{hex_of, signed_of, small_of}
 use Rattle.pm_lines.specs.Lines.{Numbered, lines_of, unskipped_from}
@@ -12,10 +14,10 @@ use Rattle.pm_lines.specs.declared.fault.TextFault.{TextFault}
 use Rattle.pm_lines.specs.declared.fault.TextFault.TheVariants as text
 use Rattle.pm_lines.specs.Streams.{max_text}
 use Rattle.pm_text.specs.EventLines.{event_line}
-use Rattle.pm_text.specs.Kinds.{form_named, is_word}
+use Rattle.pm_text.specs.Kinds.{form_named, is_word, version_of}
 use Rattle.pm_text.specs.Readers.{◌>>=◌, Field, Part, Rest, field, gives, line, line_as, one_of}
 use Rattle.pm_text.specs.declared.form.Form.{Form}
-use Rattle.pm_text.specs.declared.form.Form.TheVariants.{First}
+use Rattle.pm_text.specs.declared.form.Form.TheVariants.{First, Second}
 use Rattle.pm_text.specs.declared.scenario.fault.ScenarioFault.{ScenarioFault}
 use Rattle.pm_text.specs.declared.scenario.fault.ScenarioFault.TheVariants as fault
 use Rattle.pm_text.specs.declared.scenario.Scenario.{Scenario}
@@ -24,7 +26,7 @@ use Rattle.pm_text.specs.declared.scenario.starts.Starts.{Starts}
 
 -- ---- the lines before the events
 
--- `scenario 1`
+-- `scenario 1` or `scenario 2`
 unfoldable pub form_line : Field Form
 form_line = do
   _ ← field fault.Syntax (is_word (codes "scenario"))
@@ -57,15 +59,26 @@ coefficients_line = do
   r ← field fault.Syntax (signed_of 8)
   gives (record { m = m; b = b; r = r })
 
--- MODE OPERATION COMMAND MAX HIGH LOW: two bytes and four words
-unfoldable pub output_rest : Form → Field OutputStart
-output_rest First = do
+-- the word of the least value that an output's voltages have, by its VOUT_MODE byte and the coefficients: it
+-- is VOUT_MIN where a text doesn't name one
+abbrev pub lowest_word : ℕ → Coefficients → ℕ
+lowest_word mode c = if is_direct (mode_of mode) then direct_least c.m else 0x0000
+
+-- MIN, which the first form doesn't have
+abbrev pub least_field : Form → ℕ → Coefficients → Field ℕ
+least_field First mode c = gives (lowest_word mode c)
+least_field Second mode c = field fault.BadHex (hex_of 4)
+
+-- MODE OPERATION COMMAND MAX HIGH LOW, and MIN: two bytes, and four words or five
+unfoldable pub output_rest : Form → Coefficients → Field OutputStart
+output_rest form c = do
   mode ← field fault.BadHex (hex_of 2)
   operation ← field fault.BadHex (hex_of 2)
   command ← field fault.BadHex (hex_of 4)
   max ← field fault.BadHex (hex_of 4)
   high ← field fault.BadHex (hex_of 4)
   low ← field fault.BadHex (hex_of 4)
+  min ← least_field form mode c
   gives (record {
     mode = mode;
     operation = operation;
@@ -73,16 +86,17 @@ output_rest First = do
     max = max;
     high = high;
     low = low;
+    min = min;
   })
 
-abbrev pub some_start : Form → Field (Option OutputStart)
-some_start form = do
-  start ← output_rest form
+abbrev pub some_start : Form → Coefficients → Field (Option OutputStart)
+some_start form c = do
+  start ← output_rest form c
   gives (Some start)
 
 -- `output ..`, or `begin`: None
-unfoldable pub output_line : Form → Field (Option OutputStart)
-output_line form = one_of ((codes "output", some_start form) ∷ (codes "begin", gives None) ∷ [])
+unfoldable pub output_line : Form → Coefficients → Field (Option OutputStart)
+output_line form c = one_of ((codes "output", some_start form c) ∷ (codes "begin", gives None) ∷ [])
 
 -- ---- the outputs and the events
 
@@ -93,15 +107,15 @@ start_before (Ok None) rest left = Ok ([], left)
 start_before (Ok (Some start)) (Err first) left = Err first
 start_before (Ok (Some start)) (Ok starts) left = Ok (start ∷ starts.0, starts.1)
 
--- the outputs up to the line `begin`
-abbrev pub outputs_in : Form → ℕ → List Numbered → Result (List OutputStart × Rest) ScenarioFault
-outputs_in form count [] = Err (fault.Syntax (suc count))
-outputs_in form count (line ∷ lines) =
-    start_before (line_as (output_line form) line) (outputs_in form count lines)
+-- the outputs up to the line `begin`, of lines that are read so
+abbrev pub outputs_in : Field (Option OutputStart) → ℕ → List Numbered → Result (List OutputStart × Rest) ScenarioFault
+outputs_in output count [] = Err (fault.Syntax (suc count))
+outputs_in output count (line ∷ lines) =
+    start_before (line_as output line) (outputs_in output count lines)
     (record { count = count; lines = lines })
 
-unfoldable pub outputs : Form → Part (List OutputStart)
-outputs form rest = outputs_in form rest.count rest.lines
+unfoldable pub outputs : Form → Coefficients → Part (List OutputStart)
+outputs form c rest = outputs_in (output_line form c) rest.count rest.lines
 
 -- an event, and those of the lines that follow it, or the first fault
 abbrev pub event_before : Result Event ScenarioFault → Result (List Event) ScenarioFault → Result (List Event) ScenarioFault
@@ -147,7 +161,7 @@ header = do
   passes ← line passes_line
   protect ← line protect_line
   coefficients ← line coefficients_line
-  starts ← outputs form
+  starts ← outputs form coefficients
   gives (record {
     form = form;
     config = config_of address protect coefficients starts;
@@ -156,8 +170,12 @@ header = do
 
 abbrev pub with_events : Header → Result (List Event) ScenarioFault → Result Scenario ScenarioFault
 with_events head (Err first) = Err first
-with_events head (Ok events) =
-    Ok (record { config = head.config; passes = head.passes; events = events })
+with_events head (Ok events) = Ok (record {
+  version = version_of head.form;
+  config = head.config;
+  passes = head.passes;
+  events = events;
+})
 
 abbrev pub scenario_by : Result (Header × Rest) ScenarioFault → Result Scenario ScenarioFault
 scenario_by (Err first) = Err first

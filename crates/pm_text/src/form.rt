@@ -1,5 +1,5 @@
 ghost use Rattle.std.specs.Prelude.{◌≡◌};
-ghost use Rattle.pm_text.specs.Kinds.{registers_of};
+ghost use Rattle.pm_text.specs.Kinds.{form_of, registers_of, version_of};
 
 use pm_table::Reg;
 
@@ -7,17 +7,42 @@ use pm_table::Reg;
 /// registers a scenario may have, and which lines its report has.
 #[derive(Clone, Copy, Debug, PartialEq, Eq)]
 pub enum Form {
-    /// `scenario 1`.
+    /// `scenario 1`, which doesn't know VOUT_MIN: no output line, event or report names it.
     First,
+    /// `scenario 2`.
+    Second,
 }
 
 impl Form {
-    /// The registers that texts of this form name, in the order of an output's lines.
-    pub(crate) fn registers(self) -> [Reg; Reg::COUNT]
-        ensures { result ≡ registers_of self }
+    /// The version that it is.
+    pub(crate) fn version(self) -> u8
+        ensures { result ≡ version_of self }
     {
         match self {
-            Form::First => Reg::ALL,
+            Form::First => 1,
+            Form::Second => 2,
+        }
+    }
+
+    /// The form of a version: of every one but 1 the second.
+    pub(crate) fn of_version(version: u8) -> Form
+        ensures { result ≡ form_of version }
+    {
+        if version == 1 {
+            Form::First
+        } else {
+            Form::Second
+        }
+    }
+
+    /// The registers that texts of this form name, in the order of an output's lines.
+    pub(crate) fn registers(self) -> &'static [Reg]
+        ensures { result.now ≡ registers_of self }
+    {
+        match self {
+            // VOUT_MIN is the last one.
+            Form::First => &Reg::ALL[..Reg::COUNT - 1],
+            Form::Second => &Reg::ALL,
         }
     }
 }

@@ -8,6 +8,7 @@
 #![tactic(auto)]
 
 mod form;
+mod laws;
 mod ran;
 mod replay_end;
 mod replays;
@@ -15,6 +16,7 @@ mod report;
 mod scenario;
 
 pub use form::Form;
+pub use laws::lowest_words_cut_nothing;
 pub use pm_lines::{MAX_TEXT, Sink, Source, TextFault};
 pub use pm_trace::{
     ByteList, DecodeEnd, Decoder, Fed, Shown, TraceLine, decode, read_trace_line, render_line,

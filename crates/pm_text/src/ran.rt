@@ -3,6 +3,8 @@ use pm_world::{Stop, World};
 /// What a run of events came to.
 #[derive(Drop)]
 pub struct Ran {
+    /// The version of the scenario, in which the report is written: 1, and every other number is 2.
+    pub version: u8,
     /// The world after the events that were taken.
     pub world: World,
     /// How many events were taken.

@@ -22,6 +22,8 @@ use std::io::{Read, Write};
 /// Reads a scenario, lets its events happen between a host and a converter, up to the first that isn't
 /// taken, and writes the report. Neither stream may have failed before.
 ///
+/// Takes memory for the text as it is read, for the events as they come, and once for the report.
+///
 /// # Errors
 ///
 /// X3 where the text has more than 1,048,576 bytes; X4 where the reader failed; X1 or X2 for the
@@ -113,7 +115,12 @@ fn run_of(scenario: &Scenario) -> Result<Ran, SetupFault>
     let events = scenario.events.as_slice();
     let (world, stop) = World::run(scenario.config, scenario.passes, events)?;
     let taken = taken_of(&stop, events.len());
-    Ok(Ran { world, taken, stop })
+    Ok(Ran {
+        version: scenario.version,
+        world,
+        taken,
+        stop,
+    })
 }
 
 // How many of all events a run took that stops so.

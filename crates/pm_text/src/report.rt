@@ -1,7 +1,7 @@
 //! The report of a run: what the converter holds, commands and shows, and what the host knows.
 ghost use Rattle.std.specs.Prelude.{◌≡◌, ◌++◌, IfOk, IfErr, OnOk, codes, is_some, string_bytes};
-ghost use Rattle.pm_text.specs.declared.form.Form.TheVariants.{First};
 ghost use Rattle.pm_world.specs.FaultWords.{cause_text};
+ghost use Rattle.pm_text.specs.Kinds.{form_of};
 ghost use Rattle.pm_text.specs.Report.{cml_line, end_text, first_line, job_line, job_text, report_text, seen_line, world_lines};
 
 mod outputs;
@@ -17,24 +17,27 @@ use pm_world::{Cause, Stop, World};
 use settings::push_setting;
 use std::alloc::{AllocError, Global};
 
-/// The bytes that are reserved for a report: those of eight outputs have some 2500.
+/// The bytes that are reserved for a report: those of eight outputs have some 2800.
 const ROOM: usize = 4096;
 
 /// The report of a run. Its first line is `ran N`, or `stopped N` and the cause, where an event wasn't
 /// taken. Then comes, of the state after the taken events: WRITE_PROTECT; for each output the voltage
 /// that it commands, its settings, each with what the host says of it, and STATUS_BYTE,
-/// STATUS_WORD and STATUS_VOUT; STATUS_CML; whether the host saw a restart; and its job.
+/// STATUS_WORD and STATUS_VOUT; STATUS_CML; whether the host saw a restart; and its job. Version 1 tells
+/// nothing of VOUT_MIN.
+///
+/// Takes memory once, 4096 bytes, which every report fits.
 ///
 /// # Errors
 ///
 /// X6 alone.
 pub fn render_report(alloc: Global, run: &Ran) -> Result<String, TextFault>
     ensures text { IfOk result (λ text. string_bytes text
-        ≡ report_text First run.now.world run.now.taken run.now.stop) }
+        ≡ report_text (form_of run.now.version) run.now.world run.now.taken run.now.stop) }
     ensures fault { IfErr result (λ fault. fault ≡ TextFault.Memory) }
 {
     let mut text = String::with_capacity(alloc, ROOM)?;
-    push_report(&mut text, Form::First, run)?;
+    push_report(&mut text, Form::of_version(run.version), run)?;
     Ok(text)
 }
 

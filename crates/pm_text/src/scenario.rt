@@ -27,6 +27,8 @@ use std::alloc::Global;
 /// What a scenario says.
 #[derive(Debug, Drop)]
 pub struct Scenario {
+    /// The version of its text, 1 or 2, in which its report is written.
+    pub version: u8,
     /// What the converter is made from. The host has its address and its outputs.
     pub config: Config,
     /// How many passes a job of the host has.
@@ -35,13 +37,19 @@ pub struct Scenario {
     pub events: Events,
 }
 
-/// Reads a scenario: `scenario 1`, `address HH`, `passes N`, `protect HH`, `coefficients M B R`, a
-/// line `output MODE OPERATION COMMAND MAX HIGH LOW` for each output, `begin`, and the event lines.
+/// Reads a scenario: `scenario 2`, `address HH`, `passes N`, `protect HH`, `coefficients M B R`, a
+/// line `output MODE OPERATION COMMAND MAX HIGH LOW MIN` for each output, `begin`, and the event lines.
 /// Hexadecimal is read in either case. Lines that are empty, blank or comments are skipped and
 /// numbered.
 ///
+/// After `scenario 1` an output has no MIN, and no event names VOUT_MIN: it is then a word of the least
+/// value that the output's voltages have, 0000h for ULINEAR16, and for DIRECT 7FFFh where m is negative
+/// and 8000h otherwise.
+///
 /// Whether a world can be made of the scenario isn't judged here: more than eight outputs are
 /// counted, up to 255, and the starts of the first eight are kept.
+///
+/// Takes memory for the events alone, which grows as they come.
 ///
 /// # Errors
 ///
@@ -69,6 +77,7 @@ pub fn read_scenario(alloc: Global, text: &[u8]) -> Result<Scenario, TextFault>
     } = read_header(&mut rows)?;
     let events = events_left(alloc, form, &mut rows)?;
     Ok(Scenario {
+        version: form.version(),
         config,
         passes,
         events: Events::new(events),

@@ -34,6 +34,23 @@ fn calls_made(alloc: Global, engine: Engine, input: &str, piece: usize) -> (usiz
 }
 
 #[test]
+fn an_engine_reads_to_the_end_and_no_further(rt: HostRuntime) {
+    // How many bytes are read at a time, and the calls that read 205, 97 and 23 bytes and find the end.
+    let rows = [
+        (1, [206, 98, 24]),
+        (7, [31, 15, 5]),
+        (100, [4, 2, 2]),
+        (4096, [2, 2, 2]),
+    ];
+    for (piece, wanted) in rows {
+        for ((engine, input, _, _), calls) in WORKED.into_iter().zip(wanted) {
+            let (made, _) = calls_made(rt.alloc(), engine, input, piece);
+            assert_eq!(rt; made, calls, "{engine:?} {piece}");
+        }
+    }
+}
+
+#[test]
 fn a_failed_read_ends_an_engine_at_once(rt: HostRuntime) {
     let alloc = rt.alloc();
     let kinds = [

@@ -81,7 +81,10 @@ fn each_fault_of_a_text_has_its_words(rt: HostRuntime) -> Result<(), Fail> {
         assert_eq!(rt; fault.line(), line, "{text}");
         let derived = format!(in rt.alloc(); "{fault}")?;
         assert_eq!(rt; derived.as_str(), text);
+        assert_eq!(rt; fault.setup().is_some(), words == "X7 Setup", "{text}");
     }
+    let passes = SetupFault::Host(HostFault::Passes);
+    assert_eq!(rt; TextFault::Setup(passes).setup(), Some(passes));
     Ok(())
 }
 

@@ -27,4 +27,6 @@ mod tool;
 #[cfg(test)]
 mod traces;
 #[cfg(test)]
+mod versions;
+#[cfg(test)]
 mod worked;

@@ -96,7 +96,15 @@ fn report_of(alloc: Global, text: &str) -> Result<String, TextFault> {
     let events = scenario.events.as_slice();
     let (world, stop) = World::run(scenario.config, scenario.passes, events)?;
     let taken = events.len() as u64;
-    render_report(alloc, &Ran { world, taken, stop })
+    render_report(
+        alloc,
+        &Ran {
+            version: scenario.version,
+            world,
+            taken,
+            stop,
+        },
+    )
 }
 
 // A text is this one, or memory was wanted.

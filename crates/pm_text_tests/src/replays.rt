@@ -62,7 +62,7 @@ fn replayed(alloc: Global, events: &str) -> Result<(Result<bool, TextFault>, Vec
 #[test]
 fn a_replay_goes_on_to_the_first_event_that_is_not_taken(rt: HostRuntime) -> Result<(), Fail> {
     let alloc = rt.alloc();
-    let rows: [(&str, Said); 18] = [
+    let rows: [(&str, Said); 19] = [
         ("", ("ran 0", START, UNKNOWN, "none")),
         (
             "order 0 VOUT_COMMAND 34CD\nfinish ack\nexchange whole whole\nfinish ack\nexchange whole whole\n",
@@ -79,6 +79,11 @@ fn a_replay_goes_on_to_the_first_event_that_is_not_taken(rt: HostRuntime) -> Res
         (
             "check 0 VOUT_COMMAND\nexchange whole bytes B102CD34B9\n",
             ("stopped 1 S1 NotBetrayed", START, UNKNOWN, "pending"),
+        ),
+        // The answer of output 0 to a check of output 1, which its PEC betrays.
+        (
+            "check 1 VOUT_COMMAND\nexchange whole bytes B102CD34B9\n",
+            ("ran 2", START, UNKNOWN, "pending"),
         ),
         (
             "finish ack\n",
@@ -262,7 +267,15 @@ fn a_run_made_by_hand_is_reported(rt: HostRuntime) -> Result<(), Fail> {
     let scenario = read_scenario(alloc, HEAD.as_bytes())?;
     for (taken, stop, first) in rows {
         let (world, _) = World::run(scenario.config, scenario.passes, &[])?;
-        let text = render_report(alloc, &Ran { world, taken, stop })?;
+        let text = render_report(
+            alloc,
+            &Ran {
+                version: 1,
+                world,
+                taken,
+                stop,
+            },
+        )?;
         let wanted = report(alloc, (first, START, UNKNOWN, "none"))?;
         assert!(rt; text.as_str() == wanted.as_str(), "{first}");
     }
@@ -276,6 +289,7 @@ fn the_parts_of_a_replay_give_its_report(rt: HostRuntime) -> Result<(), Fail> {
     let events = scenario.events.as_slice();
     let (world, stop) = World::run(scenario.config, scenario.passes, events)?;
     let run = Ran {
+        version: scenario.version,
         world,
         taken: 4,
         stop,

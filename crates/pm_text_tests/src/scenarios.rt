@@ -27,6 +27,7 @@ const START: OutputStart = OutputStart {
     max: 0x4000,
     high: 0x1100,
     low: 0x0F00,
+    min: 0x0000,
 };
 
 const NO_START: OutputStart = OutputStart {
@@ -36,6 +37,7 @@ const NO_START: OutputStart = OutputStart {
     max: 0,
     high: 0,
     low: 0,
+    min: 0,
 };
 
 // The lines before the events, with another one at this place, counted from 0.
@@ -68,6 +70,7 @@ fn event_of(alloc: Global, text: &str) -> Result<String, Fail> {
 #[test]
 fn the_worked_scenario_is_read(rt: HostRuntime) -> Result<(), Fail> {
     let Scenario {
+        version,
         config,
         passes,
         events,
@@ -83,7 +86,7 @@ fn the_worked_scenario_is_read(rt: HostRuntime) -> Result<(), Fail> {
         coefficients: Coefficients { m: 1, b: 0, r: 0 },
     };
     assert_eq!(rt; config, wanted);
-    assert_eq!(rt; passes, 2);
+    assert_eq!(rt; (version, passes), (1, 2));
     assert_eq!(rt; events.as_slice().len(), 4);
     let text = format!(in rt.alloc(); "{:?}", events.into_vec())?;
     assert_eq!(rt;

@@ -13,7 +13,9 @@ use Rattle.pm_frame.specs.declared.message.Message.TheVariants.{SendByte, WriteB
 use Rattle.pm_trace.specs.declared.decode_end.DecodeEnd.{DecodeEnd}
 use Rattle.pm_trace.specs.declared.decode_end.DecodeEnd.TheVariants.{Clean, BadLines}
 use Rattle.pm_lines.specs.Numbers.{hex_byte, hex_number}
+use Rattle.pm_lines.specs.Faults.{fault_words}
 use Rattle.pm_lines.specs.declared.fault.TextFault.{TextFault}
+use Rattle.pm_lines.specs.declared.fault.TextFault.TheVariants as fault
 use Rattle.pm_lines.specs.declared.fault.TextFault.TheVariants.{Syntax, BadHex, TooLong, Read, Write, Memory, Setup}
 use Rattle.pm_trace.specs.Counts.{Counts, counts_of, lines_in}
 use Rattle.pm_trace.specs.Trace.{Told, Judged, Accepted, Faulty, BadSyntax, BadHex, trace_of}
@@ -65,17 +67,18 @@ abbrev pub address_text : Option ℕ → List ℕ
 address_text None = codes "--"
 address_text (Some addr) = hex_byte addr
 
-abbrev pub judged_text : Judged → List ℕ
-judged_text (Accepted addr message answer) =
+-- what the line of this number says
+abbrev pub judged_text : ℕ → Judged → List ℕ
+judged_text line (Accepted addr message answer) =
     hex_byte addr ++ (codes " " ++ message_text message answer)
-judged_text (Faulty addr read fault) = address_text addr
+judged_text line (Faulty addr read fault) = address_text addr
     ++ ((if read then codes " read " else codes " write ") ++ frame_fault_text fault)
-judged_text BadSyntax = codes "X1 Syntax"
-judged_text BadHex = codes "X2 BadHex"
+judged_text line BadSyntax = fault_words (Syntax line)
+judged_text line BadHex = fault_words (fault.BadHex line)
 
 -- what is written of a line, without a line feed
 unfoldable pub told_text : Told → List ℕ
-told_text told = decimal told.0 ++ (codes " " ++ judged_text told.1)
+told_text told = decimal told.0 ++ (codes " " ++ judged_text told.0 told.1)
 
 -- the same with its line feed
 abbrev pub told_line : Told → List ℕ

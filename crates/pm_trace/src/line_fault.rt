@@ -1,5 +1,5 @@
 /// Why a trace line can't be read.
-#[derive(Clone, Copy, Debug, PartialEq, Eq)]
+#[derive(Clone, Copy, Debug)]
 pub(crate) enum LineFault {
     /// It has a second slash, or a part that is too long.
     Syntax,

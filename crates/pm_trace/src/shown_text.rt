@@ -9,7 +9,7 @@ ghost use Rattle.pm_table.specs.Coefficients.{coefficients_of};
 
 use crate::shown::Shown;
 use pm_frame::{FrameFault, FrameView, Message};
-use pm_lines::{push_decimal, push_hex, push_hex_number, push_signed};
+use pm_lines::{TextFault, push_decimal, push_hex, push_hex_number, push_signed};
 use pm_table::{Code, Coefficients};
 use std::alloc::AllocError;
 
@@ -31,14 +31,14 @@ pub(crate) fn push_line(text: &mut String, number: u64, shown: &Shown<'_>) -> Re
 {
     push_decimal(text, number)?;
     text.push_str(" ")?;
-    push_shown(text, shown)
+    push_shown(text, number, shown)
 }
 
-// What the line says.
+// What the line of this number says.
 #[tactic(auto, using(crate::proofs::Joins::joins))]
-fn push_shown(text: &mut String, shown: &Shown<'_>) -> Result<(), AllocError>
+fn push_shown(text: &mut String, number: u64, shown: &Shown<'_>) -> Result<(), AllocError>
     ensures { OnOk result (string_bytes text.new
-        ≡ string_bytes text.old ++ judged_text (judged_in shown.now)) }
+        ≡ string_bytes text.old ++ judged_text number (judged_in shown.now)) }
 {
     match shown {
         Shown::Accepted { addr, view, answer } => {
@@ -51,8 +51,8 @@ fn push_shown(text: &mut String, shown: &Shown<'_>) -> Result<(), AllocError>
             text.push_str(if *read { " read " } else { " write " })?;
             push_fault(text, *fault)
         }
-        Shown::BadSyntax => text.push_str("X1 Syntax"),
-        Shown::BadHex => text.push_str("X2 BadHex"),
+        Shown::BadSyntax => text.push_str(TextFault::Syntax(number).words()),
+        Shown::BadHex => text.push_str(TextFault::BadHex(number).words()),
     }
 }
 
@@ -197,7 +197,7 @@ fn push_numbers(text: &mut String, coefficients: Coefficients) -> Result<(), All
     push_named(text, " r ", i128::from(coefficients.r))
 }
 
-// A name, and a number behind it.
+// A name, and a number after it.
 #[tactic(auto, using(crate::proofs::Joins::joins))]
 fn push_named(text: &mut String, name: &str, number: i128) -> Result<(), AllocError>
     ensures { OnOk result (string_bytes text.new

@@ -5,6 +5,7 @@ use Rattle.std.specs.Option.{option_or, option_and_then, option_map_or}
 use Rattle.std.proofs.lemmas.Option.{same_Some}
 use Rattle.pm_table.specs.declared.cell.Cell.{Cell}
 use Rattle.pm_table.specs.Cell.{output_of}
+use Rattle.pm_host.specs.declared.command.Command.{Command}
 use Rattle.pm_host.specs.declared.fault.HostFault.{HostFault}
 use Rattle.pm_host.specs.Refusals.{job_fault, order_fault, micro_fault, micro_word, voltage_fault, range_fault}
 use Rattle.pm_host.specs.Summary.{Summary, format_at}
@@ -14,7 +15,8 @@ use Rattle.pm_world.specs.declared.event.Event.TheVariants.{OrderMicro, RestartD
 use Rattle.pm_world.specs.declared.stop.Cause.{Cause}
 use Rattle.pm_world.specs.declared.stop.Cause.TheVariants.{Full}
 use Rattle.pm_world.specs.Confirmed.{restarts_converter}
-use Rattle.pm_world.specs.State.{State, asked, share_of, share_beside, tells, shared, counted, next, rule, refused, event_cause, cause_beside, cause_of, event_limit, IsTaken}
+use Rattle.pm_world.specs.State.{State, asked, share_of, share_beside, tells, shared, counted, next, rule, refused, event_cause, HasWord}
+use Rattle.pm_world.specs.State.{cause_beside, cause_of, event_limit, IsTaken}
 
 -- of two, none
 pub or-none : {A : Type 0} (a b : Option A) → option_or a b ≡ None → (a ≡ None) × (b ≡ None)
@@ -69,6 +71,23 @@ pub job-free : (s : State) (event : Event) (job : host.Job) → asked s event �
     job_fault s.host job ≡ None
 job-free s (OrderMicro cell x) job is h = micro-free s.host cell x job is (refused-none _ h)
 job-free s event job is h = fault-none s.host (asked s event) (cause_beside s event) job is h
+
+-- an event that asks for a command has the cause of that job: no order is one,
+not-command : (word : Option ℕ) (cell : Cell) (command : Command) {A : Type 0} {a b : A} →
+    option_map (λ w. host.Order cell w) word ≡ Some (host.Send command) → a ≡ b
+not-command None cell command h = cc
+not-command (Some word) cell command h = cc
+
+-- and so it has no other cause
+pub sent-cause : (s : State) (event : Event) (command : Command) → asked s event ≡ Some (host.Send command) →
+    event_cause s event ≡ refused (job_fault s.host (host.Send command))
+sent-cause s (OrderMicro cell x) command is = not-command (micro_word s.host cell x) cell command is
+sent-cause s event command is = ap (λ o. option_map_or (λ j. refused (job_fault s.host j)) o (cause_beside s event)) is
+
+-- nor has it a word to find
+pub sent-word : (s : State) (event : Event) (command : Command) → asked s event ≡ Some (host.Send command) → HasWord s event
+sent-word s (OrderMicro cell x) command is = not-command (micro_word s.host cell x) cell command is
+sent-word s event command is = tt
 
 -- an event that asks for a job tells the host alone, that it was accepted
 pub asked-share : (s : State) (event : Event) (job : host.Job) → asked s event ≡ Some job →

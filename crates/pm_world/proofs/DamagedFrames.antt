@@ -160,24 +160,30 @@ exchanged-taken legal config passes events {request = request} {payload = payloa
       word = tt;
     }
 
+-- a request that is sent, and the damaged bytes that are heard of it
+pub record IsMisheard (config : Config) (passes : ℕ) (events : List Event) (request : Message) (bytes : List ℕ) : Type 0 where
+  pub room : (now config passes events).taken < event_limit
+  pub sending : sending_in (now config passes events).host ≡ Some request
+  pub asks : is_read_message request ≡ true
+  pub others : AreOthers (frame_of config.addr request) bytes
+  pub within : DifferWithinEight (frame_of config.addr request) bytes
+  pub are : AreBytes (answer_to (now config passes events).device config.addr request (arrival.Bytes (record { items = bytes }) Restart))
+
 -- the exchange whose request is damaged is taken
-pub misheard-taken : BetrayedDamageIsLegal → (config : Config) (passes : ℕ) (events : List Event) {request : Message} {bytes : List ℕ} →
-    (now config passes events).taken < event_limit →
-    sending_in (now config passes events).host ≡ Some request → is_read_message request ≡ true →
-    AreOthers (frame_of config.addr request) bytes → DifferWithinEight (frame_of config.addr request) bytes →
-    AreBytes (answer_to (now config passes events).device config.addr request (arrival.Bytes (record { items = bytes }) Restart)) →
+pub misheard-taken : BetrayedDamageIsLegal → (config : Config) (passes : ℕ) (events : List Event) (request : Message) (bytes : List ℕ) →
+    IsMisheard config passes events request bytes →
     IsTaken (now config passes events) (Exchange (arrival.Bytes (record { items = bytes }) Restart) back.Whole)
-misheard-taken legal config passes events {request = request} {bytes = bytes} room sending asks others within are =
+misheard-taken legal config passes events request bytes is =
     let s = now config passes events in
     let heard = arrival.Bytes (record { items = bytes }) Restart in
     let setup = sym (now-setup config passes events) in
     record {
-      free = free s (Exchange heard back.Whole) room
-          (ap (exchange_cause s heard back.Whole) sending
-          ∙ misheard-free legal s request bytes asks
-          (subst (λ (u : Setup). AreOthers (frame_of u.addr request) bytes) setup others)
-          (subst (λ (u : Setup). DifferWithinEight (frame_of u.addr request) bytes) setup within)
+      free = free s (Exchange heard back.Whole) is.room
+          (ap (exchange_cause s heard back.Whole) is.sending
+          ∙ misheard-free legal s request bytes is.asks
+          (subst (λ (u : Setup). AreOthers (frame_of u.addr request) bytes) setup is.others)
+          (subst (λ (u : Setup). DifferWithinEight (frame_of u.addr request) bytes) setup is.within)
           (subst (λ (u : Setup). AreBytes (answer_to s.device u.addr request (arrival.Bytes (record { items = bytes }) Restart))) setup
-          are));
+          is.are));
       word = tt;
     }

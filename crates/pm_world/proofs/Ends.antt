@@ -14,12 +14,12 @@ abbrev pub state : Held → Summary → Option JobEnd → ℕ → State
 state device host end taken = record { device = device; host = host; end = end; taken = taken }
 
 -- the world after the host was told
-pub host-told : (s : State) (device : Held) (host new : Summary) (end after : Option JobEnd) (taken : ℕ) (entry : Entry) →
-    state device host end taken ≡ s → new ≡ host_next host entry → after ≡ end_by (step_of host entry) →
-    state device new after taken ≡ shared s (tells entry)
-host-told s device host new end after taken entry view is ends =
-    ap (λ (h : Summary). state device h after taken) is
-    ∙ (ap (λ (e : Option JobEnd). state device (host_next host entry) e taken) ends
+pub host-told : (s inside : State) (new : Summary) (after : Option JobEnd) (entry : Entry) →
+    inside ≡ s → new ≡ host_next inside.host entry → after ≡ end_by (step_of inside.host entry) →
+    state inside.device new after inside.taken ≡ shared s (tells entry)
+host-told s inside new after entry view is ends =
+    ap (λ (h : Summary). state inside.device h after inside.taken) is
+    ∙ (ap (λ (e : Option JobEnd). state inside.device (host_next inside.host entry) e inside.taken) ends
     ∙ ap (λ (t : State). shared t (tells entry)) view)
 
 -- a job begins
@@ -42,7 +42,7 @@ begun s inside event job new view b =
     subst (λ (t : State). Acts t event (Ok tt) (state inside.device new None inside.taken)) view (
       b.free,
       b.word,
-      host-told inside inside.device inside.host new inside.end None inside.taken (Accepted job) refl b.told
+      host-told inside inside new None (Accepted job) refl b.told
           (sym (ap end_by (begun-next inside.host job)))
           ∙ ap (shared inside) (sym (asked-share inside event job b.asks)),
     )

@@ -17,7 +17,8 @@ use Rattle.pm_world.specs.declared.event.Arrival.{Arrival}
 use Rattle.pm_world.specs.declared.event.Back.{Back}
 use Rattle.pm_world.specs.declared.event.Event.TheVariants.{Exchange}
 use Rattle.pm_world.specs.declared.stop.Cause.TheVariants.{WrongKind, NotBetrayed}
-use Rattle.pm_world.specs.Legal.{frame_of, heard_bytes, ending_of, heard_ending, is_legal_hearing, is_legal_return, is_heard_whole, answer_in, back_bytes}
+use Rattle.pm_world.specs.Legal.{frame_of, heard_bytes, ending_of, heard_ending, is_legal_hearing, is_legal_return, is_heard_whole}
+use Rattle.pm_world.specs.Legal.{answer_in, back_bytes}
 use Rattle.pm_world.specs.State.{State, Acts, shared, tells, exchanged, exchange_cause, event_cause, answer_to, rule}
 use Rattle.pm_world.proofs.Ends.{state}
 use Rattle.pm_world.proofs.Frames.{Arrives, heard_ending-request, hearing-is, legal-is}

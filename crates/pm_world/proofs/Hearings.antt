@@ -1,6 +1,7 @@
 -- What a legal hearing of a frame that the host sends makes of the converter's words: nothing, or what a
 -- whole write asks for.
-use Rattle.std.proofs.Common.{◌≡◌, ◌⊎◌, inl, inr, ℕ, Bool, true, false, cond, eqb, ◌&&◌, List, [], ◌∷◌, ◌++◌, length, drop, None, refl, ◌∙◌, ap, subst}
+use Rattle.std.proofs.Common.{◌≡◌, ◌⊎◌, inl, inr, ℕ, Bool, true, false, cond, eqb, ◌&&◌, List, [], ◌∷◌, ◌++◌, length, drop, None, refl, ◌∙◌}
+use Rattle.std.proofs.Common.{ap, subst}
 use Rattle.std.specs.List.{starts_with}
 use Rattle.std.proofs.lemmas.Bool.{lt-ltb, or_cases}
 use Rattle.std.proofs.lemmas.Bool.Decides.{Decides-eqb}
@@ -70,11 +71,11 @@ hears-write laws held message bytes Stop writes fits legal = go (or_cases (start
 
 -- a legal hearing of a request changes no word
 pub hears-request : Below → (held : Held) (addr : ℕ) (message : Message) (bytes : List ℕ) (ending : Ending) →
-    is_read_message message ≡ true → fits_layout message ≡ true →
+    (is_read_message message ≡ true) × (fits_layout message ≡ true) →
     is_legal_hearing (frame_of addr message) bytes ending ≡ true → words_after held (Hearing bytes ending) ≡ held.words
 unfolding is_legal_hearing
-hears-request laws held addr message bytes Restart reads fits legal = (laws.writes_reach_one_cell.request held bytes).0
-hears-request laws held addr message bytes Stop reads fits legal =
+hears-request laws held addr message bytes Restart asks legal = (laws.writes_reach_one_cell.request held bytes).0
+hears-request laws held addr message bytes Stop (reads, fits) legal =
     go (or_cases (starts_with eqb (frame_of addr message) bytes) (is_betrayed [] bytes) legal)
   where
     is_frame : IsRequest addr message (frame_of addr message)

@@ -1,5 +1,6 @@
 -- A word that the host calls confirmed is the converter's, event by event.
-use Rattle.std.proofs.Common.{◌≡◌, ◌⊎◌, inl, inr, ℕ, Bool, true, false, cond, ◌||◌, List, [], ◌∷◌, ◌++◌, Option, Some, None, IsSome, option_map, refl, sym, ◌∙◌, ap, subst}
+use Rattle.std.proofs.Common.{◌≡◌, ◌⊎◌, inl, inr, ℕ, Bool, true, false, cond, ◌||◌, List, [], ◌∷◌, ◌++◌, Option, Some, None, IsSome}
+use Rattle.std.proofs.Common.{option_map, refl, sym, ◌∙◌, ap, subst}
 use Rattle.std.specs.Prelude.{option_to_list}
 use Rattle.std.specs.Option.{option_map_or}
 use Rattle.std.proofs.lemmas.Option.{none-some, same_Some}
@@ -33,7 +34,8 @@ use Rattle.pm_world.specs.Confirmed.{reads_cell, restarts_converter, restarted_s
 use Rattle.pm_world.specs.Legal.{back_bytes}
 use Rattle.pm_world.specs.Life.{life, now, state_of}
 use Rattle.pm_world.specs.Setup.{setup_of}
-use Rattle.pm_world.specs.State.{State, asked, share_of, share_beside, tells, exchanged, delivered, device_after, next, event_cause, exchange_cause, answer_to}
+use Rattle.pm_world.specs.State.{State, asked, share_of, share_beside, tells, exchanged, delivered, device_after, next, event_cause}
+use Rattle.pm_world.specs.State.{exchange_cause, answer_to}
 use Rattle.pm_world.proofs.Causes.{asked-restarts}
 use Rattle.pm_world.proofs.Learned.{from_some}
 use Rattle.pm_world.proofs.Lives.{IsLived, earlier, newest, entries-more, life-told, now-next}
@@ -63,17 +65,20 @@ pub record Knows (s : State) (setup : host.Setup) (entries : List host.Entry) : 
   pub are : AreWords s.device.words
 
 -- a good answer that is legal has the cell's word
-good-read : Below → (s : State) (arrival : Arrival) (back : Back) (read : Cell) (word : ℕ) → s.host.setup.addr ≡ s.device.config.addr →
-    IsCell s.device.config.count read → cell_accepts read (word_at s.device.words read) ≡ true → fits_layout (cell_read read) ≡ true →
+good-read : Below → {s : State} {setup : host.Setup} {entries : List host.Entry} {word : ℕ} (arrival : Arrival) (back : Back)
+    (read : Cell) → Knows s setup entries → read_by (host.open_job setup entries) (host.told_since entries) ≡ Some read →
     exchange_cause s arrival back (Some (cell_read read)) ≡ None →
     good_word s.device.config.addr read (back_bytes (answer_to s.device s.host.setup.addr (cell_read read) arrival) back) ≡ Some word →
     word_at s.device.words read ≡ word
-good-read laws s arrival back read word addr there accepted fits free good =
+good-read laws {s = s} {word = word} arrival back read knows asked free good =
+    let asks = knows.asks read asked in
     let bytes = back_bytes (answer_to s.device s.host.setup.addr (cell_read read) arrival) back in
     let payload = from_some word_in (good_payload s.device.config.addr (cell_read read) bytes) word good in
-    let same = good-same laws s arrival back (cell_read read) bytes payload.0 addr (reads-cell read) free refl payload.1 in
+    let same = good-same laws s arrival back (cell_read read) bytes
+    (record { addr = knows.addr; reads = reads-cell read; free = free; is = refl }) payload.1 in
     same_Some (word_at s.device.words read) word
-    (sym (read-word laws s.device read there accepted fits) ∙ (ap (good_word s.device.config.addr read) (sym same) ∙ good))
+    (sym (read-word laws s.device read asks.1 (knows.accepted read asks.1) (knows.fits (cell_read read) asks.0))
+        ∙ (ap (good_word s.device.config.addr read) (sym same) ∙ good))
 
 -- what comes back is true of the cell that is read
 pub reads-true : Below → {s : State} {setup : host.Setup} {entries : List host.Entry} (arrival : Arrival) (back : Back)
@@ -83,7 +88,7 @@ pub reads-true : Below → {s : State} {setup : host.Setup} {entries : List host
 reads-true laws {s = s} {setup = setup} arrival back message knows sending free = λ read word asked good.
     let asks = knows.asks read asked in
     let is : message ≡ cell_read read = same_Some message (cell_read read) (sym sending ∙ asks.0) in
-    good-read laws s arrival back read word knows.addr asks.1 (knows.accepted read asks.1) (knows.fits (cell_read read) asks.0)
+    good-read laws arrival back read knows asked
     (subst (λ m. exchange_cause s arrival back (Some m) ≡ None) is free)
     (subst (λ m. good_word s.device.config.addr read (back_bytes (answer_to s.device s.host.setup.addr m arrival) back) ≡ Some word) is
     (subst (λ a. good_word a read (back_bytes (answer_to s.device s.host.setup.addr message arrival) back) ≡ Some word) knows.address good))

@@ -1,5 +1,6 @@
 -- The formats that a host learns are the converter's.
-use Rattle.std.proofs.Common.{◌≡◌, ℕ, zero, suc, ◌^◌, ◌<◌, true, not, cond, ◌&&◌, ◌||◌, List, [], ◌∷◌, map, take, length, get_or, Option, Some, None, Ok, is_none, option_map, refl, sym, ◌∙◌, ap, subst, inl, inr, arith}
+use Rattle.std.proofs.Common.{◌≡◌, ℕ, zero, suc, ◌^◌, ◌<◌, true, not, cond, ◌&&◌, ◌||◌, List, [], ◌∷◌, map, take, length, get_or, Option}
+use Rattle.std.proofs.Common.{Some, None, Ok, is_none, option_map, refl, sym, ◌∙◌, ap, subst, inl, inr, arith}
 use Rattle.std.specs.Prelude.{bytes_eq, nat_lt, slice_index_or}
 use Rattle.std.specs.List.{list_any}
 use Rattle.std.specs.Option.{option_or}
@@ -29,7 +30,7 @@ use Rattle.pm_device.specs.Start.{is_direct}
 use Rattle.pm_host.specs.declared.stage.Stage.{Stage}
 use Rattle.pm_host.specs.declared.stage.Stage.TheVariants.{AsksMode, AsksCoefficients}
 use Rattle.pm_host.specs.Answers.{good_payload, good_mode, good_coefficients, word_in}
-use Rattle.pm_host.specs.Frames.{reads_mode, reads_coefficients}
+use Rattle.pm_host.specs.Frames.{reads_coefficients}
 use Rattle.pm_host.specs.Messages.{mode_read, coefficients_read}
 use Rattle.pm_host.specs.Summary.{Summary}
 use Rattle.pm_host.specs.Transcript as host
@@ -61,13 +62,13 @@ restart-is Stop h = cc
 restart-is Restart h = refl
 
 -- a good answer whose return is legal is the converter's to the whole request
-pub legal-good : Below → (held : Held) (addr : ℕ) (request : Message) (heard : List ℕ) (ending : Ending) (bytes : List ℕ) →
-    is_read_message request ≡ true →
-    is_legal_return (frame_of addr request) (whole_answer request) (is_heard_whole (frame_of addr request) heard ending)
-    (answer_in (reply_of held heard ending)) bytes ≡ true →
+pub legal-good : Below → (held : Held) (addr : ℕ) (request : Message) (heard : List ℕ) (ending : Ending) {bytes : List ℕ} →
+    (is_read_message request ≡ true)
+    × (is_legal_return (frame_of addr request) (whole_answer request) (is_heard_whole (frame_of addr request) heard ending)
+    (answer_in (reply_of held heard ending)) bytes ≡ true) →
     answer_fault addr request bytes ≡ None → bytes ≡ answer_in (reply_of held (frame_of addr request) Restart)
 unfolding is_legal_return
-legal-good laws held addr request heard ending bytes reads legal free =
+legal-good laws held addr request heard ending {bytes = bytes} (reads, legal) free =
     let frame = frame_of addr request in
     let answer = answer_in (reply_of held heard ending) in
     elim (or_cases (is_heard_whole frame heard ending && bytes_eq bytes answer)
@@ -160,27 +161,26 @@ unfolding line_of
 mode_word n below = omega arith
 
 -- a good answer to the read of VOUT_MODE is the converter's byte
-pub mode-true : Below → (held : Held) (setup : host.Setup) (output : ℕ) (bytes : List ℕ) (byte : ℕ) → IsSpelled held.config → output < 8 →
-    output < held.config.count → output < setup.outputs →
+pub mode-true : Below → (held : Held) (output : ℕ) {bytes : List ℕ} {byte : ℕ} → IsSpelled held.config →
+    (output < 8) × (output < held.config.count) → fits_layout (mode_read output) ≡ true →
     (good_mode held.config.addr output bytes ≡ Some byte →
     bytes ≡ answer_in (reply_of held (frame_of held.config.addr (mode_read output)) Restart)) →
     good_mode held.config.addr output bytes ≡ Some byte → byte ≡ mode_for held.config output
-mode-true laws held setup output bytes byte spelled eight below there same good =
+mode-true laws held output {bytes = bytes} {byte = byte} spelled (eight, below) fits same good =
     let addr = held.config.addr in
-    let request = is_request addr (mode_read output) refl (laws.frames_are_named.fits setup (mode_read output) (reads_mode output there)) in
+    let request = is_request addr (mode_read output) refl fits in
     let found = laws.reads_are_answered.mode held output (frame_of addr (mode_read output)) request below in
     let payload = from_some word_in (good_payload addr (mode_read output) bytes) byte good in
     let is = is-answer laws held (same good ∙ ap answer_in found.1) found.2 payload.1 in
     sym payload.2 ∙ (ap word_in is ∙ mode_word (mode_for held.config output) (spelled.modes output eight))
 
 -- a good answer to the read of COEFFICIENTS is the converter's
-pub coefficients-true : Below → (held : Held) (setup : host.Setup) (output : ℕ) (bytes : List ℕ) (k : Coefficients) →
-    IsSpelled held.config → output < held.config.count →
-    mode_of (mode_for held.config output) ≡ Ok Direct →
+pub coefficients-true : Below → (held : Held) (setup : host.Setup) (output : ℕ) {bytes : List ℕ} {k : Coefficients} →
+    IsSpelled held.config → (output < held.config.count) × (mode_of (mode_for held.config output) ≡ Ok Direct) →
     (good_coefficients held.config.addr bytes ≡ Some k →
     bytes ≡ answer_in (reply_of held (frame_of held.config.addr coefficients_read) Restart)) →
     good_coefficients held.config.addr bytes ≡ Some k → k ≡ held.config.coefficients
-coefficients-true laws held setup output bytes k spelled below direct same good =
+coefficients-true laws held setup output {bytes = bytes} {k = k} spelled (below, direct) same good =
     let addr = held.config.addr in
     let request = is_request addr coefficients_read refl (laws.frames_are_named.fits setup coefficients_read reads_coefficients) in
     let found = laws.reads_are_answered.coefficients held (frame_of addr coefficients_read) request

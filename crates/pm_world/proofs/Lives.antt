@@ -1,5 +1,6 @@
 -- The life of a world, event by event.
-use Rattle.std.proofs.Common.{◌≡◌, ℕ, suc, true, false, not, List, [], ◌∷◌, ◌++◌, length, Option, Some, None, is_none, refl, sym, ◌∙◌, ap, ap₂, subst, add-one}
+use Rattle.std.proofs.Common.{◌≡◌, ℕ, suc, true, false, not, List, [], ◌∷◌, ◌++◌, length, Option, Some, None, is_none, refl, sym, ◌∙◌, ap}
+use Rattle.std.proofs.Common.{ap₂, subst, add-one}
 use Rattle.std.specs.Prelude.{option_to_list}
 use Rattle.std.specs.Option.{option_map_or}
 use Rattle.pm_frame.specs.declared.message.Message.{Message}
@@ -21,7 +22,8 @@ use Rattle.pm_world.specs.declared.event.Arrival.{Arrival}
 use Rattle.pm_world.specs.declared.event.Back.{Back}
 use Rattle.pm_world.specs.declared.stop.Cause.TheVariants.{WrongKind}
 use Rattle.pm_world.specs.Setup.{setup_of, start}
-use Rattle.pm_world.specs.State.{State, Share, asked, share_of, share_beside, tells, delivered, exchanged, shared, counted, next, end_by, end_after, host_after, device_after, HasWord, rule, event_cause, finish_cause, exchange_cause, IsTaken}
+use Rattle.pm_world.specs.State.{State, Share, asked, share_of, share_beside, tells, delivered, exchanged, shared, counted, next, end_by}
+use Rattle.pm_world.specs.State.{end_after, host_after, device_after, HasWord, rule, event_cause, finish_cause, exchange_cause, IsTaken}
 use Rattle.pm_world.proofs.Causes.{or-none, rule-none, not-false, taken-free, job-free}
 use Rattle.pm_world.proofs.Ends.{state}
 use Rattle.pm_world.specs.Life.{Life, state_of, lived, life, now, AreTaken, after_all, AreTakenFrom}

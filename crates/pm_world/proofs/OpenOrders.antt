@@ -21,7 +21,8 @@ use Rattle.pm_host.specs.declared.job_end.JobEnd.{JobEnd}
 use Rattle.pm_host.specs.declared.job_end.JobEnd.TheVariants.{Done, Differs, Unknown}
 use Rattle.pm_host.specs.Marks.{Good}
 use Rattle.pm_host.specs.Now.{now as host_now, stage_of, job_stage}
-use Rattle.pm_host.specs.Summary.{Summary, another, learned, read_back, checked, mode_taken, mode_answered, coefficients_answered, finished, answered, marked, writes, ends, goes_on}
+use Rattle.pm_host.specs.Summary.{Summary, another, learned, read_back, checked, mode_taken, mode_answered, coefficients_answered, finished}
+use Rattle.pm_host.specs.Summary.{answered, marked, writes, ends, goes_on}
 use Rattle.pm_host.specs.Transcript as host
 use Rattle.pm_world.specs.declared.event.Event.{Event}
 use Rattle.pm_world.specs.Life.{life, now, state_of}

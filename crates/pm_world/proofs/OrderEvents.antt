@@ -1,5 +1,6 @@
 -- What an event makes of the converter's words and of the open order, in a world that takes it.
-use Rattle.std.proofs.Common.{◌≡◌, ◌⊎◌, inl, inr, ℕ, Bool, true, false, not, List, Option, Some, None, is_some, IsSome, unwrap_or, refl, sym, ◌∙◌, ap, subst}
+use Rattle.std.proofs.Common.{◌≡◌, ◌⊎◌, inl, inr, ℕ, Bool, true, false, not, List, Option, Some, None, is_some, IsSome, unwrap_or, refl}
+use Rattle.std.proofs.Common.{sym, ◌∙◌, ap, subst}
 use Rattle.std.specs.Option.{option_or, option_map}
 use Rattle.std.proofs.lemmas.Bool.{ltb-true}
 use Rattle.pm_table.specs.declared.cell.Cell.{Cell}
@@ -29,7 +30,8 @@ use Rattle.pm_world.specs.declared.event.Arrival.{Arrival}
 use Rattle.pm_world.specs.declared.event.Back.{Back as Return}
 use Rattle.pm_world.specs.declared.stop.Cause.TheVariants.{NotBetrayed, WrongKind}
 use Rattle.pm_world.specs.Legal.{frame_of, heard_bytes, heard_ending, is_legal_hearing}
-use Rattle.pm_world.specs.State.{State, rule, device_after, host_after, delivered, exchanged, delivery_cause, exchange_cause, hearing_cause, return_cause}
+use Rattle.pm_world.specs.State.{State, rule, device_after, host_after, delivered, exchanged, delivery_cause, exchange_cause, hearing_cause}
+use Rattle.pm_world.specs.State.{return_cause}
 use Rattle.pm_world.proofs.Causes.{or-none, rule-none, not-false}
 use Rattle.pm_world.proofs.Hearings.{hears-write, hears-request, cell-reached}
 use Rattle.pm_world.proofs.OpenOrders.{stage_order, Goes, answered-order}
@@ -155,7 +157,7 @@ exchanged-words laws s arrival back (Some message) fits h =
     heard-words s.device (heard_bytes (frame_of s.host.setup.addr message) arrival) (heard_ending message arrival)
     ∙ hears-request laws s.device s.host.setup.addr message (heard_bytes (frame_of s.host.setup.addr message) arrival)
     (heard_ending message arrival)
-    (not-false (is_read_message message) (rule-none (not (is_read_message message)) WrongKind kinds.0)) (fits message refl)
+    (not-false (is_read_message message) (rule-none (not (is_read_message message)) WrongKind kinds.0), fits message refl)
     (not-false _ (rule-none _ NotBetrayed hears.0))
 
 -- and keeps an order open, or ends it

@@ -1,11 +1,12 @@
 -- Each cell's word is its own: the start word, or that of an order for this very cell.
-use Rattle.std.proofs.Common.{◌≡◌, inl, inr, ℕ, zero, suc, ◌<◌, Bool, true, false, ◌&&◌, cond, List, [], ◌∷◌, Option, Some, None, is_some, is_none, refl, ◌∙◌, ap, subst, arith}
+use Rattle.std.proofs.Common.{◌≡◌, inl, inr, ℕ, zero, suc, ◌<◌, Bool, true, false, ◌&&◌, cond, List, [], ◌∷◌, Option, Some, None, is_some}
+use Rattle.std.proofs.Common.{is_none, refl, ◌∙◌, ap, subst, arith}
 use Rattle.std.specs.List.{Contains}
 use Rattle.std.specs.Option.{option_map_or}
 use Rattle.std.proofs.lemmas.List.Elements.{Contains-append_cases}
 use Rattle.pm_table.specs.declared.cell.Cell.{Cell}
 use Rattle.pm_table.specs.declared.cell.Cell.TheVariants.{Out}
-use Rattle.pm_table.specs.declared.cell.Reg.TheVariants.{Operation, VoutMax}
+use Rattle.pm_table.specs.declared.cell.Reg.TheVariants.{Operation, VoutMax, VoutMin}
 use Rattle.pm_table.specs.Cell.{IsCell}
 use Rattle.pm_model.specs.Commanded.{selected_register, selected, is_cut, commanded}
 use Rattle.pm_model.specs.OrderMachine.{Step, Accept, Take, End, Back, machine_of}
@@ -18,7 +19,8 @@ use Rattle.pm_world.specs.Below.{Below}
 use Rattle.pm_world.specs.declared.event.Event.{Event}
 use Rattle.pm_world.specs.declared.event.Event.TheVariants.{Deliver, Exchange, RestartDevice, RestartHost}
 use Rattle.pm_world.specs.Life.{now}
-use Rattle.pm_world.specs.Retelling.{start_settings, open_order, order_of, accepts, told, told_beside, Retells, nothing, tells, takes, IsOrderRun, WasOrdered, IsOwnWord, CommandsOwn}
+use Rattle.pm_world.specs.Retelling.{start_settings, open_order, order_of, accepts, told, told_beside, Retells, nothing, tells, takes}
+use Rattle.pm_world.specs.Retelling.{IsOrderRun, WasOrdered, IsOwnWord, CommandsOwn}
 use Rattle.pm_world.specs.State.{asked}
 use Rattle.pm_world.proofs.Lives.{IsLived, now-config}
 use Rattle.pm_world.proofs.Retellings.{life-run}
@@ -129,9 +131,11 @@ life-commands laws config passes events output lived here =
     record {
       operation = operation;
       selected = word_at words (Out output (selected_register operation));
+      least = word_at words (Out output VoutMin);
       most = word_at words (Out output VoutMax);
       own_operation = life-own laws config passes events (Out output Operation) lived here;
       own_selected = life-own laws config passes events (Out output (selected_register operation)) lived here;
+      own_least = life-own laws config passes events (Out output VoutMin) lived here;
       own_most = life-own laws config passes events (Out output VoutMax) lived here;
       cut = ap (λ (k : Config). commanded (value_for k output) words output) (now-config config passes events);
     }

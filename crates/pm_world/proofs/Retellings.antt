@@ -1,5 +1,6 @@
 -- A life is a run of the order machine, event by event.
-use Rattle.std.proofs.Common.{◌≡◌, inl, inr, ℕ, true, List, [], ◌∷◌, ◌++◌, Option, Some, None, is_some, IsSome, refl, sym, ◌∙◌, ap, ap₂, subst}
+use Rattle.std.proofs.Common.{◌≡◌, inl, inr, ℕ, true, List, [], ◌∷◌, ◌++◌, Option, Some, None, is_some, IsSome, refl, sym, ◌∙◌, ap, ap₂}
+use Rattle.std.proofs.Common.{subst}
 use Rattle.std.specs.Option.{option_map_or}
 use Rattle.pm_table.specs.declared.cell.Cell.{Cell}
 use Rattle.pm_table.specs.Cell.{IsCell}
@@ -21,13 +22,15 @@ use Rattle.pm_world.specs.declared.event.Back.{Back as Return}
 use Rattle.pm_world.specs.declared.event.Event.{Event}
 use Rattle.pm_world.specs.declared.event.Event.TheVariants.{Deliver, Finish, Exchange, RestartDevice, RestartHost, Reading}
 use Rattle.pm_world.specs.Life.{life, now, state_of}
-use Rattle.pm_world.specs.Retelling.{start_settings, open_order, order_of, accepts, ends_between, told, told_beside, Retells, nothing, tells, takes, IsOrderRun}
+use Rattle.pm_world.specs.Retelling.{start_settings, open_order, order_of, accepts, ends_between, told, told_beside, Retells, nothing}
+use Rattle.pm_world.specs.Retelling.{tells, takes, IsOrderRun}
 use Rattle.pm_world.specs.Setup.{setup_of, start}
 use Rattle.pm_world.specs.State.{State, asked, event_cause, next}
 use Rattle.pm_world.proofs.Causes.{job-free, asked-next, beside-next}
 use Rattle.pm_world.proofs.Lives.{IsLived, earlier, newest, life-told, now-config, now-next, now-nil}
 use Rattle.pm_world.proofs.OpenOrders.{stage_order, open_order-is, finished-order, Goes}
-use Rattle.pm_world.proofs.OrderEvents.{delivered-stage, Takes, delivered-words, exchanged-words, exchanged-order, IsFree, job-order, order-free}
+use Rattle.pm_world.proofs.OrderEvents.{delivered-stage, Takes, delivered-words, exchanged-words, exchanged-order, IsFree, job-order}
+use Rattle.pm_world.proofs.OrderEvents.{order-free}
 
 -- the message whose frame is being sent fits its layout
 sent-fits : Below → (config : Config) (passes : ℕ) (events : List Event) → IsLived config passes events → (message : Message) →

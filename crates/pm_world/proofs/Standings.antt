@@ -1,5 +1,6 @@
 -- What the host says of a cell after one more entry, and the word that the cell has then.
-use Rattle.std.proofs.Common.{◌≡◌, inl, inr, ℕ, Bool, true, false, not, cond, eqb, ◌||◌, List, [], ◌∷◌, ◌++◌, filter, reverse, Option, Some, None, option_map, option_and_then, refl, sym, ◌∙◌, ap}
+use Rattle.std.proofs.Common.{◌≡◌, inl, inr, ℕ, Bool, true, false, not, cond, eqb, ◌||◌, List, [], ◌∷◌, ◌++◌, filter, reverse, Option, Some}
+use Rattle.std.proofs.Common.{None, option_map, option_and_then, refl, sym, ◌∙◌, ap}
 use Rattle.std.specs.Prelude.{option_to_list}
 use Rattle.std.specs.List.{list_any}
 use Rattle.std.proofs.lemmas.Bool.{cases_eq, eq-eqb, ne_eqb}

@@ -1,5 +1,6 @@
 -- The end of an order's write and its undisturbed read have no cause against them.
-use Rattle.std.proofs.Common.{◌≡◌, ℕ, ◌+◌, ◌<◌, ◌≤◌, Bool, true, false, not, ◌&&◌, ◌||◌, List, [], ◌∷◌, length, Some, None, option_map, refl, ◌∙◌, ap, ap₂, arith}
+use Rattle.std.proofs.Common.{◌≡◌, ℕ, ◌+◌, ◌<◌, ◌≤◌, Bool, true, false, not, ◌&&◌, ◌||◌, List, [], ◌∷◌, length, Some, None, option_map}
+use Rattle.std.proofs.Common.{refl, ◌∙◌, ap, ap₂, arith}
 use Rattle.std.specs.Prelude.{bytes_eq, nat_lt}
 use Rattle.std.specs.Option.{option_or}
 use Rattle.std.proofs.lemmas.Bool.{lt-leb}
@@ -97,16 +98,23 @@ sent-stage laws {config = config} {passes = passes} before order (arrival ∷ ar
     ∙ (ap (λ (h : Summary). h.stage) (next-deliver-host (now config passes events) arrival)
     ∙ sent-stage laws before order arrivals (earlier lived) asks)
 
+-- events that were taken, and room for two more
+pub record HasRoom (config : Config) (passes : ℕ) (events : List Event) : Type 0 where
+  pub sound : IsSound config
+  pub made : IsSetup (setup_of config passes)
+  pub taken : AreTaken config passes events
+  pub room : length events + 2 ≤ event_limit
+
 -- so the end of the write and the read are taken
-pub taken-whole : Below → (config : Config) (passes : ℕ) (before : List Event) (order : Event) (cell : Cell) (word : ℕ)
-    (arrivals : List Arrival) (acked : Bool) →
-    IsSound config → IsSetup (setup_of config passes) → AreTaken config passes (sent_by order arrivals before) →
-    asked (now config passes before) order ≡ Some (host.Order cell word) → length (sent_by order arrivals before) + 2 ≤ event_limit →
-    AreTaken config passes (honest order arrivals acked before)
-taken-whole laws config passes before order cell word arrivals acked sound made taken asks room =
+pub taken-whole : Below → {config : Config} {passes : ℕ} {cell : Cell} {word : ℕ} (before : List Event) (order : Event)
+    (arrivals : List Arrival) (acked : Bool) → HasRoom config passes (sent_by order arrivals before) →
+    asked (now config passes before) order ≡ Some (host.Order cell word) → AreTaken config passes (honest order arrivals acked before)
+taken-whole laws {config = config} {passes = passes} {cell = cell} {word = word} before order arrivals acked has asks =
     let events = sent_by order arrivals before in
     let s = now config passes events in
-    let stage = sent-stage laws before order arrivals (lived-by config passes events sound made taken) asks in
+    let lived = lived-by config passes events has.sound has.made has.taken in
+    let room = has.room in
+    let stage = sent-stage laws before order arrivals lived asks in
     let sending : sending_in s.host ≡ Some (cell_write cell word) = ap (option_map stage_message) stage in
     let finish : IsTaken s (Finish acked) = record {
       free = free s (Finish acked) (let count = now-taken config passes events in omega arith)
@@ -116,7 +124,8 @@ taken-whole laws config passes before order cell word arrivals acked sound made 
     let t = now config passes (Finish acked ∷ events) in
     let next_stage : t.host.stage ≡ Some (Reads cell word 0) =
     ap (λ (u : State). u.host.stage)
-    (now-next laws config passes events (Finish acked) (lived-by config passes (Finish acked ∷ events) sound made (finish, taken)))
+    (now-next laws config passes events (Finish acked)
+        (lived-by config passes (Finish acked ∷ events) has.sound has.made (finish, has.taken)))
     ∙ finish-stage s acked cell word stage in
     let reading : sending_in t.host ≡ Some (cell_read cell) = ap (option_map stage_message) next_stage in
     let count = now-taken config passes (Finish acked ∷ events) in (
@@ -125,5 +134,5 @@ taken-whole laws config passes before order cell word arrivals acked sound made 
             (ap (exchange_cause t Whole back.Whole) reading ∙ exchange-free t (cell_read cell) (reads-cell cell) (read-restart cell));
         word = tt;
       },
-      (finish, taken),
+      (finish, has.taken),
     )

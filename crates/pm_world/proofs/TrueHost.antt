@@ -1,5 +1,6 @@
 -- A host whose known formats are the converter's, event by event.
-use Rattle.std.proofs.Common.{◌≡◌, ℕ, ◌+◌, ◌<◌, Bool, true, false, cond, eqb, List, length, get_or, set, replicate, Option, Some, None, Result, Ok, Err, option_map, option_and_then, refl, sym, ◌∙◌, ap, subst, inl, inr, arith}
+use Rattle.std.proofs.Common.{◌≡◌, ℕ, ◌+◌, ◌<◌, Bool, true, false, cond, eqb, List, length, get_or, set, replicate, Option, Some, None}
+use Rattle.std.proofs.Common.{Result, Ok, Err, option_map, option_and_then, refl, sym, ◌∙◌, ap, subst, inl, inr, arith}
 use Rattle.std.specs.Result.{result_ok}
 use Rattle.std.proofs.lemmas.Bool.{cases_eq, cases_lt}
 use Rattle.std.proofs.lemmas.List.{get_or-set_same, get_or-set_other, get_or-replicate, get_or_past}
@@ -24,9 +25,12 @@ use Rattle.pm_host.specs.declared.stage.Stage.TheVariants.{Reads, Checks, AsksMo
 use Rattle.pm_host.specs.declared.job_end.JobEnd.TheVariants as job_end
 use Rattle.pm_host.specs.Answers.{good_payload, good_word, good_mode, good_coefficients, word_in}
 use Rattle.pm_table.specs.Coefficients.{coefficients_of}
+use Rattle.pm_host.specs.Frames.{reads_mode}
 use Rattle.pm_host.specs.Messages.{mode_read, coefficients_read}
 use Rattle.pm_host.specs.Sound.{IsStage, IsSound as IsSoundHost}
-use Rattle.pm_host.specs.Summary.{Summary, Change, next as host_next, begins, finished, answered, read_back, checked, learned, mode_taken, mode_answered, coefficients_answered, another, ends, goes_on, writes, idle, marked, no_formats, sending_in, stage_message}
+use Rattle.pm_host.specs.Summary.{Summary, Change, next as host_next, begins, finished, answered, read_back, checked, learned, mode_taken}
+use Rattle.pm_host.specs.Summary.{mode_answered, coefficients_answered, another, ends, goes_on, writes, idle, marked, no_formats}
+use Rattle.pm_host.specs.Summary.{sending_in, stage_message}
 use Rattle.pm_host.specs.Marks.{Good}
 use Rattle.pm_host.specs.Transcript as host
 use Rattle.pm_world.specs.Below.{Below}
@@ -37,7 +41,8 @@ use Rattle.pm_world.specs.declared.event.Back.{Back}
 use Rattle.pm_world.specs.Honest.{IsSpelled}
 use Rattle.pm_world.specs.Legal.{frame_of, heard_bytes, heard_ending, answer_in, back_bytes}
 use Rattle.pm_world.specs.State.{State, asked, share_beside, exchanged, host_after, next, event_cause, exchange_cause, answer_to}
-use Rattle.pm_world.proofs.Learned.{ToldTrue, AsksSo, Agree, IsTrueHost, from_some, good-faultless, legal-good, exchange-legal, mode-true, coefficients-true}
+use Rattle.pm_world.proofs.Learned.{ToldTrue, AsksSo, Agree, IsTrueHost, from_some, good-faultless, legal-good, exchange-legal, mode-true}
+use Rattle.pm_world.proofs.Learned.{coefficients-true}
 use Rattle.pm_world.proofs.Causes.{asked-next, beside-next}
 use Rattle.pm_world.proofs.Sending.{told-nothing}
 
@@ -124,22 +129,21 @@ mode_taken-true config s output (Ok Direct) agree inside made is = record { form
 
 -- well or not
 mode_answered-true : (config : Config) (s : Summary) (output tries : ℕ) (byte : Option ℕ) → Agree config s.formats →
-    output < length s.formats →
-    shape_made config output ≡ Some (shape_for config output) → ((b : ℕ) → byte ≡ Some b → b ≡ mode_for config output) →
+    (output < length s.formats) × (shape_made config output ≡ Some (shape_for config output))
+        → ((b : ℕ) → byte ≡ Some b → b ≡ mode_for config output) →
     IsTrueHost config (mode_answered s output tries byte).after
-mode_answered-true config s output tries None agree inside made is = another-true config s tries (AsksMode output (tries + 1)) agree tt
-mode_answered-true config s output tries (Some byte) agree inside made is =
+mode_answered-true config s output tries None agree there is = another-true config s tries (AsksMode output (tries + 1)) agree tt
+mode_answered-true config s output tries (Some byte) agree (inside, made) is =
     mode_taken-true config s output (mode_of byte) agree inside made (ap mode_of (sym (is byte refl)))
 
 -- a learn that read COEFFICIENTS
 coefficients_answered-true : (config : Config) (s : Summary) (output tries : ℕ) (k : Option Coefficients) → Agree config s.formats →
-    output < length s.formats →
-    shape_made config output ≡ Some (shape_for config output) → mode_of (mode_for config output) ≡ Ok Direct →
-    ((c : Coefficients) → k ≡ Some c → c ≡ config.coefficients) →
+    (output < length s.formats) × (shape_made config output ≡ Some (shape_for config output)) →
+    (mode_of (mode_for config output) ≡ Ok Direct) × ((c : Coefficients) → k ≡ Some c → c ≡ config.coefficients) →
     IsTrueHost config (coefficients_answered s output tries k).after
-coefficients_answered-true config s output tries None agree inside made direct is =
+coefficients_answered-true config s output tries None agree there (direct, is) =
     another-true config s tries (AsksCoefficients output (tries + 1)) agree direct
-coefficients_answered-true config s output tries (Some k) agree inside made direct is =
+coefficients_answered-true config s output tries (Some k) agree (inside, made) (direct, is) =
     learned-true config s output (result_ok (shape_in Direct k)) agree inside
     (λ found h. mode-shape config output Direct found made direct
     (ap (λ (c : Coefficients). result_ok (shape_in Direct c)) (sym (is k refl)) ∙ h))
@@ -157,20 +161,20 @@ stage-inside s (Some (AsksCoefficients output tries)) is = is.there
 stage-inside s stage is = tt
 
 -- an entry
-answered-true : (config : Config) (s : Summary) (stage : Option Stage) (bytes : List ℕ) → IsSound config → length s.formats ≡ 8 →
-    Agree config s.formats → AsksSo config stage → Inside config.count stage →
+answered-true : (config : Config) (s : Summary) (stage : Option Stage) (bytes : List ℕ) → IsSound config × (length s.formats ≡ 8) →
+    Agree config s.formats → AsksSo config stage × Inside config.count stage →
     ToldTrue config s.setup.addr stage bytes → IsTrueHost config (answered s stage bytes).after
-answered-true config s (Some (Reads cell word pass)) bytes sound long agree asks inside told =
+answered-true config s (Some (Reads cell word pass)) bytes sized agree asks told =
     read_back-true config s cell word pass (good_word s.setup.addr cell bytes) agree
-answered-true config s (Some (Checks cell tries)) bytes sound long agree asks inside told =
+answered-true config s (Some (Checks cell tries)) bytes sized agree asks told =
     checked-true config s cell tries (good_word s.setup.addr cell bytes) agree
-answered-true config s (Some (AsksMode output tries)) bytes sound long agree asks inside told =
-    mode_answered-true config s output tries (good_mode s.setup.addr output bytes) agree (let few = sound.few in omega arith)
-    (sound.formats output inside) told
-answered-true config s (Some (AsksCoefficients output tries)) bytes sound long agree asks inside told =
-    coefficients_answered-true config s output tries (good_coefficients s.setup.addr bytes) agree (let few = sound.few in omega arith)
-    (sound.formats output inside) asks told
-answered-true config s stage bytes sound long agree asks inside told = record { formats = agree; asks = tt }
+answered-true config s (Some (AsksMode output tries)) bytes (sound, long) agree (asks, inside) told =
+    mode_answered-true config s output tries (good_mode s.setup.addr output bytes) agree
+    (let few = sound.few in omega arith, sound.formats output inside) told
+answered-true config s (Some (AsksCoefficients output tries)) bytes (sound, long) agree (asks, inside) told =
+    coefficients_answered-true config s output tries (good_coefficients s.setup.addr bytes) agree
+    (let few = sound.few in omega arith, sound.formats output inside) (asks, told)
+answered-true config s stage bytes sized agree asks told = record { formats = agree; asks = tt }
 
 -- the end of a write
 finished-true : (config : Config) (s : Summary) (stage : Option Stage) (acked : Bool) → Agree config s.formats → AsksSo config stage →
@@ -194,21 +198,26 @@ pub record Stands (s : State) : Type 0 where
   pub host : IsSoundHost s.host
   pub spelled : IsSpelled s.device.config
 
+-- what comes back of a request that is sent
+pub record ComesBack (s : State) (arrival : Arrival) (back : Back) (request : Message) (bytes : List ℕ) : Type 0 where
+  pub addr : s.host.setup.addr ≡ s.device.config.addr
+  pub reads : is_read_message request ≡ true
+  pub free : exchange_cause s arrival back (Some request) ≡ None
+  pub is : bytes ≡ back_bytes (answer_to s.device s.host.setup.addr request arrival) back
+
 -- a good answer that is legal is the converter's to the whole request
-pub good-same : Below → (s : State) (arrival : Arrival) (back : Back) (request : Message) (bytes payload : List ℕ) →
-    s.host.setup.addr ≡ s.device.config.addr → is_read_message request ≡ true →
-    exchange_cause s arrival back (Some request) ≡ None → bytes ≡ back_bytes (answer_to s.device s.host.setup.addr request arrival) back →
+pub good-same : Below → (s : State) (arrival : Arrival) (back : Back) (request : Message) (bytes : List ℕ) {payload : List ℕ} →
+    ComesBack s arrival back request bytes →
     good_payload s.device.config.addr request bytes ≡ Some payload →
     bytes ≡ answer_in (reply_of s.device (frame_of s.device.config.addr request) Restart)
-good-same laws s arrival back request bytes payload addr reads free is good =
+good-same laws s arrival back request bytes {payload = payload} came good =
     let a = s.host.setup.addr in
-    is
+    came.is
     ∙ (legal-good laws s.device a request (heard_bytes (frame_of a request) arrival) (heard_ending request arrival)
-    (back_bytes (answer_to s.device a request arrival) back) reads
-    (exchange-legal s arrival back request free)
+    (came.reads, exchange-legal s arrival back request came.free)
     (good-faultless a request _ payload
-    (subst (λ b. good_payload a request b ≡ Some payload) is (ap (λ x. good_payload x request bytes) addr ∙ good)))
-    ∙ ap (λ x. answer_in (reply_of s.device (frame_of x request) Restart)) addr)
+    (subst (λ b. good_payload a request b ≡ Some payload) came.is (ap (λ x. good_payload x request bytes) came.addr ∙ good)))
+    ∙ ap (λ x. answer_in (reply_of s.device (frame_of x request) Restart)) came.addr)
 
 -- what a stage is told is true
 told-true : Below → {s : State} (arrival : Arrival) (back : Back) (stage : Stage) → Stands s → AsksSo s.device.config (Some stage) →
@@ -217,15 +226,13 @@ told-true : Below → {s : State} (arrival : Arrival) (back : Back) (stage : Sta
     ToldTrue s.device.config s.device.config.addr (Some stage)
     (back_bytes (answer_to s.device s.host.setup.addr (stage_message stage) arrival) back)
 told-true laws {s = s} arrival back (AsksMode output tries) stands asks inside free = λ byte good.
-    mode-true laws s.device s.host.setup output _ byte stands.spelled (let few = stands.sound.few in omega arith) inside
-    (subst (λ n. output < n) (sym stands.outputs) inside)
-    (λ g. good-same laws s arrival back (mode_read output) _
-    (from_some word_in (good_payload s.device.config.addr (mode_read output) _) byte g).0 stands.addr refl free refl
+    mode-true laws s.device output stands.spelled (let few = stands.sound.few in omega arith, inside)
+    (laws.frames_are_named.fits s.host.setup (mode_read output) (reads_mode output (subst (λ n. output < n) (sym stands.outputs) inside)))
+    (λ g. good-same laws s arrival back (mode_read output) _ (record { addr = stands.addr; reads = refl; free = free; is = refl })
     (from_some word_in (good_payload s.device.config.addr (mode_read output) _) byte g).1) good
 told-true laws {s = s} arrival back (AsksCoefficients output tries) stands asks inside free = λ k good.
-    coefficients-true laws s.device s.host.setup output _ k stands.spelled inside asks
-    (λ g. good-same laws s arrival back coefficients_read _
-    (from_some coefficients_of (good_payload s.device.config.addr coefficients_read _) k g).0 stands.addr refl free refl
+    coefficients-true laws s.device s.host.setup output stands.spelled (inside, asks)
+    (λ g. good-same laws s arrival back coefficients_read _ (record { addr = stands.addr; reads = refl; free = free; is = refl })
     (from_some coefficients_of (good_payload s.device.config.addr coefficients_read _) k g).1) good
 told-true laws arrival back stage stands asks inside free = tt
 
@@ -244,7 +251,7 @@ exchange-true laws {s = s} arrival back (Some stage) stands is e free =
     let bytes = back_bytes (answer_to s.device s.host.setup.addr (stage_message stage) arrival) back in
     let told = told-true laws arrival back stage stands asks inside free in
     subst (λ (o : Option Stage). IsTrueHost s.device.config (answered (idle s.host) o bytes).after) (sym e)
-    (answered-true s.device.config (idle s.host) (Some stage) bytes stands.sound stands.host.formats is.formats asks inside
+    (answered-true s.device.config (idle s.host) (Some stage) bytes (stands.sound, stands.host.formats) is.formats (asks, inside)
     (subst (λ a. ToldTrue s.device.config a (Some stage) bytes) (sym stands.addr) told))
 
 -- one event: a job that it asks for is accepted, or it asks for none

@@ -1,5 +1,6 @@
 -- An order whose write is delivered whole, and whose read nothing disturbs.
-use Rattle.std.proofs.Common.{◌≡◌, ℕ, ◌≤◌, Bool, true, ◌||◌, eqb, List, [], ◌∷◌, ◌++◌, length, Option, Some, None, option_map, refl, sym, ◌∙◌, ap, subst, arith}
+use Rattle.std.proofs.Common.{◌≡◌, ℕ, ◌≤◌, Bool, true, ◌||◌, eqb, List, [], ◌∷◌, ◌++◌, length, Option, Some, None, option_map, refl, sym}
+use Rattle.std.proofs.Common.{◌∙◌, ap, subst, arith}
 use Rattle.std.specs.Prelude.{option_to_list}
 use Rattle.std.specs.List.{list_any}
 use Rattle.std.proofs.lemmas.Bool.{eq-eqb, cond-true}
@@ -29,7 +30,8 @@ use Rattle.pm_host.specs.Marks.{Good, marks}
 use Rattle.pm_host.specs.Messages.{cell_write, cell_read}
 use Rattle.pm_host.specs.Now.{now as host_now}
 use Rattle.pm_host.specs.Sound.{IsOrdering, IsStage, IsSound as IsSoundHost}
-use Rattle.pm_host.specs.Summary.{Summary, Change, next as host_next, step_of, change, finished, answered, read_back, idle, marked, ends, sending_in, stage_message, standing_at}
+use Rattle.pm_host.specs.Summary.{Summary, Change, next as host_next, step_of, change, finished, answered, read_back, idle, marked, ends}
+use Rattle.pm_host.specs.Summary.{sending_in, stage_message, standing_at}
 use Rattle.pm_host.specs.Standing.{standing_of}
 use Rattle.pm_host.specs.Transcript as host
 use Rattle.pm_world.specs.Below.{Below}
@@ -106,13 +108,13 @@ unfolding next step_of
 next-done s event cell word bytes told done = ap (end_after s.host s.end) told ∙ ap (λ (t : Change). end_by t.step) done
 
 -- the word is confirmed
-next-confirmed : Below → (s : State) (event : Event) (cell : Cell) (word : ℕ) (bytes : List ℕ) →
+next-confirmed : Below → (s : State) (event : Event) (cell : Cell) {word : ℕ} {bytes : List ℕ} →
     (share_of s event).told ≡ Some (host.Got bytes) →
     change s.host (host.Got bytes) ≡ ends (marked (idle s.host) (Good cell word)) Done → length s.host.known.standing ≡ places →
     IsCell 8 cell →
     standing_at (next s event).host cell ≡ Confirmed word
 unfolding next host_next
-next-confirmed laws s event cell word bytes told done long there =
+next-confirmed laws s event cell {word = word} told done long there =
     ap (λ o. standing_at (host_after s.host o) cell) told
     ∙ (ap (λ (t : Change). standing_at t.after cell) done
     ∙ get_or-set_same s.host.known.standing (place_of cell) (Confirmed word) Unknown
@@ -136,7 +138,7 @@ ended laws s cell word fixed stage held long =
       good = good;
       told = told;
       done = next-done s (Exchange Whole back.Whole) cell word answer told done;
-      confirmed = next-confirmed laws s (Exchange Whole back.Whole) cell word answer told done long
+      confirmed = next-confirmed laws s (Exchange Whole back.Whole) cell told done long
           (eight s.device.config.count cell fixed.few fixed.there);
       held = ap (λ w. word_at w cell)
           (next-heard laws s (Exchange Whole back.Whole) _ (exchange-heard s (cell_read cell) sending (read-restart cell))) ∙ held;

@@ -5,7 +5,7 @@ use Rattle.std.specs.Option.{option_map_or}
 use Rattle.pm_num.specs.Ratio.{Ratio}
 use Rattle.pm_table.specs.declared.cell.Cell.{Cell}
 use Rattle.pm_table.specs.declared.cell.Cell.TheVariants.{Out}
-use Rattle.pm_table.specs.declared.cell.Reg.TheVariants.{Operation, VoutMax}
+use Rattle.pm_table.specs.declared.cell.Reg.TheVariants.{Operation, VoutMax, VoutMin}
 use Rattle.pm_model.specs.declared.pending_order.PendingOrder.{PendingOrder}
 use Rattle.pm_model.specs.Commanded.{selected_register, limited}
 use Rattle.pm_model.specs.OrderMachine.{Step, Accept, Take, End, Back, IsRun, machine_of, ordered}
@@ -93,14 +93,16 @@ IsOwnWord config passes events cell word =
     (word ≡ start_word config cell) ⊎ WasOrdered config passes events cell word
 
 -- an output commands a value of its own: that of the word which its own OPERATION selects among its
--- own registers, cut to that of its own VOUT_MAX
+-- own registers, cut to those of its own VOUT_MIN and VOUT_MAX
 pub record CommandsOwn (config : Config) (passes : ℕ) (events : List Event) (output : ℕ) (voltage : Ratio) : Type 0 where
   pub operation : ℕ
   pub selected : ℕ
+  pub least : ℕ
   pub most : ℕ
   pub own_operation : IsOwnWord config passes events (Out output Operation) operation
   pub own_selected :
       IsOwnWord config passes events (Out output (selected_register operation)) selected
+  pub own_least : IsOwnWord config passes events (Out output VoutMin) least
   pub own_most : IsOwnWord config passes events (Out output VoutMax) most
-  pub cut : voltage
-      ≡ limited (value_for config output selected) (value_for config output most)
+  pub cut : voltage ≡ limited (value_for config output selected) (value_for config output least)
+      (value_for config output most)

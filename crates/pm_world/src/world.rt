@@ -1,4 +1,4 @@
-ghost use Rattle.std.specs.Prelude.{◌≡◌, ◌<◌, ◌≤◌, ℕ, true, IfOk, OnOk};
+ghost use Rattle.std.specs.Prelude.{◌≡◌, ◌<◌, ◌≤◌, ℕ, true, Some, IfOk, OnOk};
 ghost use Rattle.std.specs.Result.{result_err};
 ghost use Rattle.pm_device.specs.Start.{IsSound};
 ghost use Rattle.pm_host.specs.Refusals.{IsSetup, may_come};
@@ -7,10 +7,11 @@ ghost use Rattle.pm_world.specs.Honest.{AreFewFrames, FormatsAgree, IsSpelled, M
 ghost use Rattle.pm_world.specs.Possible.{PossibleIsHeld, SeenIsTrue};
 ghost use Rattle.pm_world.specs.Setup.{setup_of, start, setup_fault};
 ghost use Rattle.pm_world.specs.Life.{now, taken_events, after_all, AreTaken, AreTakenFrom, StopsAt, StopsFrom};
-ghost use Rattle.pm_world.specs.State.{Steps, Acts, shared, tells, hears};
+ghost use Rattle.pm_world.specs.State.{Steps, Acts, asked, shared, tells, hears};
 ghost use Rattle.pm_host.specs.Told.{entry_told};
 ghost use Rattle.pm_host.specs.Transcript as told;
 ghost use Rattle.pm_device.specs.Effect as heard;
+ghost use Rattle.pm_world.specs.declared.event.Event.{Event as AnyEvent};
 ghost use Rattle.pm_world.specs.declared.event.Event.TheVariants as event;
 ghost use Rattle.pm_table.specs.declared.cell.Cell.{Cell as AnyCell};
 ghost use Rattle.pm_table.specs.Cell.{IsCell};
@@ -30,7 +31,7 @@ use crate::legal::{
 };
 use crate::stop::{Cause, SetupFault, Stop};
 use pm_device::{Config, Converter, Ending};
-use pm_host::{Host, JobEnd, Step, Told, Turn, transcripts_are_followed};
+use pm_host::{Command, Host, JobEnd, Step, Told, Turn, transcripts_are_followed};
 use pm_table::{Cell, Code};
 use std::marker::Model;
 
@@ -100,7 +101,8 @@ impl World {
     ///   events. In it exactly the orders are accepted, each in its place and with its word, and an order
     ///   takes only at a delivery between its acceptance and the end of its job.
     /// - `own`: each cell has its start word, or the word of an order for that very cell.
-    /// - `commanded`: each output commands the value of one of its own words, cut to its own VOUT_MAX.
+    /// - `commanded`: each output commands the value of one of its own words, cut to its own VOUT_MIN and
+    ///   VOUT_MAX.
     /// - `confirmed`: a word that the host calls confirmed is the one that the converter holds, unless
     ///   the converter restarted since the host read the cell.
     /// - `possible`: where the host lists the words that are possible for a cell, the converter's is among
@@ -233,7 +235,7 @@ impl World {
             Event::OrderMicro(cell, microvolts) => self.order_micro(*cell, *microvolts),
             Event::Check(cell) => self.check(*cell),
             Event::Learn(output) => self.learn(*output),
-            Event::Clear(output) => self.clear(*output),
+            Event::Clear(output) => self.send(Command::ClearFaults { output: *output }),
             Event::Deliver(arrival) => self.deliver(arrival),
             Event::Finish(acked) => self.finish(*acked),
             Event::Exchange(arrival, back) => self.exchange(arrival, back),
@@ -288,11 +290,11 @@ impl World {
         Ok(())
     }
 
-    // The host is asked to clear latched status.
-    fn clear(&mut self, output: u8) -> Result<(), Cause>
-        ensures { Acts self.old (event.Clear output) result self.new }
+    // The host is asked to send a command.
+    fn send(&mut self, command: Command) -> Result<(), Cause>
+        ensures { (e : AnyEvent) → asked self.old e ≡ Some (told.Send command) → Acts self.old e result self.new }
     {
-        self.host.clear(output)?;
+        self.host.send(command)?;
         self.end = None;
         Ok(())
     }

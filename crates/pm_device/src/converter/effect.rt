@@ -52,7 +52,7 @@ impl Converter {
         }
     }
 
-    // Gives a cell a word, and latches that its output is above VOUT_MAX, where it is.
+    // Gives a cell a word, and latches that its output is outside its limits, where it is.
     #[tactic(auto, unfolding(crate::specs::History::after))]
     fn put(&mut self, cell: Cell, word: u16)
         requires cell { IsCell self.old.config.count cell }
@@ -65,7 +65,7 @@ impl Converter {
         }
     }
 
-    // Latches that an output is above VOUT_MAX, where it is.
+    // Latches that an output's selected value is outside its limits, where it is.
     fn latch(&mut self, output: u8)
         requires { output < self.old.config.count }
         ensures { self.new ≡ record self.old {
@@ -78,7 +78,7 @@ impl Converter {
         }
     }
 
-    // Clears the latch of an output; what is above VOUT_MAX now shows at once.
+    // Clears the latch of an output; what is outside its limits now shows at once.
     fn unlatch(&mut self, output: u8)
         requires { output < self.old.config.count }
         ensures { self.new ≡ record self.old {

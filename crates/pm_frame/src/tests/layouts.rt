@@ -204,7 +204,7 @@ const UNFITTING: [Message; 35] = [
         byte: 0,
     },
     Message::WriteWord {
-        code: 0x2B,
+        code: 0x2A,
         word: 0,
     },
     Message::PagePlusWrite {

@@ -1,34 +1,15 @@
 //! What a call that begins a job asks first.
 
-ghost use Rattle.std.specs.Prelude.{◌≡◌, ◌*◌, ◌≤◌, true, None, OnOk, OnErr};
+ghost use Rattle.std.specs.Prelude.{◌≡◌, ◌≤◌, true, None, OnOk};
 ghost use Rattle.std.specs.Result.{result_err};
 ghost use Rattle.pm_table.specs.Cell.{IsCell};
-ghost use Rattle.pm_host.specs.Frames.{frames_left};
-ghost use Rattle.pm_host.specs.Refusals.{asking_fault, cell_fault, command_fault};
-ghost use Rattle.pm_host.specs.Summary.{next};
-ghost use Rattle.pm_host.specs.Transcript.{Accepted, Send};
+ghost use Rattle.pm_host.specs.Refusals.{asking_fault, cell_fault};
 
-use crate::command::Command;
 use crate::fault::HostFault;
 use crate::host::Host;
-use crate::stage::Stage;
 use pm_table::Cell;
 
 impl Host {
-    /// Begins to send a command.
-    #[tactic(auto, unfolding(crate::specs::Summary::next))]
-    pub(super) fn send(&mut self, command: Command) -> Result<(), HostFault>
-        ensures fault { result_err result ≡ command_fault self.old command }
-        ensures ok { OnOk result (self.new ≡ next self.old (Accepted (Send command))) }
-        ensures err { OnErr result (self.new ≡ self.old) }
-        ensures kept { self.new.setup ≡ self.old.setup }
-        ensures left { OnOk result (frames_left self.new ≤ 2 * self.new.setup.passes) }
-    {
-        self.is_free(command.is_there(self.outputs))?;
-        self.go_on(Stage::Sends { command, tries: 0 });
-        Ok(())
-    }
-
     /// Refuses where a job is open, or what is asked for isn't there.
     pub(super) fn is_free(&self, there: bool) -> Result<(), HostFault>
         ensures fault { result_err result ≡ asking_fault self.now there }

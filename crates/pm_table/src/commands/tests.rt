@@ -2,7 +2,7 @@ use super::*;
 
 // The table as the standard's codes and this project's directions give it: code, name, bytes,
 // paged, read, written.
-const TABLE: [(u8, &str, u8, bool, bool, bool); 22] = [
+const TABLE: [(u8, &str, u8, bool, bool, bool); 23] = [
     (0x00, "PAGE", 1, false, true, true),
     (0x01, "OPERATION", 1, true, true, true),
     (0x03, "CLEAR_FAULTS", 0, true, false, true),
@@ -15,6 +15,7 @@ const TABLE: [(u8, &str, u8, bool, bool, bool); 22] = [
     (0x24, "VOUT_MAX", 2, true, true, true),
     (0x25, "VOUT_MARGIN_HIGH", 2, true, true, true),
     (0x26, "VOUT_MARGIN_LOW", 2, true, true, true),
+    (0x2B, "VOUT_MIN", 2, true, true, true),
     (0x30, "COEFFICIENTS", 0, false, true, false),
     (0x78, "STATUS_BYTE", 1, true, true, false),
     (0x79, "STATUS_WORD", 2, true, true, false),

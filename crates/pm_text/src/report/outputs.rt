@@ -72,8 +72,7 @@ fn push_registers(
     ensures { OnOk result (string_bytes text.new
         ≡ string_bytes text.old ++ register_lines form world.now output) }
 {
-    let registers = form.registers();
-    for register in registers.iter() {
+    for register in form.registers() {
         push_register(text, world, output, *register)?;
     }
     Ok(())

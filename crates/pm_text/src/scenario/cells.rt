@@ -30,7 +30,7 @@ pub(crate) fn register(form: Form, fields: &mut Fields<'_>) -> Result<Reg, Scena
     ensures { Reads result fields.new (field Syntax (kinds.register_named form) fields.old) }
 {
     let name = fields.word()?;
-    match named_among(&form.registers(), name) {
+    match named_among(form.registers(), name) {
         Some(register) => Ok(register),
         None => Err(fields.syntax()),
     }

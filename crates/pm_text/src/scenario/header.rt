@@ -11,7 +11,7 @@ use crate::scenario::rows::Rows;
 use crate::scenario::starts::Starts;
 use pm_device::{Config, OutputStart};
 use pm_lines::Line;
-use pm_table::Coefficients;
+use pm_table::{Coefficients, VoutMode};
 
 /// What stands before a scenario's events.
 #[derive(Clone, Copy, Debug)]
@@ -35,7 +35,7 @@ pub(crate) fn read_header(rows: &mut Rows<'_>) -> Result<Header, ScenarioFault>
     let passes = passes_line(rows.row()?)?;
     let protect = protect_line(rows.row()?)?;
     let coefficients = coefficients_line(rows.row()?)?;
-    let Starts { count, starts } = outputs(form, rows)?;
+    let Starts { count, starts } = outputs(form, coefficients, rows)?;
     let config = Config {
         addr,
         count,
@@ -50,7 +50,7 @@ pub(crate) fn read_header(rows: &mut Rows<'_>) -> Result<Header, ScenarioFault>
     })
 }
 
-// `scenario 1`.
+// `scenario 1` or `scenario 2`.
 fn form_line(line: Line<'_>) -> Result<Form, ScenarioFault>
     ensures { result ≡ line_as spec.form_line (line.entry.number, line.entry.text.now) }
 {
@@ -68,6 +68,8 @@ fn form(fields: &mut Fields<'_>) -> Result<Form, ScenarioFault>
     let name = fields.word()?;
     if name == b"1".as_slice() {
         Ok(Form::First)
+    } else if name == b"2".as_slice() {
+        Ok(Form::Second)
     } else {
         Err(fields.syntax())
     }
@@ -132,41 +134,46 @@ fn coefficients(fields: &mut Fields<'_>) -> Result<Coefficients, ScenarioFault>
 
 // The outputs, each a line, up to the line `begin`.
 #[tactic(auto, unfolding(crate::specs::ScenarioText::outputs))]
-fn outputs(form: Form, rows: &mut Rows<'_>) -> Result<Starts, ScenarioFault>
+fn outputs(form: Form, c: Coefficients, rows: &mut Rows<'_>) -> Result<Starts, ScenarioFault>
     ensures { MatchResult result
         (λ starts. (given : List Start) × (starts ≡ spec.starts_of given)
-        × (spec.outputs form rows.old ≡ Ok (given, rows.new)))
-        (λ fault. spec.outputs form rows.old ≡ Err fault) }
+        × (spec.outputs form c rows.old ≡ Ok (given, rows.new)))
+        (λ fault. spec.outputs form c rows.old ≡ Err fault) }
 {
     let mut starts = Starts::new();
-    'outputs: while let Some(start) = output_line(form, rows.row()?)? {
+    'outputs: while let Some(start) = output_line(form, c, rows.row()?)? {
         starts.push(start);
     }
     Ok(starts)
 }
 
 // A line that is an output, or `begin`: None.
-fn output_line(form: Form, line: Line<'_>) -> Result<Option<OutputStart>, ScenarioFault>
+fn output_line(
+    form: Form,
+    c: Coefficients,
+    line: Line<'_>,
+) -> Result<Option<OutputStart>, ScenarioFault>
     ensures { result
-        ≡ line_as (spec.output_line form) (line.entry.number, line.entry.text.now) }
+        ≡ line_as (spec.output_line form c) (line.entry.number, line.entry.text.now) }
 {
     let mut fields = Fields::new(line);
-    let start = output_or_begin(form, &mut fields)?;
+    let start = output_or_begin(form, c, &mut fields)?;
     fields.end()?;
     Ok(start)
 }
 
-// `output MODE OPERATION COMMAND MAX HIGH LOW`, or `begin`.
+// `output ..`, or `begin`.
 #[tactic(auto, unfolding(crate::specs::ScenarioText::output_line))]
 fn output_or_begin(
     form: Form,
+    c: Coefficients,
     fields: &mut Fields<'_>,
 ) -> Result<Option<OutputStart>, ScenarioFault>
-    ensures { Reads result fields.new (spec.output_line form fields.old) }
+    ensures { Reads result fields.new (spec.output_line form c fields.old) }
 {
     let name = fields.word()?;
     if name == b"output".as_slice() {
-        let start = output_start(form, fields)?;
+        let start = output_start(form, c, fields)?;
         Ok(Some(start))
     } else if name == b"begin".as_slice() {
         Ok(None)
@@ -175,18 +182,22 @@ fn output_or_begin(
     }
 }
 
-// MODE OPERATION COMMAND MAX HIGH LOW: two bytes and four words.
+// MODE OPERATION COMMAND MAX HIGH LOW, and MIN: two bytes, and four words or five.
 #[tactic(auto, unfolding(crate::specs::ScenarioText::output_rest))]
-fn output_start(form: Form, fields: &mut Fields<'_>) -> Result<OutputStart, ScenarioFault>
-    ensures { Reads result fields.new (spec.output_rest form fields.old) }
+fn output_start(
+    form: Form,
+    c: Coefficients,
+    fields: &mut Fields<'_>,
+) -> Result<OutputStart, ScenarioFault>
+    ensures { Reads result fields.new (spec.output_rest form c fields.old) }
 {
-    let Form::First = form;
     let mode = fields.hex_byte()?;
     let operation = fields.hex_byte()?;
     let command = fields.hex_word()?;
     let max = fields.hex_word()?;
     let high = fields.hex_word()?;
     let low = fields.hex_word()?;
+    let min = least_word(form, mode, c, fields)?;
     Ok(OutputStart {
         mode,
         operation: u16::from(operation),
@@ -194,5 +205,32 @@ fn output_start(form: Form, fields: &mut Fields<'_>) -> Result<OutputStart, Scen
         max,
         high,
         low,
+        min,
     })
+}
+
+// MIN; where the form doesn't have it, a word of the least value that the output's voltages have.
+fn least_word(
+    form: Form,
+    mode: u8,
+    c: Coefficients,
+    fields: &mut Fields<'_>,
+) -> Result<u16, ScenarioFault>
+    ensures { Reads result fields.new (spec.least_field form mode c fields.old) }
+{
+    match form {
+        Form::First => Ok(lowest_word(mode, c)),
+        Form::Second => fields.hex_word(),
+    }
+}
+
+// A word of the least value that the voltages have of an output with this VOUT_MODE.
+fn lowest_word(mode: u8, c: Coefficients) -> u16
+    ensures { result ≡ spec.lowest_word mode c }
+{
+    match VoutMode::read(mode) {
+        Ok(VoutMode::Direct) if c.m < 0 => 0x7FFF,
+        Ok(VoutMode::Direct) => 0x8000,
+        _ => 0x0000,
+    }
 }

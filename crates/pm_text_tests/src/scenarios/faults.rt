@@ -9,7 +9,7 @@ use std::test::Fail;
 fn a_faulty_line_of_the_worked_scenario_is_told(rt: HostRuntime) -> Result<(), Fail> {
     // The number of the line, and what stands there instead.
     let rows = [
-        (1, "scenario 2", TextFault::Syntax(1)),
+        (1, "scenario 3", TextFault::Syntax(1)),
         (3, "passes 256", TextFault::Syntax(3)),
         (4, "protect 0", TextFault::BadHex(4)),
         (6, "output 14 8Z 1000", TextFault::BadHex(6)),
@@ -49,6 +49,8 @@ fn a_faulty_line_of_the_worked_scenario_is_told(rt: HostRuntime) -> Result<(), F
 fn a_word_that_is_not_what_stands_at_its_place_is_a_fault(rt: HostRuntime) -> Result<(), Fail> {
     let rows = [
         " # x",
+        "; learn 1",
+        "// learn 1",
         "learn\t1",
         "Learn 1",
         "begin",

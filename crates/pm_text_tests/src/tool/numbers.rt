@@ -78,6 +78,11 @@ fn words_are_shown_with_their_values(rt: HostRuntime) {
             "word 7FFF value 32767000000032768/1 micro 32767000000032768000000\n",
         ),
         (
+            "direct:1:-32768:-12",
+            "8000",
+            "word 8000 value -32767999999967232/1 micro -32767999999967232000000\n",
+        ),
+        (
             "direct:01:-0:003",
             "0CE4",
             "word 0CE4 value 3300/1000 micro 3300000\n",

@@ -1,7 +1,7 @@
 ghost use Rattle.std.specs.Prelude.{IsFalse};
 
 use crate::fakes::{FAILURES, Paper, Pieces, blank_paper, in_pieces};
-use crate::worked::{FRAME, TAKEN};
+use crate::worked::{FRAME, LINES, REPORT, SCENARIO, TAKEN, TRACE};
 use pm_tool::{Sink, Source, run};
 use std::alloc::Global;
 use std::io::{ErrorKind, Read};
@@ -116,52 +116,6 @@ fn every_status_has_its_texts(rt: HostRuntime) {
 }
 
 #[test]
-fn replays_and_traces_have_their_status(rt: HostRuntime) {
-    let alloc = rt.alloc();
-    for (command, text, status, output, errors) in [
-        ("replay", "", 1, "", "pmb: X1 Syntax line 1\n"),
-        (
-            "replay",
-            "scenario 1\naddress 5\n",
-            1,
-            "",
-            "pmb: X2 BadHex line 2\n",
-        ),
-        ("decode", "", 0, "lines 0 accepted 0 faults 0 bad 0\n", ""),
-        (
-            "decode",
-            "B0 9",
-            1,
-            "1 X2 BadHex\nlines 1 accepted 0 faults 0 bad 1\n",
-            "",
-        ),
-        (
-            "decode",
-            "B0",
-            0,
-            "1 58 write F2 Short 1\nlines 1 accepted 0 faults 1 bad 0\n",
-            "",
-        ),
-        ("--version", "", 0, "pmb 0.1.0\n", ""),
-    ] {
-        let found = run_on(alloc, &["pmb", command], text);
-        assert!(rt; found.is(status, output, errors), "{command} {text}");
-    }
-    let stopped =
-        "scenario 1\naddress 58\npasses 2\nprotect 00\ncoefficients 1 0 0\noutput 14 80 1000 4000 1100 0F00\nbegin\nfinish ack\n";
-    let found = run_on(alloc, &["pmb", "replay"], stopped);
-    assert_eq!(rt; found.status, 1);
-    assert!(rt;
-        found
-            .output
-            .taken
-            .as_slice()
-            .starts_with(b"stopped 0 S2 NothingSent\n")
-    );
-    assert!(rt; found.errors.taken.is_empty());
-}
-
-#[test]
 fn a_refused_setup_is_told(rt: HostRuntime) -> Result<(), Fail> {
     let usual = "14 80 1000 4000 1100 0F00";
     let vid = "21 80 1000 4000 1100 0F00";
@@ -265,32 +219,37 @@ fn a_refused_setup_is_told(rt: HostRuntime) -> Result<(), Fail> {
 #[test]
 fn a_failed_reader_and_a_long_text_are_told(rt: HostRuntime) -> Result<(), Fail> {
     let alloc = rt.alloc();
-    let hear = ["pmb", "hear"];
-    for fails_at in 1..=5 {
-        let mut input = Source::new(Pieces {
-            fails_at,
-            ..in_pieces(FRAME.as_bytes(), 7)
-        });
+    let long = vec![in alloc; b'#'; 1_048_577]?;
+    for command in ["hear", "replay", "decode"] {
+        let words = ["pmb", command];
+        for fails_at in 1..=5 {
+            let mut input = Source::new(Pieces {
+                fails_at,
+                ..in_pieces(FRAME.as_bytes(), 7)
+            });
+            let found = run_with(
+                alloc,
+                Ok(&words),
+                &mut input,
+                blank_paper(alloc, 1),
+                blank_paper(alloc, 1),
+            );
+            assert!(rt;
+                found.is(1, "", "pmb: X4 Read\n"),
+                "{command} at {fails_at}"
+            );
+            assert_eq!(rt; input.into_inner().calls, fails_at, "{command}");
+        }
+        let mut input = Source::new(in_pieces(&long, 4096));
         let found = run_with(
             alloc,
-            Ok(&hear),
+            Ok(&words),
             &mut input,
             blank_paper(alloc, 1),
             blank_paper(alloc, 1),
         );
-        assert!(rt; found.is(1, "", "pmb: X4 Read\n"), "at {fails_at}");
-        assert_eq!(rt; input.into_inner().calls, fails_at);
+        assert!(rt; found.is(1, "", "pmb: X3 TooLong\n"), "{command}");
     }
-    let long = vec![in alloc; b'#'; 1_048_577]?;
-    let mut input = Source::new(in_pieces(&long, 4096));
-    let found = run_with(
-        alloc,
-        Ok(&hear),
-        &mut input,
-        blank_paper(alloc, 1),
-        blank_paper(alloc, 1),
-    );
-    assert!(rt; found.is(1, "", "pmb: X3 TooLong\n"));
     Ok(())
 }
 
@@ -337,6 +296,72 @@ fn a_failed_output_is_told_and_holds_a_front(rt: HostRuntime) {
             blank_paper(alloc, 4096),
         );
         assert!(rt; found.is(1, text, "pmb: X5 Write\n"));
+    }
+}
+
+/// A replay that stops, and its report.
+const STOPPED: &str =
+    "scenario 1\naddress 58\npasses 2\nprotect 00\ncoefficients 1 0 0\noutput 14 80 1000 4000 1100 0F00\nbegin\nfinish ack\n";
+
+const STOPPED_REPORT: &str =
+    "stopped 0 S2 NothingSent\nprotect 00 host unknown\noutput 0 on commanded 4096/4096 1000000 uV\nOPERATION 80 host unknown\nVOUT_COMMAND 1000 host unknown\nVOUT_MAX 4000 host unknown\nVOUT_MARGIN_HIGH 1100 host unknown\nVOUT_MARGIN_LOW 0F00 host unknown\nstatus 00 0000 00\ncml 00\nrestart seen no\njob none\n";
+
+// A run over an output whose flush fails, or not.
+fn flushed(alloc: Global, words: &[&str], text: &str, flush_fails: bool) -> Ran {
+    let mut input = Source::new(in_pieces(text.as_bytes(), 4096));
+    let output = Paper {
+        flush_fails,
+        ..blank_paper(alloc, 4096)
+    };
+    run_with(
+        alloc,
+        Ok(words),
+        &mut input,
+        output,
+        blank_paper(alloc, 4096),
+    )
+}
+
+#[test]
+fn what_is_printed_is_handed_on_once_whatever_the_status(rt: HostRuntime) {
+    // The option or the command, what is read, the status, what is printed and what is said.
+    let rows = [
+        ("hear", FRAME, 0, TAKEN, ""),
+        ("replay", SCENARIO, 0, REPORT, ""),
+        ("replay", STOPPED, 1, STOPPED_REPORT, ""),
+        (
+            "decode",
+            "B0",
+            0,
+            "1 58 write F2 Short 1\nlines 1 accepted 0 faults 1 bad 0\n",
+            "",
+        ),
+        ("decode", TRACE, 1, LINES, ""),
+        ("decode", "", 0, "lines 0 accepted 0 faults 0 bad 0\n", ""),
+        ("--version", "", 0, "pmb 0.1.0\n", ""),
+        ("hear", "/ /", 1, "", "pmb: X1 Syntax line 1\n"),
+        ("replay", "", 1, "", "pmb: X1 Syntax line 1\n"),
+        (
+            "replay",
+            "scenario 1\naddress 5\n",
+            1,
+            "",
+            "pmb: X2 BadHex line 2\n",
+        ),
+        ("number", "", 2, "", "pmb: give one of --word and --micro\n"),
+    ];
+    for (command, text, status, output, errors) in rows {
+        let words = ["pmb", command];
+        let found = flushed(rt.alloc(), &words, text, false);
+        assert!(rt; found.is(status, output, errors), "{command} {text}");
+        let printed = usize::from(!output.is_empty());
+        assert_eq!(rt; found.output.flushes, printed, "{command} {text}");
+        assert_eq!(rt; found.output.calls > 0, printed > 0, "{command} {text}");
+        assert_eq!(rt; found.errors.flushes, 0, "{command} {text}");
+        if printed > 0 {
+            let failed = flushed(rt.alloc(), &words, text, true);
+            assert!(rt; failed.is(1, output, "pmb: X5 Write\n"), "{command} {text}");
+        }
     }
 }
 

@@ -55,6 +55,52 @@ Options:
 Each command but number reads standard input: pmb replay < examples/one-order.scenario
 ";
 
+static HEAR_HELP: &str = "Lets a model converter hear the frames of standard input
+
+Usage: pmb hear
+
+Options:
+  -h, --help  Print help
+
+A line is a frame in hexadecimal, which a stop ends; a frame and /, where a repeated start follows
+it; or restart. Printed are the converter's answers, and then each output's VOUT_COMMAND.
+
+  $ echo 'B0 05 04 00 21 CD 34 5A' | pmb hear
+  taken
+  output 0 VOUT_COMMAND 34CD
+  output 1 VOUT_COMMAND 1000
+";
+
+static REPLAY_HELP: &str = "Replays a scenario between a host and a converter, and reports
+
+Usage: pmb replay
+
+Options:
+  -h, --help  Print help
+
+A scenario says what a converter and a host are made from, and what happens between them: orders,
+deliveries, lost answers, damaged bytes, restarts. Printed is what the converter then holds,
+commands and shows, and what the host knows. Status 1 where an event can't happen.
+
+  $ pmb replay < examples/one-order.scenario
+";
+
+static DECODE_HELP: &str = "Tells what the packets of a bus trace say
+
+Usage: pmb decode
+
+Options:
+  -h, --help  Print help
+
+A line is the write part of a packet in hexadecimal, and / and the read part where a repeated start
+follows. Printed is a line for each, and then the counts. Status 1 where a line is bad.
+
+  $ echo 'B0 05 04 00 21 CD 34 5A' | pmb decode
+  1 58 page 0 VOUT_COMMAND write 34CD
+  count VOUT_COMMAND 1
+  lines 1 accepted 1 faults 0 bad 0
+";
+
 static NUMBER_HELP: &str =
     "Prints a word of a number format, its exact value and its whole millionths
 
@@ -89,6 +135,9 @@ fn the_parsers_texts_go_where_they_belong(rt: HostRuntime) {
             TWICE,
         ),
         (["pmb", "--help"].as_slice(), 0, HELP, ""),
+        (["pmb", "hear", "--help"].as_slice(), 0, HEAR_HELP, ""),
+        (["pmb", "replay", "--help"].as_slice(), 0, REPLAY_HELP, ""),
+        (["pmb", "decode", "--help"].as_slice(), 0, DECODE_HELP, ""),
         (["pmb", "number", "--help"].as_slice(), 0, NUMBER_HELP, ""),
     ] {
         let found = run_on(rt.alloc(), words, "");

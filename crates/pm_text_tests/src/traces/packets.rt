@@ -7,7 +7,7 @@ use std::process::Abort;
 use std::test::Fail;
 
 /// A line of each code in each layout, what it says, and the code that is counted for it.
-const ACCEPTED: [(&str, &str, &str); 57] = [
+const ACCEPTED: [(&str, &str, &str); 61] = [
     ("B0 03 46", "58 CLEAR_FAULTS send", "CLEAR_FAULTS"),
     ("B0 00 01 ED", "58 PAGE write 01", "PAGE"),
     ("B0 01 94 1A", "58 OPERATION write 94", "OPERATION"),
@@ -29,6 +29,18 @@ const ACCEPTED: [(&str, &str, &str); 57] = [
         "B0 26 00 0F 8B",
         "58 VOUT_MARGIN_LOW write 0F00",
         "VOUT_MARGIN_LOW",
+    ),
+    ("B0 2B 00 08 0F", "58 VOUT_MIN write 0800", "VOUT_MIN"),
+    (
+        "B0 05 04 05 2B 21 43 6E",
+        "58 page 5 VOUT_MIN write 4321",
+        "VOUT_MIN",
+    ),
+    ("B0 2B / B1 01 08 29", "58 VOUT_MIN read 0801", "VOUT_MIN"),
+    (
+        "B0 06 02 07 2B / B1 02 DC FE 81",
+        "58 page 7 VOUT_MIN read FEDC",
+        "VOUT_MIN",
     ),
     (
         "B0 05 02 00 03 50",
@@ -246,7 +258,7 @@ const FAULTY: [(&str, &str); 71] = [
     ("B0 99 00", "58 write F5 WrongPec 2"),
     ("B0 05 03 00 00 01 98", "58 write F5 WrongPec 6"),
     ("B0 99 89", "58 write F6 UnknownCode 1"),
-    ("B0 05 04 00 2B 00 10 25", "58 write F6 UnknownCode 4"),
+    ("B0 05 04 00 2A 00 10 4E", "58 write F6 UnknownCode 4"),
     ("B0 05 02 00 99 9F", "58 write F6 UnknownCode 4"),
     ("B0 78 20", "58 write F7 WrongDirection 1"),
     ("B0 06 02 00 21 84", "58 write F7 WrongDirection 1"),
@@ -267,7 +279,7 @@ const FAULTY: [(&str, &str); 71] = [
     ("B0 03 00 /", "58 write F7 WrongDirection 1"),
     ("B0 06 02 00 21 / B1 03 CD", "58 read F2 Short 3"),
     ("B0 99 /", "58 write F6 UnknownCode 1"),
-    ("B0 06 02 00 2B /", "58 write F6 UnknownCode 4"),
+    ("B0 06 02 00 2A /", "58 write F6 UnknownCode 4"),
     ("B0 03 /", "58 write F7 WrongDirection 1"),
     ("B0 05 /", "58 write F7 WrongDirection 1"),
     ("B0 06 02 00 03 /", "58 write F7 WrongDirection 4"),
@@ -307,7 +319,7 @@ const FAULTY: [(&str, &str); 71] = [
 ];
 
 /// Lines that are no packet, and what they say.
-const BAD: [(&str, &str, TextFault); 11] = [
+const BAD: [(&str, &str, TextFault); 12] = [
     ("B0 // B1", "X1 Syntax", TextFault::Syntax(1)),
     ("B0 / B1 / B2", "X1 Syntax", TextFault::Syntax(1)),
     ("B0 / B1 / B", "X2 BadHex", TextFault::BadHex(1)),
@@ -315,6 +327,7 @@ const BAD: [(&str, &str, TextFault); 11] = [
     ("B/0", "X2 BadHex", TextFault::BadHex(1)),
     ("B0 9", "X2 BadHex", TextFault::BadHex(1)),
     (" # x", "X2 BadHex", TextFault::BadHex(1)),
+    ("; B0", "X2 BadHex", TextFault::BadHex(1)),
     ("b010 80 34\r\r", "X2 BadHex", TextFault::BadHex(1)),
     ("B0 1\r0 80 34", "X2 BadHex", TextFault::BadHex(1)),
     ("b0\t10 80 34", "X2 BadHex", TextFault::BadHex(1)),

@@ -5,7 +5,7 @@ use pm_device::{Config, OutputStart};
 use pm_table::Coefficients;
 
 /// How each output of the base configuration starts: ULINEAR16 with N = -12, on, 1 V asked for, at
-/// most 4 V.
+/// least 0 V and at most 4 V.
 const OUTPUT: OutputStart = OutputStart {
     mode: 0x14,
     operation: 0x80,
@@ -13,6 +13,7 @@ const OUTPUT: OutputStart = OutputStart {
     max: 0x4000,
     high: 0x1100,
     low: 0x0F00,
+    min: 0x0000,
 };
 
 /// The base configuration: two outputs at address 58h, and no write blocked.

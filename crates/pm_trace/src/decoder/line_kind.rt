@@ -4,7 +4,7 @@ ghost use Rattle.pm_trace.specs.OpenLines.{begins_with_pair as spec_begins_with_
 use pm_lines::pair_of;
 
 /// What a line of a trace is by its first bytes.
-#[derive(Clone, Copy, Debug, PartialEq, Eq)]
+#[derive(Clone, Copy, Debug)]
 pub(crate) enum LineKind {
     /// It has no byte.
     Empty,

@@ -1,7 +1,6 @@
-ghost use Rattle.std.specs.Prelude.{◌≡◌, ◌≤◌, length};
-ghost use Rattle.pm_lines.specs.Pairs.{paired_bytes, behind_pairs};
+ghost use Rattle.std.specs.Prelude.{◌≡◌};
 
-use pm_lines::pair_of;
+use pm_lines::{pair_of, spaced_pair};
 use std::marker::Model;
 
 /// The most bytes that a part of a trace line may have.
@@ -60,13 +59,19 @@ impl Part {
     }
 
     /// Takes the bytes that the pairs of digits at the front write, up to what is no such pair, and
-    /// gives what stands behind them.
+    /// gives what follows them.
     pub(crate) fn take_pairs<'a>(&mut self, digits: &'a [u8]) -> &'a [u8]
         ensures taken { self.new ≡ fold part_takes self.old (paired_bytes digits.entry.now) }
         ensures rest { result.now ≡ behind_pairs digits.entry.now }
     {
         let mut rest = digits;
         'pairs: loop {
+            // most pairs have a space after them
+            if let Some((byte, more)) = spaced_pair(rest) {
+                self.take(byte);
+                rest = more;
+                continue 'pairs;
+            }
             match rest {
                 [b' ', more @ ..] => rest = more,
                 [high, low, more @ ..] => {
@@ -74,7 +79,7 @@ impl Part {
                         return rest;
                     };
                     self.take(byte);
-                    rest = after_space(more);
+                    rest = more;
                 }
                 _ => return rest,
             }
@@ -102,17 +107,5 @@ impl Part {
         ensures { result ≡ self.now.is_long }
     {
         self.is_long
-    }
-}
-
-// What stands after a space, where one stands first: most pairs are followed by one.
-fn after_space(digits: &[u8]) -> &[u8]
-    ensures taken { paired_bytes result.now ≡ paired_bytes digits.entry.now }
-    ensures rest { behind_pairs result.now ≡ behind_pairs digits.entry.now }
-    ensures fewer { length result.now ≤ length digits.entry.now }
-{
-    match digits {
-        [b' ', more @ ..] => more,
-        _ => digits,
     }
 }

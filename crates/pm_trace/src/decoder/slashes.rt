@@ -1,5 +1,5 @@
 /// How many slashes a line of a trace has.
-#[derive(Clone, Copy, Debug, PartialEq, Eq)]
+#[derive(Clone, Copy, Debug)]
 pub(crate) enum Slashes {
     /// None: its write part goes on.
     None,

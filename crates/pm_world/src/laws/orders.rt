@@ -5,8 +5,8 @@ use crate::laws::below::lower_laws;
 /// However frames are delivered, lost, cut, damaged, repeated or falsely acknowledged, and whenever an
 /// end restarts: the converter's words are those of a run of the order machine that retells the events
 /// (`orders`). So each cell has its start word, or the word of an order that was taken for that very
-/// cell (`own`), and each output commands the value of one of its own words, cut to its own VOUT_MAX
-/// (`commanded`).
+/// cell (`own`), and each output commands the value of one of its own words, cut to its own VOUT_MIN and
+/// VOUT_MAX (`commanded`).
 pub fn lives_are_orders()
     ensures { LivesAreOrders }
 {

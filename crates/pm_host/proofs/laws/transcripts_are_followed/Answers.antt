@@ -12,7 +12,8 @@ pub returns : goal.returns
 unfolding now next step_of
 returns c = record {
   none = now-nil;
-  more = λ setup entries entry made told. sym (ap (λ t. t.after) (change-now setup entries entry made (IsJob-told setup entries told.1) told.0));
+  more = λ setup entries entry made told. sym
+      (ap (λ t. t.after) (change-now setup entries entry made (IsJob-told setup entries told.1) told.0));
   step = λ setup entries entry made told. ap (λ t. t.step) (change-now setup entries entry made (IsJob-told setup entries told.1) told.0);
   kept = next-keeps;
   busy = now-busy;

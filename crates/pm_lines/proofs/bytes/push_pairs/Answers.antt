@@ -7,7 +7,7 @@ use Rattle.pm_lines.proofs.bytes.push_pairs.Goals as goal
 pub returns-in_err-push-in-len2-up-clause-some : goal.returns-in_err-push-in-len2-up-clause-some
 returns-in_err-push-in-len2-up-clause-some c =
     let (paired, behind) =
-    pair_taken c.pairs.rest.now _ c.in-Some.byte c.in-len2-up.len_at_least refl (sym c.pair_of.ensures ∙ c.in-Some.is) in
+    pair_taken c.pairs.rest.now _ c.in-Some-pair_of.byte c.in-len2-up.len_at_least refl (sym c.pair_of.ensures ∙ c.in-Some-pair_of.is) in
     let (more, kept) = c.pairs.invariant.kept in
     let before = c.args.bytes.now.items in
     let some : 0 < length (paired_bytes c.args.digits.now) =
@@ -20,14 +20,14 @@ returns-in_err-push-in-len2-up-clause-some c =
       length-append before (paired_bytes c.args.digits.now),
       length-append before more,
     ) in
-    on_err c.from_residual.result _ some
+    on_err c.from_residual-in_err-push-in-len2-up.result _ some
 
 pub pairs-preserved-in_default-rest-2 : goal.pairs-preserved-in_default-rest-2
 pairs-preserved-in_default-rest-2 c =
     let rest = c.pairs.rest.now in
     let left = take (length rest - 2) (drop 2 rest) in
-    let byte = c.in-Some.byte in
-    let (paired, behind) = pair_taken rest left byte c.in-len2-up.len_at_least refl (sym c.pair_of.ensures ∙ c.in-Some.is) in
+    let byte = c.in-Some-pair_of.byte in
+    let (paired, behind) = pair_taken rest left byte c.in-len2-up.len_at_least refl (sym c.pair_of.ensures ∙ c.in-Some-pair_of.is) in
     let (more, kept) = c.pairs.invariant.kept in
     let pushed = c.in_ok-push-in-len2-up.ensures.items in
     let bytes = c.pairs.bytes.items in

@@ -6,31 +6,35 @@ use Rattle.pm_table.specs.declared.cell.Cell.TheVariants.{Out, Protect}
 use Rattle.pm_table.specs.Cell.{register_number, register_at, register_count, place_of, places, protect_place, cell_in, IsCell}
 use Rattle.pm_table.proofs.cell.cells_have_places.Goals as goal
 
--- a register's number is below the number of registers, and leads back to it; and so the other way round
+-- a register's number is below the number of registers
 register_number-below : (register : Reg) → register_number register < register_count
 register_number-below register = grind arith
 
+-- it leads back to the register
 register_at-number : (register : Reg) → register_at (register_number register) ≡ register
 register_at-number register = grind arith
 
+-- and a number's register back to the number
 register_number-at : (number : ℕ) → number < register_count
     → register_number (register_at number) ≡ number
 register_number-at number below = grind arith
 
--- the parts of a place
+-- the output is what a place divided by the number of registers gives
 output-of : (output number : ℕ) → number < register_count
     → (output * register_count + number) / register_count ≡ output
 output-of output number below = omega arith
 
+-- and the register's number what is left over
 number-of : (output number : ℕ) → number < register_count
     → (output * register_count + number) % register_count ≡ number
 number-of output number below = omega arith
 
--- the four clauses
+-- a cell's place is one of the places
 below : (cell : Cell) → IsCell 8 cell → place_of cell < places
 below (Out output register) there = omega (arith, register_number-below register)
 below Protect there = omega arith
 
+-- each place has a cell
 there : (place : ℕ) → place < places → IsCell 8 (cell_in place)
 there place h = grind arith
 
@@ -39,6 +43,7 @@ cell_in-out : (place : ℕ) → place < protect_place
     → cell_in place ≡ Out (place / register_count) (register_at (place % register_count))
 cell_in-out place below = grind arith
 
+-- the cell of a cell's place is that cell
 back : (cell : Cell) → IsCell 8 cell → cell_in (place_of cell) ≡ cell
 back (Out output register) there =
     let below = register_number-below register in
@@ -49,6 +54,7 @@ back (Out output register) there =
     (ap register_at (number-of output number below) ∙ register_at-number register)
 back Protect there = refl
 
+-- and the place of a place's cell is that place
 again : (place : ℕ) → place < places → place_of (cell_in place) ≡ place
 again place h = grind (arith, register_number-at (place % register_count) (omega arith))
 

@@ -3,6 +3,7 @@ use Rattle.pm_device.specs.declared.act.Act.{Act}
 use Rattle.pm_device.specs.Verdict.{ActsOn}
 use Rattle.pm_device.proofs.verdict.Verdict.of_write.Goals as goal
 
+-- an act on the output that a message names, or else on that of PAGE
 on_output : (act : Act) (named found : Option ℕ) (page output : ℕ) → output ≡ unwrap_or found page → found ≡ named → ActsOn output act
     → ActsOn (unwrap_or named page) act
 on_output act named found page output is same h =

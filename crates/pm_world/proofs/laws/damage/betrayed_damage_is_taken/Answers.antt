@@ -10,5 +10,6 @@ returns c = record {
   exchanged = λ config passes events request payload bytes room sending is damage.
       exchanged-taken c.betrayed_damage_is_legal.ensures config passes events room sending is damage;
   misheard = λ config passes events request bytes room sending asks others within are.
-      misheard-taken c.betrayed_damage_is_legal.ensures config passes events room sending asks others within are;
+      misheard-taken c.betrayed_damage_is_legal.ensures config passes events request bytes
+      (record { room = room; sending = sending; asks = asks; others = others; within = within; are = are });
 }

@@ -7,7 +7,9 @@ use Rattle.pm_world.proofs.laws.honest.honest_orders_go_through.Goals as goal
 
 pub returns : goal.returns
 returns c = record {
-  taken = taken-whole c.lower_laws.ensures;
+  taken = λ config passes before order cell word arrivals acked sound made taken asks room.
+      taken-whole c.lower_laws.ensures before order arrivals acked
+      (record { sound = sound; made = made; taken = taken; room = room }) asks;
   through = λ config passes events sound made taken. record {
     through = λ later before order cell word arrivals acked is.
         went-through c.lower_laws.ensures before order arrivals

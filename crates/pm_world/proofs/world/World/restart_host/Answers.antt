@@ -1,11 +1,11 @@
 use Rattle.std.proofs.Common.{None, refl}
 use Rattle.pm_host.specs.Summary.{step_of}
 use Rattle.pm_host.specs.Transcript.{Restarted}
-use Rattle.pm_world.proofs.Ends.{host-told}
+use Rattle.pm_world.proofs.Ends.{state, host-told}
 use Rattle.pm_world.proofs.world.World.restart_host.Goals as goal
 
 pub returns : goal.returns
 unfolding step_of
 returns c =
-    host-told c.args.self.now c.self.inside.device c.self.inside.host c.restart.new.self c.self.inside.end None c.self.inside.taken
-    Restarted c.self.view_is c.restart.ensures.after refl
+    let inside = state c.self.inside.device c.self.inside.host c.self.inside.end c.self.inside.taken in
+    host-told c.args.self.now inside c.restart.new.self None Restarted c.self.view_is c.restart.ensures.after refl

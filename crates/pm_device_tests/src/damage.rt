@@ -1,6 +1,7 @@
 //! Frames that are cut, changed in one bit, or very long.
 
-use crate::fixtures::{BASE, CELLS, OUTPUT, frame, word};
+use crate::fixtures::{BASE, CELLS, OUTPUT};
+use crate::frames::{frame, word};
 use pm_device::{Config, ConfigFault, Converter, DeviceFault, Ending, Heard, OutputStart};
 use pm_frame::{Frame, FrameFault, Message, fits, read_answer, read_request, read_write};
 use pm_table::Coefficients;

@@ -2,7 +2,6 @@
 
 ghost use Rattle.std.specs.Prelude.{◌≡◌, ◌<◌};
 
-mod bursts;
 mod configurations;
 mod example;
 mod operation;
@@ -10,7 +9,8 @@ mod refusals;
 mod registers;
 mod status_bits;
 
-use crate::fixtures::{BASE, CELLS, FIRST, OUTPUT, SECOND, frame, word};
+use crate::fixtures::{BASE, CELLS, FIRST, OUTPUT, SECOND};
+use crate::frames::{frame, word};
 use pm_device::{Config, Converter, DeviceFault, Ending, Heard, OutputStart};
 use pm_frame::{Frame, FrameFault};
 use pm_table::Coefficients;

@@ -16,6 +16,7 @@ fn each_cell_is_read_back_and_no_other_changes(rt: HostRuntime) {
         (Cell::Out(1, Reg::VoutMax), 0x4000, 0x0000),
         (Cell::Out(1, Reg::MarginHigh), 0x1100, 0x1234),
         (Cell::Out(0, Reg::MarginLow), 0x0F00, 0x4321),
+        (Cell::Out(1, Reg::VoutMin), 0x0000, 0x5555),
         (Cell::Protect, 0x00, 0x80),
     ];
     let base = Plain::new(2, [START; 8], 0x00);
@@ -32,8 +33,8 @@ fn each_cell_is_read_back_and_no_other_changes(rt: HostRuntime) {
     }
 }
 
-// What OPERATION, VOUT_COMMAND, VOUT_MAX and both margins of output 1 make it command.
-fn commands(format: AnyFormat, words: [u16; 5]) -> (i128, i128, bool) {
+// What OPERATION, VOUT_COMMAND, VOUT_MAX, both margins and VOUT_MIN of output 1 make it command.
+fn commands(format: AnyFormat, words: [u16; 6]) -> (i128, i128, bool) {
     let mut rows = [START; 8];
     rows[1] = words;
     let [operation, ..] = words;
@@ -50,7 +51,9 @@ fn commands(format: AnyFormat, words: [u16; 5]) -> (i128, i128, bool) {
 }
 
 #[test]
-fn the_selected_value_is_cut_to_that_of_vout_max(rt: HostRuntime) -> Result<(), Fail> {
+fn the_selected_value_is_cut_to_those_of_vout_min_and_vout_max(
+    rt: HostRuntime,
+) -> Result<(), Fail> {
     let Some(linear) = Ulinear16::new(-12) else {
         unreachable!()
     };
@@ -59,68 +62,118 @@ fn the_selected_value_is_cut_to_that_of_vout_max(rt: HostRuntime) -> Result<(), 
     let rows = [
         (
             linear,
-            [0x80, 0x34CD, 0x4000, 0x1100, 0x0F00],
+            [0x80, 0x34CD, 0x4000, 0x1100, 0x0F00, 0x0000],
             (13517, 4096, false),
         ),
         (
             linear,
-            [0x80, 0x4000, 0x4000, 0x1100, 0x0F00],
+            [0x80, 0x4000, 0x4000, 0x1100, 0x0F00, 0x0000],
             (16384, 4096, false),
         ),
         (
             linear,
-            [0x80, 0x4001, 0x4000, 0x1100, 0x0F00],
+            [0x80, 0x4001, 0x4000, 0x1100, 0x0F00, 0x0000],
             (16384, 4096, true),
         ),
         (
             linear,
-            [0xA8, 0x1000, 0x4000, 0x1100, 0x0F00],
+            [0xA8, 0x1000, 0x4000, 0x1100, 0x0F00, 0x0000],
             (4352, 4096, false),
         ),
         (
             linear,
-            [0xA4, 0x1000, 0x1000, 0x1100, 0x0F00],
+            [0xA4, 0x1000, 0x1000, 0x1100, 0x0F00, 0x0000],
             (4096, 4096, true),
         ),
         (
             linear,
-            [0x94, 0x5000, 0x4000, 0x1100, 0x0F00],
+            [0x94, 0x5000, 0x4000, 0x1100, 0x0F00, 0x0000],
             (3840, 4096, false),
         ),
         (
             linear,
-            [0x9B, 0x5000, 0x4000, 0x1100, 0x0F00],
+            [0x9B, 0x5000, 0x4000, 0x1100, 0x0F00, 0x0000],
             (3840, 4096, false),
         ),
         (
             linear,
-            [0x00, 0x1000, 0x4000, 0x1100, 0x0F00],
+            [0x00, 0x1000, 0x4000, 0x1100, 0x0F00, 0x0000],
             (4096, 4096, false),
         ),
         (
             linear,
-            [0x28, 0x1000, 0x4000, 0x1100, 0x0F00],
+            [0x28, 0x1000, 0x4000, 0x1100, 0x0F00, 0x0000],
             (4096, 4096, false),
         ),
         (
             linear,
-            [0x68, 0x1000, 0x4000, 0x1100, 0x0F00],
+            [0x68, 0x1000, 0x4000, 0x1100, 0x0F00, 0x0000],
             (4096, 4096, false),
         ),
         (
             falling,
-            [0x80, 0x03E8, 0x0BB8, 0x0000, 0x0000],
+            [0x80, 0x03E8, 0x0BB8, 0x0000, 0x0000, 0x7FFF],
             (2000, 1000, true),
         ),
         (
             falling,
-            [0x80, 0x0BB8, 0x03E8, 0x0000, 0x0000],
+            [0x80, 0x0BB8, 0x03E8, 0x0000, 0x0000, 0x7FFF],
             (2000, 1000, false),
         ),
         (
             falling,
-            [0x80, 0xFFFF, 0x0000, 0x0000, 0x0000],
+            [0x80, 0xFFFF, 0x0000, 0x0000, 0x0000, 0x7FFF],
             (5000, 1000, true),
+        ),
+        (
+            linear,
+            [0x80, 0x1000, 0x4000, 0x1100, 0x0F00, 0x2000],
+            (8192, 4096, true),
+        ),
+        (
+            linear,
+            [0x80, 0x1000, 0x4000, 0x1100, 0x0F00, 0x1000],
+            (4096, 4096, false),
+        ),
+        (
+            linear,
+            [0x80, 0x1000, 0x4000, 0x1100, 0x0F00, 0x5000],
+            (16384, 4096, true),
+        ),
+        (
+            linear,
+            [0x80, 0x6000, 0x4000, 0x1100, 0x0F00, 0x5000],
+            (16384, 4096, true),
+        ),
+        (
+            linear,
+            [0x80, 0x4800, 0x4000, 0x1100, 0x0F00, 0x5000],
+            (16384, 4096, true),
+        ),
+        (
+            linear,
+            [0x80, 0x1000, 0x4000, 0x1100, 0x0F00, 0x4000],
+            (16384, 4096, true),
+        ),
+        (
+            linear,
+            [0x94, 0x1000, 0x4000, 0x1100, 0x0F00, 0x0F01],
+            (3841, 4096, true),
+        ),
+        (
+            falling,
+            [0x80, 0x0BB8, 0x03E8, 0x0000, 0x0000, 0x07D0],
+            (3000, 1000, true),
+        ),
+        (
+            falling,
+            [0x80, 0x07D0, 0x03E8, 0x0000, 0x0000, 0x0BB8],
+            (3000, 1000, false),
+        ),
+        (
+            falling,
+            [0x80, 0x0BB8, 0x07D0, 0x0000, 0x0000, 0x03E8],
+            (3000, 1000, true),
         ),
     ];
     for (format, words, wanted) in rows {

@@ -1,7 +1,8 @@
 //! What is refused, for what, and which of two refusals comes first.
 
 use super::{Wanted, hears, hears_row, status};
-use crate::fixtures::{BASE, CELLS, OUTPUT, frame, word};
+use crate::fixtures::{BASE, CELLS, OUTPUT};
+use crate::frames::{frame, word};
 use pm_device::{Config, Converter, DeviceFault, Ending, OutputStart};
 use pm_frame::FrameFault;
 use std::test::Fail;

@@ -1,7 +1,8 @@
 //! What each code reads as and writes, over the bus.
 
-use super::{hears_row, hears_rows};
-use crate::fixtures::{BASE, OUTPUT};
+use super::{commanded, hears_row, hears_rows};
+use crate::fixtures::{BASE, CELLS, OUTPUT};
+use crate::frames::word;
 use pm_device::{Config, ConfigFault, Converter, DeviceFault, OutputStart};
 use pm_frame::FrameFault;
 use pm_table::{Code, Coefficients};
@@ -17,6 +18,7 @@ const MARGIN: OutputStart = OutputStart {
     max: 0x2345,
     high: 0x3456,
     low: 0x4567,
+    min: 0x0101,
 };
 
 const DIRECT: OutputStart = OutputStart {
@@ -26,6 +28,7 @@ const DIRECT: OutputStart = OutputStart {
     max: 0x6789,
     high: 0x789A,
     low: 0x09AB,
+    min: 0x8000,
 };
 
 const TOLD_APART: Config = Config {
@@ -53,7 +56,7 @@ const READINGS: [(u8, u8, u16); 6] = [
 ];
 
 // Each code that is read and carried, of both outputs.
-const CARRIED: [&str; 34] = [
+const CARRIED: [&str; 36] = [
     "B0 06 02 00 01 / B1 01 A8 AB",
     "B0 06 02 01 01 / B1 01 40 5F",
     "B0 06 02 00 10 / B1 01 20 6B",
@@ -70,6 +73,8 @@ const CARRIED: [&str; 34] = [
     "B0 06 02 01 25 / B1 02 9A 78 9B",
     "B0 06 02 00 26 / B1 02 67 45 5A",
     "B0 06 02 01 26 / B1 02 AB 09 81",
+    "B0 06 02 00 2B / B1 02 01 01 FE",
+    "B0 06 02 01 2B / B1 02 00 80 4C",
     "B0 06 02 00 78 / B1 01 03 67",
     "B0 06 02 01 78 / B1 01 42 C5",
     "B0 06 02 00 79 / B1 02 03 80 64",
@@ -91,7 +96,7 @@ const CARRIED: [&str; 34] = [
 ];
 
 // Each code by itself, while PAGE is 0 and while it is 1.
-const PLAIN_0: [&str; 18] = [
+const PLAIN_0: [&str; 19] = [
     "B0 00 / B1 00 C2",
     "B0 01 / B1 A8 F8",
     "B0 10 / B1 20 80",
@@ -101,6 +106,7 @@ const PLAIN_0: [&str; 18] = [
     "B0 24 / B1 45 23 25",
     "B0 25 / B1 56 34 3E",
     "B0 26 / B1 67 45 B8",
+    "B0 2B / B1 01 01 16",
     "B0 78 / B1 03 FD",
     "B0 79 / B1 03 80 62",
     "B0 7A / B1 08 1A",
@@ -112,7 +118,7 @@ const PLAIN_0: [&str; 18] = [
     "B0 98 / B1 33 A3",
 ];
 
-const PLAIN_1: [&str; 18] = [
+const PLAIN_1: [&str; 19] = [
     "B0 00 / B1 01 C5",
     "B0 01 / B1 40 6E",
     "B0 10 / B1 20 80",
@@ -122,6 +128,7 @@ const PLAIN_1: [&str; 18] = [
     "B0 24 / B1 89 67 EF",
     "B0 25 / B1 9A 78 CC",
     "B0 26 / B1 AB 09 4A",
+    "B0 2B / B1 00 80 8D",
     "B0 78 / B1 42 3D",
     "B0 79 / B1 42 08 9D",
     "B0 7A / B1 00 22",
@@ -134,7 +141,7 @@ const PLAIN_1: [&str; 18] = [
 ];
 
 // The coefficients of each code of a voltage, for both sides.
-const COEFFICIENTS: [&str; 10] = [
+const COEFFICIENTS: [&str; 12] = [
     "B0 30 02 21 00 / B1 05 01 02 03 04 05 BC",
     "B0 30 02 21 01 / B1 05 01 02 03 04 05 AF",
     "B0 30 02 24 00 / B1 05 01 02 03 04 05 26",
@@ -143,6 +150,8 @@ const COEFFICIENTS: [&str; 10] = [
     "B0 30 02 25 01 / B1 05 01 02 03 04 05 4C",
     "B0 30 02 26 00 / B1 05 01 02 03 04 05 D4",
     "B0 30 02 26 01 / B1 05 01 02 03 04 05 C7",
+    "B0 30 02 2B 00 / B1 05 01 02 03 04 05 8F",
+    "B0 30 02 2B 01 / B1 05 01 02 03 04 05 9C",
     "B0 30 02 8B 00 / B1 05 01 02 03 04 05 B6",
     "B0 30 02 8B 01 / B1 05 01 02 03 04 05 A5",
 ];
@@ -200,6 +209,39 @@ fn readings_are_kept_by_a_restart(rt: HostRuntime) -> Result<(), Fail> {
     Ok(())
 }
 
+// Writes of VOUT_MIN over the base configuration, each alone: what output 0 commands then in 2^-12 volts, and
+// its STATUS_VOUT and STATUS_WORD.
+const LIMITS: [(&str, i128, &str, &str); 3] = [
+    (
+        "B0 05 04 00 2B 00 20 B5",
+        8192,
+        "B0 7A / B1 08 1A",
+        "B0 79 / B1 01 80 48",
+    ),
+    (
+        "B0 05 04 00 2B 00 50 E2",
+        16384,
+        "B0 7A / B1 08 1A",
+        "B0 79 / B1 01 80 48",
+    ),
+    (
+        "B0 05 04 00 2B 00 10 25",
+        4096,
+        "B0 7A / B1 00 22",
+        "B0 79 / B1 00 00 D4",
+    ),
+];
+
+#[test]
+fn an_output_commands_no_less_than_its_vout_min(rt: HostRuntime) -> Result<(), Fail> {
+    for (write, wanted, vout, word) in LIMITS {
+        let mut converter = Converter::new(BASE)?;
+        hears_rows(&rt, &mut converter, &[write, vout, word]);
+        assert_eq!(rt; commanded(&converter, 0), (wanted, 4096), "{write}");
+    }
+    Ok(())
+}
+
 // STATUS of an output whose VOUT_COMMAND is above its VOUT_MAX; then the coefficients of an output in
 // millivolts; then readings.
 const ABOVE: [&str; 6] = [
@@ -211,7 +253,7 @@ const ABOVE: [&str; 6] = [
     "B0 7A / B1 08 1A",
 ];
 
-const MILLIVOLTS: [&str; 10] = [
+const MILLIVOLTS: [&str; 12] = [
     "B0 30 02 21 00 / B1 05 01 00 00 00 03 6B",
     "B0 30 02 21 01 / B1 05 01 00 00 00 03 78",
     "B0 30 02 24 00 / B1 05 01 00 00 00 03 F1",
@@ -220,8 +262,20 @@ const MILLIVOLTS: [&str; 10] = [
     "B0 30 02 25 01 / B1 05 01 00 00 00 03 9B",
     "B0 30 02 26 00 / B1 05 01 00 00 00 03 03",
     "B0 30 02 26 01 / B1 05 01 00 00 00 03 10",
+    "B0 30 02 2B 00 / B1 05 01 00 00 00 03 58",
+    "B0 30 02 2B 01 / B1 05 01 00 00 00 03 4B",
     "B0 30 02 8B 00 / B1 05 01 00 00 00 03 61",
     "B0 30 02 8B 01 / B1 05 01 00 00 00 03 72",
+];
+
+// Before any reading was set.
+const UNMEASURED: [&str; 6] = [
+    "B0 88 / B1 00 00 C1",
+    "B0 8B / B1 00 00 FB",
+    "B0 8C / B1 00 00 99",
+    "B0 8D / B1 00 00 8F",
+    "B0 06 02 01 8B / B1 02 00 00 36",
+    "B0 06 02 01 8C / B1 02 00 00 1F",
 ];
 
 const MEASURED: [&str; 4] = [
@@ -247,6 +301,7 @@ fn simple_configurations_read_so(rt: HostRuntime) -> Result<(), Fail> {
     })?;
     hears_rows(&rt, &mut direct, &MILLIVOLTS);
     let mut measured = Converter::new(BASE)?;
+    hears_rows(&rt, &mut measured, &UNMEASURED);
     for (output, code, word) in [(0, 0x88, 0x1234), (0, 0x8D, 0x5678), (1, 0x8C, 0x1234)] {
         assert!(rt;
             measured.set_reading(output, Code(code), word),
@@ -260,7 +315,7 @@ fn simple_configurations_read_so(rt: HostRuntime) -> Result<(), Fail> {
 }
 
 // Carried writes of both outputs, then a plain one while PAGE is 1; each register is read back.
-const WRITES: [&str; 44] = [
+const WRITES: [&str; 52] = [
     "B0 00 01 ED",
     "B0 00 / B1 01 C5",
     "B0 05 03 00 01 A8 DA",
@@ -303,14 +358,87 @@ const WRITES: [&str; 44] = [
     "B0 06 02 00 26 / B1 02 AA 0A B4",
     "B0 06 02 01 26 / B1 02 CC 0C 04",
     "B0 26 / B1 CC 0C CF",
+    "B0 05 04 00 2B DD 0A 30",
+    "B0 05 04 01 2B EE 0B E7",
+    "B0 06 02 00 2B / B1 02 DD 0A 89",
+    "B0 06 02 01 2B / B1 02 EE 0B 61",
+    "B0 2B FF 0C C4",
+    "B0 06 02 00 2B / B1 02 DD 0A 89",
+    "B0 06 02 01 2B / B1 02 FF 0C 36",
+    "B0 2B / B1 FF 0C F7",
     "B0 05 03 01 10 20 42",
     "B0 10 / B1 20 80",
 ];
 
+// Then every register of both outputs has another word, and PAGE is 1; a restart gives each its start
+// word again.
 #[test]
 fn each_write_reaches_its_own_register(rt: HostRuntime) -> Result<(), Fail> {
+    let started = Converter::new(BASE)?;
     let mut converter = Converter::new(BASE)?;
     hears_rows(&rt, &mut converter, &WRITES);
+    for cell in CELLS {
+        assert!(rt; word(&converter, cell) != word(&started, cell), "{cell:?}");
+    }
+    converter.restart();
+    for cell in CELLS {
+        assert_eq!(rt; word(&converter, cell), word(&started, cell), "{cell:?}");
+    }
+    assert_eq!(rt; converter.page(), 0);
+    Ok(())
+}
+
+// Eight outputs: VOUT_COMMAND of each is written and read, READ_VOUT and READ_IOUT of each are read.
+// Then PAGE names the last one.
+const EIGHT: [&str; 36] = [
+    "B0 05 04 00 21 10 20 65",
+    "B0 05 04 01 21 11 20 66",
+    "B0 05 04 02 21 12 20 63",
+    "B0 05 04 03 21 13 20 60",
+    "B0 05 04 04 21 14 20 69",
+    "B0 05 04 05 21 15 20 6A",
+    "B0 05 04 06 21 16 20 6F",
+    "B0 05 04 07 21 17 20 6C",
+    "B0 06 02 00 21 / B1 02 10 20 86",
+    "B0 06 02 01 21 / B1 02 11 20 BA",
+    "B0 06 02 02 21 / B1 02 12 20 FE",
+    "B0 06 02 03 21 / B1 02 13 20 C2",
+    "B0 06 02 04 21 / B1 02 14 20 76",
+    "B0 06 02 05 21 / B1 02 15 20 4A",
+    "B0 06 02 06 21 / B1 02 16 20 0E",
+    "B0 06 02 07 21 / B1 02 17 20 32",
+    "B0 06 02 00 8B / B1 02 00 30 8F",
+    "B0 06 02 01 8B / B1 02 01 30 B3",
+    "B0 06 02 02 8B / B1 02 02 30 F7",
+    "B0 06 02 03 8B / B1 02 03 30 CB",
+    "B0 06 02 04 8B / B1 02 04 30 7F",
+    "B0 06 02 05 8B / B1 02 05 30 43",
+    "B0 06 02 06 8B / B1 02 06 30 07",
+    "B0 06 02 07 8B / B1 02 07 30 3B",
+    "B0 06 02 00 8C / B1 02 00 40 F1",
+    "B0 06 02 01 8C / B1 02 01 40 CD",
+    "B0 06 02 02 8C / B1 02 02 40 89",
+    "B0 06 02 03 8C / B1 02 03 40 B5",
+    "B0 06 02 04 8C / B1 02 04 40 01",
+    "B0 06 02 05 8C / B1 02 05 40 3D",
+    "B0 06 02 06 8C / B1 02 06 40 79",
+    "B0 06 02 07 8C / B1 02 07 40 45",
+    "B0 00 07 FF",
+    "B0 21 FF 0F 4A",
+    "B0 06 02 07 21 / B1 02 FF 0F 14",
+    "B0 06 02 06 21 / B1 02 16 20 0E",
+];
+
+#[test]
+fn each_of_eight_outputs_has_registers_of_its_own(rt: HostRuntime) -> Result<(), Fail> {
+    let mut converter = Converter::new(Config { count: 8, ..BASE })?;
+    for output in 0..8u8 {
+        for (code, first) in [(0x8B, 0x3000u16), (0x8C, 0x4000)] {
+            let reading = first + u16::from(output);
+            assert!(rt; converter.set_reading(output, Code(code), reading));
+        }
+    }
+    hears_rows(&rt, &mut converter, &EIGHT);
     Ok(())
 }
 

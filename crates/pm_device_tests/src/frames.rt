@@ -1,0 +1,30 @@
+//! Frames written as texts, and the words of a converter.
+
+ghost use Rattle.std.specs.Prelude.{◌≡◌, ◌<◌};
+
+use pm_device::Converter;
+use pm_frame::Frame;
+use pm_table::Cell;
+use std::process::Abort;
+
+/// The bytes that a text spells, as "B0 21 CD 34 38": at most 16.
+pub(crate) fn frame(rt: &impl Abort, text: &str) -> Frame {
+    let mut frame = Frame::new();
+    for pair in text.split_whitespace() {
+        let byte = u8::from_str_radix(pair, 16);
+        assert!(rt; byte.is_ok() && pair.len() == 2, "{pair:?} is a byte");
+        assert!(rt;
+            frame.try_push(byte.unwrap_or(0)).is_ok(),
+            "{text:?} is a frame"
+        );
+    }
+    frame
+}
+
+/// The word of a cell; 0 where there is no such cell.
+pub(crate) fn word(converter: &Converter, cell: Cell) -> u16 {
+    match cell {
+        Cell::Out(output, _) if output >= converter.count() => 0,
+        _ => converter.word(cell),
+    }
+}

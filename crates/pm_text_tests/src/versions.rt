@@ -1,0 +1,255 @@
+//! Scenarios of both versions: VOUT_MIN stands in the second one, and the first is read and told as it was.
+
+use crate::engine::Engine;
+use crate::fakes::in_pieces;
+use crate::worked::{REPORT, SCENARIO};
+use pm_text::{TextFault, read_scenario};
+use std::alloc::Global;
+use std::test::Fail;
+
+// The lines before the events, of version 2.
+const HEAD: [&str; 8] = [
+    "scenario 2",
+    "address 58",
+    "passes 2",
+    "protect 00",
+    "coefficients -1 5 3",
+    "output 14 80 1000 4000 1100 0F00 0800",
+    "output 40 80 0BB8 03E8 0BB8 0BB8 07D0",
+    "begin",
+];
+
+// A text with another line at a place, counted from 0, and with these events.
+fn text_with(alloc: Global, place: usize, line: &str, events: &str) -> Result<String, Fail> {
+    let mut text = String::new(alloc);
+    for (i, usual) in HEAD.iter().enumerate() {
+        text.push_str(if i == place { line } else { *usual })?;
+        text.push('\n')?;
+    }
+    text.push_str(events)?;
+    Ok(text)
+}
+
+// What a replay of a text writes, and whether it ran to its end.
+fn replayed(alloc: Global, text: &str) -> (Result<bool, TextFault>, Vec<u8>) {
+    Engine::Replay.text_of(alloc, in_pieces(text.as_bytes(), 4096))
+}
+
+// The report of the second version, with a line for VOUT_MIN. Output 0 is cut to its floor of 0.5 V. Output
+// 1 is DIRECT, its words fall as volts rise: it asks for 2 V, and is cut to its floor of 3 V.
+const SECOND: &str = "ran 4
+protect 00 host unknown
+output 0 on commanded 2048/4096 500000 uV
+OPERATION 80 host unknown
+VOUT_COMMAND 0400 host confirmed 0400
+VOUT_MAX 4000 host unknown
+VOUT_MARGIN_HIGH 1100 host unknown
+VOUT_MARGIN_LOW 0F00 host unknown
+VOUT_MIN 0800 host unknown
+status 01 8001 08
+output 1 on commanded 3000/1000 3000000 uV
+OPERATION 80 host unknown
+VOUT_COMMAND 0BB8 host unknown
+VOUT_MAX 03E8 host unknown
+VOUT_MARGIN_HIGH 0BB8 host unknown
+VOUT_MARGIN_LOW 0BB8 host unknown
+VOUT_MIN 07D0 host unknown
+status 01 8001 08
+cml 00
+restart seen no
+job done
+";
+
+#[test]
+fn a_report_of_version_2_tells_vout_min(rt: HostRuntime) -> Result<(), Fail> {
+    let events = "order 0 VOUT_COMMAND 0400\ndeliver whole\nfinish ack\nexchange whole whole\n";
+    let text = text_with(rt.alloc(), 8, "", events)?;
+    let (end, written) = replayed(rt.alloc(), &text);
+    assert_eq!(rt; end, Ok(true));
+    assert_eq!(rt; written.as_slice(), SECOND.as_bytes());
+    Ok(())
+}
+
+// An event of VOUT_MIN in version 2, and lines of the report.
+const ORDERED: [(&str, &str, &str, &str); 4] = [
+    (
+        "order 0 VOUT_MIN 2000",
+        "output 0 on commanded 8192/4096 2000000 uV\n",
+        "VOUT_MIN 2000 host confirmed 2000\nstatus 01 8001 08\noutput 1",
+        "job done\n",
+    ),
+    (
+        "order 0 VOUT_MIN 5000",
+        "output 0 on commanded 16384/4096 4000000 uV\n",
+        "VOUT_MIN 5000 host confirmed 5000\nstatus 01 8001 08\noutput 1",
+        "job done\n",
+    ),
+    (
+        "order 0 VOUT_MIN 1000",
+        "output 0 on commanded 4096/4096 1000000 uV\n",
+        "VOUT_MIN 1000 host confirmed 1000\nstatus 00 0000 00\noutput 1",
+        "job done\n",
+    ),
+    // 2 V is the word 0BB8.
+    (
+        "learn 1\nexchange whole whole\nexchange whole whole\nvolts 1 VOUT_MIN 2000000",
+        "output 1 on commanded 2000/1000 2000000 uV\n",
+        "VOUT_MIN 0BB8 host confirmed 0BB8\nstatus 01 8001 08\ncml",
+        "job done\n",
+    ),
+];
+
+#[test]
+fn version_2_orders_vout_min(rt: HostRuntime) -> Result<(), Fail> {
+    for (event, first, second, third) in ORDERED {
+        let events = format!(in rt.alloc();
+            "{event}\ndeliver whole\nfinish ack\nexchange whole whole\n"
+        )?;
+        let text = text_with(rt.alloc(), 8, "", &events)?;
+        let (end, written) = replayed(rt.alloc(), &text);
+        assert_eq!(rt; end, Ok(true), "{event}");
+        let told = std::str::from_utf8(&written)?;
+        for line in [first, second, third] {
+            assert!(rt; told.contains(line), "{event} {line}");
+        }
+    }
+    Ok(())
+}
+
+// Frames that the converter hears from its base configuration, where VOUT_MIN is 0000h, and the lines before
+// the outputs'.
+const HEARD: [(&str, &str); 3] = [
+    (
+        "B0 05 04 00 2B 00 20 B5\nB0 7A /\nB0 79 /\nB0 2B /\n",
+        "taken\nanswer B1 08 1A\nanswer B1 01 80 48\nanswer B1 00 20 E4\n",
+    ),
+    (
+        "B0 05 04 00 2B 00 50 E2\nB0 7A /\nB0 79 /\nB0 2B /\n",
+        "taken\nanswer B1 08 1A\nanswer B1 01 80 48\nanswer B1 00 50 B3\n",
+    ),
+    (
+        "B0 05 04 00 2B 00 10 25\nB0 7A /\nB0 79 /\nB0 2B /\n",
+        "taken\nanswer B1 00 22\nanswer B1 00 00 D4\nanswer B1 00 10 74\n",
+    ),
+];
+
+#[test]
+fn hear_takes_vout_min_and_shows_what_it_cuts(rt: HostRuntime) -> Result<(), Fail> {
+    let outputs = "output 0 VOUT_COMMAND 1000\noutput 1 VOUT_COMMAND 1000\n";
+    for (text, answers) in HEARD {
+        let (end, written) = Engine::Hear.text_of(rt.alloc(), in_pieces(text.as_bytes(), 4096));
+        assert_eq!(rt; end, Ok(true), "{text}");
+        let wanted = format!(in rt.alloc(); "{answers}{outputs}")?;
+        assert_eq!(rt; written.as_slice(), wanted.as_bytes(), "{text}");
+    }
+    Ok(())
+}
+
+// The place of a line, counted from 0, a line that is faulty there, and the fault.
+const FAULTY: [(usize, &str, TextFault); 10] = [
+    (0, "scenario 3", TextFault::Syntax(1)),
+    (0, "scenario 02", TextFault::Syntax(1)),
+    (0, "scenario 2 2", TextFault::Syntax(1)),
+    (5, "output 14 80 1000 4000 1100 0F00", TextFault::Syntax(6)),
+    (
+        6,
+        "output 14 80 1000 4000 1100 0F00 0000 0000",
+        TextFault::Syntax(7),
+    ),
+    (
+        6,
+        "output 14 80 1000 4000 1100 0F00 00G0",
+        TextFault::BadHex(7),
+    ),
+    (
+        6,
+        "output 14 80 1000 4000 1100 0F00 00",
+        TextFault::BadHex(7),
+    ),
+    (
+        6,
+        "output 14 80 1000 4000 1100 0F00 begin",
+        TextFault::BadHex(7),
+    ),
+    // A line `output` of version 2 is faulty in version 1.
+    (0, "scenario 1", TextFault::Syntax(6)),
+    (0, "scenario", TextFault::Syntax(1)),
+];
+
+#[test]
+fn a_line_of_version_2_is_faulty_so(rt: HostRuntime) -> Result<(), Fail> {
+    for (place, line, fault) in FAULTY {
+        let text = text_with(rt.alloc(), place, line, "")?;
+        let found = read_scenario(rt.alloc(), text.as_bytes()).err();
+        assert_eq!(rt; found, Some(fault), "{line}");
+    }
+    Ok(())
+}
+
+#[test]
+fn no_event_of_version_1_names_vout_min(rt: HostRuntime) -> Result<(), Fail> {
+    let events = [
+        "order 0 VOUT_MIN 0800",
+        "order 0 VOUT_MIN ZZ",
+        "volts 0 VOUT_MIN 5",
+        "check 0 VOUT_MIN",
+    ];
+    for event in events {
+        let text = format!(in rt.alloc(); "{SCENARIO}{event}\n")?;
+        let found = read_scenario(rt.alloc(), text.as_bytes()).err();
+        assert_eq!(rt; found, Some(TextFault::Syntax(13)), "{event}");
+    }
+    Ok(())
+}
+
+// VOUT_MODE and m of a text of version 1, and VOUT_MIN then.
+const LEAST: [(&str, &str, u16); 8] = [
+    ("14", "1", 0x0000),
+    ("14", "-1", 0x0000),
+    ("00", "-1", 0x0000),
+    ("40", "1", 0x8000),
+    ("40", "0", 0x8000),
+    ("40", "-1", 0x7FFF),
+    ("41", "-1", 0x0000),
+    ("80", "-1", 0x0000),
+];
+
+#[test]
+fn version_1_has_the_least_vout_min(rt: HostRuntime) -> Result<(), Fail> {
+    let alloc = rt.alloc();
+    for (mode, m, wanted) in LEAST {
+        let text = format!(in alloc;
+            "scenario 1\naddress 58\npasses 2\nprotect 00\ncoefficients {m} 5 3\noutput {mode} 80 1000 4000 1100 0F00\nbegin\n"
+        )?;
+        let scenario = read_scenario(alloc, text.as_bytes())?;
+        let [start, ..] = scenario.config.starts;
+        assert_eq!(rt; start.min, wanted, "{mode} {m}");
+        assert_eq!(rt; scenario.version, 1);
+    }
+    let text = text_with(alloc, 8, "", "check 1 VOUT_MIN\n")?;
+    let scenario = read_scenario(alloc, text.as_bytes())?;
+    let [first, second, ..] = scenario.config.starts;
+    assert_eq!(rt;
+        (first.min, second.min, scenario.version),
+        (0x0800, 0x07D0, 2)
+    );
+    let events = format!(in alloc; "{:?}", scenario.events.as_slice())?;
+    assert_eq!(rt; events.as_str(), "[Check(Out(1, VoutMin))]");
+    Ok(())
+}
+
+#[test]
+fn bytes_of_vout_min_are_judged_by_the_table_in_version_1(rt: HostRuntime) -> Result<(), Fail> {
+    // The count says that one byte follows the code, and VOUT_MIN has two: a faulty frame of a known code.
+    let text = format!(in rt.alloc();
+        "{SCENARIO}order 0 VOUT_COMMAND 34CD\ndeliver bytes B00503002BCD00 stop\n"
+    )?;
+    let (end, written) = replayed(rt.alloc(), &text);
+    assert_eq!(rt; end, Ok(true));
+    let told = std::str::from_utf8(&written)?;
+    assert!(rt; told.contains("cml 02\n"));
+    assert!(rt; !told.contains("VOUT_MIN"));
+    let (_, written) = replayed(rt.alloc(), SCENARIO);
+    assert_eq!(rt; written.as_slice(), REPORT.as_bytes());
+    Ok(())
+}
