@@ -5,6 +5,7 @@ ghost use Rattle.std.specs.Prelude.{◌≡◌, ◌<◌};
 mod configurations;
 mod example;
 mod operation;
+mod outputs;
 mod refusals;
 mod registers;
 mod status_bits;

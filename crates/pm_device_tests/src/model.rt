@@ -50,6 +50,106 @@ fn commands(format: AnyFormat, words: [u16; 6]) -> (i128, i128, bool) {
     (value.num(), value.den(), plain.is_cut(&formats, 1))
 }
 
+// The words of an output, in that order, with the value that it commands and whether that is cut: in
+// ULINEAR16 with N = -12, and in DIRECT where a greater word is a lower voltage.
+const LINEAR: [([u16; 6], (i128, i128, bool)); 17] = [
+    (
+        [0x80, 0x34CD, 0x4000, 0x1100, 0x0F00, 0x0000],
+        (13517, 4096, false),
+    ),
+    (
+        [0x80, 0x4000, 0x4000, 0x1100, 0x0F00, 0x0000],
+        (16384, 4096, false),
+    ),
+    (
+        [0x80, 0x4001, 0x4000, 0x1100, 0x0F00, 0x0000],
+        (16384, 4096, true),
+    ),
+    (
+        [0xA8, 0x1000, 0x4000, 0x1100, 0x0F00, 0x0000],
+        (4352, 4096, false),
+    ),
+    (
+        [0xA4, 0x1000, 0x1000, 0x1100, 0x0F00, 0x0000],
+        (4096, 4096, true),
+    ),
+    (
+        [0x94, 0x5000, 0x4000, 0x1100, 0x0F00, 0x0000],
+        (3840, 4096, false),
+    ),
+    (
+        [0x9B, 0x5000, 0x4000, 0x1100, 0x0F00, 0x0000],
+        (3840, 4096, false),
+    ),
+    (
+        [0x00, 0x1000, 0x4000, 0x1100, 0x0F00, 0x0000],
+        (4096, 4096, false),
+    ),
+    (
+        [0x28, 0x1000, 0x4000, 0x1100, 0x0F00, 0x0000],
+        (4096, 4096, false),
+    ),
+    (
+        [0x68, 0x1000, 0x4000, 0x1100, 0x0F00, 0x0000],
+        (4096, 4096, false),
+    ),
+    (
+        [0x80, 0x1000, 0x4000, 0x1100, 0x0F00, 0x2000],
+        (8192, 4096, true),
+    ),
+    (
+        [0x80, 0x1000, 0x4000, 0x1100, 0x0F00, 0x1000],
+        (4096, 4096, false),
+    ),
+    (
+        [0x80, 0x1000, 0x4000, 0x1100, 0x0F00, 0x5000],
+        (16384, 4096, true),
+    ),
+    (
+        [0x80, 0x6000, 0x4000, 0x1100, 0x0F00, 0x5000],
+        (16384, 4096, true),
+    ),
+    (
+        [0x80, 0x4800, 0x4000, 0x1100, 0x0F00, 0x5000],
+        (16384, 4096, true),
+    ),
+    (
+        [0x80, 0x1000, 0x4000, 0x1100, 0x0F00, 0x4000],
+        (16384, 4096, true),
+    ),
+    (
+        [0x94, 0x1000, 0x4000, 0x1100, 0x0F00, 0x0F01],
+        (3841, 4096, true),
+    ),
+];
+
+const FALLING: [([u16; 6], (i128, i128, bool)); 6] = [
+    (
+        [0x80, 0x03E8, 0x0BB8, 0x0000, 0x0000, 0x7FFF],
+        (2000, 1000, true),
+    ),
+    (
+        [0x80, 0x0BB8, 0x03E8, 0x0000, 0x0000, 0x7FFF],
+        (2000, 1000, false),
+    ),
+    (
+        [0x80, 0xFFFF, 0x0000, 0x0000, 0x0000, 0x7FFF],
+        (5000, 1000, true),
+    ),
+    (
+        [0x80, 0x0BB8, 0x03E8, 0x0000, 0x0000, 0x07D0],
+        (3000, 1000, true),
+    ),
+    (
+        [0x80, 0x07D0, 0x03E8, 0x0000, 0x0000, 0x0BB8],
+        (3000, 1000, false),
+    ),
+    (
+        [0x80, 0x0BB8, 0x07D0, 0x0000, 0x0000, 0x03E8],
+        (3000, 1000, true),
+    ),
+];
+
 #[test]
 fn the_selected_value_is_cut_to_those_of_vout_min_and_vout_max(
     rt: HostRuntime,
@@ -59,125 +159,11 @@ fn the_selected_value_is_cut_to_those_of_vout_min_and_vout_max(
     };
     let linear = AnyFormat::Ulinear16(linear);
     let falling = AnyFormat::Direct(Direct::new(-1, 5, 3)?);
-    let rows = [
-        (
-            linear,
-            [0x80, 0x34CD, 0x4000, 0x1100, 0x0F00, 0x0000],
-            (13517, 4096, false),
-        ),
-        (
-            linear,
-            [0x80, 0x4000, 0x4000, 0x1100, 0x0F00, 0x0000],
-            (16384, 4096, false),
-        ),
-        (
-            linear,
-            [0x80, 0x4001, 0x4000, 0x1100, 0x0F00, 0x0000],
-            (16384, 4096, true),
-        ),
-        (
-            linear,
-            [0xA8, 0x1000, 0x4000, 0x1100, 0x0F00, 0x0000],
-            (4352, 4096, false),
-        ),
-        (
-            linear,
-            [0xA4, 0x1000, 0x1000, 0x1100, 0x0F00, 0x0000],
-            (4096, 4096, true),
-        ),
-        (
-            linear,
-            [0x94, 0x5000, 0x4000, 0x1100, 0x0F00, 0x0000],
-            (3840, 4096, false),
-        ),
-        (
-            linear,
-            [0x9B, 0x5000, 0x4000, 0x1100, 0x0F00, 0x0000],
-            (3840, 4096, false),
-        ),
-        (
-            linear,
-            [0x00, 0x1000, 0x4000, 0x1100, 0x0F00, 0x0000],
-            (4096, 4096, false),
-        ),
-        (
-            linear,
-            [0x28, 0x1000, 0x4000, 0x1100, 0x0F00, 0x0000],
-            (4096, 4096, false),
-        ),
-        (
-            linear,
-            [0x68, 0x1000, 0x4000, 0x1100, 0x0F00, 0x0000],
-            (4096, 4096, false),
-        ),
-        (
-            falling,
-            [0x80, 0x03E8, 0x0BB8, 0x0000, 0x0000, 0x7FFF],
-            (2000, 1000, true),
-        ),
-        (
-            falling,
-            [0x80, 0x0BB8, 0x03E8, 0x0000, 0x0000, 0x7FFF],
-            (2000, 1000, false),
-        ),
-        (
-            falling,
-            [0x80, 0xFFFF, 0x0000, 0x0000, 0x0000, 0x7FFF],
-            (5000, 1000, true),
-        ),
-        (
-            linear,
-            [0x80, 0x1000, 0x4000, 0x1100, 0x0F00, 0x2000],
-            (8192, 4096, true),
-        ),
-        (
-            linear,
-            [0x80, 0x1000, 0x4000, 0x1100, 0x0F00, 0x1000],
-            (4096, 4096, false),
-        ),
-        (
-            linear,
-            [0x80, 0x1000, 0x4000, 0x1100, 0x0F00, 0x5000],
-            (16384, 4096, true),
-        ),
-        (
-            linear,
-            [0x80, 0x6000, 0x4000, 0x1100, 0x0F00, 0x5000],
-            (16384, 4096, true),
-        ),
-        (
-            linear,
-            [0x80, 0x4800, 0x4000, 0x1100, 0x0F00, 0x5000],
-            (16384, 4096, true),
-        ),
-        (
-            linear,
-            [0x80, 0x1000, 0x4000, 0x1100, 0x0F00, 0x4000],
-            (16384, 4096, true),
-        ),
-        (
-            linear,
-            [0x94, 0x1000, 0x4000, 0x1100, 0x0F00, 0x0F01],
-            (3841, 4096, true),
-        ),
-        (
-            falling,
-            [0x80, 0x0BB8, 0x03E8, 0x0000, 0x0000, 0x07D0],
-            (3000, 1000, true),
-        ),
-        (
-            falling,
-            [0x80, 0x07D0, 0x03E8, 0x0000, 0x0000, 0x0BB8],
-            (3000, 1000, false),
-        ),
-        (
-            falling,
-            [0x80, 0x0BB8, 0x07D0, 0x0000, 0x0000, 0x03E8],
-            (3000, 1000, true),
-        ),
-    ];
-    for (format, words, wanted) in rows {
-        assert_eq!(rt; commands(format, words), wanted, "{words:?}");
+    for (words, wanted) in LINEAR {
+        assert_eq!(rt; commands(linear, words), wanted, "{words:?}");
+    }
+    for (words, wanted) in FALLING {
+        assert_eq!(rt; commands(falling, words), wanted, "{words:?}");
     }
     Ok(())
 }
