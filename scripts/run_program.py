@@ -97,7 +97,8 @@ def codes():
     """The run of the trace of each code, in either order."""
     for rows in CODES, CODES[::-1]:
         said = [f"{number} 58 {name} {words}" for number, (_, name, words) in enumerate(rows, 1)]
-        said += [f"count {name} 1" for _, name, _ in rows] + ["lines 20 accepted 20 faults 0 bad 0"]
+        said += [f"count {name} 1" for _, name, _ in rows]
+        said.append(f"lines {len(rows)} accepted {len(rows)} faults 0 bad 0")
         yield ["decode"], "\n".join(row[0] for row in rows).encode(), 0, ("\n".join(said) + "\n").encode(), b""
 
 
