@@ -76,12 +76,12 @@ same-refused old new text handed fault whole same (inr wrong) =
     (same-whole old new text whole)
 
 -- what a text that was read whole, as it was handed on, and then written comes to
-pub same-written : (old new : Option (List ℕ)) (text handed out : List ℕ) (r : Result (Unit {0}) TextFault) → IsWholeText old new text
+pub same-written : {text handed out : List ℕ} (old new : Option (List ℕ)) (r : Result (Unit {0}) TextFault) → IsWholeText old new text
     → handed ≡ text → printed_text handed ≡ Ok out → IfErr r (λ fault. fault ≡ Write)
     → IfSome old (λ input. IsSettled r → r ≡ outcome_of input)
-same-written old new text handed out (Ok done) whole same right failed =
+same-written {text = text} {out = out} old new (Ok done) whole same right failed =
     let right' : printed_text text ≡ Ok out = ap printed_text (sym same) ∙ right in
     same-by old (Ok done) (outcome_of_text (printed_text text)) (λ settled. sym (ap outcome_of_text right')) (same-whole old new text whole)
-same-written old new text handed out (Err fault) whole same right failed =
+same-written old new (Err fault) whole same right failed =
     let P : TextFault → Type 0 = λ f. IfSome old (λ input. IsSettled (Err f) → Err f ≡ outcome_of input) in
     subst P (sym failed) (unsettled old (Err Write) (λ settled. settled))

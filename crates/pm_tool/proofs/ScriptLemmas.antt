@@ -90,24 +90,24 @@ unfolding printed_text
 printed-fault input fault is = ap text_by is
 
 -- one event more was heard, and its line written
-pub lines-more : (start held : Held) (done : List Event) (event other : Event) (text more : List ℕ) → text ≡ event_lines start done
-    → held ≡ held_after start done → other ≡ event
+pub lines-more : {other : Event} {text more : List ℕ} (start held : Held) (done : List Event) (event : Event)
+    → text ≡ event_lines start done → held ≡ held_after start done → other ≡ event
     → more ≡ text ++ as_line (event_words held other) → more ≡ event_lines start (done ++ event ∷ [])
-lines-more start held done event other text more written is same added =
+lines-more {other = other} start held done event written is same added =
     added ∙ ap (λ t. t ++ as_line (event_words held other)) written ∙ ap (λ h. event_lines start done ++ as_line (event_words h other)) is
     ∙ ap (λ e. event_lines start done ++ as_line (event_words (held_after start done) e)) same ∙ sym (event_lines-push start done event)
 
 -- and the converter holds what that event leaves
-pub held-more : (start held after : Held) (done : List Event) (event other : Event) → held ≡ held_after start done → other ≡ event
-    → after ≡ next held other → after ≡ held_after start (done ++ event ∷ [])
-held-more start held after done event other is same one =
+pub held-more : {held after : Held} {other : Event} (start : Held) (done : List Event) (event : Event)
+    → held ≡ held_after start done → other ≡ event → after ≡ next held other → after ≡ held_after start (done ++ event ∷ [])
+held-more {other = other} start done event is same one =
     one ∙ ap (λ h. next h other) is ∙ ap (λ e. next (held_after start done) e) same ∙ sym (held_after-push start done event)
 
 -- the text of a converter that heard all events
-pub answered-text : (input : List ℕ) (events : List Event) (lines : List ℕ) (start after : Held)
+pub answered-text : {lines : List ℕ} {start after : Held} (input : List ℕ) (events : List Event)
     → events_in (unskipped_from 1 input) ≡ Ok events → start ≡ start_of base
     → lines ≡ event_lines start events → after ≡ held_after start events → printed_text input ≡ Ok (lines ++ output_lines after)
-answered-text input events lines start after are from written is =
+answered-text {lines = lines} {after = after} input events are from written is =
     printed-text input events are
     ∙ sym (ap (λ l. Ok (l ++ output_lines after)) (written ∙ ap (λ h. event_lines h events) from)
     ∙ ap (λ h. Ok (event_lines (start_of base) events ++ output_lines h)) (is ∙ ap (λ h. held_after h events) from))

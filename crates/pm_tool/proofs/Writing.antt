@@ -10,9 +10,9 @@ use Rattle.std.proofs.lemmas.List.Concat.{flat_map-append}
 use Rattle.pm_lines.specs.Streams.{AppendsFront}
 
 -- a front of a later part, behind what was written before
-pub AppendsFront-later : (a b c : Option (List ℕ)) (before part later all : List ℕ) → Appends a b before → AppendsFront b c part
-    → all ≡ before ++ (part ++ later) → AppendsFront a c all
-AppendsFront-later a b c before part later all written short is =
+pub AppendsFront-later : {all : List ℕ} (a b c : Option (List ℕ)) (before part later : List ℕ)
+    → Appends a b before × AppendsFront b c part → all ≡ before ++ (part ++ later) → AppendsFront a c all
+AppendsFront-later {all = all} a b c before part later (written, short) is =
     let (front, rest, split, some, appended) = short in
     let whole : all ≡ (before ++ front) ++ (rest ++ later) =
     is ∙ ap (λ p. before ++ (p ++ later)) split ∙ ap (λ q. before ++ q) (append_assoc front rest later)

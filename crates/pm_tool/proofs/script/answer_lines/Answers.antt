@@ -21,7 +21,7 @@ lines-preserved c =
     let same = ap (event_of c.in_ok-event.event) c.deref.ensures.value in (
       done ++ event ∷ [],
       are ∙ ap (λ ls. prepended done (events_in ls)) c.in-Some.ensures.unskipped ∙ events-more done _ _ event c.in_ok-event.ensures.event,
-      lines-more _ c.lines.converter done event _ c.lines.text.items _ text held same c.in_ok-push_event.ensures.text,
-      held-more _ c.lines.converter _ done event _ held same c.in_ok-push_event.ensures.after,
+      lines-more _ c.lines.converter done event text held same c.in_ok-push_event.ensures.text,
+      held-more _ done event held same c.in_ok-push_event.ensures.after,
       omega (arith, ap length c.in-Some.ensures.unskipped),
     )

@@ -14,4 +14,4 @@ returns-in_err-lines-clause-fault c =
 pub returns-clause-text : goal.returns-clause-text
 returns-clause-text c =
     let (events, are, lines, after) = c.in_ok-lines.ensures.lines in
-    answered-text c.args.input.now events _ _ _ are c.base_converter-converter.ensures lines after
+    answered-text c.args.input.now events are c.base_converter-converter.ensures lines after

@@ -18,7 +18,7 @@ returns-in_err-put-2-clause-front g c =
     let short = subst (λ b. AppendsFront (g.W.Write.contents c.outputs.writer.inner)
     (g.W.Write.contents c.put-in-outputs.new.self.inner) b) c.line_at.ensures c.in_err-put-2.ensures.front in
     on_err c.from_residual-in_err-put-2.result _ (AppendsFront-later _ _ _ _ (output_at held i) (flat_map (output_at held) (drop (i + 1)
-    (range_with_len 0 n))) _ c.outputs.invariant.written short
+    (range_with_len 0 n))) (c.outputs.invariant.written, short)
     (ap (λ l. c.args.lines.now ++ l) (numbered-at (output_at held) n i (omega
     (arith, c.outputs-test.true, c.count-output-end.ensures.count))) ∙ sym (append_assoc c.args.lines.now _ _)))
 
