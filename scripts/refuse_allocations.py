@@ -53,7 +53,7 @@ OUTPUT = b"output 14 80 1000 4000 1100 0F00\n"
 ORDER = b"order 0 VOUT_COMMAND 34CD\ndeliver whole\nfinish ack\nexchange whole whole\n"
 FRAMES = b"deliver bytes B005040021CD345A stop\n" * 40
 LEARN = b"learn 0\nexchange whole whole\nvolts 0 VOUT_COMMAND 3300000\n"
-# A line for each of the 20 codes that a trace may count.
+# A line for each of the 21 codes that a trace may count.
 CODES = b"""B0 00 01 ED
 B0 01 00 FF
 B0 10 00 BD
@@ -64,6 +64,7 @@ B0 21 00 10 C0
 B0 24 00 10 00
 B0 25 00 10 6B
 B0 26 00 20 46
+B0 2B 00 08 0F
 B0 19 / B1 00 5A
 B0 20 / B1 14 ED
 B0 30 02 21 00 / B1 05 01 00 00 00 03 6B
