@@ -12,8 +12,11 @@ use Rattle.pm_lines.specs.Lines.{is_line_feed, is_space, without_empty_last, wit
 
 -- what the first mark leaves of a list
 pub record Last (p : ℕ → Bool) (xs : List ℕ) : Type 0 where
+  -- it is one piece
   pub pieces : slice_split p xs ≡ xs ∷ []
+  -- all stands before a mark
   pub before : before_first p xs ≡ xs
+  -- nothing follows one
   pub after : after_first p xs ≡ []
 
 -- the first piece of a list ends at its first mark, or is the last one

@@ -56,6 +56,7 @@ space_no_digit x space = let at : x ≡ 32 = grind (arith, nat_tests) in ap is_h
 module _ (x y : ℕ) (rest : List ℕ)
     (later : bytes_of (slice_split is_space (y ∷ rest)) ≡ nothing_behind (behind_pairs (y ∷ rest)) (paired_bytes (y ∷ rest)))
     (last : bytes_of (slice_split is_space rest) ≡ nothing_behind (behind_pairs rest) (paired_bytes rest)) where
+  -- what is to be shown, by what the first two bytes are
   abbrev Reads : Bool → Bool → Bool → Type 0
   Reads first second pair =
       bytes_of (cond first ([] ∷ slice_split is_space (y ∷ rest))
@@ -63,6 +64,7 @@ module _ (x y : ℕ) (rest : List ℕ)
       ≡ nothing_behind (cond first (behind_pairs (y ∷ rest)) (cond pair (behind_pairs rest) (x ∷ y ∷ rest)))
       (cond first (paired_bytes (y ∷ rest)) (cond pair (byte_of x y ∷ paired_bytes rest) []))
 
+  -- in each of these cases
   two_read : (first second digit other : Bool) → is_space y ≡ second → is_hex_digit x ≡ digit → is_hex_digit y ≡ other
       → Reads first second (digit && other)
   two_read true second digit other space hex too = no_word (slice_split is_space (y ∷ rest)) ∙ later

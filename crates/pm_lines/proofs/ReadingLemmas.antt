@@ -95,6 +95,7 @@ module _ {E : Type 0} (w : Width) (bits : ℕ) (same : hbits w ≡ bits - 1) (r 
       (λ h. ap₂ (λ x y. x && y) (ap₂ (λ x y. x && y) (lt-ltb _ _ h.1) h.0) (lt-ltb _ _ (subst (λ k. place_sum 10 text < 2 ^ k) same h.2)))
       ∙ sym (nested _ (place_sum 10 text) (λ n. pos n) bits)
 
+  -- what stands first is a minus
   signed_minus : (c : ℕ) (rest : List ℕ) → ParsesSigned w 10 (c ∷ rest) r → c ≡ 45
       → result_ok r ≡ option_and_then (λ z. cond (fits bits z) (Some z) None) (option_map (λ n. neg_ℤ (pos n)) (natural_of 10 rest))
   signed_minus c rest h is =

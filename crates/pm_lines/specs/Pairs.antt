@@ -1,4 +1,4 @@
--- Pairs of hexadecimal digits that stand one behind another, with spaces between them or none. This
+-- Pairs of hexadecimal digits that stand one after another, with spaces between them or none. This
 -- project's own choice.
 use Rattle.std.specs.Prelude.{ℕ, ◌+◌, ◌*◌, ◌&&◌, if◌then◌else◌, List, [], ◌∷◌, Option, Some, None, unwrap_or}
 use Rattle.hex.specs.Hex.{hex_digit_value, is_hex_digit}

@@ -14,7 +14,7 @@ use std::alloc::AllocError;
 /// of either case.
 ///
 /// X2 with the line's number where a word isn't, and X6 where memory was refused. Then the bytes are
-/// as they were.
+/// as they were. Takes memory as the bytes grow.
 pub fn push_bytes(line: Line<'_>, bytes: &mut Vec<u8>) -> Result<(), TextFault>
     ensures all { OnOk result (option_map (λ more. bytes.old.items ++ more)
         (bytes_of (words_of line.entry.text.now)) ≡ Some bytes.new.items) }
@@ -50,7 +50,7 @@ fn push_pairs<'a>(digits: &'a [u8], bytes: &mut Vec<u8>) -> Result<&'a [u8], All
 {
     let mut rest = digits;
     'pairs: loop {
-        // most pairs have a space behind them
+        // most pairs have a space after them
         if let Some((byte, more)) = spaced_pair(rest) {
             bytes.push(byte)?;
             rest = more;

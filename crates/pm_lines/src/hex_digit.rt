@@ -37,7 +37,7 @@ pub fn pair_of(high: u8, low: u8) -> Option<u8>
     }
 }
 
-/// The byte of the two digits that stand first, and what stands behind the space after them. None
+/// The byte of the two digits that stand first, and what follows the space after them. None
 /// where no pair of digits and a space stand first.
 pub fn spaced_pair(digits: &[u8]) -> Option<(u8, &[u8])>
     ensures byte { IfSome result (λ pair. paired_bytes digits.now ≡ pair.0 ∷ paired_bytes pair.1.now) }

@@ -1,7 +1,7 @@
 //! What every text of this project stands on, over any reader and any writer: a reader and a writer
 //! that are used until they fail, a whole text of at most 1 MiB, its lines that are not skipped, the
 //! words of a line, the numbers that words write and the bytes that they write in hexadecimal,
-//! numbers behind a text, and the faults of a text with the words in which they are told.
+//! numbers after a text, and the faults of a text with the words in which they are told.
 //!
 //! What a text means is not here. A line or a word borrows the text that it stands in, and nothing
 //! takes memory for a word.

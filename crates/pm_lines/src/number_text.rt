@@ -8,7 +8,7 @@ use std::alloc::AllocError;
 // The digits of hexadecimal numbers, in order, of which the first ten are those of decimal ones.
 const DIGITS: &str = "0123456789ABCDEF";
 
-/// Appends a number in decimal.
+/// Appends a number in decimal. Takes memory as the text grows.
 #[tactic(auto, using(crate::proofs::Joins::digit_joins))]
 pub fn push_decimal(text: &mut String, number: u64) -> Result<(), AllocError>
     ensures { OnOk result (string_bytes text.new ≡ string_bytes text.old ++ decimal number) }
@@ -20,7 +20,8 @@ pub fn push_decimal(text: &mut String, number: u64) -> Result<(), AllocError>
     text.push_str(digits.format(number))
 }
 
-/// Appends a number in decimal, with `-` before it where it is negative.
+/// Appends a number in decimal, with `-` before it where it is negative. Takes memory as the text
+/// grows.
 pub fn push_signed(text: &mut String, number: i128) -> Result<(), AllocError>
     ensures { OnOk result (string_bytes text.new ≡ string_bytes text.old ++ signed_decimal number) }
 {
@@ -28,7 +29,8 @@ pub fn push_signed(text: &mut String, number: i128) -> Result<(), AllocError>
     text.push_str(digits.format(number))
 }
 
-/// Appends a byte in hexadecimal, as two digits in upper case.
+/// Appends a byte in hexadecimal, as two digits in upper case. Takes memory as the text
+/// grows.
 #[tactic(auto, using(crate::proofs::Joins::joins), unfolding(crate::specs::Numbers::hex_byte))]
 pub fn push_hex(text: &mut String, byte: u8) -> Result<(), AllocError>
     ensures { OnOk result (string_bytes text.new ≡ string_bytes text.old ++ hex_byte byte) }
@@ -37,7 +39,8 @@ pub fn push_hex(text: &mut String, byte: u8) -> Result<(), AllocError>
     text.push_str(digit_text(byte % 16))
 }
 
-/// Appends a word in hexadecimal, as four digits in upper case.
+/// Appends a word in hexadecimal, as four digits in upper case. Takes memory as the text
+/// grows.
 #[tactic(auto, using(crate::proofs::Joins::joins), unfolding(crate::specs::Numbers::hex_word))]
 pub fn push_hex_word(text: &mut String, word: u16) -> Result<(), AllocError>
     ensures { OnOk result (string_bytes text.new ≡ string_bytes text.old ++ hex_word word) }
@@ -46,7 +49,8 @@ pub fn push_hex_word(text: &mut String, word: u16) -> Result<(), AllocError>
     push_hex(text, (word % 256) as u8)
 }
 
-/// Appends a number in hexadecimal; `bytes` is the number, low byte first.
+/// Appends a number in hexadecimal; `bytes` is the number, low byte first. Takes memory as the text
+/// grows.
 #[tactic(auto, using(crate::proofs::Joins::joins))]
 pub fn push_hex_number(text: &mut String, bytes: &[u8]) -> Result<(), AllocError>
     ensures { OnOk result (string_bytes text.new ≡ string_bytes text.old ++ hex_number bytes.now) }

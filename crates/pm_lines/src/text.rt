@@ -15,7 +15,8 @@ pub const MAX_TEXT: usize = 1_048_576;
 const CHUNK: usize = 4096;
 
 /// The whole text, to the source's end. X3 as soon as it has too many bytes, which ends a source
-/// that never ends; X4 where the source failed; X6 only where memory for the bytes was refused.
+/// that never ends; X4 where the source failed; X6 only where memory for the bytes was refused. Takes memory
+/// for the text, as it grows.
 pub fn read_text<R: Read>(alloc: Global, source: &mut Source<R>) -> Result<Vec<u8>, TextFault>
     requires { IsFalse source.old.failed }
     ensures whole { IfOk result (λ text.

@@ -216,6 +216,7 @@ module _ {W E : Type 0} (w : Writers W E) where
           },
         )
 
+    -- `decode` broke off with its refusal, or its text was cut short where the writer failed
     pub decode_broke : (fault : TextFault) → DecodeRefusal fault → Says w.err w.errors w.errors' (Some (refusal_line (text_refusal fault)))
         → (end : End) × DecodeEnds r.remaining r.old r.new end × Ends w 1 end
     decode_broke TooLong is said =
@@ -262,11 +263,13 @@ module _ {W E : Type 0} (w : Writers W E) where
       pub unwritten : fault ≢ OfText Write → w.output' ≡ w.output
       pub said : Says w.err w.errors w.errors' (Some (refusal_line (refusal_words fault)))
 
+    -- any refusal of `number` but its writer's is said, and nothing printed
     refused_as : (fault : NumberFault) → NumberRefusal fault → fault ≢ OfText Write → NumberRefuses asked fault
         → (end : End) × NumberEnds asked end × Ends w (refusal_status fault) end
     refused_as fault is other why =
         (Refused (refusal_status fault) (refusal_words fault), (fault, refl, refl, why), refused _ _ (is.unwritten other) is.said)
 
+    -- so each refusal is said; where the writer failed, the line was cut short
     pub number_refused : (fault : NumberFault) → NumberRefusal fault
         → (end : End) × NumberEnds asked end × Ends w (refusal_status fault) end
     number_refused OneOf is = refused_as OneOf is (λ e. cc) (is.line OneOf tt refl)
@@ -287,6 +290,7 @@ module _ {W E : Type 0} (w : Writers W E) where
 -- ---- why a text is refused, by what its engine ensures of each fault
 
 module _ (old new : Option (List ℕ)) where
+  -- why `hear` refuses, but for its writer's fault
   pub hear_refuses : (fault : TextFault) → ((line : ℕ) → fault ≡ Syntax line → GaveText old new (Err (Syntax line)))
       → ((line : ℕ) → fault ≡ BadHex line → GaveText old new (Err (BadHex line)))
       → (fault ≡ TooLong → GaveMore old new) → (fault ≡ Memory → GaveSome old new) → IsOfHear fault → fault ≢ Write
@@ -307,6 +311,7 @@ module _ (old new : Option (List ℕ)) where
     pub too_long : fault ≡ TooLong → GaveMore old new
     pub memory : fault ≡ Memory → GaveSome old new
 
+  -- and why `replay` does
   pub replay_refuses : (fault : TextFault) → ReplayClauses fault → fault ≢ Write → ReplayRefuses old new fault
   replay_refuses (Syntax line) is other = is.syntax_line line refl
   replay_refuses (BadHex line) is other = is.bad_hex line refl
@@ -335,6 +340,7 @@ usage_ends remaining input words kind end of (inr memory) = inr (inr (refl, memo
 
 -- ---- the arguments
 
+-- where the words can't be had, other than for want of memory, the arguments are bad
 pub other_words : (kind : IoKind) → kind ≢ IoMemory → no_words_end kind ≡ Refused 2 (codes "bad arguments")
 other_words IoMemory other = absurd (other refl)
 other_words _ other = refl

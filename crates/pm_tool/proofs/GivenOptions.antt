@@ -33,6 +33,7 @@ row one = record {
 
 -- ---- rows where an option has none yet
 
+-- where an option has no row, the rows that stand for a missing one are added
 at_none : (id : Text) (change : Row → List Row) (missing rows : List Row) → has_row id rows ≡ false
     → at_row id change missing rows ≡ rows ++ missing
 at_none id change missing [] none = refl
@@ -51,6 +52,7 @@ rows_used one rows none =
     ap (with_values (option_name one.option) AsWritten CommandLine (one.text ∷ [])) (at_none _ (λ _. []) [] rows none ∙ append-nil rows)
     ∙ at_none (option_name one.option) (more_values CommandLine (one.text ∷ [])) (row one ∷ []) rows none
 
+-- an option has a row among these and one more just where it has one among these or that one is its own
 has_row-push : (id : Text) (rows : List Row) (r : Row) → has_row id (rows ++ r ∷ []) ≡ (has_row id rows || bytes_eq r.id id)
 has_row-push id [] r = or_false (bytes_eq r.id id)
   where
@@ -64,6 +66,7 @@ has_row-push id (x ∷ xs) r = go (bytes_eq x.id id) (has_row-push id xs r)
     go true e = refl
     go false e = e
 
+-- two options' names are compared alike in either order
 same_either_way : (a b : NumberOption) → bytes_eq (option_name a) (option_name b) ≡ bytes_eq (option_name b) (option_name a)
 same_either_way format_option format_option = refl
 same_either_way format_option word_option = refl
@@ -79,6 +82,7 @@ same_either_way micro_option micro_option = refl
 abbrev is_new : List Row → Given → Bool
 is_new rows one = not (has_row (option_name one.option) rows)
 
+-- where there are no rows, each option is new
 all_new_first : (given : List Given) → list_all (is_new []) given ≡ true
 all_new_first [] = refl
 all_new_first (one ∷ rest) = all_new_first rest
@@ -88,10 +92,12 @@ new_after : (a b : Bool) → not a ≡ true → not b ≡ true → not (a || b) 
 new_after true b new other = absurd (true≢false (sym new))
 new_after false b new other = other
 
+-- what isn't one of two is neither
 none_or : (a b : Bool) → not (a || b) ≡ true → (not a ≡ true) × (not b ≡ true)
 none_or true b e = absurd (true≢false (sym e))
 none_or false b e = (refl, e)
 
+-- after a use of an option, the other options that were new still are
 all_new_after : (one : Given) (rows : List Row) (given : List Given) → list_all (is_new rows) given ≡ true
     → not (list_any (is_named (option_name one.option)) given) ≡ true
     → list_all (is_new (rows ++ row one ∷ [])) given ≡ true
@@ -106,12 +112,15 @@ all_new_after one rows (next ∷ rest) new others =
 
 -- ---- the walk over the options
 
+-- the subcommand `number` as the parser built it
 abbrev number_built : Shape
 number_built = unwrap_or (find (λ s. bytes_eq s.name (codes "number")) (built pmb).subs) (built pmb).top
 
+-- a walk that holds these rows and waits for no value
 abbrev with_rows : List Row → Walk
 with_rows rows = walk_from (record { rows = rows; pending = None; skip = 0 })
 
+-- a step over an option's word leaves the option a row with that text alone
 stepped_as : (option : NumberOption) (text : Text) (rows : List Row)
     → walked number_built.rules [] (with_rows rows) (option_word (record { option = option; text = text }))
     ≡ with_rows (with_values (option_name option) AsWritten CommandLine (text ∷ []) (without (option_name option) rows))
@@ -120,10 +129,12 @@ stepped_as format_option text rows = refl
 stepped_as word_option text rows = refl
 stepped_as micro_option text rows = refl
 
+-- where the option had no row, this one is added
 stepped : (one : Given) (rows : List Row) → has_row (option_name one.option) rows ≡ false
     → walked number_built.rules [] (with_rows rows) (option_word one) ≡ with_rows (rows ++ row one ∷ [])
 stepped one rows none = stepped_as one.option one.text rows ∙ ap with_rows (rows_used one rows none)
 
+-- and the step has no fault
 turn_passes : (option : NumberOption) (text : Text) (rows : List Row) → has_row (option_name option) rows ≡ false
     → turn_fault number_built [] (with_rows rows) (option_word (record { option = option; text = text })) ≡ []
 unfolding clap_on_literals
@@ -131,6 +142,7 @@ turn_passes format_option text rows none = rw none refl
 turn_passes word_option text rows none = rw none refl
 turn_passes micro_option text rows none = rw none refl
 
+-- the steps over options that are used once each add a row for each
 walk_over : (given : List Given) (rows : List Row) → list_all (is_new rows) given ≡ true → is_once given ≡ true
     → fold (walked number_built.rules []) (with_rows rows) (map option_word given) ≡ with_rows (rows ++ map row given)
 walk_over [] rows new once = ap with_rows (sym (append-nil rows))
@@ -141,6 +153,7 @@ walk_over (one ∷ rest) rows new once =
     ∙ walk_over rest (rows ++ row one ∷ []) (all_new_after one rows rest parts.1 apart.0) apart.1
     ∙ ap with_rows (append_assoc rows (row one ∷ []) (map row rest))
 
+-- and none of them has a fault
 walk_passes : (given : List Given) (rows : List Row) → list_all (is_new rows) given ≡ true → is_once given ≡ true
     → walk_fault number_built [] (with_rows rows) (map option_word given) ≡ []
 unfolding walk_fault
@@ -155,6 +168,7 @@ walk_passes (one ∷ rest) rows new once =
 
 -- ---- after the walk: no option has a default
 
+-- a rule without defaults leaves the rows
 no_default : (rows : List Row) (a : Rule) → a.defaults ≡ [] → with_default rows a ≡ rows
 no_default rows a none = ap (λ ds. cond (has_row a.id rows) rows (default_rows a.id (reading_by a) ds rows)) none ∙ same (has_row a.id rows)
   where
@@ -162,12 +176,14 @@ no_default rows a none = ap (λ ds. cond (has_row a.id rows) rows (default_rows 
     same true = refl
     same false = refl
 
+-- so do several
 no_defaults : (rules : List Rule) (rows : List Row) → list_all (λ a. is_empty a.defaults) rules ≡ true → fold with_default rows rules ≡ rows
 no_defaults [] rows none = refl
 no_defaults (a ∷ rest) rows none =
     let parts = both (is_empty a.defaults) _ none in
     ap (λ rs. fold with_default rs rest) (no_default rows a (is_nil a.defaults parts.0)) ∙ no_defaults rest rows parts.1
 
+-- and none of them has a fault of a default
 defaults_pass : (rules : List Rule) (rows : List Row) → list_all (λ a. is_empty a.defaults) rules ≡ true → defaults_fault rows rules ≡ []
 unfolding defaults_fault
 defaults_pass [] rows none = refl
@@ -182,6 +198,7 @@ defaults_pass (a ∷ rest) rows none =
 
 -- ---- the text of an option, by its row
 
+-- the first text of an option's row is that of its first use
 pub first_text : (name : Text) (given : List Given)
     → first_of name (map row given) ≡ option_map (λ one. one.text) (find (is_named name) given)
 first_text name [] = refl
@@ -201,6 +218,7 @@ stopped_walk : (words : List Text) → ◌≡◌ {A = Walk} (record (walk_from n
 unfolding clap_on_literals
 stopped_walk words = walk_stopped (built pmb).top.rules (names_of (built pmb)) (walk_from nothing_held) (codes "number") [] words
 
+-- the parser meets `number`, with a row for each use of an option
 pub number_met : (program : Text) (given : List Given) → is_once given ≡ true
     → subcommand_of pmb (number_words program given) ≡ Some (codes "number", map row given)
 number_met program given once =
@@ -214,25 +232,30 @@ own_steps w found = or_else found (or_else (settle_fault number_built.rules numb
     (or_else (defaults_fault (settled number_built.rules w.held).rows number_built.rules) (check_fault number_built
     (finished number_built.rules w.held) false)))
 
+-- the level above the subcommands, as the parser built it
 abbrev top : Shape
 top = (built pmb).top
 
+-- and those of the whole command line
 abbrev whole_steps : Walk → Kinds → Kinds
 whole_steps w found = or_else found (or_else (entered_fault (built pmb) w.stopped) (or_else
     (settle_fault top.rules top.args_override_self w.held)
     (or_else (defaults_fault (settled top.rules w.held).rows top.rules) (check_fault top (finished top.rules w.held) (is_some (entered
     (built pmb) w.stopped))))))
 
+-- the words after `number` have no fault at its own level
 own_level : (given : List Given) → is_once given ≡ true → level_fault number_built [] nothing_held (map option_word given) false [] ≡ []
 own_level given once =
     ap₂ own_steps (walk_over given [] (all_new_first given) once) (walk_passes given [] (all_new_first given) once)
     ∙ ap (λ k. or_else k (check_fault number_built (finished number_built.rules (with_rows (map row given)).held) false))
     (defaults_pass number_built.rules (map row given) refl)
 
+-- nor has the walk of the whole command line
 whole_walk : (words : List Text) → walk_fault top (names_of (built pmb)) (walk_from nothing_held) (codes "number" ∷ words) ≡ []
 unfolding clap_on_literals
 whole_walk words = stopped_fault top (names_of (built pmb)) (walk_from nothing_held) (codes "number", []) words
 
+-- so the whole command line has none
 pub number_passes : (program : Text) (given : List Given) → is_once given ≡ true → fault_of pmb (number_words program given) ≡ []
 unfolding defaults_fault
 number_passes program given once =

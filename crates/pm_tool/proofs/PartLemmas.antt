@@ -10,6 +10,7 @@ use Rattle.std.proofs.lemmas.Str.Pattern.{IsSplitOnceResult, split_parts}
 use Rattle.pm_lines.specs.Digits.{are_digits, decimal_of, digit, fits, natural_of, place_sum, signed_of}
 use Rattle.pm_tool.specs.Question.{before_parts, direct_format, exponent_format, format_by, parts}
 
+-- a text by its bytes
 abbrev Text : Type 0
 Text = List ℕ
 
@@ -17,15 +18,18 @@ Text = List ℕ
 abbrev NoColon : Text → Type 0
 NoColon text = (i : ℕ) → i < length text → get_or text i 0 ≢ 58
 
+-- nor in what follows its first character
 later : (c : ℕ) (cs : Text) → NoColon (c ∷ cs) → NoColon cs
 later c cs none i lt = none (suc i) (omega arith)
 
+-- a text with no colon is its own one part
 parts_plain : (text : Text) → NoColon text → parts text ≡ text ∷ []
 parts_plain [] none = refl
 parts_plain (c ∷ cs) none =
     let here : eqb c 58 ≡ false = ne_eqb c 58 (none 0 (omega arith)) in
     rw (here, parts_plain cs (later c cs none)) refl
 
+-- what stands before the first colon is the first part
 parts_split : (front rest : Text) → NoColon front → parts (front ++ 58 ∷ rest) ≡ front ∷ parts rest
 parts_split [] rest none = refl
 parts_split (c ∷ cs) rest none =
@@ -42,9 +46,11 @@ cut_at_colon text (Some found) h =
 
 -- ---- a text with a colon writes no number
 
+-- a colon stands in the text
 abbrev has_colon : Text → Bool
 has_colon = list_any (λ c. eqb c 58)
 
+-- so it isn't digits alone
 no_digits : (text : Text) → has_colon text ≡ true → are_digits 10 text ≡ false
 no_digits [] e = absurd (true≢false (sym e))
 no_digits (c ∷ cs) e = go (eqb c 58) refl e (no_digits cs)
@@ -58,6 +64,7 @@ no_digits (c ∷ cs) e = go (eqb c 58) refl e (no_digits cs)
     go true is some rest = let at : c ≡ 58 = eqb-true c 58 is in rw at refl
     go false is some rest = rw (rest some) (stop (nat_lt (digit c) 10))
 
+-- it writes no natural number
 no_natural : (text : Text) → has_colon text ≡ true → natural_of 10 text ≡ None
 no_natural text e = let none : are_digits 10 text ≡ false = no_digits text e in go (nat_lt 0 (length text)) (are_digits 10 text) none
   where
@@ -65,6 +72,7 @@ no_natural text e = let none : are_digits 10 text ≡ false = no_digits text e i
     go true b e = rw e refl
     go false b e = refl
 
+-- nor an integer
 no_decimal : (text : Text) → has_colon text ≡ true → decimal_of text ≡ None
 no_decimal [] e = refl
 no_decimal (c ∷ cs) e = go (eqb c 45) refl
@@ -77,11 +85,13 @@ no_decimal (c ∷ cs) e = go (eqb c 45) refl
         ap (option_map (λ n. neg_ℤ (pos n))) (no_natural cs some)
     go false is = ap (option_map (λ n. pos n)) (no_natural (c ∷ cs) e)
 
+-- nor an integer of so many bits
 no_signed : (bits : ℕ) (text : Text) → has_colon text ≡ true → signed_of bits text ≡ None
 no_signed bits text e = ap (option_and_then (λ z. cond (fits bits z) (Some z) None)) (no_decimal text e)
 
 -- ---- the shape of the parts: one, or two and more where a colon stands
 
+-- two parts and more, with a colon between the first two
 pub record Several (text : Text) : Type 0 where
   pub first : Text
   pub second : Text
@@ -89,6 +99,7 @@ pub record Several (text : Text) : Type 0 where
   pub are : parts text ≡ first ∷ second ∷ more
   pub colon : has_colon text ≡ true
 
+-- each text has a first part
 some_parts : (text : Text) → (first : Text) × (more : List Text) × (parts text ≡ first ∷ more)
 some_parts [] = ([], [], refl)
 some_parts (c ∷ cs) = go (eqb c 58) (some_parts cs)
@@ -98,6 +109,7 @@ some_parts (c ∷ cs) = go (eqb c 58) (some_parts cs)
     go true p = ([], parts cs, refl)
     go false p = (c ∷ p.0, p.1, ap (before_parts c) p.2)
 
+-- so it is its own one part, or has several
 shape : (text : Text) → (parts text ≡ text ∷ []) ⊎ Several text
 shape [] = inl refl
 shape (c ∷ cs) = go (eqb c 58) refl (shape cs)
@@ -119,6 +131,7 @@ shape (c ∷ cs) = go (eqb c 58) refl (shape cs)
       colon = rw (is, s.colon) refl;
     })
 
+-- without an exponent there is no DIRECT format
 no_direct : (m b : Option ℤ) → direct_format m b None ≡ None
 no_direct None b = refl
 no_direct (Some m) None = refl
@@ -139,6 +152,7 @@ ulinear16_parts text = go (shape text)
     go (inr s) = ap (λ (ps : List Text). format_by (codes "ulinear16" ∷ ps)) s.are ∙ few s.first s.second s.more
         ∙ sym (ap (option_and_then exponent_format) (no_signed 8 text s.colon))
 
+-- so does the exponent of DIRECT
 pub direct_parts : (m b r : Text)
     → format_by (codes "direct" ∷ m ∷ b ∷ parts r) ≡ direct_format (signed_of 16 m) (signed_of 16 b) (signed_of 8 r)
 direct_parts m b r = go (shape r)

@@ -9,11 +9,19 @@ use Rattle.pm_num.specs.declared.fault.NumFault.TheVariants.{ZeroSlope, Exponent
 use Rattle.pm_tool.specs.declared.numbers.question.Asked.TheVariants.{Nearest}
 use Rattle.pm_tool.specs.NumberText.{RefusesValue}
 
--- nothing lies below a number and above one that is no less
-one_side : (x low high : Ratio) → 0 < x.den → 0 < low.den → 0 < high.den → AtMost low high → LessThan x low → LessThan high x → ⊥
-one_side x low high dx dl dh order below above =
+-- a range of fractions, from the least to the greatest
+pub record IsRange (least greatest : Ratio) : Type 0 where
+  pub least_den : 0 < least.den
+  pub greatest_den : 0 < greatest.den
+  pub order : AtMost least greatest
+
+-- nothing lies both below a range and above it
+one_side : (x low high : Ratio) → 0 < x.den → IsRange low high → LessThan x low → LessThan high x → ⊥
+one_side x low high dx range below above =
+    let dl = range.least_den in
+    let dh = range.greatest_den in
     let e1 = lt-times (x.num *ℤ pos low.den) (low.num *ℤ pos x.den) high.den below in
-    let e2 = le-times (low.num *ℤ pos high.den) (high.num *ℤ pos low.den) x.den order in
+    let e2 = le-times (low.num *ℤ pos high.den) (high.num *ℤ pos low.den) x.den range.order in
     let e3 = lt-times (high.num *ℤ pos x.den) (x.num *ℤ pos high.den) low.den above in
     let s1 = times-swap low.num x.den high.den in
     let s2 = times-swap high.num low.den x.den in
@@ -25,8 +33,8 @@ not_below : (x low : Ratio) → AtMost low x → LessThan x low → ⊥
 not_below x low h l = omega (arith, ints)
 
 -- what `nearest` refuses of so many millionths
-module _ (least greatest : Ratio) (dl : 0 < least.den) (dg : 0 < greatest.den) (order : AtMost least greatest) (k : ℤ)
-    (small : unsigned_abs k ≤ 10 ^ 15) where
+module _ (least greatest : Ratio) (range : IsRange least greatest) (k : ℤ) (small : unsigned_abs k ≤ 10 ^ 15) where
+  -- a value outside is refused
   refuses : (fault : NumFault) → IsOutside least greatest (micros k) fault → RefusesValue least greatest (Nearest k) fault
   refuses BelowLeast out = (small, out)
   refuses AboveGreatest out = (small, out)
@@ -34,10 +42,11 @@ module _ (least greatest : Ratio) (dl : 0 < least.den) (dg : 0 < greatest.den) (
   refuses ExponentRange out = absurd out
   refuses TooLarge out = absurd out
 
+  -- for one reason alone
   same_fault : (e fault : NumFault) → IsOutside least greatest (micros k) e → RefusesValue least greatest (Nearest k) fault → e ≡ fault
   same_fault BelowLeast BelowLeast out h = refl
-  same_fault BelowLeast AboveGreatest out h = absurd (one_side (micros k) least greatest (omega arith) dl dg order out h.1)
-  same_fault AboveGreatest BelowLeast out h = absurd (one_side (micros k) least greatest (omega arith) dl dg order h.1 out)
+  same_fault BelowLeast AboveGreatest out h = absurd (one_side (micros k) least greatest (omega arith) range out h.1)
+  same_fault AboveGreatest BelowLeast out h = absurd (one_side (micros k) least greatest (omega arith) range h.1 out)
   same_fault AboveGreatest AboveGreatest out h = refl
   same_fault ZeroSlope fault out h = absurd out
   same_fault ExponentRange fault out h = absurd out
@@ -46,6 +55,7 @@ module _ (least greatest : Ratio) (dl : 0 < least.den) (dg : 0 < greatest.den) (
   same_fault e ZeroSlope out h = absurd h.1
   same_fault e ExponentRange out h = absurd h.1
 
+  -- and a value that is refused isn't inside
   not_inside : (fault : NumFault) → RefusesValue least greatest (Nearest k) fault → IsBetween least greatest (micros k) → ⊥
   not_inside BelowLeast h inside = not_below (micros k) least inside.from_least h.1
   not_inside AboveGreatest h inside = not_below greatest (micros k) inside.to_greatest h.1
@@ -53,6 +63,7 @@ module _ (least greatest : Ratio) (dl : 0 < least.den) (dg : 0 < greatest.den) (
   not_inside ZeroSlope h inside = h.1
   not_inside ExponentRange h inside = h.1
 
+  -- so a call that takes just the values inside refuses the others, each for where it lies
   pub refused_outside : (r : Result ℕ NumFault) → (IsOk r ↔ IsBetween least greatest (micros k))
       → IfErr r (IsOutside least greatest (micros k))
       → (fault : NumFault) → (r ≡ Err fault) ↔ RefusesValue least greatest (Nearest k) fault

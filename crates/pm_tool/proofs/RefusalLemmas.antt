@@ -11,10 +11,12 @@ use Rattle.pm_tool.specs.declared.numbers.question.Asked.TheVariants.{Word, Near
 use Rattle.pm_tool.specs.declared.numbers.question.FormatText.TheVariants.{Direct}
 use Rattle.pm_tool.specs.declared.numbers.question.Question.{Question}
 
+-- no value is refused for a slope
 not_of_slope : (least greatest : Ratio) (asked : Asked) → RefusesValue least greatest asked ZeroSlope → ⊥
 not_of_slope least greatest (Word word) h = h
 not_of_slope least greatest (Nearest k) h = h.1
 
+-- nor for an exponent
 not_of_exponent : (least greatest : Ratio) (asked : Asked) → RefusesValue least greatest asked ExponentRange → ⊥
 not_of_exponent least greatest (Word word) h = h
 not_of_exponent least greatest (Nearest k) h = h.1
@@ -23,6 +25,7 @@ module _ (asked : Question) (can_be : IsFormat asked.format) (none : (fault : Nu
     → ⊥) (r : Result Answer NumFault)
     (by_value : (fault : NumFault)
     → (r ≡ Err fault) ↔ RefusesValue (least_in asked.format) (greatest_in asked.format) asked.asked fault) where
+  -- where the format can be, what is refused of the value is what is refused of the question
   pub refused_by_value : (fault : NumFault) → (r ≡ Err fault) ↔ Refuses asked fault
   refused_by_value ZeroSlope = (
     λ e. absurd (not_of_slope (least_in asked.format) (greatest_in asked.format) asked.asked
@@ -39,12 +42,14 @@ module _ (asked : Question) (can_be : IsFormat asked.format) (none : (fault : Nu
   refused_by_value TooLarge = (λ e. (can_be, (by_value TooLarge).0 e), λ h. (by_value TooLarge).1 h.1)
 
 -- what holds of the coefficients of a format holds of the numbers that it was made from
-pub with_coefficients : (P : ℤ → ℤ → ℤ → Type 0) (m b r m' b' r' : ℤ) → m' ≡ m → b' ≡ b → r' ≡ r → P m' b' r' → P m b r
-with_coefficients P m b r m' b' r' em eb er h = subst (λ z. P m b z) er (subst (λ z. P m z r') eb (subst (λ z. P z b' r') em h))
+pub with_coefficients : {m b r m' b' r' : ℤ} (P : ℤ → ℤ → ℤ → Type 0) → m' ≡ m → b' ≡ b → r' ≡ r → P m' b' r' → P m b r
+with_coefficients {m = m} {b = b} {b' = b'} {r' = r'} P em eb er h =
+    subst (λ z. P m b z) er (subst (λ z. P m z r') eb (subst (λ z. P z b' r') em h))
 
 module _ (m b r : ℤ) (slope : m ≢ pos 0) (decimal : IsDecimal r) (asked : Asked) (res : Result Answer NumFault)
     (by_value : (fault : NumFault)
     → (res ≡ Err fault) ↔ RefusesValue (least_in (Direct m b r)) (greatest_in (Direct m b r)) asked fault) where
+  -- DIRECT with a slope other than 0 and an exponent from -12 to 12 can be
   none : (fault : NumFault) → RefusesFormat (Direct m b r) fault → ⊥
   none ZeroSlope h = slope h
   none ExponentRange h = h.1 decimal
@@ -52,5 +57,6 @@ module _ (m b r : ℤ) (slope : m ≢ pos 0) (decimal : IsDecimal r) (asked : As
   none AboveGreatest h = h
   none TooLarge h = h
 
+  -- so what is refused of its value is what is refused of the question
   pub direct_refused : (fault : NumFault) → (res ≡ Err fault) ↔ Refuses (record { format = Direct m b r; asked = asked }) fault
   direct_refused = refused_by_value (record { format = Direct m b r; asked = asked }) (slope, decimal) none res by_value

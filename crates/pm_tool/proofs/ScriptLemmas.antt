@@ -1,6 +1,7 @@
 -- The events of a text, line by line, and the lines that are written of them.
 use Rattle.std.proofs.Common.{◌≡◌, ◌∙◌, ◌<◌, ℕ, List, [], ◌∷◌, ◌++◌, length, Result, Ok, Err, refl, sym, ap, append_assoc, append-nil}
-use Rattle.std.proofs.Common.{arith}
+use Rattle.std.proofs.Common.{◌+◌, ◌||◌, Bool, true, false, cond, not, suc, take, arith}
+use Rattle.std.specs.List.{before_first, list_any, position_or_len}
 use Rattle.pm_device.specs.Effect.{Event}
 use Rattle.pm_device.specs.Held.{Held}
 use Rattle.pm_device.specs.History.{next, start_of}
@@ -10,6 +11,18 @@ use Rattle.pm_tool.specs.Base.{base}
 use Rattle.pm_tool.specs.ReplyText.{as_line}
 use Rattle.pm_tool.specs.Script.{event_lines, event_words, events_in, heard_text, held_after, joined_events, line_event, output_lines}
 use Rattle.pm_tool.specs.Script.{printed_text, text_by}
+
+-- a line without a mark stands before it as a whole
+pub uncut : (mark : ℕ → Bool) (line : List ℕ) → list_any mark line ≡ false → before_first mark line ≡ line
+uncut mark [] none = refl
+uncut mark (x ∷ xs) none = by (mark x) none (uncut mark xs)
+  where
+    by : (b : Bool) → (b || list_any mark xs) ≡ false → (list_any mark xs ≡ false → before_first mark xs ≡ xs)
+        → take (cond (not b) (1 + position_or_len mark xs) 0) (x ∷ xs) ≡ x ∷ xs
+    by true none rest = absurd (cc)
+    by false none rest =
+        let more : 1 + position_or_len mark xs ≡ suc (position_or_len mark xs) = omega arith in
+        rw more (ap (λ l. x ∷ l) (rest none))
 
 -- events before those of the lines that are left
 abbrev pub prepended : List Event → Result (List Event) TextFault → Result (List Event) TextFault
@@ -28,10 +41,12 @@ prepended-joined done event (Ok events) = ap Ok (sym (append_assoc done (event �
 prepended-joined done event (Err fault) = refl
 
 module _ (done : List Event) (line : Numbered) (lines : List Numbered) where
+  -- a line that asks for an event adds it
   pub events-more : (event : Event) → line_event line ≡ Ok event
       → prepended done (events_in (line ∷ lines)) ≡ prepended (done ++ event ∷ []) (events_in lines)
   events-more event is = ap (λ e. prepended done (joined_events e (events_in lines))) is ∙ prepended-joined done event (events_in lines)
 
+  -- a faulty line's fault is that of all lines
   pub events-fault : (fault : TextFault) → line_event line ≡ Err fault → prepended done (events_in (line ∷ lines)) ≡ Err fault
   events-fault fault is = ap (λ e. prepended done (joined_events e (events_in lines))) is
 
@@ -39,11 +54,13 @@ module _ (done : List Event) (line : Numbered) (lines : List Numbered) where
 pub events-end : (done : List Event) (lines : List Numbered) → lines ≡ [] → prepended done (events_in lines) ≡ Ok done
 events-end done lines none = ap (λ l. prepended done (events_in l)) none ∙ ap Ok (append-nil done)
 
+-- what a converter holds after one event more
 pub held_after-push : (held : Held) (done : List Event) (event : Event)
     → held_after held (done ++ event ∷ []) ≡ next (held_after held done) event
 held_after-push held [] event = refl
 held_after-push held (first ∷ done) event = held_after-push (next held first) done event
 
+-- and what is written of it
 pub event_lines-push : (held : Held) (done : List Event) (event : Event)
     → event_lines held (done ++ event ∷ []) ≡ event_lines held done ++ as_line (event_words (held_after held done) event)
 event_lines-push held [] event = append-nil _
@@ -51,11 +68,12 @@ event_lines-push held (first ∷ done) event =
     ap (λ l. as_line (event_words held first) ++ l) (event_lines-push (next held first) done event)
     ∙ sym (append_assoc (as_line (event_words held first)) (event_lines (next held first) done) _)
 
--- a text with a line that is not skipped has bytes
+-- an empty text has no lines
 unskipped-nil : unskipped_from 1 [] ≡ []
 unfolding unskipped_from lines_of
 unskipped-nil = refl
 
+-- so a text with a line that isn't skipped has bytes
 pub unskipped-some : (text : List ℕ) → 0 < length (unskipped_from 1 text) → 0 < length text
 unskipped-some [] some = let none : length (unskipped_from 1 []) ≡ 0 = ap length unskipped-nil in absurd (omega arith)
 unskipped-some (x ∷ xs) some = omega arith
@@ -66,6 +84,7 @@ pub printed-text : (input : List ℕ) (events : List Event) → events_in (unski
 unfolding printed_text
 printed-text input events are = ap text_by are
 
+-- or the fault of one of its lines
 pub printed-fault : (input : List ℕ) (fault : TextFault) → events_in (unskipped_from 1 input) ≡ Err fault → printed_text input ≡ Err fault
 unfolding printed_text
 printed-fault input fault is = ap text_by is
@@ -78,6 +97,7 @@ lines-more start held done event other text more written is same added =
     added ∙ ap (λ t. t ++ as_line (event_words held other)) written ∙ ap (λ h. event_lines start done ++ as_line (event_words h other)) is
     ∙ ap (λ e. event_lines start done ++ as_line (event_words (held_after start done) e)) same ∙ sym (event_lines-push start done event)
 
+-- and the converter holds what that event leaves
 pub held-more : (start held after : Held) (done : List Event) (event other : Event) → held ≡ held_after start done → other ≡ event
     → after ≡ next held other → after ≡ held_after start (done ++ event ∷ [])
 held-more start held after done event other is same one =

@@ -1,9 +1,18 @@
 -- The line that says why no world is made, put together from its parts.
 use Rattle.std.proofs.Common.{◌≡◌, ◌∙◌, ℕ, List, [], ◌++◌, append_assoc, ap, codes, sym}
 use Rattle.std.specs.Prelude.{decimal}
+use Rattle.pm_lines.specs.Faults.{fault_words}
+use Rattle.pm_lines.specs.declared.fault.TextFault.TheVariants.{Setup}
+use Rattle.pm_world.specs.declared.stop.SetupFault.{SetupFault}
 use Rattle.pm_tool.specs.Execution.{refusal_line}
 
+-- the letters are those of the fault
+pub lettered : (fault : SetupFault) (letters rest : List ℕ) → letters ≡ fault_words (Setup fault)
+    → codes "pmb: " ++ (letters ++ (codes " " ++ rest)) ≡ codes "pmb: X7 Setup " ++ rest
+lettered fault letters rest is = ap (λ l. codes "pmb: " ++ (l ++ (codes " " ++ rest))) is
+
 module _ (words w detail s d : List ℕ) (is_words : w ≡ words) (is_detail : s ++ d ≡ detail) where
+  -- the detail and its line feed, from the two parts that it is written in
   detailed : s ++ (d ++ codes "\n") ≡ detail ++ codes "\n"
   detailed = sym (append_assoc s d (codes "\n")) ∙ ap (λ l. l ++ codes "\n") is_detail
 

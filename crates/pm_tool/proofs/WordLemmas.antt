@@ -1,23 +1,25 @@
--- What `{:04X}` writes of a word, and how the pieces of a format go together.
-use Rattle.std.proofs.Common.{◌≡◌, ◌∙◌, ◌-◌, ◌/◌, ◌%◌, ◌^◌, ◌<◌, ◌≤◌, ℕ, Bool, true, false, cond, suc, refl, sym, ap, arith, inl, inr}
-use Rattle.std.proofs.Common.{List, [], ◌∷◌, ◌++◌, append_assoc, eqb, eq-eqb, ne_eqb}
+-- What `{:04X}` writes of a word.
+use Rattle.std.proofs.Common.{◌≡◌, ◌∙◌, ◌-◌, ◌/◌, ◌%◌, ◌^◌, ◌<◌, ◌≤◌, ℕ, Bool, true, false, cond, suc, refl, ap, arith, inl, inr}
+use Rattle.std.proofs.Common.{List, [], ◌∷◌, eqb, eq-eqb, ne_eqb}
 use Rattle.std.specs.Fmt.{char_count, digit_glyph, digits, digits_onto, format_spec, padded_integral}
 use Rattle.std.proofs.lemmas.Bool.{cases_lt}
 use Rattle.std.proofs.lemmas.Fmt.{hex_one_digit, hex_two_digits}
 use Rattle.pm_tool.specs.NumberText.{hex_word}
 
--- the last digit, and one more digit
+-- a number below 16 has one digit in base 16
 last_digit : (k n : ℕ) (acc : List ℕ) → n < 16 → digits_onto (suc k) 16 true n acc ≡ digit_glyph true (n % 16) ∷ acc
 last_digit k n acc small =
     let none : eqb (n / 16) 0 ≡ true = eq-eqb (n / 16) 0 (omega arith) in
     ap (λ (b : Bool). cond b (digit_glyph true (n % 16) ∷ acc) (digits_onto k 16 true (n / 16) (digit_glyph true (n % 16) ∷ acc))) none
 
+-- from 16 on a digit stands before the last one
 one_more : (k n : ℕ) (acc : List ℕ) → 16 ≤ n
     → digits_onto (suc k) 16 true n acc ≡ digits_onto k 16 true (n / 16) (digit_glyph true (n % 16) ∷ acc)
 one_more k n acc large =
     let some : eqb (n / 16) 0 ≡ false = ne_eqb (n / 16) 0 (λ e. omega arith) in
     ap (λ (b : Bool). cond b (digit_glyph true (n % 16) ∷ acc) (digits_onto k 16 true (n / 16) (digit_glyph true (n % 16) ∷ acc))) some
 
+-- a number from 256 to 4095 has three digits
 three_digits : (n : ℕ) → 256 ≤ n → n < 4096
     → digits 16 true n ≡ digit_glyph true (n / 256) ∷ digit_glyph true (n / 16 % 16) ∷ digit_glyph true (n % 16) ∷ []
 unfolding digits
@@ -26,6 +28,7 @@ three_digits n large small =
     one_more 63 n [] (omega arith) ∙ one_more 62 (n / 16) _ (omega arith) ∙ last_digit 61 (n / 16 / 16) _ (omega arith)
     ∙ ap (λ d. digit_glyph true d ∷ digit_glyph true (n / 16 % 16) ∷ digit_glyph true (n % 16) ∷ []) high
 
+-- one from 4096 to 65535 has four
 four_digits : (n : ℕ) → 4096 ≤ n → n < 65536 → digits 16 true n ≡ hex_word n
 unfolding digits
 four_digits n large small =
@@ -60,7 +63,3 @@ hex_word_is n small = elim (cases_lt n 16) [
     ]
   ]
 ]
-
-pub regrouped : (a b c d e f g h i : List ℕ)
-    → a ++ (b ++ (c ++ (d ++ (e ++ (f ++ (g ++ (h ++ i))))))) ≡ a ++ b ++ c ++ d ++ e ++ f ++ g ++ h ++ i
-regrouped a b c d e f g h i = sym (simp append_assoc)

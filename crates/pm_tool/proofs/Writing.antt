@@ -57,6 +57,7 @@ AppendsFront-first old new part later short =
     let (front, rest, split, some, appended) = short in
     (front, rest ++ later, ap (λ p. p ++ later) split ∙ append_assoc front rest later, omega (arith, length-append rest later), appended)
 
+-- what holds anyway holds where there is an error
 pub on_err : {T E : Type 0} (r : Result T E) (P : Type 0) → P → OnErr r P
 on_err (Ok x) P p = tt
 on_err (Err e) P p = p

@@ -65,7 +65,7 @@ refusal_line words = codes "pmb: " ++ words ++ codes "\n"
 -- what standard error gets, if anything
 abbrev pub said_by : End → Option (List ℕ)
 said_by (Printed status text) = None
-said_by (CutShort text) = Some (refusal_line (codes "X5 Write"))
+said_by (CutShort text) = Some (refusal_line (fault_words Write))
 said_by (Refused status words) = Some (refusal_line words)
 said_by (Broken text words) = Some (refusal_line words)
 said_by (Misused text) = Some text
@@ -267,7 +267,7 @@ UsageEnds kind (Misused text) = status_by kind ≡ 2
 
 -- memory for the command line itself was refused
 abbrev pub wants_memory : End
-wants_memory = Refused 1 (codes "X6 Memory")
+wants_memory = Refused 1 (fault_words Memory)
 
 -- how a run ends: where the parser finds no fault, as what it found to be chosen; where it does, by
 -- that fault; and for want of memory, with nothing read
@@ -308,4 +308,4 @@ abbrev pub IsDone : {W E : Type 0} → (E → Option (List ℕ)) → Held W → 
 IsDone err output errors errors' wanted status =
     ((IsFalse output.failed) × (status ≡ wanted) × (errors' ≡ errors))
     ⊎ ((IsTrue output.failed) × (status ≡ 1)
-    × Says err errors errors' (Some (refusal_line (codes "X5 Write"))))
+    × Says err errors errors' (Some (refusal_line (fault_words Write))))

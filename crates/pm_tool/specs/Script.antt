@@ -32,7 +32,7 @@ abbrev pub restart_event : ℕ → List (List ℕ) → Result Event TextFault
 restart_event number words = if length words == 1 then Ok Restarted else Err (Syntax number)
 
 -- A frame is ended by a stop, or by a repeated start where a `/` follows it. Anything but spaces
--- behind the `/` is X1.
+-- after the `/` is X1.
 abbrev pub ended_event : Numbered → List ℕ → Result Event TextFault
 ended_event line frame =
     if not (list_any is_slash line.1) then Ok (Hearing frame Stop)
@@ -50,7 +50,7 @@ line_event line = if begins_with (codes "restart") (words_of line.1)
     then restart_event line.0 (words_of line.1)
     else frame_event line (bytes_of (words_of (before_first is_slash line.1)))
 
--- an event and those of the lines behind it, or the first fault
+-- an event and those of the lines after it, or the first fault
 abbrev pub joined_events : Result Event TextFault → Result (List Event) TextFault → Result (List Event) TextFault
 joined_events (Err fault) rest = Err fault
 joined_events (Ok event) (Err fault) = Err fault

@@ -22,12 +22,14 @@ use commands::pmb_command;
 use std::alloc::Global;
 
 /// Which subcommand the words name, with its options' texts. The first word is the program's name.
+/// Takes memory for what the parser makes of the words.
 ///
 /// # Errors
 ///
 /// Whatever `clap` refuses, with its text for the user: help that was asked for
-/// (`ErrorKind::DisplayHelp`), the version (`ErrorKind::DisplayVersion`), no subcommand, a word that is neither a subcommand nor an option of
-/// it, an option with no value or given twice; and want of memory (`ErrorKind::OutOfMemory`).
+/// (`ErrorKind::DisplayHelp`), the version (`ErrorKind::DisplayVersion`), no subcommand, a word that is
+/// neither a subcommand nor an option of it, an option with no value or given twice; and want of memory
+/// (`ErrorKind::OutOfMemory`).
 pub fn chosen<'a>(alloc: Global, words: &'a [&'a str]) -> Result<Chosen<'a>, Error>
     // What is chosen is what the parser's walk over the words found.
     ensures named { IfOk result (λ chosen.

@@ -12,7 +12,7 @@ use crate::refusal::{say, say_fault};
 use crate::script::hear;
 use clap::error::ErrorKind;
 use pm_text::{DecodeEnd, ReplayEnd, Sink, Source, TextFault, decode, replay};
-use std::alloc::Global;
+use std::alloc::{AllocError, Global};
 use std::env;
 use std::io::{self, Read, Write};
 use std::process::ExitCode;
@@ -62,6 +62,8 @@ fn arguments<R: Runtime + AllocGlobal>(rt: &R) -> Result<Vec<String>, io::ErrorK
 /// a stopped replay or a trace with a bad line, with nothing on the third stream; a refused input, a
 /// failed stream or want of memory, and 2: a faulty command line; each of these with one line on the
 /// third stream, where that can be written, but for the parser's own texts.
+///
+/// Takes memory for what the parser makes of the words, and then as the command that they name.
 pub fn run<R: Read, W: Write, E: Write>(
     alloc: Global,
     words: Result<&[&str], io::ErrorKind>,
@@ -288,6 +290,6 @@ fn refuse_memory<E: Write>(errors: &mut Sink<E>) -> u8
     ensures status { result ≡ status_of wants_memory }
     ensures said { Says E.contents errors.old errors.new (said_by wants_memory) }
 {
-    say(errors, TextFault::Memory.words(), None);
+    say(errors, TextFault::from(AllocError).words(), None);
     1
 }

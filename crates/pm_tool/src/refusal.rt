@@ -2,9 +2,6 @@
 //! takes memory.
 ghost use Rattle.std.specs.Prelude.{◌≡◌, [], ◌++◌, IsFalse, Some, codes, option_map};
 ghost use Rattle.pm_tool.specs.Execution.{Says, line_words, refusal_line, text_refusal};
-ghost use Rattle.pm_device.specs.FaultWords.{config_fault_text};
-ghost use Rattle.pm_host.specs.FaultWords.{host_fault_words};
-ghost use Rattle.pm_world.specs.FaultWords.{setup_fault_text};
 ghost use Rattle.std.specs.Option.{option_map_or};
 
 use pm_device::ConfigFault;
@@ -13,7 +10,7 @@ use pm_text::{Sink, TextFault};
 use pm_world::SetupFault;
 use std::io::Write;
 
-/// Says a refusal as the one line `pmb: WORDS`, with ` line N` behind the words where the refusal has
+/// Says a refusal as the one line `pmb: WORDS`, with ` line N` after the words where the refusal has
 /// a line.
 pub(crate) fn say<E: Write>(errors: &mut Sink<E>, words: &str, line: Option<u64>)
     requires { IsFalse errors.old.failed }
@@ -47,7 +44,7 @@ pub(crate) fn say_fault<E: Write>(errors: &mut Sink<E>, fault: &TextFault)
 fn say_setup<E: Write>(errors: &mut Sink<E>, fault: SetupFault)
     requires { IsFalse errors.old.failed }
     ensures { Says E.contents errors.old errors.new
-        (Some (refusal_line (codes "X7 Setup " ++ setup_fault_text fault))) }
+        (Some (refusal_line (text_refusal (TextFault.Setup fault)))) }
 {
     match fault {
         SetupFault::Device(fault) => say_config(errors, fault),
@@ -59,9 +56,11 @@ fn say_setup<E: Write>(errors: &mut Sink<E>, fault: SetupFault)
 fn say_host<E: Write>(errors: &mut Sink<E>, fault: HostFault)
     requires { IsFalse errors.old.failed }
     ensures { Says E.contents errors.old errors.new
-        (Some (refusal_line (codes "X7 Setup " ++ host_fault_words fault))) }
+        (Some (refusal_line (text_refusal (TextFault.Setup (SetupFault.Host fault))))) }
 {
-    let _ = errors.put_all(&[b"pmb: X7 Setup ", fault.words().as_bytes(), b"\n"]);
+    let setup = TextFault::Setup(SetupFault::Host(fault)).words();
+    let words = fault.words();
+    let _ = errors.put_all(&[b"pmb: ", setup.as_bytes(), b" ", words.as_bytes(), b"\n"]);
 }
 
 // Says why the converter's configuration is none: the words, and then the output and the detail,
@@ -69,21 +68,27 @@ fn say_host<E: Write>(errors: &mut Sink<E>, fault: HostFault)
 fn say_config<E: Write>(errors: &mut Sink<E>, fault: ConfigFault)
     requires { IsFalse errors.old.failed }
     ensures { Says E.contents errors.old errors.new
-        (Some (refusal_line (codes "X7 Setup " ++ config_fault_text fault))) }
+        (Some (refusal_line (text_refusal (TextFault.Setup (SetupFault.Device fault))))) }
 {
     let mut digits = itoa::Buffer::new();
+    let setup = TextFault::Setup(SetupFault::Device(fault)).words();
+    let words = fault.words();
     let (space, detail) = spaced(fault.detail());
     let _ = match fault.output() {
         None => errors.put_all(&[
-            b"pmb: X7 Setup ",
-            fault.words().as_bytes(),
+            b"pmb: ",
+            setup.as_bytes(),
+            b" ",
+            words.as_bytes(),
             space.as_bytes(),
             detail.as_bytes(),
             b"\n",
         ]),
         Some(output) => errors.put_all(&[
-            b"pmb: X7 Setup ",
-            fault.words().as_bytes(),
+            b"pmb: ",
+            setup.as_bytes(),
+            b" ",
+            words.as_bytes(),
             b" ",
             digits.format(output).as_bytes(),
             space.as_bytes(),

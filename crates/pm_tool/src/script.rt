@@ -31,7 +31,8 @@ use std::io::{Read, Write};
 ///
 /// A line of the text is a frame in hexadecimal, which a stop ends; a frame and `/`, where a
 /// repeated start follows it; or `restart`, at which the converter starts again. The whole text is
-/// read and checked before anything is written. Neither stream may have failed before.
+/// read and checked before anything is written. Neither stream may have failed before. Takes memory
+/// for the text, for the bytes of the longest frame and for the lines of the answers, as these grow.
 ///
 /// # Errors
 ///
@@ -142,7 +143,7 @@ fn answer_lines(
     Ok(text)
 }
 
-// Lets the converter hear a frame, or start again, and puts the line of it behind a text.
+// Lets the converter hear a frame, or start again, and writes the line of it after a text.
 fn push_event(
     text: &mut Vec<u8>,
     converter: &mut Converter,

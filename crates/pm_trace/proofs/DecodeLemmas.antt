@@ -36,6 +36,7 @@ takes-taken kept b = by (is_line_feed b) (record (line_ended kept) { taken = kep
     by true one two first second = first
     by false one two first second = second
 
+-- further bytes are counted
 pub next-taken : (kept : Kept) (bytes : List ℕ) → (next kept bytes).taken ≡ kept.taken + length bytes
 next-taken kept [] = omega arith
 next-taken kept (b ∷ bytes) = let one = takes-taken kept b in let rest = next-taken (kept_takes kept b) bytes in omega arith
@@ -49,6 +50,7 @@ some_first (x ∷ xs) some = by (is_line_feed x)
     by true = omega arith
     by false = omega arith
 
+-- a piece that isn't refused finds room
 room_left : (old : Holding) (piece : List ℕ) → old.standing ≡ Open → 0 < length piece → refusal_of old piece ≡ None
     → old.kept.taken < max_text
 room_left old [] open' some none = absurd (omega arith)
@@ -61,6 +63,7 @@ room_left old (x ∷ xs) open' some none = by (leb max_text old.kept.taken) refl
     by true full = let refused = rw full at is in absurd (cc)
     by false free = grind (arith, nat_tests)
 
+-- a call takes a byte of a piece that isn't refused
 pub some_taken : (old : Holding) (piece : List ℕ) → old.standing ≡ Open → 0 < length piece → refusal_of old piece ≡ None
     → 0 < length (taken_of old piece)
 some_taken old piece open' some none =
@@ -92,10 +95,10 @@ pushes_none text old open' room = record {
 }
 
 -- a call more
-pub pushes_more : (text mid_text new_text : List ℕ) (old mid new : Holding) (front rest : List ℕ) (fed : Fed)
+pub pushes_more : {text mid_text new_text : List ℕ} {old mid new : Holding} {front rest : List ℕ} {fed : Fed}
     → Pushes text mid_text old mid front → Feeds mid rest fed new → new.kept.taken ≤ max_text
     → new_text ≡ mid_text ++ told_lines (told mid.kept (taken_of mid rest)) → Pushes text new_text old new (front ++ taken_of mid rest)
-pushes_more text mid_text new_text old mid new front rest fed before feeds room more =
+pushes_more {text} {mid_text} {new_text} {old} {mid} {new} {front} {rest} before feeds room more =
     let bytes = taken_of mid rest in
     record {
       text_is =
@@ -110,18 +113,18 @@ pushes_more text mid_text new_text old mid new front rest fed before feeds room 
     }
 
 -- the piece is then what was taken of it, and the rest
-pub split_more : (piece front rest : List ℕ) (mid : Holding) (fed : Fed) (new : Holding) → mid.standing ≡ Open → piece ≡ front ++ rest
+pub split_more : {piece rest : List ℕ} {mid : Holding} {fed : Fed} {new : Holding} (front : List ℕ) → mid.standing ≡ Open → piece ≡ front ++ rest
     → Feeds mid rest fed new → piece ≡ (front ++ taken_of mid rest) ++ drop fed.taken rest
-split_more piece front rest mid fed new open' split feeds =
+split_more {piece} {rest} {mid} {fed} front open' split feeds =
     let (left, whole) = taken_front mid rest open' in
     let taken : take fed.taken rest ≡ taken_of mid rest = front_taken (taken_of mid rest) rest left fed.taken whole feeds.taken in
     split ∙ ap (λ l. front ++ l) (sym (take-append-drop fed.taken rest) ∙ ap (λ l. l ++ drop fed.taken rest) taken)
     ∙ sym (append_assoc front (taken_of mid rest) (drop fed.taken rest))
 
 -- a piece that was taken whole
-pub pushed_whole : (text new_text : List ℕ) (old new : Holding) (piece front rest : List ℕ) → piece ≡ front ++ rest → length rest ≡ 0
+pub pushed_whole : {text new_text : List ℕ} {old new : Holding} {piece : List ℕ} (front rest : List ℕ) → piece ≡ front ++ rest → length rest ≡ 0
     → Pushes text new_text old new front → PushesFront text new_text old new piece true
-pushed_whole text new_text old new piece front rest split none pushes = record {
+pushed_whole front rest split none pushes = record {
   front = front;
   rest = rest;
   split = split;
@@ -131,10 +134,10 @@ pushed_whole text new_text old new piece front rest split none pushes = record {
 }
 
 -- a piece with a byte too many
-pub pushed_front : (text mid_text new_text : List ℕ) (old mid new : Holding) (piece front rest : List ℕ) → piece ≡ front ++ rest
+pub pushed_front : {text mid_text new_text : List ℕ} {old mid new : Holding} {piece : List ℕ} (front rest : List ℕ) → piece ≡ front ++ rest
     → 0 < length rest → Pushes text mid_text old mid front → refusal_of mid rest ≡ Some TooLong → new_text ≡ mid_text
     → PushesFront text new_text old new piece false
-pushed_front text mid_text new_text old mid new piece front rest split some pushes refused same =
+pushed_front {old = old} {mid = mid} front rest split some pushes refused same =
     let full = room_none mid rest pushes.standing refused in
     let many : mid.kept.taken ≡ old.kept.taken + length front = ap (λ k. k.taken) pushes.kept ∙ next-taken old.kept front in
     record {
@@ -165,14 +168,17 @@ pub lines-append : (bytes piece : List ℕ)
     → told_lines (said (bytes ++ piece)) ≡ told_lines (said bytes) ++ told_lines (told (now bytes) piece)
 lines-append bytes piece = ap told_lines (said-append bytes piece) ∙ flat_map-append told_line (said bytes) (told (now bytes) piece)
 
+-- no bytes say nothing
 lines_none : told_lines (said []) ≡ []
 unfolding said
 lines_none = refl
 
+-- the bytes taken are counted
 length_now : (bytes : List ℕ) → (now bytes).taken ≡ length bytes
 unfolding now
 length_now bytes = refl
 
+-- nothing was read yet
 pub written_none : (r w : Option (List ℕ)) (holding : Holding) → IsFresh holding → Written r r w w [] holding
 written_none r w holding fresh =
     let P : List ℕ → Type 0 = λ l. Appends w w l in
@@ -184,6 +190,7 @@ written_none r w holding fresh =
       text = subst P (sym lines_none) (Appends-nil w);
     }
 
+-- no more was taken than a text may have
 pub written_room : (r r' w w' : Option (List ℕ)) (bytes : List ℕ) (holding : Holding) → Written r r' w w' bytes holding
     → holding.kept.taken ≤ max_text
 written_room r r' w w' bytes holding written =
@@ -191,6 +198,7 @@ written_room r r' w w' bytes holding written =
 
 module _ (r0 r1 r2 w0 w1 w2 : Option (List ℕ)) (bytes piece text : List ℕ) (old new : Holding) (written : Written r0 r1 w0 w1 bytes old)
     (given : Consumes r1 r2 piece) where
+  -- the piece was read after the bytes
   consumed : Consumes r0 r2 (bytes ++ piece)
   consumed = Consumes-trans r0 r1 r2 bytes piece written.given given
 
@@ -209,6 +217,7 @@ module _ (r0 r1 r2 w0 w1 w2 : Option (List ℕ)) (bytes piece text : List ℕ) (
       (bytes ++ pushed.front)) pushed.rest))
       ∙ ap (λ l. told_lines (said bytes) ++ (l ++ told_lines (told (now (bytes ++ pushed.front)) pushed.rest))) (sym part)
 
+  -- a write failed
   pub put_front : (is_whole : Bool) → PushesFront [] text old new piece is_whole → AppendsFront w1 w2 text
       → (front : List ℕ) × Consumes r0 r2 front × AppendsFront w0 w2 (told_lines (said front))
   put_front is_whole pushed short = (
@@ -218,6 +227,7 @@ module _ (r0 r1 r2 w0 w1 w2 : Option (List ℕ)) (bytes piece text : List ℕ) (
         (told_lines (said (bytes ++ piece))) written.text short (put_part is_whole pushed),
   )
 
+  -- memory was refused before the piece's lines were written
   pub put_memory : (front : List ℕ) × (text' : List ℕ) × (rest : List ℕ) × Consumes r0 r2 front × (told_lines (said front)
       ≡ text' ++ rest) × Appends w0 w1 text'
   put_memory = (
@@ -230,6 +240,7 @@ module _ (r0 r1 r2 w0 w1 w2 : Option (List ℕ)) (bytes piece text : List ℕ) (
     written.text,
   )
 
+  -- the piece had a byte too many
   pub put_too_long : PushesFront [] text old new piece false → Appends w1 w2 text
       → (front : List ℕ) × (more : List ℕ) × (length front ≡ max_text) × (0 < length more) × Consumes r0 r2 (front ++ more)
       × Appends w0 w2 (told_lines (said front))
@@ -251,6 +262,7 @@ module _ (r0 r1 r2 w0 w1 w2 : Option (List ℕ)) (bytes piece text : List ℕ) (
             ∙ sym (lines-append bytes pushed.front)) (Appends-trans w0 w1 w2 (told_lines (said bytes)) text written.text appended),
       )
 
+  -- a piece more was taken and written
   pub written_more : PushesFront [] text old new piece true → Appends w1 w2 text → Written r0 r2 w0 w2 (bytes ++ piece) new
   written_more pushed appended =
       let (none, pushes) = pushed.whole refl in
@@ -284,14 +296,17 @@ pub from_empty : (start text : List ℕ) (old new : Holding) (piece : List ℕ) 
 from_empty start text old new piece is_whole is pushed =
     let P : List ℕ → Type 0 = λ l. PushesFront l text old new piece is_whole in subst P is pushed
 
+-- a test as it came out
 pub at_whole : (text : List ℕ) (old new : Holding) (piece : List ℕ) (one two : Bool) → one ≡ two
     → PushesFront [] text old new piece one → PushesFront [] text old new piece two
 at_whole text old new piece one two is pushed =
     let P : Bool → Type 0 = λ b. PushesFront [] text old new piece b in subst P is pushed
 
+-- the same front in other words
 pub as_front : (a b : Option (List ℕ)) (one two : List ℕ) → one ≡ two → AppendsFront a b one → AppendsFront a b two
 as_front a b one two is short = let P : List ℕ → Type 0 = λ l. AppendsFront a b l in subst P is short
 
+-- the same text in other words
 pub as_all : (a b : Option (List ℕ)) (one two : List ℕ) → one ≡ two → Appends a b one → Appends a b two
 as_all a b one two is all = let P : List ℕ → Type 0 = λ l. Appends a b l in subst P is all
 
@@ -311,6 +326,7 @@ module _ (r0 r1 w0 w1 w2 : Option (List ℕ)) (input : List ℕ) (old : Holding)
   pub whole_input : IsAtEnd r1 → IsWholeText r0 r1 input
   whole_input at_end = record { given = written.given; ended = at_end; short = written.short }
 
+  -- the text of a trace ends with what its end says
   end_text : (text : List ℕ) → text ≡ told_lines (some_told (told_at_end old.kept)) ++ counts_text (kept_at_end old.kept).counts
       → trace_text input ≡ told_lines (said input) ++ text
   end_text text is =
@@ -319,22 +335,26 @@ module _ (r0 r1 w0 w1 w2 : Option (List ℕ)) (input : List ℕ) (old : Holding)
       (sym written.kept)
       ∙ ap (λ l. told_lines (said input) ++ l) (sym is)
 
+  -- the text of a trace was written whole
   pub end_all : (text : List ℕ) → text ≡ told_lines (some_told (told_at_end old.kept)) ++ counts_text (kept_at_end old.kept).counts
       → Appends w1 w2 text → Appends w0 w2 (trace_text input)
   end_all text is appended =
       as_all w0 w2 _ _ (sym (end_text text is)) (Appends-trans w0 w1 w2 (told_lines (said input)) text written.text appended)
 
+  -- the last write failed
   pub end_front : (text : List ℕ) → text ≡ told_lines (some_told (told_at_end old.kept)) ++ counts_text (kept_at_end old.kept).counts
       → AppendsFront w1 w2 text → AppendsFront w0 w2 (trace_text input)
   end_front text is short =
       AppendsFront-behind w0 w1 w2 (told_lines (said input)) text [] (trace_text input) written.text short
       (end_text text is ∙ ap (λ l. told_lines (said input) ++ l) (sym (append-nil text)))
 
+  -- how a trace ends follows from its counts
   pub end_counts : (new : Holding) (end : DecodeEnd) → new.kept ≡ kept_at_end old.kept → end ≡ end_of new.kept.counts
       → end ≡ end_of (counts_of (trace_of input))
   end_counts new end kept is =
       is ∙ ap (λ k. end_of k.counts) (kept ∙ ap kept_at_end written.kept) ∙ ap end_of (counts-end input)
 
+  -- memory was refused at the end
   pub end_memory : (front : List ℕ) × (text : List ℕ) × (rest : List ℕ) × Consumes r0 r1 front × (told_lines (said front) ≡ text ++ rest)
       × Appends w0 w1 text
   end_memory = (input, told_lines (said input), [], written.given, sym (append-nil (told_lines (said input))), written.text)

@@ -19,9 +19,11 @@ module _ (old mid : Gathered) (bytes : List ℕ) (fed : Fed) (open' : old.has_en
   kept_mid : kept_in mid ≡ record (kept_with (kept_in old) takes.front) { taken = old.taken + fed.taken }
   kept_mid = ap kept_in takes.gathered ∙ rw open' refl
 
+  -- the first line of the bytes is what was taken of them
   line_is : (ended : Bool) → fed.ended ≡ ended → first_line bytes ≡ takes.front ++ cond ended (10 ∷ []) []
   line_is ended is = takes.line ∙ ap (λ e. takes.front ++ cond e (10 ∷ []) []) is
 
+  -- nothing is shown while a line goes on
   shown_mid : shown_in mid ≡ None
   shown_mid = ap shown_in takes.gathered ∙ rw open' refl
 
@@ -30,6 +32,7 @@ module _ (old mid : Gathered) (bytes : List ℕ) (fed : Fed) (open' : old.has_en
   opens_told is =
       ap (told (kept_in old)) (line_is false is ∙ append-nil takes.front) ∙ told_plain (kept_in old) takes.front takes.plain
 
+  -- the bytes end no line
   pub line_open : fed.ended ≡ false → TakesLine old bytes fed mid
   line_open is =
       let line : first_line bytes ≡ takes.front = line_is false is ∙ append-nil takes.front in
@@ -51,6 +54,7 @@ module _ (old mid : Gathered) (bytes : List ℕ) (fed : Fed) (open' : old.has_en
       ap (told (kept_in old)) (line_is true is) ∙ told_ended (kept_in old) takes.front takes.plain
       ∙ ap (λ k. some_told (line_told k)) (sym kept_mid)
 
+  -- the last byte ends a line
   pub line_ends : fed.ended ≡ true → (new : Gathered) → kept_in new ≡ line_ended (kept_in mid) → shown_in new ≡ line_told (kept_in mid)
       → TakesLine old bytes fed new
   line_ends is new kept shown =
@@ -85,6 +89,7 @@ first_open (x ∷ xs) plain = by (is_line_feed x) refl (first_open xs)
     by true is rest = let marked = rw is at plain in absurd (cc)
     by false is rest = rw is (ap (λ l. x ∷ l) (rest (rw is at plain)))
 
+-- a line feed ends the first line
 first_ended : (front more : List ℕ) → list_any is_line_feed front ≡ false → first_line (front ++ 10 ∷ more) ≡ front ++ 10 ∷ []
 first_ended [] more plain = refl
 first_ended (x ∷ xs) more plain = by (is_line_feed x) refl (first_ended xs more)
@@ -125,10 +130,12 @@ takes_bytes old bytes (x ∷ xs) line ended one passes at is yes' no' =
       gathered = λ i. record old { taken = old.taken + (length bytes - length (x ∷ xs) + one); line = passes.line i };
     }
 
+-- a denied test that holds
 pub not_true : (b : Bool) → not b ≡ true → b ≡ false
 not_true true is = absurd (cc)
 not_true false is = refl
 
+-- a denied test that doesn't hold
 pub not_false : (b : Bool) → not b ≡ false → b ≡ true
 not_false true is = refl
 not_false false is = absurd (cc)

@@ -7,6 +7,7 @@ use Rattle.pm_trace.specs.Marks.{onto_next, ended, since, before, after}
 
 -- ---- no mark
 
+-- without a mark no piece ends
 pub ended_none : (mark : ℕ → Bool) (xs : List ℕ) → list_any mark xs ≡ false → ended mark xs ≡ []
 ended_none mark [] none = refl
 ended_none mark (x ∷ xs) none = by (mark x) refl (ended_none mark xs)
@@ -15,10 +16,12 @@ ended_none mark (x ∷ xs) none = by (mark x) refl (ended_none mark xs)
     by true is rest = let marked = rw is at none in absurd (cc)
     by false is rest = rw (is, rest (rw is at none)) refl
 
+-- without a mark all stands since the last one
 pub since_none : (mark : ℕ → Bool) (xs : List ℕ) → list_any mark xs ≡ false → since mark xs ≡ xs
 since_none mark [] none = refl
 since_none mark (x ∷ xs) none = rw none refl
 
+-- without a mark all stands before the first one
 pub before_none : (mark : ℕ → Bool) (xs : List ℕ) → list_any mark xs ≡ false → before mark xs ≡ xs
 before_none mark [] none = refl
 before_none mark (x ∷ xs) none = by (mark x) refl (before_none mark xs)
@@ -27,6 +30,7 @@ before_none mark (x ∷ xs) none = by (mark x) refl (before_none mark xs)
     by true is rest = let marked = rw is at none in absurd (cc)
     by false is rest = rw is (ap (λ l. x ∷ l) (rest (rw is at none)))
 
+-- without a mark nothing follows the first one
 pub after_none : (mark : ℕ → Bool) (xs : List ℕ) → list_any mark xs ≡ false → after mark xs ≡ []
 after_none mark [] none = refl
 after_none mark (x ∷ xs) none = by (mark x) refl (after_none mark xs)
@@ -50,6 +54,7 @@ some_ended mark (x ∷ xs) some = by (mark x) refl (some_ended mark xs)
     by true is rest = rw is (omega arith)
     by false is rest = rw is (onto_some (ended mark xs) (rest (rw is at some)))
 
+-- the first piece is that of the front
 onto_next-append : (x : ℕ) (ls ms : List (List ℕ)) → 0 < length ls → onto_next x (ls ++ ms) ≡ onto_next x ls ++ ms
 onto_next-append x [] ms some = absurd (omega arith)
 onto_next-append x (l ∷ ls) ms some = refl
@@ -66,6 +71,7 @@ onto_last mark x xs other = by (list_any mark xs) refl
     by true some = rw some (onto_next-append x (ended mark xs) (since mark xs ∷ []) (some_ended mark xs some))
     by false none = rw (none, ended_none mark xs none, since_none mark xs none) refl
 
+-- a mark ends a piece
 pub ended-mark : (mark : ℕ → Bool) (xs : List ℕ) (b : ℕ) → mark b ≡ true → ended mark (xs ++ b ∷ []) ≡ ended mark xs ++ since mark xs ∷ []
 ended-mark mark [] b is = rw is refl
 ended-mark mark (x ∷ xs) b is = by (mark x) refl (ended-mark mark xs b is)
@@ -75,15 +81,18 @@ ended-mark mark (x ∷ xs) b is = by (mark x) refl (ended-mark mark xs b is)
     by true marked rest = rw (marked, rest) refl
     by false other rest = rw (other, rest) (onto_last mark x xs other)
 
+-- another byte ends none
 pub ended-other : (mark : ℕ → Bool) (xs : List ℕ) (b : ℕ) → mark b ≡ false → ended mark (xs ++ b ∷ []) ≡ ended mark xs
 ended-other mark [] b other = rw other refl
 ended-other mark (x ∷ xs) b other = rw (ended-other mark xs b other) refl
 
+-- nothing stands after a mark yet
 pub since-mark : (mark : ℕ → Bool) (xs : List ℕ) (b : ℕ) → mark b ≡ true → since mark (xs ++ b ∷ []) ≡ []
 since-mark mark [] b is = rw is refl
 since-mark mark (x ∷ xs) b is = rw (list_any-append mark xs (b ∷ []), is, or-true (list_any mark xs), or-true (mark x))
     (since-mark mark xs b is)
 
+-- another byte goes on
 pub since-other : (mark : ℕ → Bool) (xs : List ℕ) (b : ℕ) → mark b ≡ false → since mark (xs ++ b ∷ []) ≡ since mark xs ++ b ∷ []
 since-other mark [] b other = rw other refl
 since-other mark (x ∷ xs) b other =
@@ -112,6 +121,7 @@ split-ended mark (x ∷ xs) = by (mark x) refl (split-ended mark xs)
 
 -- ---- before and behind the first mark
 
+-- a mark in the front comes first
 pub before-marked : (mark : ℕ → Bool) (xs ys : List ℕ) → list_any mark xs ≡ true → before mark (xs ++ ys) ≡ before mark xs
 before-marked mark [] ys some = absurd (cc)
 before-marked mark (x ∷ xs) ys some = by (mark x) refl (before-marked mark xs ys)
@@ -121,6 +131,7 @@ before-marked mark (x ∷ xs) ys some = by (mark x) refl (before-marked mark xs 
     by true is rest = rw is refl
     by false is rest = rw is (ap (λ l. x ∷ l) (rest (rw is at some)))
 
+-- what stands before a mark of the rest
 pub before-unmarked : (mark : ℕ → Bool) (xs ys : List ℕ) → list_any mark xs ≡ false → before mark (xs ++ ys) ≡ xs ++ before mark ys
 before-unmarked mark [] ys none = refl
 before-unmarked mark (x ∷ xs) ys none = by (mark x) refl (before-unmarked mark xs ys)
@@ -130,6 +141,7 @@ before-unmarked mark (x ∷ xs) ys none = by (mark x) refl (before-unmarked mark
     by true is rest = let marked = rw is at none in absurd (cc)
     by false is rest = rw is (ap (λ l. x ∷ l) (rest (rw is at none)))
 
+-- what follows a mark of the front
 pub after-marked : (mark : ℕ → Bool) (xs ys : List ℕ) → list_any mark xs ≡ true → after mark (xs ++ ys) ≡ after mark xs ++ ys
 after-marked mark [] ys some = absurd (cc)
 after-marked mark (x ∷ xs) ys some = by (mark x) refl (after-marked mark xs ys)
@@ -139,6 +151,7 @@ after-marked mark (x ∷ xs) ys some = by (mark x) refl (after-marked mark xs ys
     by true is rest = rw is refl
     by false is rest = rw is (rest (rw is at some))
 
+-- nothing follows a mark that comes last
 pub after-unmarked : (mark : ℕ → Bool) (xs : List ℕ) (b : ℕ) → list_any mark xs ≡ false → after mark (xs ++ b ∷ []) ≡ []
 after-unmarked mark [] b none = by (mark b) []
   where

@@ -18,15 +18,18 @@ pub record HasLast (xs : List ℕ) : Type 0 where
   pub last : ℕ
   pub is : xs ≡ front ++ last ∷ []
 
+-- a list with an element has a last one
 has_last : (x : ℕ) (xs : List ℕ) → HasLast (x ∷ xs)
 has_last x [] = record { front = []; last = x; is = refl }
 has_last x (y ∷ ys) =
     let tail = has_last y ys in
     record { front = x ∷ tail.front; last = tail.last; is = ap (λ l. x ∷ l) tail.is }
 
+-- one element more
 one_less : (xs : List ℕ) (b : ℕ) → length (xs ++ b ∷ []) - 1 ≡ length xs
 one_less xs b = omega (arith, length-append xs (b ∷ []))
 
+-- equality in either order
 pub turned : (m n : ℕ) → eqb m n ≡ eqb n m
 turned m n = by (eqb m n) refl
   where
@@ -40,12 +43,14 @@ turned m n = by (eqb m n) refl
         is-not : eqb m n ≡ false
         is-not = other
 
+-- the last byte decides whether a carriage return ends the line
 ends-snoc : (xs : List ℕ) (b : ℕ) → ends_with nat_eq (xs ++ b ∷ []) carriage_return ≡ eqb b 13
 ends-snoc xs b =
     ap (λ n. pointwise nat_eq carriage_return (drop n (xs ++ b ∷ []))) (one_less xs b)
     ∙ ap (pointwise nat_eq carriage_return) (drop-append_seam xs (b ∷ []))
     ∙ and-true (eqb 13 b) ∙ turned 13 b
 
+-- the line without a carriage return that comes last
 without_return-snoc : (xs : List ℕ) (b : ℕ) → without_return (xs ++ b ∷ []) ≡ cond (eqb b 13) xs (xs ++ b ∷ [])
 without_return-snoc xs b =
     ap (λ c. cond c (take (length (xs ++ b ∷ []) - 1) (xs ++ b ∷ [])) (xs ++ b ∷ [])) (ends-snoc xs b)
@@ -55,6 +60,7 @@ without_return-snoc xs b =
 abbrev held : OpenLine → Bool → OpenLine
 held line returned = record line { is_returned = returned }
 
+-- a line with one byte more
 line_snoc : (xs : List ℕ) (b : ℕ) → line_of (xs ++ b ∷ []) ≡ held (plain_line (cond (eqb b 13) xs (xs ++ b ∷ []))) (eqb b 13)
 unfolding line_of
 line_snoc xs b = λ i. held (plain_line (without_return-snoc xs b i)) (ends-snoc xs b i)
@@ -75,6 +81,7 @@ returned-snoc xs b = ap with_return (line_snoc xs b) ∙ by (eqb b 13) refl
         ap (λ l. plain_takes l 13) (unheld xs) ∙ ap (plain_takes (plain_line xs)) (sym same) ∙ sym (plain_line-snoc xs b)
     by false other = unheld (xs ++ b ∷ [])
 
+-- the line with the carriage return that was held back
 returned : (xs : List ℕ) → with_return (line_of xs) ≡ plain_line xs
 unfolding line_of
 returned [] = unheld []
@@ -83,6 +90,7 @@ returned (x ∷ xs) =
     let P : List ℕ → Type 0 = λ l. with_return (line_of l) ≡ plain_line l in
     subst P (sym last.is) (returned-snoc last.front last.last)
 
+-- one byte more, where the last one is a carriage return or not
 line_took : (xs : List ℕ) (b : ℕ)
     → line_takes (line_of xs) b ≡ cond (eqb b 13) (held (plain_line xs) true) (plain_takes (plain_line xs) b)
 unfolding line_takes

@@ -18,6 +18,7 @@ outcome-long : (input : List ℕ) → max_text < length input → outcome_of inp
 unfolding outcome_of
 outcome-long input long = let over : ltb max_text (length input) ≡ true = grind (arith, nat_tests) in rw over refl
 
+-- what an input decides that isn't too long
 outcome-short : (input : List ℕ) → length input ≤ max_text → outcome_of input ≡ Ok (end_of (counts_of (trace_of input)))
 unfolding outcome_of
 outcome-short input short = let within : ltb max_text (length input) ≡ false = grind (arith, nat_tests) in rw within refl

@@ -45,6 +45,7 @@ space_takes : (write read : Collected) (slashes : Slashes) (bad : Bool)
 unfolding line_takes plain_takes
 space_takes write read slashes bad = ap (between write read slashes) (or-false bad)
 
+-- a space is its byte
 space_is : (x : ℕ) → is_space x ≡ true → x ≡ 32
 space_is x is = grind (arith, nat_tests)
 
@@ -111,6 +112,7 @@ wrote write read bad bytes =
     taken (λ part. between part read slash.None bad) (λ part. space_takes part read slash.None bad)
     (λ part x y. pair_takes part read slash.None bad x y) write bytes
 
+-- the same of the read part
 was_read : (write read : Collected) (slashes : Slashes) (bad : Bool) → has_slash slashes ≡ true → (bytes : List ℕ)
     → fold line_takes (between write read slashes bad) (pairs_front bytes)
     ≡ between write (fold part_takes read (paired_bytes bytes)) slashes bad
@@ -169,6 +171,7 @@ packet_first line x open' is first =
     let c = other_than x 47 first refl in
     rw (open', a, b, c, is) refl
 
+-- a pair that comes first makes a packet of the line
 packet_pair : (line : OpenLine) (bytes : List ℕ) → line.is_returned ≡ false
     → ((x : ℕ) → is_hex_digit x ≡ true → kind_takes line.kind x ≡ Packet) → begins_with_pair bytes ≡ true
     → fold line_takes line (pairs_front bytes) ≡ fold line_takes (record line { kind = Packet }) (pairs_front bytes)
@@ -199,6 +202,7 @@ as_packet line bytes open' takes = by line.kind refl
     by Comment is = let wrong : false ≡ true = sym (ap (λ k. takes_pairs k bytes) is) ∙ takes in absurd (cc)
     by Packet is = ap (λ k. fold line_takes (record line { kind = k }) (pairs_front bytes)) is
 
+-- no digit waits
 digit_is : (digit : Option ℕ) → is_some digit ≡ false → digit ≡ None
 digit_is None is = refl
 digit_is (Some digit) is = absurd (cc)
@@ -209,6 +213,7 @@ pub record IsBetween (line : OpenLine) (bytes : List ℕ) : Type 0 where
   pub undigited : is_some line.digit ≡ false
   pub takes : takes_pairs line.kind bytes ≡ true
 
+-- such a line in the form that the pairs are taken in
 between_is : (line : OpenLine) (bytes : List ℕ) → IsBetween line bytes
     → record line { kind = Packet } ≡ between line.write line.read line.slashes line.is_bad
 between_is line bytes is = λ i. record {

@@ -52,6 +52,7 @@ pub record Takes (bytes : List ℕ) (call : Call) (new : Holding) : Type 0 where
   pub took : Took (bytes ++ taken_in call) new
   pub lines : said (bytes ++ taken_in call) ≡ said bytes ++ some_told new.shown
 
+-- what one call leaves
 takes : (bytes : List ℕ) (old new : Holding) (call : Call) → Took bytes old → Feeds old call.piece call.fed new → Takes bytes call new
 takes bytes old new call took feeds =
     let (rest, whole) = taken_front old call.piece took.standing in
@@ -74,6 +75,7 @@ pub record TakesAll (bytes : List ℕ) (calls : List Call) (lines : List Told) (
   pub took : Took (bytes ++ flat_map taken_in calls) new
   pub said_is : said (bytes ++ flat_map taken_in calls) ≡ said bytes ++ lines
 
+-- what calls leave
 takes_all : (bytes : List ℕ) (old new : Holding) (calls : List Call) (lines : List Told) → Took bytes old → Calls old calls lines new
     → TakesAll bytes calls lines new
 takes_all bytes old new [] lines took run =
@@ -113,6 +115,7 @@ pub record Ends (bytes : List ℕ) (new : Holding) : Type 0 where
   pub lines : trace_of bytes ≡ said bytes ++ some_told new.shown
   pub counts : new.kept.counts ≡ counts_of (trace_of bytes)
 
+-- the end counts what it tells
 counts_kept : (bytes : List ℕ) → (kept_at_end (now bytes)).counts ≡ counts_with (now bytes).counts (told_at_end (now bytes))
 counts_kept bytes = by (is_begun (now bytes).line)
   where
@@ -121,6 +124,7 @@ counts_kept bytes = by (is_begun (now bytes).line)
     by true = refl
     by false = refl
 
+-- what is counted of the bytes so far
 counts_now : (bytes : List ℕ) → (now bytes).counts ≡ counts_of (said bytes)
 unfolding now
 counts_now bytes = refl
@@ -130,6 +134,7 @@ pub counts-end : (bytes : List ℕ) → (kept_at_end (now bytes)).counts ≡ cou
 counts-end bytes =
     counts_kept bytes ∙ ap (λ c. counts_with c (told_at_end (now bytes))) (counts_now bytes) ∙ sym (counts-at_end bytes)
 
+-- what the end leaves
 ends : (bytes : List ℕ) (old new : Holding) (ended : Bool) → Took bytes old → Finishes old ended new → Ends bytes new
 ends bytes old new ended took finishes =
     let shown : new.shown ≡ told_at_end (now bytes) =
@@ -147,6 +152,7 @@ pub record EndsAll (bytes : List ℕ) (pieces : List (List ℕ)) (lines : List T
   pub lines_are : trace_of (bytes ++ concat pieces) ≡ said bytes ++ lines
   pub counts : new.kept.counts ≡ counts_of (trace_of (bytes ++ concat pieces))
 
+-- what all pieces and the end leave
 ends_all : (bytes : List ℕ) (old new : Holding) (pieces : List (List ℕ)) (lines : List Told) → Took bytes old → Decodes old pieces lines new
     → EndsAll bytes pieces lines new
 ends_all bytes old new [] lines took (ended, finishes, shown) =
@@ -175,6 +181,7 @@ pub record StopsAt (bytes : List ℕ) (pieces : List (List ℕ)) (lines : List T
   pub split : bytes ++ concat pieces ≡ taken ++ more
   pub lines_are : said taken ≡ said bytes ++ lines
 
+-- what a refused call leaves
 stops : (bytes : List ℕ) (old new : Holding) (pieces : List (List ℕ)) (lines : List Told) → Took bytes old → Stops old pieces lines new
     → StopsAt bytes pieces lines
 stops bytes old new [] lines took (none, fault, fails) =
@@ -207,27 +214,33 @@ stops bytes old new (piece ∷ pieces) lines took (calls, left, mid, front, rest
 
 -- ---- from a fresh decoder
 
+-- no bytes say nothing
 said_none : said [] ≡ []
 unfolding said
 said_none = refl
 
+-- a fresh decoder took no byte
 fresh : (old : Holding) → IsFresh old → Took [] old
 fresh old is = record { kept = is.kept; standing = is.standing }
 
+-- the lines shown are those of the pieces joined
 pub decoded_lines : (old new : Holding) (pieces : List (List ℕ)) (lines : List Told) → IsFresh old → Decodes old pieces lines new
     → lines ≡ trace_of (concat pieces)
 decoded_lines old new pieces lines is decodes =
     sym ((ends_all [] old new pieces lines (fresh old is) decodes).lines_are ∙ ap (λ l. l ++ lines) said_none)
 
+-- and these are counted
 pub decoded_counts : (old new : Holding) (pieces : List (List ℕ)) (lines : List Told) → IsFresh old → Decodes old pieces lines new
     → new.kept.counts ≡ counts_of (trace_of (concat pieces))
 decoded_counts old new pieces lines is decodes = (ends_all [] old new pieces lines (fresh old is) decodes).counts
 
+-- the lines shown are those that ended in what was taken
 pub called_lines : (old new : Holding) (calls : List Call) (lines : List Told) → IsFresh old → Calls old calls lines new
     → lines ≡ said (flat_map taken_in calls)
 called_lines old new calls lines is run =
     sym ((takes_all [] old new calls lines (fresh old is) run).said_is ∙ ap (λ l. l ++ lines) said_none)
 
+-- what is kept is a look back over what was taken
 pub called_kept : (old new : Holding) (calls : List Call) (lines : List Told) → IsFresh old → Calls old calls lines new
     → new.kept ≡ now (flat_map taken_in calls)
 called_kept old new calls lines is run = (takes_all [] old new calls lines (fresh old is) run).took.kept
@@ -250,15 +263,18 @@ stopped_lines old new pieces lines is run =
 
 -- ---- the total
 
+-- one line more among those of a kind
 count-cons : (p : Told → Bool) (line : Told) (lines : List Told) → count_by p (line ∷ lines) ≡ cond (p line) 1 0 + count_by p lines
 count-cons p line lines = sum_by-cons (λ x. cond (p x) 1 0) line lines
 
+-- a line is of one kind
 one_kind : (line : Told) → cond (is_accepted line) 1 0 + cond (is_faulty line) 1 0 + cond (is_bad line) 1 0 ≡ 1
 one_kind (number, Accepted addr message answer) = refl
 one_kind (number, Faulty addr read fault) = refl
 one_kind (number, BadSyntax) = refl
 one_kind (number, BadHex) = refl
 
+-- each line is counted once
 pub total : (lines : List Told) → lines_in (counts_of lines) ≡ length lines
 unfolding counts_of
 total [] = refl

@@ -35,11 +35,13 @@ abbrev pub digit_after : Option ℕ → ℕ → Option ℕ
 digit_after None byte = Some byte
 digit_after (Some high) byte = None
 
+-- one digit more of a word
 word_bytes-snoc : (word : List ℕ) (b : ℕ) → word_bytes (word ++ b ∷ []) ≡ word_bytes word ++ pair_of (unpaired word) b
 word_bytes-snoc [] b = refl
 word_bytes-snoc (x ∷ []) b = refl
 word_bytes-snoc (x ∷ y ∷ word) b = ap (λ l. byte_of x y ∷ l) (word_bytes-snoc word b)
 
+-- a digit more waits, or makes a byte with the one before it
 unpaired-snoc : (word : List ℕ) (b : ℕ) → unpaired (word ++ b ∷ []) ≡ digit_after (unpaired word) b
 unpaired-snoc [] b = refl
 unpaired-snoc (x ∷ []) b = refl
@@ -47,12 +49,14 @@ unpaired-snoc (x ∷ y ∷ word) b = unpaired-snoc word b
 
 -- ---- a part
 
+-- the bytes of the words that ended, and of the one that goes on
 part_bytes-split : (part : List ℕ) → part_bytes part ≡ flat_map word_bytes (ended is_separator part) ++ word_bytes (since is_separator part)
 part_bytes-split part =
     ap (flat_map word_bytes) (split-ended is_separator part)
     ∙ flat_map-append word_bytes (ended is_separator part) (since is_separator part ∷ [])
     ∙ ap (λ l. flat_map word_bytes (ended is_separator part) ++ l) (append-nil (word_bytes (since is_separator part)))
 
+-- a space or a slash writes no byte
 part_bytes-separator : (part : List ℕ) (b : ℕ) → is_separator b ≡ true → part_bytes (part ++ b ∷ []) ≡ part_bytes part
 part_bytes-separator part b is =
     let old = flat_map word_bytes (ended is_separator part) in
@@ -65,6 +69,7 @@ part_bytes-separator part b is =
     ∙ flat_map-append word_bytes (ended is_separator part) (since is_separator part ∷ [])
     ∙ ap (λ l. old ++ l) (append-nil last) ∙ sym (part_bytes-split part)
 
+-- another byte may end a pair
 part_bytes-other : (part : List ℕ) (b : ℕ) → is_separator b ≡ false
     → part_bytes (part ++ b ∷ []) ≡ part_bytes part ++ pair_of (unpaired (since is_separator part)) b
 part_bytes-other part b other =
@@ -77,6 +82,7 @@ part_bytes-other part b other =
     ∙ sym (append_assoc old (word_bytes (since is_separator part)) pair)
     ∙ ap (λ l. l ++ pair) (sym (part_bytes-split part))
 
+-- one byte more of a part
 pub part_of-snoc : (bytes : List ℕ) (b : ℕ) → part_of (bytes ++ b ∷ []) ≡ part_takes (part_of bytes) b
 unfolding part_of part_takes
 part_of-snoc bytes b =
@@ -99,6 +105,7 @@ part_of-snoc bytes b =
 
 -- ---- the kind
 
+-- one byte more, and what the line is by its first bytes
 pub kind_of-snoc : (line : List ℕ) (b : ℕ) → kind_of (line ++ b ∷ []) ≡ kind_takes (kind_of line) b
 kind_of-snoc [] b = by (eqb b 35) (is_space b)
   where
@@ -121,6 +128,7 @@ kind_of-snoc (x ∷ xs) b =
 
 -- ---- the two parts
 
+-- a slash parts words
 slash_separates : (xs : List ℕ) → list_any is_slash xs ≡ true → list_any is_separator xs ≡ true
 slash_separates [] some = absurd (cc)
 slash_separates (x ∷ xs) some = by (eqb x 47) refl (slash_separates xs)
@@ -141,6 +149,7 @@ since_after (x ∷ xs) some = by (eqb x 47) refl (since_after xs)
         let more : list_any is_slash xs ≡ true = rw is at some in
         rw (slash_separates xs more, or-true (eqb x 32 || eqb x 47), is) (rest more)
 
+-- what parts no words is no slash
 not_slash : (b : ℕ) → is_separator b ≡ false → is_slash b ≡ false
 not_slash b other = (or_parts (is_space b) (is_slash b) other).1
 
@@ -161,6 +170,7 @@ module _ (line : List ℕ) (b : ℕ) where
       by true some = ap part_bytes (before-marked is_slash line (b ∷ []) some)
       by false none = ends (is_slash b) refl none
 
+  -- the read part with a space or slash more
   read_parted : is_separator b ≡ true → part_bytes (after is_slash (line ++ b ∷ [])) ≡ part_bytes (after is_slash line)
   read_parted is = by (list_any is_slash line) refl
     where
@@ -177,6 +187,7 @@ module _ (line : List ℕ) (b : ℕ) where
       ap part_bytes goes ∙ part_bytes-other line b other
       ∙ ap (λ l. part_bytes l ++ pair_of (unpaired (since is_separator line)) b) (sym (before_none is_slash line none))
 
+  -- the read part with a digit more
   read_goes : is_separator b ≡ false → list_any is_slash line ≡ true
       → part_bytes (after is_slash (line ++ b ∷ [])) ≡ part_bytes (after is_slash line) ++ pair_of (unpaired (since is_separator line)) b
   read_goes other some =
@@ -188,11 +199,13 @@ abbrev pub part_after : Option ℕ → Collected → ℕ → Collected
 part_after None part byte = part
 part_after (Some high) part byte = part_takes part (byte_of high byte)
 
+-- a part with the byte of a pair, if there is one
 part_of-pair : (bytes : List ℕ) (d : Option ℕ) (b : ℕ) → part_of (bytes ++ pair_of d b) ≡ part_after d (part_of bytes) b
 part_of-pair bytes None b = ap part_of (append-nil bytes)
 part_of-pair bytes (Some high) b = part_of-snoc bytes (byte_of high b)
 
 module _ (line : List ℕ) (b : ℕ) (other : is_separator b ≡ false) where
+  -- the write part as the line keeps it
   write_field : (d : Option ℕ) (s : Bool) → unpaired (since is_separator line) ≡ d → list_any is_slash line ≡ s
       → part_of (part_bytes (before is_slash (line ++ b ∷ [])))
       ≡ cond s (part_of (part_bytes (before is_slash line))) (part_after d (part_of (part_bytes (before is_slash line))) b)
@@ -201,6 +214,7 @@ module _ (line : List ℕ) (b : ℕ) (other : is_separator b ≡ false) where
       ap part_of (write_goes line b other iss ∙ ap (λ e. part_bytes (before is_slash line) ++ pair_of e b) isd)
       ∙ part_of-pair (part_bytes (before is_slash line)) d b
 
+  -- the read part as the line keeps it
   read_field : (d : Option ℕ) (s : Bool) → unpaired (since is_separator line) ≡ d → list_any is_slash line ≡ s
       → part_of (part_bytes (after is_slash (line ++ b ∷ [])))
       ≡ cond s (part_after d (part_of (part_bytes (after is_slash line))) b) (part_of (part_bytes (after is_slash line)))
@@ -211,9 +225,11 @@ module _ (line : List ℕ) (b : ℕ) (other : is_separator b ≡ false) where
 
 -- ---- the flags
 
+-- a slash more
 slash-snoc : (line : List ℕ) (b : ℕ) → list_any is_slash (line ++ b ∷ []) ≡ (list_any is_slash line || is_slash b)
 slash-snoc line b = list_any-append is_slash line (b ∷ []) ∙ ap (λ c. list_any is_slash line || c) (or-false (is_slash b))
 
+-- a second slash
 more-snoc : (line : List ℕ) (b : ℕ) → list_any is_slash (after is_slash (line ++ b ∷ []))
     ≡ (list_any is_slash (after is_slash line) || (list_any is_slash line && is_slash b))
 more-snoc line b = by (list_any is_slash line) refl
@@ -227,6 +243,7 @@ more-snoc line b = by (list_any is_slash line) refl
 no_more : (line : List ℕ) → list_any is_slash line ≡ false → list_any is_slash (after is_slash line) ≡ false
 no_more line none = ap (list_any is_slash) (after_none is_slash line none)
 
+-- a slash was seen where the line has one
 pub has_slash-is : (line : List ℕ) → has_slash (slashes_of line) ≡ list_any is_slash line
 has_slash-is line = by (list_any is_slash line) (list_any is_slash (after is_slash line))
   where
@@ -235,6 +252,7 @@ has_slash-is line = by (list_any is_slash line) (list_any is_slash (after is_sla
     by true false = refl
     by false more = refl
 
+-- and a second one likewise
 pub has_more-is : (line : List ℕ) → has_more_slashes (slashes_of line) ≡ list_any is_slash (after is_slash line)
 has_more-is line = by (list_any is_slash line) (list_any is_slash (after is_slash line)) (no_more line)
   where
@@ -244,6 +262,7 @@ has_more-is line = by (list_any is_slash line) (list_any is_slash (after is_slas
     by true false none = refl
     by false more none = sym (none refl)
 
+-- the slashes with one byte more
 slashes-snoc : (line : List ℕ) (b : ℕ)
     → slashes_of (line ++ b ∷ []) ≡ cond (is_slash b) (one_slash_more (slashes_of line)) (slashes_of line)
 slashes-snoc line b =
@@ -262,6 +281,7 @@ slashes-snoc line b =
     by false false true none = refl
     by false false false none = refl
 
+-- a word that ends is judged
 bad-separator : (line : List ℕ) (b : ℕ) → is_separator b ≡ true
     → (list_any is_bad_word (ended is_separator (line ++ b ∷ [])) || not (list_all is_hex_digit (since is_separator (line ++ b ∷ []))))
     ≡ ((list_any is_bad_word (ended is_separator line) || not (list_all is_hex_digit (since is_separator line)))
@@ -275,12 +295,14 @@ bad-separator line b is =
     (is_some (unpaired (since is_separator line))))
     )
 
+-- two ways to say that a word is bad
 not_both : (a s h : Bool) → (a || not (s && (h && true))) ≡ ((a || not s) || not h)
 not_both true s h = refl
 not_both false true true = refl
 not_both false true false = refl
 not_both false false h = refl
 
+-- a word that goes on is judged by its bytes so far
 bad-other : (line : List ℕ) (b : ℕ) → is_separator b ≡ false
     → (list_any is_bad_word (ended is_separator (line ++ b ∷ [])) || not (list_all is_hex_digit (since is_separator (line ++ b ∷ []))))
     ≡ ((list_any is_bad_word (ended is_separator line) || not (list_all is_hex_digit (since is_separator line))) || not (is_hex_digit b))
@@ -292,6 +314,7 @@ bad-other line b other =
 
 -- ---- the line
 
+-- a space or a slash more
 word_ended : (line : List ℕ) (b : ℕ) → is_separator b ≡ true → plain_line (line ++ b ∷ []) ≡ word_ends (plain_line line) b
 unfolding plain_line
 word_ended line b is = λ i. record {
@@ -304,11 +327,13 @@ word_ended line b is = λ i. record {
   is_returned = false;
 }
 
+-- the digit that waits then
 digit-other : (line : List ℕ) (b : ℕ) → is_separator b ≡ false
     → unpaired (since is_separator (line ++ b ∷ [])) ≡ digit_after (unpaired (since is_separator line)) b
 digit-other line b other = ap unpaired (since-other is_separator line b other) ∙ unpaired-snoc (since is_separator line) b
 
 module _ (line : List ℕ) (b : ℕ) (other : is_separator b ≡ false) where
+  -- another byte is no slash
   slashes_stay : slashes_of (line ++ b ∷ []) ≡ slashes_of line
   slashes_stay = slashes-snoc line b ∙ rw (not_slash b other) refl
 
@@ -336,6 +361,7 @@ module _ (line : List ℕ) (b : ℕ) (other : is_separator b ≡ false) where
         is_returned = false;
       }
 
+  -- another byte more
   word_went_on : plain_line (line ++ b ∷ []) ≡ word_goes_on (plain_line line) b
   unfolding plain_line
   word_went_on = by (unpaired (since is_separator line)) (has_slash (slashes_of line)) refl refl
@@ -347,6 +373,7 @@ module _ (line : List ℕ) (b : ℕ) (other : is_separator b ≡ false) where
       by (Some high) true isd iss = went_on_by (Some high) true isd iss ∙ rw (isd, iss) refl
       by (Some high) false isd iss = went_on_by (Some high) false isd iss ∙ rw (isd, iss) refl
 
+-- one byte more
 pub plain_line-snoc : (line : List ℕ) (b : ℕ) → plain_line (line ++ b ∷ []) ≡ plain_takes (plain_line line) b
 unfolding plain_takes
 plain_line-snoc line b = by (is_separator b) refl

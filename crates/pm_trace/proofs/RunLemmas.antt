@@ -19,6 +19,7 @@ kept_with kept bytes = record kept {
 kept_at : Kept → ℕ → OpenLine → Kept
 kept_at kept taken line = record kept { taken = taken; line = line }
 
+-- bytes without a line feed go to the line
 pub next_plain : (kept : Kept) (bytes : List ℕ) → list_any is_line_feed bytes ≡ false → next kept bytes ≡ kept_with kept bytes
 unfolding kept_takes kept_at
 next_plain kept [] plain = let same : kept.taken ≡ kept.taken + 0 = omega arith in ap (λ t. kept_at kept t kept.line) same
@@ -34,6 +35,7 @@ next_plain kept (x ∷ xs) plain = by (eqb x 10) refl (next_plain (kept_takes ke
         let many : kept.taken + 1 + length xs ≡ kept.taken + length (x ∷ xs) = omega arith in
         tail ∙ ap (λ k. kept_with k xs) takes ∙ ap (λ t. kept_at kept t (fold line_takes (line_takes kept.line x) xs)) many
 
+-- and say nothing yet
 pub told_plain : (kept : Kept) (bytes : List ℕ) → list_any is_line_feed bytes ≡ false → told kept bytes ≡ []
 told_plain kept [] plain = refl
 told_plain kept (x ∷ xs) plain = by (eqb x 10) refl (told_plain (kept_takes kept x) xs)
@@ -42,6 +44,7 @@ told_plain kept (x ∷ xs) plain = by (eqb x 10) refl (told_plain (kept_takes ke
     by true is rest = let marked = rw is at plain in absurd (cc)
     by false is rest = rw is (rest (rw is at plain))
 
+-- what bytes and further ones say
 pub told-append : (kept : Kept) (xs ys : List ℕ) → told kept (xs ++ ys) ≡ told kept xs ++ told (next kept xs) ys
 told-append kept [] ys = refl
 told-append kept (x ∷ xs) ys = rw (told-append (kept_takes kept x) xs ys) (sym (append_assoc _ (told (kept_takes kept x) xs) (told (next
@@ -54,6 +57,7 @@ unfolding kept_takes
 next_ended kept front plain =
     fold-append kept_takes kept front (10 ∷ []) ∙ ap (λ k. kept_takes k 10) (next_plain kept front plain)
 
+-- and the line is told
 pub told_ended : (kept : Kept) (front : List ℕ) → list_any is_line_feed front ≡ false
     → told kept (front ++ 10 ∷ []) ≡ some_told (line_told (kept_with kept front))
 told_ended kept front plain =

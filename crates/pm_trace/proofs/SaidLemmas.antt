@@ -33,6 +33,7 @@ use Rattle.pm_trace.proofs.PlainLineLemmas.{has_slash-is, has_more-is}
 
 -- ---- a line by what is kept of it
 
+-- a line is skipped by its kind
 skipped_kind : (line : List ℕ) → is_skipped line ≡ is_skipped_kind (kind_of line)
 skipped_kind [] = refl
 skipped_kind (x ∷ xs) =
@@ -45,6 +46,7 @@ skipped_kind (x ∷ xs) =
     by false true = refl
     by false false = refl
 
+-- a bad word is one that ended or the last one
 bad_word : (line : List ℕ) → has_bad_word line
     ≡ ((list_any is_bad_word (ended is_separator line) || not (list_all is_hex_digit (since is_separator line)))
     || is_some (unpaired (since is_separator line)))
@@ -55,6 +57,7 @@ bad_word line =
     ∙ sym (or_assoc (list_any is_bad_word (ended is_separator line)) (not (list_all is_hex_digit (since is_separator line)))
     (is_some (unpaired (since is_separator line))))
 
+-- a part that isn't too long is kept whole
 short_part : (part : List ℕ) → is_long part ≡ false → take max_part (part_bytes part) ≡ part_bytes part
 short_part part short =
     let few : length (part_bytes part) ≤ max_part = grind (arith, nat_tests) in
@@ -95,6 +98,7 @@ pub open_judges : (line : List ℕ) → open_judged (line_of line) ≡ line_judg
 unfolding line_of open_read
 open_judges line = ap reading_judged (open_reads (without_return line))
 
+-- a line that has a byte is begun
 begun : (line : List ℕ) → is_begun (line_of line) ≡ has_bytes line
 unfolding line_of plain_line
 begun [] = refl
@@ -112,6 +116,7 @@ begun (x ∷ xs) = by (ends_with nat_eq (x ∷ xs) carriage_return) refl
 
 -- ---- the lines that ended
 
+-- one line more has the next number
 enumerate_from-snoc : (n : ℕ) (ls : List (List ℕ)) (l : List ℕ)
     → enumerate_from n (ls ++ l ∷ []) ≡ enumerate_from n ls ++ (n + length ls, l) ∷ []
 enumerate_from-snoc n [] l = let same : n ≡ n + 0 = omega arith in ap (λ k. (k, l) ∷ []) same
@@ -119,6 +124,7 @@ enumerate_from-snoc n (x ∷ xs) l =
     let same : n + 1 + length xs ≡ n + length (x ∷ xs) = omega arith in
     ap (λ r. (n, x) ∷ r) (enumerate_from-snoc (n + 1) xs l ∙ ap (λ k. enumerate_from (n + 1) xs ++ (k, l) ∷ []) same)
 
+-- no line is lost
 length-map : (ls : List (List ℕ)) → length (map without_return ls) ≡ length ls
 length-map [] = refl
 length-map (l ∷ ls) = let rest = length-map ls in omega arith
@@ -127,6 +133,7 @@ length-map (l ∷ ls) = let rest = length-map ls in omega arith
 abbrev pub told_lines : List (List ℕ) → List Told
 told_lines lines = map told_of (filter is_unskipped (enumerate_from 1 lines))
 
+-- one line more is told, or skipped
 told_lines-snoc : (lines : List (List ℕ)) (line : List ℕ)
     → told_lines (lines ++ line ∷ []) ≡ told_lines lines ++ map told_of (filter is_unskipped ((1 + length lines, line) ∷ []))
 told_lines-snoc lines line =
@@ -157,6 +164,7 @@ told_here bytes = by (is_skipped_kind (kind_of (without_return (since is_line_fe
         (skipped_kind line ∙ unskipped)
         ∙ (λ i. (count i, sym (open_judges (since is_line_feed bytes)) i) ∷ [])
 
+-- a line feed more
 said-mark : (bytes : List ℕ) (b : ℕ) → is_line_feed b ≡ true → said (bytes ++ b ∷ []) ≡ said bytes ++ some_told (line_told (now bytes))
 unfolding said
 said-mark bytes b is =
@@ -165,18 +173,22 @@ said-mark bytes b is =
     ∙ told_lines-snoc (map without_return (ended is_line_feed bytes)) (without_return (since is_line_feed bytes))
     ∙ ap (λ l. told_lines (map without_return (ended is_line_feed bytes)) ++ l) (told_here bytes)
 
+-- another byte more
 said-other : (bytes : List ℕ) (b : ℕ) → is_line_feed b ≡ false → said (bytes ++ b ∷ []) ≡ said bytes
 unfolding said
 said-other bytes b other = ap (λ l. told_lines (map without_return l)) (ended-other is_line_feed bytes b other)
 
 -- ---- the counts
 
+-- one line more of a kind
 count_yes : (p : Told → Bool) (lines : List Told) (line : Told) → p line ≡ true → count_by p (lines ++ line ∷ []) ≡ count_by p lines + 1
 count_yes p lines line is = sum_by-append (λ x. cond (p x) 1 0) lines (line ∷ []) ∙ rw is refl
 
+-- one line more of another kind
 count_no : (p : Told → Bool) (lines : List Told) (line : Told) → p line ≡ false → count_by p (lines ++ line ∷ []) ≡ count_by p lines
 count_no p lines line other = sum_by-append (λ x. cond (p x) 1 0) lines (line ∷ []) ∙ rw other (omega arith)
 
+-- a line without a code
 counted_same : (lines : List Told) (line : Told) → code_told line ≡ None
     → counted (filter_map code_told (lines ++ line ∷ [])) ≡ counted (filter_map code_told lines)
 counted_same lines line none =
@@ -184,6 +196,7 @@ counted_same lines line none =
     filter_map-append code_told lines (line ∷ []) ∙ rw none (append-nil (filter_map code_told lines)) in
     ap counted same
 
+-- a line with a code
 counted_more : (lines : List Told) (line : Told) (code : ℕ) → code_told line ≡ Some code
     → counted (filter_map code_told (lines ++ line ∷ [])) ≡ one_more (counted (filter_map code_told lines)) code
 counted_more lines line code some =
@@ -191,6 +204,7 @@ counted_more lines line code some =
     filter_map-append code_told lines (line ∷ []) ∙ rw some refl in
     ap counted more ∙ fold-append one_more [] (filter_map code_told lines) (code ∷ [])
 
+-- one line more is counted
 pub counts_of-snoc : (lines : List Told) (line : Told) → counts_of (lines ++ line ∷ []) ≡ one_counted (counts_of lines) line.1
 unfolding counts_of
 counts_of-snoc lines (number, Accepted addr message answer) = λ i. record {
@@ -218,15 +232,18 @@ counts_of-snoc lines (number, BadHex) = λ i. record {
   codes = counted_same lines (number, BadHex) refl i;
 }
 
+-- one line more, if there is one
 counts-with : (lines : List Told) (line : Option Told) → counts_of (lines ++ some_told line) ≡ counts_with (counts_of lines) line
 counts-with lines None = ap counts_of (append-nil lines)
 counts-with lines (Some line) = counts_of-snoc lines line
 
 -- ---- what is kept
 
+-- one byte more
 length-snoc : (bytes : List ℕ) (b : ℕ) → length (bytes ++ b ∷ []) ≡ length bytes + 1
 length-snoc bytes b = length-append bytes (b ∷ [])
 
+-- what is kept with a line feed more
 now-mark : (bytes : List ℕ) (b : ℕ) → is_line_feed b ≡ true
     → now (bytes ++ b ∷ []) ≡ record (line_ended (now bytes)) { taken = length bytes + 1 }
 unfolding now
@@ -237,6 +254,7 @@ now-mark bytes b is = λ i. record {
   line = line_of (since-mark is_line_feed bytes b is i);
 }
 
+-- what is kept with another byte more
 now-other : (bytes : List ℕ) (b : ℕ) → is_line_feed b ≡ false
     → now (bytes ++ b ∷ []) ≡ record (now bytes) { taken = length bytes + 1; line = line_takes (line_of (since is_line_feed bytes)) b }
 unfolding now
@@ -247,6 +265,7 @@ now-other bytes b other = λ i. record {
   line = (ap line_of (since-other is_line_feed bytes b other) ∙ line_of-snoc (since is_line_feed bytes) b) i;
 }
 
+-- what is kept with one byte more
 now-snoc : (bytes : List ℕ) (b : ℕ) → now (bytes ++ b ∷ []) ≡ kept_takes (now bytes) b
 unfolding kept_takes now
 now-snoc bytes b = by (is_line_feed b) refl
@@ -257,6 +276,7 @@ now-snoc bytes b = by (is_line_feed b) refl
     by true is = now-mark bytes b is
     by false other = now-other bytes b other
 
+-- what is said with one byte more
 said-snoc : (bytes : List ℕ) (b : ℕ) → said (bytes ++ b ∷ []) ≡ said bytes ++ cond (is_line_feed b) (some_told (line_told (now bytes))) []
 said-snoc bytes b = by (is_line_feed b) refl
   where
@@ -266,11 +286,13 @@ said-snoc bytes b = by (is_line_feed b) refl
 
 -- ---- more bytes
 
+-- what is kept with further bytes
 pub now-append : (bytes piece : List ℕ) → now (bytes ++ piece) ≡ next (now bytes) piece
 now-append bytes [] = ap now (append-nil bytes)
 now-append bytes (b ∷ piece) =
     ap now (sym (append_assoc bytes (b ∷ []) piece)) ∙ now-append (bytes ++ b ∷ []) piece ∙ ap (λ k. next k piece) (now-snoc bytes b)
 
+-- what is said with further bytes
 pub said-append : (bytes piece : List ℕ) → said (bytes ++ piece) ≡ said bytes ++ told (now bytes) piece
 said-append bytes [] = ap said (append-nil bytes) ∙ sym (append-nil (said bytes))
 said-append bytes (b ∷ piece) =
@@ -282,11 +304,13 @@ said-append bytes (b ∷ piece) =
 
 -- ---- the end
 
+-- the last line counts where it has bytes
 last_kept : (ls : List (List ℕ)) (l : List ℕ) → without_empty_last (ls ++ l ∷ []) ≡ ls ++ cond (has_bytes l) (l ∷ []) []
 last_kept [] l = refl
 last_kept (x ∷ []) l = ap (λ r. x ∷ r) (last_kept [] l)
 last_kept (x ∷ y ∷ ls) l = ap (λ r. x ∷ r) (last_kept (y ∷ ls) l)
 
+-- the lines of a text, at its end
 lines_at_end : (text : List ℕ) → lines_of text
     ≡ map without_return (ended is_line_feed text) ++ map without_return (cond (has_bytes (since is_line_feed text))
     (since is_line_feed text ∷ []) [])
@@ -296,18 +320,22 @@ lines_at_end text =
     ∙ ap (map without_return) (last_kept (ended is_line_feed text) (since is_line_feed text))
     ∙ map-append without_return (ended is_line_feed text) (cond (has_bytes (since is_line_feed text)) (since is_line_feed text ∷ []) [])
 
+-- a trace is told line by line
 trace_lines : (text : List ℕ) → trace_of text ≡ told_lines (lines_of text)
 unfolding trace_of unskipped_from
 trace_lines text = refl
 
+-- a line goes on where bytes follow the last line feed
 line_begun : (text : List ℕ) → is_begun (now text).line ≡ has_bytes (since is_line_feed text)
 unfolding now
 line_begun text = begun (since is_line_feed text)
 
+-- what is said is told of the lines that ended
 said_lines : (text : List ℕ) → said text ≡ told_lines (map without_return (ended is_line_feed text))
 unfolding said
 said_lines text = refl
 
+-- a trace is what was said, and what its end says
 pub trace_of-end : (text : List ℕ) → trace_of text ≡ said text ++ some_told (told_at_end (now text))
 trace_of-end text = trace_lines text ∙ ap told_lines (lines_at_end text) ∙ by (has_bytes (since is_line_feed text)) refl
   where

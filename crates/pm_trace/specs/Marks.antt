@@ -1,5 +1,5 @@
 -- A list that is cut at its marks: the pieces that end at a mark, and what stands since the last
--- mark; what stands before the first mark, and behind it.
+-- mark; what stands before the first mark, and after it.
 use Rattle.std.specs.Prelude.{ℕ, Bool, cond, List, [], ◌∷◌}
 use Rattle.std.specs.List.{list_any}
 
@@ -24,7 +24,7 @@ abbrev pub before : (ℕ → Bool) → List ℕ → List ℕ
 before mark [] = []
 before mark (byte ∷ bytes) = cond (mark byte) [] (byte ∷ before mark bytes)
 
--- what stands behind the first mark: nothing, where there is none
+-- what stands after the first mark: nothing, where there is none
 abbrev pub after : (ℕ → Bool) → List ℕ → List ℕ
 after mark [] = []
 after mark (byte ∷ bytes) = cond (mark byte) bytes (after mark bytes)

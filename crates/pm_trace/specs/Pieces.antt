@@ -14,7 +14,7 @@ pub record Call : Type 0 where
 abbrev pub taken_in : Call → List ℕ
 taken_in call = take call.fed.taken call.piece
 
--- calls one after another, with the lines that were shown behind each
+-- calls one after another, with the lines that were shown after each
 abbrev pub Calls : Holding → List Call → List Told → Holding → Type 0
 Calls old [] lines new = (lines ≡ []) × (new ≡ old)
 Calls old (call ∷ calls) lines new = (mid : Holding) × (rest : List Told)

@@ -6,14 +6,14 @@ use Rattle.pm_lines.specs.Streams.{max_text}
 use Rattle.pm_trace.specs.Decoding.{Holding, now, next, said, told}
 use Rattle.pm_trace.specs.TraceText.{told_lines}
 
--- these bytes were taken, and what their lines say was put behind a text
+-- these bytes were taken, and what their lines say was written after a text
 pub record Pushes (text new_text : List ℕ) (old new : Holding) (bytes : List ℕ) : Type 0 where
   pub text_is : new_text ≡ text ++ told_lines (told old.kept bytes)
   pub kept : new.kept ≡ next old.kept bytes
   pub standing : new.standing ≡ Open
   pub room : new.kept.taken ≤ max_text
 
--- a front of a piece was taken, and what its lines say was put behind a text: the whole piece, or
+-- a front of a piece was taken, and what its lines say was written after a text: the whole piece, or
 -- all that a text may have
 pub record PushesFront (text new_text : List ℕ) (old new : Holding) (piece : List ℕ)
     (is_whole : Bool) : Type 0 where

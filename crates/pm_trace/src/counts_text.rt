@@ -8,7 +8,7 @@ use pm_lines::push_decimal;
 use pm_table::Code;
 use std::alloc::AllocError;
 
-/// Puts a line for each code that was carried, and the line of the counts, behind a text.
+/// Appends a line for each code that was carried, and the line of the counts, to a text.
 #[tactic(auto, using(crate::proofs::Joins::joins))]
 pub(crate) fn push_counts(text: &mut String, tally: &Tally) -> Result<(), AllocError>
     requires { lines_in tally.now < 2 ^ 64 }

@@ -71,7 +71,8 @@ impl Decoder {
     /// }
     /// ```
     ///
-    /// After `finish` it takes nothing, and refuses nothing.
+    /// After `finish` it takes nothing, and refuses nothing. Takes memory for the count of a code that is
+    /// new, once for each.
     ///
     /// # Errors
     ///
@@ -166,7 +167,8 @@ impl Decoder {
     }
 
     /// Ends the trace: a last line ends here that has bytes and no line feed, and the answer is
-    /// whether there was one. `line` then shows it. A further `finish` is false.
+    /// whether there was one. `line` then shows it. A further `finish` is false. Takes memory for the
+    /// count of the last line's code, where it is new.
     ///
     /// # Errors
     ///

@@ -197,7 +197,7 @@ fn push_numbers(text: &mut String, coefficients: Coefficients) -> Result<(), All
     push_named(text, " r ", i128::from(coefficients.r))
 }
 
-// A name, and a number behind it.
+// A name, and a number after it.
 #[tactic(auto, using(crate::proofs::Joins::joins))]
 fn push_named(text: &mut String, name: &str, number: i128) -> Result<(), AllocError>
     ensures { OnOk result (string_bytes text.new

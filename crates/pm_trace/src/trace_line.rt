@@ -16,12 +16,12 @@ use std::alloc::Global;
 pub struct TraceLine {
     /// The bytes before the repeated start, or all of a packet that a stop ended.
     pub write: ByteList,
-    /// The bytes behind the repeated start, where there is one.
+    /// The bytes after the repeated start, where there is one.
     pub read: Option<ByteList>,
 }
 
 /// Reads a line of a trace, given without what ended it; each byte of it counts. No line is skipped:
-/// a blank one has a write part of no bytes.
+/// a blank one has a write part of no bytes. Takes memory for the bytes of each part, once.
 ///
 /// # Errors
 ///
@@ -50,7 +50,7 @@ pub fn read_trace_line(alloc: Global, line: &[u8]) -> Result<TraceLine, TextFaul
 }
 
 /// The text of a packet's line with its number, as `decode` writes it but without a line feed: what
-/// the packet says, or its first fault with the place.
+/// the packet says, or its first fault with the place. Takes memory for the text, as it grows.
 ///
 /// # Errors
 ///

@@ -28,7 +28,9 @@ const PIECE: usize = 512;
 /// of first appearance, and `lines L accepted A faults F bad B`. Neither stream may have failed
 /// before.
 ///
-/// A bad line is written by its letters, and ends nothing: `BadLines` says that there is one.
+/// A bad line is written by its letters, and ends nothing: `BadLines` says that there is one. Takes
+/// memory for what the lines of a piece of 512 bytes say and for the text of the counts, as these grow,
+/// and for the count of each code, once: none of it grows with the trace.
 ///
 /// # Errors
 ///

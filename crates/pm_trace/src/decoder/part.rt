@@ -59,14 +59,14 @@ impl Part {
     }
 
     /// Takes the bytes that the pairs of digits at the front write, up to what is no such pair, and
-    /// gives what stands behind them.
+    /// gives what follows them.
     pub(crate) fn take_pairs<'a>(&mut self, digits: &'a [u8]) -> &'a [u8]
         ensures taken { self.new ≡ fold part_takes self.old (paired_bytes digits.entry.now) }
         ensures rest { result.now ≡ behind_pairs digits.entry.now }
     {
         let mut rest = digits;
         'pairs: loop {
-            // most pairs have a space behind them
+            // most pairs have a space after them
             if let Some((byte, more)) = spaced_pair(rest) {
                 self.take(byte);
                 rest = more;

@@ -13,14 +13,14 @@ use Rattle.pm_tool.proofs.GivenOptions.{first_text, number_met, number_passes, r
 use Rattle.pm_tool.proofs.commandline.chosen.Goals as goal
 
 -- where the parser meets a subcommand and finds no fault, what is chosen is that subcommand, unless memory ran out
-met : (r : Result Chosen Error) (words : List Text) (name : Text) (rows : List Row) (P : Chosen → Type 0)
+met : (r : Result Chosen Error) (words : List Text) {name : Text} {rows : List Row} (P : Chosen → Type 0)
     → IfOk r (λ chosen. IsSomeAnd (subcommand_of pmb words) (λ met. Asks met.0 met.1 chosen))
-    → FailsBy (fault_of pmb words) r → subcommand_of pmb words ≡ Some (name, rows) → fault_of pmb words ≡ [] → ((chosen : Chosen)
-    → Asks name rows chosen → P chosen) → UnlessMemory r P
-met (Ok chosen) words name rows P named kinds found none gives = gives chosen (subst (λ (o : Option (Text × List Row)). IsSomeAnd o
-    (λ met. Asks met.0 met.1 chosen)) found named)
-met (Err e) words name rows P named kinds found none gives = ⊎_elim (λ memory. memory) (λ other. absurd other) (subst (λ
-    (k : Kinds). HasKind k e) none kinds)
+    → FailsBy (fault_of pmb words) r → subcommand_of pmb words ≡ Some (name, rows) → fault_of pmb words ≡ []
+    → ((chosen : Chosen) → Asks name rows chosen → P chosen) → UnlessMemory r P
+met (Ok chosen) words P named kinds found none gives =
+    gives chosen (subst (λ (o : Option (Text × List Row)). IsSomeAnd o (λ met. Asks met.0 met.1 chosen)) found named)
+met (Err e) words P named kinds found none gives =
+    ⊎_elim (λ memory. memory) (λ other. absurd other) (subst (λ (k : Kinds). HasKind k e) none kinds)
 
 -- where the parser finds a fault, the call refuses
 refused : (r : Result Chosen Error) (words : List Text) (kind : ErrorKind) (kinds : Kinds) → FailsBy (fault_of pmb words) r
@@ -38,48 +38,58 @@ apart a b same differs = absurd (true≢false (sym (eq-eqb a b same) ∙ differs
 
 -- ---- what the parser makes of the words of the laws
 
+-- after `hear` alone the parser meets that subcommand, with no options
 hear_met : (program : Text) → subcommand_of pmb (program ∷ codes "hear" ∷ []) ≡ Some (codes "hear", [])
 unfolding clap_on_literals
 hear_met program = refl
 
+-- and finds no fault
 hear_passes : (program : Text) → fault_of pmb (program ∷ codes "hear" ∷ []) ≡ []
 unfolding clap_on_literals
 hear_passes program = refl
 
+-- so `hear` is chosen
 hear_chosen : (rows : List Row) (chosen : Chosen) → Asks (codes "hear") rows chosen → chosen ≡ Hear
 hear_chosen rows Hear asks = refl
 hear_chosen rows Replay asks = apart 104 114 (ap first_byte asks) refl
 hear_chosen rows Decode asks = apart 104 100 (ap first_byte asks) refl
 hear_chosen rows (Number format word micro) asks = apart 104 110 (ap first_byte asks.0) refl
 
+-- after `replay` alone the parser meets that subcommand, with no options
 replay_met : (program : Text) → subcommand_of pmb (program ∷ codes "replay" ∷ []) ≡ Some (codes "replay", [])
 unfolding clap_on_literals
 replay_met program = refl
 
+-- and finds no fault
 replay_passes : (program : Text) → fault_of pmb (program ∷ codes "replay" ∷ []) ≡ []
 unfolding clap_on_literals
 replay_passes program = refl
 
+-- so `replay` is chosen
 replay_chosen : (rows : List Row) (chosen : Chosen) → Asks (codes "replay") rows chosen → chosen ≡ Replay
 replay_chosen rows Hear asks = apart 114 104 (ap first_byte asks) refl
 replay_chosen rows Replay asks = refl
 replay_chosen rows Decode asks = apart 114 100 (ap first_byte asks) refl
 replay_chosen rows (Number format word micro) asks = apart 114 110 (ap first_byte asks.0) refl
 
+-- after `decode` alone the parser meets that subcommand, with no options
 decode_met : (program : Text) → subcommand_of pmb (program ∷ codes "decode" ∷ []) ≡ Some (codes "decode", [])
 unfolding clap_on_literals
 decode_met program = refl
 
+-- and finds no fault
 decode_passes : (program : Text) → fault_of pmb (program ∷ codes "decode" ∷ []) ≡ []
 unfolding clap_on_literals
 decode_passes program = refl
 
+-- so `decode` is chosen
 decode_chosen : (rows : List Row) (chosen : Chosen) → Asks (codes "decode") rows chosen → chosen ≡ Decode
 decode_chosen rows Hear asks = apart 100 104 (ap first_byte asks) refl
 decode_chosen rows Replay asks = apart 100 114 (ap first_byte asks) refl
 decode_chosen rows Decode asks = refl
 decode_chosen rows (Number format word micro) asks = apart 100 110 (ap first_byte asks.0) refl
 
+-- where `number` is met, it is chosen, with the texts that were given for its options
 given_chosen : (given : List Given) (chosen : Chosen) → Asks (codes "number") (map row given) chosen → HasValuesOf given chosen
 given_chosen given Hear asks = apart 110 104 (ap first_byte asks) refl
 given_chosen given Replay asks = apart 110 114 (ap first_byte asks) refl
@@ -90,21 +100,24 @@ given_chosen given (Number format word micro) asks = (
   asks.3 ∙ first_text (codes "micro") given,
 )
 
+-- after `--help` alone the parser stops for the help
 help_fault : (program : Text) → fault_of pmb (program ∷ codes "--help" ∷ []) ≡ DisplayHelp ∷ []
 unfolding clap_on_literals
 help_fault program = refl
 
+-- after `--version` alone it stops for the version
 version_fault : (program : Text) → fault_of pmb (program ∷ codes "--version" ∷ []) ≡ DisplayVersion ∷ []
 unfolding clap_on_literals
 version_fault program = refl
 
+-- with no words a subcommand is missing
 missing_fault : (program : Text) → fault_of pmb (program ∷ []) ≡ MissingSubcommand ∷ []
 unfolding clap_on_literals
 missing_fault program = refl
 
 pub returns-clause-hear : goal.returns-clause-hear
 returns-clause-hear c = λ program e.
-    met c.parsed.result (program ∷ codes "hear" ∷ []) (codes "hear") [] (λ chosen. chosen ≡ Hear)
+    met c.parsed.result (program ∷ codes "hear" ∷ []) (λ chosen. chosen ≡ Hear)
     (subst (λ (t : List Text). IfOk c.parsed.result (λ chosen. IsSomeAnd (subcommand_of pmb t)
     (λ met. Asks met.0 met.1 chosen))) e c.parsed.ensures.named)
     (subst (λ (t : List Text). FailsBy (fault_of pmb t) c.parsed.result) e c.parsed.ensures.kinds)
@@ -112,7 +125,7 @@ returns-clause-hear c = λ program e.
 
 pub returns-clause-replay : goal.returns-clause-replay
 returns-clause-replay c = λ program e.
-    met c.parsed.result (program ∷ codes "replay" ∷ []) (codes "replay") [] (λ chosen. chosen ≡ Replay)
+    met c.parsed.result (program ∷ codes "replay" ∷ []) (λ chosen. chosen ≡ Replay)
     (subst (λ (t : List Text). IfOk c.parsed.result (λ chosen. IsSomeAnd (subcommand_of pmb t)
     (λ met. Asks met.0 met.1 chosen))) e c.parsed.ensures.named)
     (subst (λ (t : List Text). FailsBy (fault_of pmb t) c.parsed.result) e c.parsed.ensures.kinds)
@@ -120,7 +133,7 @@ returns-clause-replay c = λ program e.
 
 pub returns-clause-decode : goal.returns-clause-decode
 returns-clause-decode c = λ program e.
-    met c.parsed.result (program ∷ codes "decode" ∷ []) (codes "decode") [] (λ chosen. chosen ≡ Decode)
+    met c.parsed.result (program ∷ codes "decode" ∷ []) (λ chosen. chosen ≡ Decode)
     (subst (λ (t : List Text). IfOk c.parsed.result (λ chosen. IsSomeAnd (subcommand_of pmb t)
     (λ met. Asks met.0 met.1 chosen))) e c.parsed.ensures.named)
     (subst (λ (t : List Text). FailsBy (fault_of pmb t) c.parsed.result) e c.parsed.ensures.kinds)
@@ -128,7 +141,7 @@ returns-clause-decode c = λ program e.
 
 pub returns-clause-number : goal.returns-clause-number
 returns-clause-number c = λ program given once e.
-    met c.parsed.result (number_words program given) (codes "number") (map row given) (HasValuesOf given)
+    met c.parsed.result (number_words program given) (HasValuesOf given)
     (subst (λ (t : List Text). IfOk c.parsed.result (λ chosen. IsSomeAnd (subcommand_of pmb t)
     (λ met. Asks met.0 met.1 chosen))) e c.parsed.ensures.named)
     (subst (λ (t : List Text). FailsBy (fault_of pmb t) c.parsed.result) e c.parsed.ensures.kinds)

@@ -19,5 +19,9 @@ returns g c =
       inl (status_other _ (λ is. c.in_default-kind.not-OutOfMemory (c.kind.ensures
           ∙ is)) (λ is. c.in_default-kind.not-DisplayHelp (c.kind.ensures
           ∙ is)) (λ is. c.in_default-kind.not-DisplayVersion (c.kind.ensures ∙ is))),
-      record { status_is = refl; printed = refl; said = put_said g.E.Write.contents c.put.result c.args.errors.now c.put.new.self _ e.all e.front e.failed },
+      record {
+        status_is = refl;
+        printed = refl;
+        said = put_said g.E.Write.contents c.put.result c.args.errors.now c.put.new.self _ e.all e.front e.failed;
+      },
     )

@@ -45,8 +45,8 @@ returns-in_ok-new-in-Direct-clause-answered c =
     let of_b : d.b ≡ b = is.offset ∙ to_z-of_z w16 b (search rules) in
     let of_r : d.r ≡ r = is.decimal ∙ to_z-of_z w8 r (search rules) in
     let answered : IfOk result (IsAnswer (direct_value m b r) one_rank asked) =
-    with_coefficients (λ x y z. IfOk result (IsAnswer
-    (direct_value x y z) one_rank asked)) m b r d.m d.b d.r of_m of_b of_r c.answer_in-in-Direct.ensures.answered in
+    with_coefficients (λ x y z. IfOk result (IsAnswer (direct_value x y z) one_rank asked))
+    of_m of_b of_r c.answer_in-in-Direct.ensures.answered in
     subst (λ (f : FormatText). IfOk result (IsAnswer (value_in f) (rank_in f) asked)) (sym c.in-Direct.is) answered
 
 pub returns-in_ok-new-in-Direct-clause-refused : goal.returns-in_ok-new-in-Direct-clause-refused
@@ -65,6 +65,6 @@ returns-in_ok-new-in-Direct-clause-refused c =
     direct_refused m b r (subst (λ z. z ≢ pos 0) of_m d.slope) (subst IsDecimal of_r d.decimal) asked result
     (with_coefficients (λ x y z. (fault : NumFault)
     → (result ≡ Err fault) ↔ RefusesValue (direct_value x y z (direct_least x)) (direct_value x y z (direct_greatest x)) asked fault)
-    m b r d.m d.b d.r of_m of_b of_r c.answer_in-in-Direct.ensures.refused) in
+    of_m of_b of_r c.answer_in-in-Direct.ensures.refused) in
     subst (λ (f : FormatText). (fault : NumFault)
     → (result ≡ Err fault) ↔ Refuses (record { format = f; asked = asked }) fault) (sym c.in-Direct.is) refused

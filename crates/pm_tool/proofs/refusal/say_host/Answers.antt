@@ -1,12 +1,14 @@
 use Rattle.std.proofs.Common.{◌∙◌, Some, subst}
 use Rattle.pm_tool.specs.Execution.{Says}
 use Rattle.pm_tool.proofs.EndLemmas.{put_said}
-use Rattle.pm_tool.proofs.SetupLemmas.{line-host}
+use Rattle.pm_tool.proofs.SetupLemmas.{lettered, line-host}
+use Rattle.pm_world.specs.declared.stop.SetupFault.TheVariants.{Host}
 use Rattle.pm_tool.proofs.refusal.say_host.Goals as goal
 
 pub returns : goal.returns
 returns g c =
     subst (λ line. Says g.E.Write.contents c.args.errors.now c.put_all.new.self (Some line))
-    (line-host _ _ (c.as_bytes.ensures.value ∙ c.words.ensures))
+    (lettered (Host c.args.fault) _ _ (c.as_bytes.ensures.value ∙ c.words-setup.ensures)
+    ∙ line-host _ _ (c.as_bytes-2.ensures.value ∙ c.words-words.ensures))
     (put_said g.E.Write.contents c.put_all.result c.args.errors.now c.put_all.new.self _
     c.put_all.ensures.all c.put_all.ensures.front c.put_all.ensures.failed)

@@ -20,6 +20,7 @@ pub returns-clause-same : goal.returns-clause-same
 returns-clause-same g c =
     same-written _ _ _ _ _ c.put_text.result c.in_ok-input.ensures.whole c.deref.ensures.value c.in_ok-lines.ensures.text c.put_text.ensures.fault
 
+-- what holds where there is an error holds where the writer failed
 cut_front : (r : Result (Unit {0}) TextFault) (P : Type 0) → r ≡ Err Write → OnErr r P → P
 cut_front (Ok done) P is front = cc
 cut_front (Err fault) P is front = front

@@ -10,7 +10,7 @@ pub returns-clause-pushed : goal.returns-clause-pushed
 returns-clause-pushed c =
     let (front, split, pushes) = c.pieces.invariant in
     let none : length c.pieces.rest.now ≡ 0 = grind (arith, nat_tests) in
-    pushed_whole _ _ _ _ c.args.piece.now front c.pieces.rest.now split none pushes
+    pushed_whole front c.pieces.rest.now split none pushes
 
 pub returns-in-Err-TooLong-clause-pushed : goal.returns-in-Err-TooLong-clause-pushed
 returns-in-Err-TooLong-clause-pushed c =
@@ -20,7 +20,7 @@ returns-in-Err-TooLong-clause-pushed c =
     let i = c.in-Err-TooLong.field-0-is in
     let due : (refusal_of c.pieces.decoder c.pieces.rest.now ≡ Some TooLong) × (string_bytes c.tell.new.text ≡ string_bytes c.pieces.text) =
     elim h [ inl refused ↦ (refused.0 ∙ ap Some i, refused.1) | inr memory ↦ absurd (cc) ] in
-    pushed_front _ _ _ _ c.pieces.decoder _ c.args.piece.now front c.pieces.rest.now split some pushes due.0 due.1
+    pushed_front front c.pieces.rest.now split some pushes due.0 due.1
 
 pub pieces-smaller : goal.pieces-smaller
 pieces-smaller c =
@@ -33,8 +33,7 @@ pub pieces-preserved : goal.pieces-preserved
 pieces-preserved c =
     let (front, split, pushes) = c.pieces.invariant in (
       front ++ taken_of c.pieces.decoder c.pieces.rest.now,
-      split_more c.args.piece.now front c.pieces.rest.now c.pieces.decoder c.in-Ok.fed c.tell.new.self pushes.standing split c.in-Ok.ensures.fed
+      split_more front pushes.standing split c.in-Ok.ensures.fed
           ∙ ap (λ r. (front ++ taken_of c.pieces.decoder c.pieces.rest.now) ++ r) (sym c.past-rest.ensures),
-      pushes_more _ _ _ c.args.decoder.now c.pieces.decoder c.tell.new.self front c.pieces.rest.now c.in-Ok.fed pushes c.in-Ok.ensures.fed c.in-Ok.ensures.room
-          c.in-Ok.ensures.text,
+      pushes_more pushes c.in-Ok.ensures.fed c.in-Ok.ensures.room c.in-Ok.ensures.text,
     )

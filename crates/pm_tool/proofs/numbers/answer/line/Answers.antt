@@ -1,8 +1,7 @@
-use Rattle.std.proofs.Common.{rules, arith, ◌≡◌, ◌∙◌, [], ◌++◌, ◌^◌, ◌-◌, ◌<◌, ap, codes, string_bytes, true, false}
+use Rattle.std.proofs.Common.{rules, arith, ◌≡◌, ◌∙◌, [], ◌++◌, ◌^◌, ◌-◌, ◌<◌, ap, append_assoc, codes, sym, string_bytes, true, false}
 use Rattle.std.proofs.lemmas.Result.{IfOk-weaker}
-use Rattle.std.specs.Fmt.{decimal, signed_decimal, padded_integral, digits, format_spec}
-use Rattle.pm_tool.specs.NumberText.{hex_word}
-use Rattle.pm_tool.proofs.WordLemmas.{hex_word_is, regrouped}
+use Rattle.std.specs.Fmt.{signed_decimal, padded_integral, digits, format_spec}
+use Rattle.pm_tool.proofs.WordLemmas.{hex_word_is}
 use Rattle.pm_tool.proofs.numbers.answer.line.Goals as goal
 
 pub returns : goal.returns
@@ -20,6 +19,4 @@ returns c =
     = search rules in
     shown ∙ (λ i. codes "word " ++ (word i ++ (codes " value " ++ (num i ++ (codes "/" ++ (den i ++ (codes " micro " ++
     (signed_decimal answer.millionths ++ codes "\n"))))))))
-    ∙ regrouped (codes "word ") (hex_word answer.word) (codes " value ") (signed_decimal answer.value.num) (codes "/")
-    (decimal answer.value.den) (codes " micro ")
-    (signed_decimal answer.millionths) (codes "\n")) c.format.ensures.ok
+    ∙ sym (simp append_assoc)) c.format.ensures.ok

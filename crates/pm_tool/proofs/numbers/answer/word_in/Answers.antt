@@ -29,4 +29,4 @@ returns-in_ok-micro-in-Nearest-clause-refused g c =
     let out : IfErr c.nearest.result (IsOutside least greatest (micros k)) = subst (λ (x : Ratio). IfErr c.nearest.result
     (IsOutside least greatest x)) value c.nearest.ensures.refused in
     λ fault. subst (λ (asked : Asked). (c.nearest.result ≡ Err fault) ↔ RefusesValue least greatest asked fault) (sym c.in-Nearest.is)
-    (refused_outside least greatest dl dg order k small c.nearest.result inside out fault)
+    (refused_outside least greatest (record { least_den = dl; greatest_den = dg; order = order }) k small c.nearest.result inside out fault)

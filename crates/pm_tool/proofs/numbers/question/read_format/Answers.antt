@@ -5,6 +5,7 @@ use Rattle.pm_tool.specs.Question.{Text, format_by, parts}
 use Rattle.pm_tool.proofs.PartLemmas.{other_parts, ulinear16_parts}
 use Rattle.pm_tool.proofs.numbers.question.read_format.Goals as goal
 
+-- texts that aren't equal compare as unequal
 unequal : (a b : Text) → a ≢ b → bytes_eq a b ≡ false
 unequal a b apart = go (bytes_eq a b) (bytes_eq-Decides a b).0
   where

@@ -2,6 +2,7 @@ use Rattle.std.specs.Prelude.{Result, OnErr, Ok, Err}
 use Rattle.pm_trace.proofs.GatheredLemmas.{line_open, line_ends, ends_new, not_true, not_false}
 use Rattle.pm_trace.proofs.decoder.gathered.Gathered.take_line.Goals as goal
 
+-- what holds anyway holds of a refusal
 on_err : {T E P : Type 0} (r : Result T E) → P → OnErr r P
 on_err (Ok x) p = tt
 on_err (Err e) p = p
