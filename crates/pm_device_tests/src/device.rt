@@ -3,6 +3,7 @@
 ghost use Rattle.std.specs.Prelude.{◌≡◌, ◌<◌};
 
 mod configurations;
+mod eight_outputs;
 mod example;
 mod operation;
 mod refusals;
