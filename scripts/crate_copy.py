@@ -44,22 +44,28 @@ def crates_below():
     return uses
 
 
+def all_below(uses, crate):
+    """The crates of the repository that a crate stands on, also by others."""
+    found, more = set(), list(uses[crate])
+    while more:
+        name = more.pop()
+        if name in uses and name not in found:
+            found.add(name)
+            more += uses[name]
+    return found
+
+
 class CrateCopy:
-    """The copy, its crate's folder, and the crates whose tests are its: its own, and the first two test crates
-    that stand on it."""
+    """The copy, its crate's folder, and the crates whose tests are its: its own, and each test crate that stands
+    on it, also by others: the name of a frame's fault is seen in texts alone."""
 
     def __init__(self, crate, jobs):
         uses = crates_below()
         self.crate, self.jobs = crate, jobs
-        self.tests = [crate] + [name for name in TESTS if crate in uses.get(name, [])][:2]
+        self.tests = [crate] + [name for name in TESTS if name in uses and crate in all_below(uses, name)]
         self.top = tempfile.mkdtemp(prefix="copy-")
         self.home = os.path.join(self.top, "crates", crate)
-        checked, more = set(), [crate]
-        while more:
-            name = more.pop()
-            if name in uses and name not in checked:
-                checked.add(name)
-                more += uses[name]
+        checked = {crate} | all_below(uses, crate)
         for name in uses:
             out = None if name in checked else shutil.ignore_patterns("out")
             shutil.copytree(os.path.join("crates", name), os.path.join(self.top, "crates", name), symlinks=True, ignore=out)
@@ -96,11 +102,15 @@ class CrateCopy:
         return lines, verdicts[-1].split()[0] if verdicts else None
 
     def failed_test(self):
-        """The first line of a test that fails, if one does."""
+        """The first line of a test that fails, if one does. A test has five minutes, since it is run with no
+        optimisation; where tests can't be run, the line says so."""
         for name in self.tests:
-            for line in run(os.path.join(self.top, "crates", name), "rt", "try", "--test"):
+            lines = run(os.path.join(self.top, "crates", name), "rt", "try", "--test", "--seconds", "300")
+            for line in lines:
                 if "FAILED" in line or "panicked" in line or (" failed" in line and " 0 failed" not in line):
                     return line
+            if not any("test result: ok" in line or "has no #[test]" in line for line in lines):
+                return "NO TEST RAN in %s: %s" % (name, why_not(lines))
         return None
 
 

@@ -10,8 +10,8 @@ proved; --alone tries one at a time. The verdicts:
     refused   a function that the edit changes isn't proved: the note says why
     renamed   a proof by hand names a goal that the edit renamed, which says nothing of the bug
     broken    it doesn't compile, or a text doesn't stand once in its file
-    PROVED    and then whether a test fails with it: the crate's own, and those of the first two test crates that
-              stand on it
+    PROVED    and then whether a test fails with it: the crate's own, and those of each test crate that stands on
+              it
 
 --only-tests proves nothing: it says of each edit which test notices it, if one does.
 
@@ -165,7 +165,9 @@ def noticed(copy, edit):
     kept = copy.write(edit.texts)
     line = copy.failed_test()
     copy.write(kept)
-    return "a test notices: " + line if line else "NO TEST NOTICES"
+    if not line:
+        return "NO TEST NOTICES"
+    return line if line.startswith("NO TEST") else "a test notices: " + line
 
 
 def report(copy, edit, verdict, note, tests, seconds):

@@ -244,26 +244,37 @@ fn an_answer_to_another_request_is_no_good_answer(rt: HostRuntime) {
     assert_eq!(rt; bench.got(first.as_slice()), DONE);
 }
 
-// At every number of passes an order that nothing answers sends twice as many frames.
+// How many frames the open job sends, none of which is answered or acknowledged.
+fn frames_in_vain(host: &mut Host) -> u8 {
+    for turn in 0..40 {
+        if host.sending().is_none() {
+            return turn;
+        }
+        if host.sending_reads() {
+            let _ = host.told(Told::Got(&[]));
+        } else {
+            let _ = host.told(Told::Finished { acked: false });
+        }
+    }
+    40
+}
+
+// At every number of passes an order that nothing answers sends twice as many frames, and each other job
+// as many.
 #[test]
-fn an_order_has_as_many_passes_as_were_asked_for(rt: HostRuntime) {
+fn a_job_has_as_many_passes_as_were_asked_for(rt: HostRuntime) {
+    let cell = Cell::Out(7, Reg::MarginLow);
     for passes in 1..=15 {
         let Ok(mut host) = Host::new(0x77, 8, passes) else {
             unreachable!()
         };
-        assert_eq!(rt; host.order(Cell::Out(7, Reg::MarginLow), 0xFFFF), Ok(()));
-        let mut frames = 0;
-        for turn in 0..40 {
-            frames = turn;
-            if host.sending().is_none() {
-                break;
-            }
-            if host.sending_reads() {
-                let _ = host.told(Told::Got(&[]));
-            } else {
-                let _ = host.told(Told::Finished { acked: true });
-            }
-        }
-        assert_eq!(rt; frames, 2 * passes);
+        assert_eq!(rt; host.order(cell, 0xFFFF), Ok(()));
+        assert_eq!(rt; frames_in_vain(&mut host), 2 * passes);
+        assert_eq!(rt; host.check(cell), Ok(()));
+        assert_eq!(rt; frames_in_vain(&mut host), passes);
+        assert_eq!(rt; host.learn(7), Ok(()));
+        assert_eq!(rt; frames_in_vain(&mut host), passes);
+        assert_eq!(rt; host.clear(7), Ok(()));
+        assert_eq!(rt; frames_in_vain(&mut host), passes);
     }
 }

@@ -205,7 +205,7 @@ fn coefficients_are_refused_for_code_side_and_mode(rt: HostRuntime) -> Result<()
 }
 
 // Each write at each value of WRITE_PROTECT: 80h, 40h, 20h and 00h, whether it is taken.
-const PROTECTION: [(&str, [bool; 4]); 19] = [
+const PROTECTION: [(&str, [bool; 4]); 21] = [
     ("B0 00 01 ED", [false, true, true, true]),
     ("B0 01 40 38", [false, true, true, true]),
     ("B0 05 03 01 01 40 27", [false, true, true, true]),
@@ -221,6 +221,8 @@ const PROTECTION: [(&str, [bool; 4]); 19] = [
     ("B0 05 04 01 25 34 12 BC", [false, false, false, true]),
     ("B0 26 34 12 75", [false, false, false, true]),
     ("B0 05 04 01 26 34 12 01", [false, false, false, true]),
+    ("B0 2B 34 12 E4", [false, false, false, true]),
+    ("B0 05 04 01 2B 34 12 90", [false, false, false, true]),
     ("B0 7A 08 F2", [false, false, false, true]),
     ("B0 05 03 01 7A 08 ED", [false, false, false, true]),
     ("B0 7E 80 17", [false, false, false, true]),

@@ -52,13 +52,13 @@ fn each_line_is_answered_and_the_outputs_follow(rt: HostRuntime) {
         ("B0 30 02 21 00 /", "refused K3 UnsupportedData\n", none),
         // What both outputs and the device start with.
         (
-            "B0 01 /\nB0 24 /\nB0 25 /\nB0 26 /\nB0 10 /",
-            "answer B1 80 20\nanswer B1 00 40 11\nanswer B1 00 11 B7\nanswer B1 00 0F D7\nanswer B1 00 60\n",
+            "B0 01 /\nB0 24 /\nB0 25 /\nB0 26 /\nB0 2B /\nB0 10 /",
+            "answer B1 80 20\nanswer B1 00 40 11\nanswer B1 00 11 B7\nanswer B1 00 0F D7\nanswer B1 00 00 04\nanswer B1 00 60\n",
             none,
         ),
         (
-            "B0 06 02 01 01 /\nB0 06 02 01 20 /\nB0 06 02 01 24 /\nB0 06 02 01 25 /\nB0 06 02 01 26 /",
-            "answer B1 01 80 11\nanswer B1 01 14 2C\nanswer B1 02 00 40 32\nanswer B1 02 00 11 E0\nanswer B1 02 00 0F 1C\n",
+            "B0 06 02 01 01 /\nB0 06 02 01 20 /\nB0 06 02 01 24 /\nB0 06 02 01 25 /\nB0 06 02 01 26 /\nB0 06 02 01 2B /",
+            "answer B1 01 80 11\nanswer B1 01 14 2C\nanswer B1 02 00 40 32\nanswer B1 02 00 11 E0\nanswer B1 02 00 0F 1C\nanswer B1 02 00 00 C5\n",
             none,
         ),
         // A plain write goes to the output that PAGE names.

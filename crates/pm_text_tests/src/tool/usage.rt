@@ -79,8 +79,9 @@ Options:
   -h, --help  Print help
 
 A scenario says what a converter and a host are made from, and what happens between them: orders,
-deliveries, lost answers, damaged bytes, restarts. Printed is what the converter then holds,
-commands and shows, and what the host knows. Status 1 where an event can't happen.
+deliveries, lost answers, damaged bytes, restarts. It begins with `scenario 2`; version 1, which
+doesn't know VOUT_MIN, is read too. Printed is what the converter then holds, commands and shows,
+and what the host knows. Status 1 where an event can't happen.
 
   $ pmb replay < examples/one-order.scenario
 ";
