@@ -1,12 +1,12 @@
 #!/usr/bin/env bash
 # How long `pmb hear` takes for texts of up to 1 MiB: one frame as one long word and as many words of
 # one byte, whose code is unknown, so that the PEC of all bytes is computed; and many lines, of short
-# writes, of reads, of restarts and of empty reads, which make the longest text. Build the program
-# first: (cd crates/pmb && rt run -- replay < stdin). Each row is the best of five runs; twice the text
-# should take about twice the time.
+# writes, of reads, of restarts and of empty reads, which make the longest text. It runs the built
+# program, or the one that the environment variable PMB names. Each row is the best of five runs; twice the
+# text should take about twice the time.
 set -eu
-cd "$(dirname "$0")/.."
-pmb=crates/pmb/out/pmb
+case " $* " in *" --help "* | *" -h "*) sed -n '2,/^[^#]/s/^# \{0,1\}//p' "$0"; exit 0 ;; esac
+pmb=$(python3 "$(dirname "$0")/../scripts/program.py")
 folder=$(mktemp -d)
 trap 'rm -rf "$folder"' EXIT
 

@@ -5,8 +5,8 @@ the same from run to run, whatever else the machine does.
 
     bench/instructions.py [--by COMMAND]
 
-`--by` lists a command's most expensive functions. It needs valgrind, and the program, (cd crates/pmb && rt run --
-replay < stdin), or the environment variable PMB that names one.
+`--by` lists a command's most expensive functions. It needs valgrind, and runs the built
+program, or the one that the environment variable PMB names.
 """
 import os
 import random
@@ -16,8 +16,11 @@ import subprocess
 import sys
 import tempfile
 
-ROOT = os.path.dirname(os.path.dirname(os.path.abspath(__file__)))
-PROGRAM = os.environ.get("PMB", os.path.join(ROOT, "crates/pmb/out/pmb"))
+sys.path.append(os.path.join(os.path.dirname(os.path.dirname(os.path.abspath(__file__))), "scripts"))
+sys.dont_write_bytecode = True
+
+import program  # noqa: E402
+
 SIZE = 1_048_000
 HEAD = """scenario 1
 address 58
@@ -67,7 +70,7 @@ def text_of(command):
 def counted(command, folder, is_listed):
     found = os.path.join(folder, command)
     run = subprocess.run(
-        ["valgrind", "--tool=callgrind", f"--callgrind-out-file={found}", PROGRAM, command],
+        ["valgrind", "--tool=callgrind", f"--callgrind-out-file={found}", program.PROGRAM, command],
         input=text_of(command), capture_output=True)
     total = re.search(rb"Collected : (\d+)", run.stderr)
     print(f"{command:8}{int(total[1]) / 1e6:6.1f} million instructions")
@@ -77,10 +80,8 @@ def counted(command, folder, is_listed):
 
 
 def main():
-    if "--help" in sys.argv:
-        sys.exit(__doc__)
-    if not os.path.exists(PROGRAM):
-        sys.exit(f"no program at {PROGRAM}: build it by (cd crates/pmb && rt run -- replay < stdin)")
+    program.answer_help(__doc__)
+    program.needed()
     if not shutil.which("valgrind"):
         sys.exit("no valgrind on this machine")
     with tempfile.TemporaryDirectory() as folder:

@@ -3,6 +3,7 @@
 # copy of the crates that it stands on. With a check of crates/pm_frame kept in its out/ it takes half a
 # minute, otherwise a few.
 set -eu
+case " $* " in *" --help "* | *" -h "*) sed -n '2,/^[^#]/s/^# \{0,1\}//p' "$0"; exit 0 ;; esac
 cd "$(dirname "$0")/.."
 folder=$(mktemp -d)
 trap 'rm -rf "$folder"' EXIT

@@ -2,11 +2,12 @@
 # How long `pmb` takes for texts of 512 KiB and 1 MiB, the longest there may be: traces that are decoded,
 # scenarios that are replayed, lines that `hear` answers. Each row is the best of five runs of either size in
 # milliseconds, what twice the text takes of the time (it should be about 2), and the peak of the memory in
-# KiB at either size, by /usr/bin/time. Build the program first: (cd crates/pmb && rt run -- replay < stdin); the
-# environment variable PMB may name another one.
+# KiB at either size, by /usr/bin/time. It runs the built program, or the one that the environment variable PMB
+# names.
 set -eu
-cd "$(dirname "$0")/.."
-export PMB=${PMB:-crates/pmb/out/pmb}
+case " $* " in *" --help "* | *" -h "*) sed -n '2,/^[^#]/s/^# \{0,1\}//p' "$0"; exit 0 ;; esac
+PMB=$(python3 "$(dirname "$0")/../scripts/program.py")
+export PMB
 python3 - <<'PY'
 import os, subprocess, tempfile, time
 

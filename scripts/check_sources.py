@@ -11,6 +11,7 @@ It prints a line for each finding, and has status 1 if there is one:
     code       a command code in two digits outside pm_table, where it has a name
     registers  the registers are listed outside pm_table
     laws       a record of laws in proofs, where the law has a name in the definitions of its crate
+    page       a refusal of a type isn't in docs/refusals.md, or one of the page is in no type, or has another name
 
 Tests are left out.
 """
@@ -18,7 +19,9 @@ import os
 import re
 import sys
 
+import refusals
 from crate_copy import crates_below, read
+from program import answer_help
 
 REGISTERS = ("Operation", "VoutCommand", "VoutMax", "MarginHigh", "MarginLow", "VoutMin")
 NEAR = 5
@@ -120,6 +123,23 @@ def laws(path, lines):
             yield path, number, "laws", line.strip()
 
 
+def page(src):
+    """The refusals of types beside those of the page, each in its order."""
+    types = {}
+    for path, lines in src:
+        for number, line in enumerate(lines, 1):
+            found = re.search(r'::\w+(?:\(.*\))? => "([A-Z][1-9]) (\w+)",$', line)
+            if found:
+                types[found.groups()] = path, number
+    told = [(letter, name) for letter, name, _ in refusals.rows()]
+    for refusal, (path, number) in types.items():
+        if told.count(refusal) != 1:
+            yield path, number, "page", "%s %s stands %d times in docs/refusals.md" % (*refusal, told.count(refusal))
+    for letter, name in told:
+        if (letter, name) not in types:
+            yield "docs/refusals.md", 1, "page", "no type has %s %s" % (letter, name)
+
+
 def findings(crates):
     src = list(sources(crates, ["src"]))
     specs = list(sources(crates, ["specs"]))
@@ -128,6 +148,8 @@ def findings(crates):
     for path, lines in src:
         yield from memory(path, lines)
     yield from letters(src + specs)
+    if "pm_num" in crates and "pm_tool" in crates:
+        yield from page(src)
     for path, lines in src + specs + proofs:
         if not path.startswith("crates/pm_table/"):
             yield from codes(path, lines, known)
@@ -137,6 +159,7 @@ def findings(crates):
 
 
 def main():
+    answer_help(__doc__)
     if any(word.startswith("-") for word in sys.argv[1:]):
         sys.exit(__doc__)
     every = [name for name in crates_below() if not name.endswith("_tests")]

@@ -6,19 +6,16 @@ kind of line came.
 
     scripts/compare_with_plain.py [SEED [TEXTS [COMMAND ..]]]
 
-It needs the program, (cd crates/pmb && rt run -- replay < stdin), or the environment variable PMB that names
-one.
+It runs the built program, or the one that the environment variable PMB names.
 """
-import os
 import random
 import re
 import subprocess
 import sys
 
-ROOT = os.path.dirname(os.path.dirname(os.path.abspath(__file__)))
-PROGRAM = os.environ.get("PMB", os.path.join(ROOT, "crates/pmb/out/pmb"))
 sys.dont_write_bytecode = True
 
+import program  # noqa: E402
 from plain import commands, draw_lines, draw_scenarios, draw_traces, report, trace  # noqa: E402
 
 TEXTS = {
@@ -55,7 +52,7 @@ def shortened(line):
 
 
 def ran(arguments, text=b""):
-    it = subprocess.run([PROGRAM, *arguments], input=text, capture_output=True)
+    it = subprocess.run([program.PROGRAM, *arguments], input=text, capture_output=True)
     return it.returncode, it.stdout.decode(errors="replace"), it.stderr.decode(errors="replace")
 
 
@@ -106,6 +103,8 @@ def compare_numbers(dice, count, seen):
 
 
 def main():
+    program.answer_help(__doc__)
+    program.needed()
     seed = int(sys.argv[1]) if len(sys.argv) > 1 else 1
     texts = int(sys.argv[2]) if len(sys.argv) > 2 else 10000
     chosen = sys.argv[3:] or [*TEXTS, "number"]

@@ -15,6 +15,7 @@ import re
 import sys
 
 from crate_copy import CrateCopy, read, taken, why_not, write
+from program import answer_help
 from proof_text import Lemma, files_of, lemmas_of, over, without, wrapped
 
 LEFT = re.compile(r"fn [^ ]+: no proof: expected answers in \./(proofs/[^ ]+); `search` did not prove (.*)")
@@ -185,6 +186,7 @@ def rules(crate):
 
 
 def main():
+    answer_help(__doc__)
     words = sys.argv[1:]
     jobs = taken(words, "--jobs") or "1"
     flags = {word for word in words if word.startswith("--")}

@@ -2,21 +2,23 @@
 """Makes each allocation of a run of `pmb` fail in turn, for each run of the table below.
 
 What comes of it must be `pmb: X6 Memory` alone, with status 1 and nothing written (by `decode`, which
-writes line by line, a front of the text), or the very result of the run in which no allocation fails,
+writes line by line, a first part of the text), or the very result of the run in which no allocation fails,
 where that one could be done without. Anything else is printed, and the status is then 1.
 
-It needs the program, (cd crates/pmb && rt run -- replay < stdin), or the environment variable PMB that
-names one, a C compiler and glibc. With the
-toolchain alone `rt try --fail-alloc N -- hear < stdin` in crates/pmb does the same for one
+    scripts/refuse_allocations.py
+
+It runs the built program, or the one that the environment variable PMB names, and needs a C compiler
+and glibc. With the toolchain alone `rt try --fail-alloc N -- hear < stdin` in crates/pmb does the same for one
 allocation, the Nth, of one run, and takes some 20 seconds.
 """
-import os
+import shutil
 import subprocess
 import sys
 import tempfile
 
-ROOT = os.path.dirname(os.path.dirname(os.path.abspath(__file__)))
-PROGRAM = os.environ.get("PMB", os.path.join(ROOT, "crates/pmb/out/pmb"))
+sys.dont_write_bytecode = True
+
+import program  # noqa: E402
 
 # Stands before the C library: counts the allocations, refuses one, and tells how many there were.
 REFUSER = r"""
@@ -53,7 +55,7 @@ OUTPUT = b"output 14 80 1000 4000 1100 0F00\n"
 ORDER = b"order 0 VOUT_COMMAND 34CD\ndeliver whole\nfinish ack\nexchange whole whole\n"
 FRAMES = b"deliver bytes B005040021CD345A stop\n" * 40
 LEARN = b"learn 0\nexchange whole whole\nvolts 0 VOUT_COMMAND 3300000\n"
-# A line for each of the 21 codes that a trace may count.
+# A line for each code that a trace may count.
 CODES = b"""B0 00 01 ED
 B0 01 00 FF
 B0 10 00 BD
@@ -64,7 +66,7 @@ B0 21 00 10 C0
 B0 24 00 10 00
 B0 25 00 10 6B
 B0 26 00 20 46
-B0 2B 00 08 0F
+B0 2B 00 10 47
 B0 19 / B1 00 5A
 B0 20 / B1 14 ED
 B0 30 02 21 00 / B1 05 01 00 00 00 03 6B
@@ -159,22 +161,26 @@ WANT_OF_MEMORY = b"pmb: X6 Memory\n"
 
 
 def wants_memory(arguments, found, whole):
-    """Whether a result is want of memory, with nothing written, or by `decode` a front of the text."""
+    """Whether a result is want of memory, with nothing written, or by `decode` a first part of the text."""
     status, written, told = found
-    is_front = written == b"" or arguments == ["decode"] and whole[1].startswith(written)
-    return status == 1 and is_front and told == WANT_OF_MEMORY
+    is_first_part = written == b"" or arguments == ["decode"] and whole[1].startswith(written)
+    return status == 1 and is_first_part and told == WANT_OF_MEMORY
 
 
 def result_of(refuser, arguments, text, refused=0):
     """The status and what was written on either stream, and how many allocations were made."""
     environment = {"LD_PRELOAD": refuser, "REFUSED_ALLOCATION": str(refused)}
-    ran = subprocess.run([PROGRAM, *arguments], input=text, capture_output=True, env=environment)
+    ran = subprocess.run([program.PROGRAM, *arguments], input=text, capture_output=True, env=environment)
     told, _, made = ran.stderr.rpartition(b"allocations ")
     return (ran.returncode, ran.stdout, told), int(made)
 
 
 def main():
-    faults = 0
+    program.answer_help(__doc__)
+    program.needed()
+    if not shutil.which("cc"):
+        sys.exit("no C compiler: cc")
+    faults = seen = 0
     with tempfile.TemporaryDirectory() as folder:
         source, refuser = f"{folder}/refuser.c", f"{folder}/refuser.so"
         with open(source, "w", encoding="utf-8") as file:
@@ -183,6 +189,7 @@ def main():
         for arguments, text in RUNS:
             whole, made = result_of(refuser, arguments, text)
             wanting = unneeded = 0
+            seen += made
             for refused in range(1, made + 1):
                 found, _ = result_of(refuser, arguments, text, refused)
                 is_wanting = wants_memory(arguments, found, whole)
@@ -193,6 +200,8 @@ def main():
                     print(f"allocation {refused} refused: {found}")
             shown = text[:24].decode() + (" .." if len(text) > 24 else "")
             print(f"{arguments[:4]} {shown!r}: {made} allocations, {wanting} wanted, {unneeded} done without")
+    if not seen:
+        sys.exit("no allocation was seen: the program takes its memory elsewhere, as one of `rt try` does")
     print("each refusal is X6, or changes nothing" if not faults else f"{faults} faults")
     return 1 if faults else 0
 

@@ -4,16 +4,19 @@ compares its status and what it wrote on both streams: each status, each kind of
 a full output and closed streams; the examples also byte by byte. What differs is printed, and the status
 is then 1.
 
-It needs the program, (cd crates/pmb && rt run -- replay < stdin), or the environment variable PMB that
-names one.
+It runs the built program, or the one that the environment variable PMB names: scripts/run_program.py
 """
 import glob
 import os
 import subprocess
 import sys
 
-ROOT = os.path.dirname(os.path.dirname(os.path.abspath(__file__)))
-PROGRAM = os.environ.get("PMB", os.path.join(ROOT, "crates/pmb/out/pmb"))
+sys.dont_write_bytecode = True
+
+import program  # noqa: E402
+from program import ROOT  # noqa: E402
+
+PROGRAM = program.PROGRAM
 
 FRAME = b"B0 05 04 00 21 CD 34 5A\n"
 TAKEN = b"taken\noutput 0 VOUT_COMMAND 34CD\noutput 1 VOUT_COMMAND 1000\n"
@@ -97,7 +100,7 @@ def codes():
     """The run of the trace of each code, in either order."""
     for rows in CODES, CODES[::-1]:
         said = [f"{number} 58 {name} {words}" for number, (_, name, words) in enumerate(rows, 1)]
-        said += [f"count {name} 1" for _, name, _ in rows] + ["lines 20 accepted 20 faults 0 bad 0"]
+        said += [f"count {name} 1" for _, name, _ in rows] + [f"lines {len(rows)} accepted {len(rows)} faults 0 bad 0"]
         yield ["decode"], "\n".join(row[0] for row in rows).encode(), 0, ("\n".join(said) + "\n").encode(), b""
 
 
@@ -273,6 +276,8 @@ def is_as_wanted(found, wanted):
 
 
 def main():
+    program.answer_help(__doc__)
+    program.needed()
     faults, runs = 0, [*RUNS, *examples()]
     for arguments, text, status, output, errors in runs:
         ran = subprocess.run([PROGRAM, *arguments], input=text, capture_output=True)

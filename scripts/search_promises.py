@@ -3,25 +3,24 @@
 all kinds, with damage, false acknowledgements, repeats and restarts of either end, holds the plain model of
 scripts/plain to every promise after each event, and the program's report to that of the model and to the
 promises on its own. What is broken is printed, and the status is then 1; at the end stands how many lists
-came to what.
+met what.
 
     scripts/search_promises.py [SEED [LISTS]]
 
-It needs the program, (cd crates/pmb && rt run -- replay < stdin), or the environment variable PMB that names
-one; PMB= searches the plain model alone.
+It runs the built program, or the one that the environment variable PMB names; PMB= searches the
+plain model alone.
 """
-import os
 import random
 import subprocess
 import sys
 
-ROOT = os.path.dirname(os.path.dirname(os.path.abspath(__file__)))
-PROGRAM = os.environ.get("PMB", os.path.join(ROOT, "crates/pmb/out/pmb"))
 sys.dont_write_bytecode = True
 
+import program  # noqa: E402
 from plain.draw_scenarios import chance, draw_events, draw_setup, event_words, setup_lines  # noqa: E402
 from plain.promises import Watch  # noqa: E402
 from plain.report import report  # noqa: E402
+from plain.scenario import registers_of  # noqa: E402
 from plain.world import World, world_fault  # noqa: E402
 
 
@@ -53,12 +52,13 @@ def text_of(dice, setup, passes, events):
 
 def program_faults(text, watch, cause):
     """What is wrong with the program's own report."""
-    told = subprocess.run([PROGRAM, "replay"], input=text, capture_output=True).stdout.decode()
+    told = subprocess.run([program.PROGRAM, "replay"], input=text, capture_output=True).stdout.decode()
     watch.world.taken, watch.world.stop = len(watch.events), cause
     if told != "".join(line + "\n" for line in report(watch.world)):
         yield "the report is that of the plain model"
     words = [line.split(" ") for line in told.splitlines() if " host " in line]
-    cells = [(None, 0x10), *watch.cells[1:]]
+    shown = registers_of(watch.world.device.setup["version"])
+    cells = [(None, 0x10), *(cell for cell in watch.cells[1:] if cell[1] in shown)]
     for cell, line in zip(cells, words):
         if int(line[1], 16) not in watch.own[cell]:
             yield "a word that is told is a start word or one ordered for that very cell"
@@ -74,7 +74,7 @@ def searched(dice, reached):
         if cause:
             break
     text = text_of(dice, setup, passes, events)
-    if PROGRAM:
+    if program.PROGRAM:
         broken += program_faults(text, watch, cause)
     kinds = {" ".join([event[0], *(part[0] for part in event[1:] if isinstance(part, tuple) and part[0] in
                                    ("whole", "cut", "bytes"))]) for _, event in events}
@@ -84,12 +84,11 @@ def searched(dice, reached):
 
 
 def main():
-    if "--help" in sys.argv:
-        sys.exit(__doc__)
+    program.answer_help(__doc__)
+    if program.PROGRAM:
+        program.needed()
     seed = int(sys.argv[1]) if len(sys.argv) > 1 else 1
     lists = int(sys.argv[2]) if len(sys.argv) > 2 else 10000
-    if PROGRAM and not os.path.exists(PROGRAM):
-        sys.exit(f"no program at {PROGRAM}: build it by (cd crates/pmb && rt run -- replay < stdin)")
     dice, reached, faults = random.Random(seed), {}, 0
     for _ in range(lists):
         text, broken = searched(dice, reached)

@@ -24,6 +24,7 @@ import sys
 import time
 
 from crate_copy import CrateCopy, read, taken, why_not
+from program import answer_help
 
 # what is said of a function that only stands on one that isn't proved
 BELOW = re.compile(r": no proof: (it calls|its contract rests)")
@@ -205,6 +206,7 @@ def test_all(copy, edits):
 
 
 def main():
+    answer_help(__doc__)
     words = sys.argv[1:]
     jobs = taken(words, "--jobs") or "1"
     folder = taken(words, "--folder")

@@ -10,6 +10,7 @@
 # trace. Beside it, where rustc is there, a plain Rust program does the same over a text in memory:
 # plain.rs.
 set -eu
+case " $* " in *" --help "* | *" -h "*) sed -n '2,/^[^#]/s/^# \{0,1\}//p' "$0"; exit 0 ;; esac
 cd "$(dirname "$0")/../.."
 folder=$(mktemp -d)
 trap 'rm -rf "$folder"' EXIT

@@ -44,7 +44,7 @@ def hear(text):
 
 
 def number(form, word, micro):
-    """On sound texts: a format, and a word or so many millionths."""
+    """On sound texts: a format, and a word or a number of millionths."""
     fault = coefficients_fault(form[1], form[3]) if form[0] == "direct" else None
     if not fault and word is None:
         word, fault = nearest(form, micro)

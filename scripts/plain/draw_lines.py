@@ -32,7 +32,7 @@ def write_frame(dice, address=0x58):
 
 
 def spoiled(dice, frame):
-    """The frame, or one with a bit changed, cut, or with bytes behind it."""
+    """The frame, or one with a bit changed, cut, or with bytes after it."""
     frame = list(frame)
     if dice.random() < 0.08:
         frame[dice.randrange(len(frame))] ^= 1 << dice.randrange(8)

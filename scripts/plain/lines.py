@@ -30,7 +30,7 @@ def words_of(line):
 
 
 def hexadecimal(word, least, most):
-    """The bytes of a word that has so many."""
+    """The bytes of a word that has from `least` to `most`."""
     if not re.fullmatch(rb"([0-9A-Fa-f]{2})+", word) or not least <= len(word) // 2 <= most:
         raise TextFault("X2 BadHex")
     return list(bytes.fromhex(word.decode()))
@@ -45,5 +45,5 @@ def decimal(word, least, most):
 
 
 def hex_word(word, count):
-    """A word in so many bytes."""
+    """A word in `count` bytes."""
     return f"{word:0{2 * count}X}"

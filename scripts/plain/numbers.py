@@ -44,7 +44,7 @@ def coefficients_fault(m, r):
 
 
 def nearest(form, micro):
-    """The word of the nearest value to so many millionths, or the fault."""
+    """The word of the value nearest to `micro` millionths, or the fault."""
     if abs(micro) > 10**15:
         return None, "N5 TooLarge"
     whole, values = all_values(form)

@@ -41,7 +41,7 @@ class Words:
         return decimal(self.next(), least, most)
 
     def word(self, count):
-        """A word of so many bytes, the high one first."""
+        """A word of `count` bytes, the high one first."""
         return int.from_bytes(bytes(hexadecimal(self.next(), count, count)), "big")
 
     def frame(self):

@@ -28,7 +28,7 @@ def payload_word(payload):
 
 
 def shown(frame, read):
-    """What a line says behind its number, and the code that it counts for, None of a faulty one."""
+    """What a line says after its number, and the code that it counts for, None of a faulty one."""
     if not frame or frame[0] % 2 or not 0x08 <= frame[0] // 2 <= 0x77:
         return "-- write F1 NotOurs", None
     address = frame[0] // 2

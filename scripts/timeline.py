@@ -1,0 +1,68 @@
+#!/usr/bin/env python3
+"""Tells a scenario's run event by event: each event's line, and what it changed of the voltages that outputs
+command, of the converter's words, of what the host says of them, and of its job. At a stop it tells the line
+that wasn't taken, and why. The status is 1 where the text is refused or the run stops.
+
+    scripts/timeline.py SCENARIO
+
+It runs the built program, or the one that the environment variable PMB names.
+"""
+import sys
+
+sys.dont_write_bytecode = True
+
+import program  # noqa: E402
+from lived import Refused, lived  # noqa: E402
+from refusals import in_words  # noqa: E402
+
+
+def facts(report):
+    """What is told of a report: each fact by the words that come before it."""
+    told = {}
+    for output, (is_on, micro) in report.outputs.items():
+        told[f"output {output}:"] = "on" if is_on else "off"
+        told[f"output {output} commands"] = f"{micro} uV"
+        for register in (it for it in report.words if it[0] == output):
+            told[f"output {output} {register[1]}: the converter's word"] = report.words[register]
+            told[f"output {output} {register[1]}: the host says"] = report.beliefs[register]
+        told[f"output {output} status"] = report.status[output]
+    protect = None, "WRITE_PROTECT"
+    told["WRITE_PROTECT: the converter's word"] = report.words[protect]
+    told["WRITE_PROTECT: the host says"] = report.beliefs[protect]
+    told.update({"STATUS_CML": report.cml, "restart seen": report.seen, "job": report.job})
+    return told
+
+
+def changes(before, after):
+    """The facts that differ, in lines."""
+    old, new = facts(before), facts(after)
+    return [f"{name} {old[name]} -> {new[name]}" for name in old if old[name] != new[name]]
+
+
+def timeline(run):
+    """The lines that are printed."""
+    for event, before, after in zip(run.events, run.reports, run.reports[1:]):
+        yield f"line {event.number}  {event.words}"
+        for change in changes(before, after):
+            yield f"        {change}"
+    if run.stopping:
+        yield f"line {run.stopping.number}  {run.stopping.words}"
+        yield f"        stopped: {run.stop}: {in_words(run.stop)}"
+        if run.left:
+            yield f"events after it: {run.left}"
+
+
+def main():
+    text = program.one_file(__doc__)
+    try:
+        run = lived(text)
+    except Refused as refused:
+        letter = in_words(str(refused))
+        sys.exit(f"{refused}: {letter}" if letter else str(refused))
+    for line in timeline(run):
+        print(line)
+    return 1 if run.stopping else 0
+
+
+if __name__ == "__main__":
+    sys.exit(main())

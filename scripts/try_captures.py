@@ -1,0 +1,156 @@
+#!/usr/bin/env python3
+"""Tries scripts/capture_to_trace.py and scripts/frames_to_i2ctransfer.py on scripts/captures/: each capture must give
+its trace; frames become commands and come back; and commands are run by a stand-in for i2ctransfer that asks `pmb hear`.
+Where sigrok-cli is installed, the waveforms are decoded anew. What is wrong is printed, and the status is then 1.
+
+    scripts/try_captures.py
+
+It runs the built program, or the one that the environment variable PMB names.
+"""
+import os
+import shutil
+import subprocess
+import sys
+import tempfile
+
+sys.dont_write_bytecode = True
+
+import program  # noqa: E402
+from capture_to_trace import NoCapture, trace  # noqa: E402
+from draw_waveform import waveform  # noqa: E402
+
+FOLDER = os.path.join(program.ROOT, "scripts/captures")
+TOOL = os.path.join(program.ROOT, "scripts/frames_to_i2ctransfer.py")
+CAPTURES = [("bus", "sigrok", "bus.trace"), ("bus", "linux", "bus.trace"), ("bus", "saleae", "bus.trace"),
+            ("faults", "sigrok", "faults.trace"), ("faults", "saleae", "faults.trace"),
+            ("faults", "linux", "faults_of_linux.trace")]
+DRAWN = [("bus", os.path.join(program.ROOT, "examples/bus.trace")), ("faults", os.path.join(FOLDER, "faults.bus"))]
+# Texts that are no captures, and why.
+REFUSED = [
+    ("sigrok", "", "no packet"), ("linux", "i2c_write: i2c-1 0x58", "line 1: no message of the kernel"),
+    ("linux", "i2c_result: i2c-1 none", "line 1: no result of the kernel"), ("saleae", "type,data\n", "the first line"),
+    ("sigrok", "i2c-1: Start\ni2c-1: Address read: 58\n", "line 2: the address has no direction bit"),
+    ("saleae", "type,ack,address,read,data\nstart,,,,\naddress,true,here,false,\n", "line 3: no byte in the column address"),
+]
+# Frames of `hear`, the command of each, and the line of the trace that comes of it.
+FRAMES = [
+    ("B0 00 01 ED", "w3@0x58 0x00 0x01 0xed", "B0 00 01 ED"),
+    ("B0 06 02 00 21 /", "w4@0x58 0x06 0x02 0x00 0x21 r4", "B0 06 02 00 21 / B1 02 00 10 41"),
+    ("B0 05 04 00 21 CD 34 5A", "w7@0x58 0x05 0x04 0x00 0x21 0xcd 0x34 0x5a", "B0 05 04 00 21 CD 34 5A"),
+    ("B0 06 02 00 21 /", "w4@0x58 0x06 0x02 0x00 0x21 r4", "B0 06 02 00 21 / B1 02 CD 34 B9"),
+    ("B0 20 /", "w1@0x58 0x20 r2", "B0 20 / B1 14 ED"),
+    ("B0 88 /", "w1@0x58 0x88 r3", "B0 88 / B1 00 00 C1"),
+    ("B0 30 02 21 00 /", "w4@0x58 0x30 0x02 0x21 0x00 r7", None),
+    ("A0 03 46", "w2@0x50 0x03 0x46", None),
+    ("B0 03 46", "w2@0x58 0x03 0x46", "B0 03 46"),
+]
+FAULTY = [("B0 9", "X2 BadHex line 1"), ("\nB0 20 / 1", "X1 Syntax line 2"), ("/", "X1 Syntax line 1"),
+          ("B1 20 /", "F1 NotOurs line 1"), ("B0 99 /", "F6 UnknownCode 1 line 1"), ("B0 06 /", "F2 Short 2 line 1")]
+# Answers as i2ctransfer does, by what `pmb hear` says of all that it was given.
+STAND_IN = """#!/usr/bin/env python3
+import os, subprocess, sys
+words = [word for word in sys.argv[3:] if not word.startswith("r")]
+count = [int(word[1:]) for word in sys.argv[3:] if word.startswith("r")]
+length, address = words[0][1:].split("@")
+if sys.argv[1:3] != ["-y", "7"] or int(length) != len(words) - 1:
+    sys.exit("Error: not called as it should be")
+frame = [int(address, 16) * 2, *(int(word, 16) for word in words[1:])]
+with open(os.environ["HEARD"], "a+") as heard:
+    heard.write(" ".join(f"{byte:02X}" for byte in frame) + (" /" if count else "") + "\\n")
+    heard.seek(0)
+    lines = heard.read().splitlines()
+said = subprocess.run([os.environ["PMB"], "hear"], input="\\n".join(lines), capture_output=True, text=True)
+answer = said.stdout.splitlines()[len(lines) - 1].split()
+if answer[0] == "silent" or count and answer[0] != "answer":
+    sys.exit("Error: Sending messages failed: No such device or address")
+if count:
+    print(" ".join("0x" + byte.lower() for byte in (answer[2:] + ["FF"] * 300)[:count[0]]))
+"""
+
+
+def stored(name):
+    with open(os.path.join(FOLDER, name), encoding="utf-8") as file:
+        return file.read()
+
+
+def waveform_faults():
+    """The stored waveforms are those of the packets, and what sigrok-cli makes of them, where it is installed."""
+    for name, path in DRAWN:
+        with open(path, encoding="utf-8") as file:
+            if waveform(file.read()) != stored(f"{name}.vcd"):
+                yield f"{name}.vcd isn't drawn from {os.path.relpath(path, program.ROOT)}"
+        if shutil.which("sigrok-cli"):
+            ran = subprocess.run(
+                ["sigrok-cli", "-I", "vcd", "-i", os.path.join(FOLDER, f"{name}.vcd"), "-P",
+                 "i2c:scl=SCL:sda=SDA:address_format=unshifted", "-A", "i2c=addr-data"], capture_output=True, text=True)
+            if ran.stdout != stored(f"{name}.sigrok"):
+                yield f"sigrok-cli makes something else of {name}.vcd: {ran.stderr or ran.stdout[:200]!r}"
+
+
+def capture_faults():
+    for name, form, wanted in CAPTURES:
+        found = trace(form, stored(f"{name}.{form}"), 0x58)
+        if "\n".join(found) + "\n" != stored(wanted):
+            yield f"{name}.{form} gives {found}"
+    every = trace("linux", stored("faults.linux"))
+    if "A0 00 / A1 12" not in every or "A0 00 01" not in every:
+        yield "without an address other devices aren't in the trace"
+    for form, text, why in REFUSED:
+        try:
+            yield f"{form} takes {text!r}: {trace(form, text)}"
+        except NoCapture as fault:
+            if not str(fault).startswith(why):
+                yield f"{form} refuses {text!r} by {fault}"
+
+
+def tool(arguments, text, around=None):
+    return subprocess.run([TOOL, *arguments], input=text, capture_output=True, text=True, env=around)
+
+
+def command_faults():
+    frames = "".join(f"{frame}\n" for frame, _, _ in FRAMES)
+    made = tool(["7"], frames)
+    if made.stdout != "".join(f"i2ctransfer -y 7 {command}\n" for _, command, _ in FRAMES):
+        yield f"the commands are {made.stdout!r}, {made.stderr!r}"
+    back = tool(["--back"], made.stdout)
+    if back.stdout != frames:
+        yield f"the frames come back as {back.stdout!r}, {back.stderr!r}"
+    for text, why in FAULTY:
+        ran = tool(["7"], f"{text}\n")
+        if (ran.returncode, ran.stdout, ran.stderr) != (1, "", f"frames_to_i2ctransfer.py: {why}\n"):
+            yield f"{text!r} is answered by {ran.stdout!r}, {ran.stderr!r}"
+    for text in "i2ctransfer -y 7 w3@0x58 0x21", "i2cset -y 7 0x58 0x21", "i2ctransfer -y 7 w1@0xb0 0x21":
+        if tool(["--back"], text).returncode != 1:
+            yield f"{text!r} becomes a frame"
+
+
+def run_faults(pmb):
+    """The commands are run, and their trace is what `decode` accepts."""
+    with tempfile.TemporaryDirectory() as folder:
+        stand_in = os.path.join(folder, "i2ctransfer")
+        with open(stand_in, "w", encoding="utf-8") as file:
+            file.write(STAND_IN)
+        os.chmod(stand_in, 0o755)
+        path = folder + os.pathsep + os.environ["PATH"]
+        around = {**os.environ, "PATH": path, "HEARD": os.path.join(folder, "heard"), "PMB": pmb}
+        ran = tool(["7", "--run"], "".join(f"{frame}\n" for frame, _, _ in FRAMES), around)
+    failed = ": Error: Sending messages failed: No such device or address"
+    wanted = [line or "# failed: " + frame.removesuffix(" /") + failed for frame, _, line in FRAMES]
+    if ran.stdout.splitlines() != wanted or ran.returncode != 1:
+        yield f"the run gives {ran.stdout!r}, {ran.stderr!r} and status {ran.returncode}, and not {wanted}"
+    told = subprocess.run([pmb, "decode"], input=ran.stdout, capture_output=True, text=True).stdout.splitlines()
+    if told[-1:] != ["lines 7 accepted 7 faults 0 bad 0"]:
+        yield f"decode says {told}"
+
+
+def main():
+    program.answer_help(__doc__)
+    pmb = program.needed()
+    faults = [*waveform_faults(), *capture_faults(), *command_faults(), *run_faults(pmb)]
+    way = "sigrok-cli decoded the waveforms" if shutil.which("sigrok-cli") else "no sigrok-cli here: its stored lines served"
+    print("\n".join([*faults, f"{len(CAPTURES)} captures, {len(FRAMES)} frames, {len(faults)} faults; {way}"]))
+    return 1 if faults else 0
+
+
+if __name__ == "__main__":
+    sys.exit(main())
