@@ -135,8 +135,12 @@ fn a_restart_that_is_seen_leaves_what_was_confirmed(rt: HostRuntime) -> Result<(
             let start = word(world.device(), told);
             let confirmed = Some(Standing::Confirmed(start));
             assert_eq!(rt; standing(&world, told), confirmed, "{told:?} by {cell:?}");
-            let words: &[u16] = if told == cell { &[start] } else { &[] };
-            assert!(rt; may_hold(&world, told, words), "{told:?} by {cell:?}");
+            let is_told = if told == cell {
+                may_hold(&world, told, &[start])
+            } else {
+                may_hold(&world, told, &[])
+            };
+            assert!(rt; is_told, "{told:?} by {cell:?}");
         }
         for events in [
             [Event::Clear(0), ACKED],
