@@ -78,7 +78,7 @@ good-read laws {s = s} {word = word} arrival back read knows asked free good =
     (record { addr = knows.addr; reads = reads-cell read; free = free; is = refl }) payload.1 in
     same_Some (word_at s.device.words read) word
     (sym (read-word laws s.device read asks.1 (knows.accepted read asks.1) (knows.fits (cell_read read) asks.0))
-        ∙ (ap (good_word s.device.config.addr read) (sym same) ∙ good))
+    ∙ (ap (good_word s.device.config.addr read) (sym same) ∙ good))
 
 -- what comes back is true of the cell that is read
 pub reads-true : Below → {s : State} {setup : host.Setup} {entries : List host.Entry} (arrival : Arrival) (back : Back)

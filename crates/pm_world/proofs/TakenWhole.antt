@@ -125,7 +125,7 @@ taken-whole laws {config = config} {passes = passes} {cell = cell} {word = word}
     let next_stage : t.host.stage ≡ Some (Reads cell word 0) =
     ap (λ (u : State). u.host.stage)
     (now-next laws config passes events (Finish acked)
-        (lived-by config passes (Finish acked ∷ events) has.sound has.made (finish, has.taken)))
+    (lived-by config passes (Finish acked ∷ events) has.sound has.made (finish, has.taken)))
     ∙ finish-stage s acked cell word stage in
     let reading : sending_in t.host ≡ Some (cell_read cell) = ap (option_map stage_message) next_stage in
     let count = now-taken config passes (Finish acked ∷ events) in (

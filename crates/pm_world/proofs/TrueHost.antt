@@ -130,7 +130,7 @@ mode_taken-true config s output (Ok Direct) agree inside made is = record { form
 -- well or not
 mode_answered-true : (config : Config) (s : Summary) (output tries : ℕ) (byte : Option ℕ) → Agree config s.formats →
     (output < length s.formats) × (shape_made config output ≡ Some (shape_for config output))
-        → ((b : ℕ) → byte ≡ Some b → b ≡ mode_for config output) →
+    → ((b : ℕ) → byte ≡ Some b → b ≡ mode_for config output) →
     IsTrueHost config (mode_answered s output tries byte).after
 mode_answered-true config s output tries None agree there is = another-true config s tries (AsksMode output (tries + 1)) agree tt
 mode_answered-true config s output tries (Some byte) agree (inside, made) is =
