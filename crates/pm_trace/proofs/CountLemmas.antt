@@ -1,8 +1,9 @@
 -- Codes and how often each was carried: what an insert into the map makes of them.
-use Rattle.std.proofs.Common.{◌≡◌, ℕ, ◌+◌, ◌≤◌, eqb, Bool, true, false, List, [], ◌∷◌, None, refl, ap, arith}
+use Rattle.std.proofs.Common.{◌≡◌, ◌∙◌, ℕ, ◌+◌, ◌≤◌, eqb, Bool, true, false, List, [], ◌∷◌, None, Some, position, refl, sym, ap, arith}
 use Rattle.std.specs.Prelude.{unwrap_or, nat_eq}
-use Rattle.std.specs.Map.{lookup}
-use Rattle.indexmap.specs.IndexMap.{insert_entry}
+use Rattle.std.specs.Map.{lookup, keys_of}
+use Rattle.indexmap.specs.IndexMap.{insert_entry, set_value_at}
+use Rattle.indexmap.proofs.MapLemmas.{Found-position, insert_entry-first}
 use Rattle.pm_trace.specs.Counts.{one_more, has_code, total_of}
 
 -- an insert of one more than the number that was found
@@ -17,15 +18,30 @@ one_more_is (e ∷ es) code = by (eqb code e.0) refl (one_more_is es code)
     by true is rest = rw is refl
     by false is rest = rw is (ap (λ l. e ∷ l) rest)
 
+-- an insert of a code that isn't found
+pub new_is : (es : List (ℕ × ℕ)) (code : ℕ) → lookup (nat_eq code) es ≡ None
+    → insert_entry nat_eq es code 1 ≡ one_more es code
+new_is es code none = ap (λ found. insert_entry nat_eq es code (unwrap_or found 0 + 1)) (sym none) ∙ one_more_is es code
+
+-- the number at the place of a code that was found, and one more
+pub placed_is : (es : List (ℕ × ℕ)) (code place count : ℕ) → position (nat_eq code) (keys_of es) ≡ Some place
+    → lookup (nat_eq code) es ≡ Some count → set_value_at es place (count + 1) ≡ one_more es code
+placed_is es code place count at found =
+    sym (insert_entry-first nat_eq code (count + 1) es place (Found-position (nat_eq code) es place at).first)
+    ∙ ap (λ number. insert_entry nat_eq es code (unwrap_or number 0 + 1)) (sym found) ∙ one_more_is es code
+
 -- a number that was found is no more than all of them
-pub found_bound : (es : List (ℕ × ℕ)) (code : ℕ) → unwrap_or (lookup (nat_eq code) es) 0 ≤ total_of es
-found_bound [] code = omega arith
-found_bound (e ∷ es) code = by (eqb code e.0) refl (found_bound es code)
+pub found_bound : (es : List (ℕ × ℕ)) (code count : ℕ) → lookup (nat_eq code) es ≡ Some count → count ≤ total_of es
+found_bound es code count found = omega (arith, ap (λ number. unwrap_or number 0) found, most es code)
   where
-    by : (b : Bool) → eqb code e.0 ≡ b → unwrap_or (lookup (nat_eq code) es) 0 ≤ total_of es
-        → unwrap_or (lookup (nat_eq code) (e ∷ es)) 0 ≤ total_of (e ∷ es)
-    by true is rest = rw is (omega arith)
-    by false is rest = rw is (omega (arith, rest))
+    most : (es : List (ℕ × ℕ)) (code : ℕ) → unwrap_or (lookup (nat_eq code) es) 0 ≤ total_of es
+    most [] code = omega arith
+    most (e ∷ es) code = by (eqb code e.0) refl (most es code)
+      where
+        by : (b : Bool) → eqb code e.0 ≡ b → unwrap_or (lookup (nat_eq code) es) 0 ≤ total_of es
+            → unwrap_or (lookup (nat_eq code) (e ∷ es)) 0 ≤ total_of (e ∷ es)
+        by true is rest = rw is (omega arith)
+        by false is rest = rw is (omega (arith, rest))
 
 -- one more
 pub total_one_more : (es : List (ℕ × ℕ)) (code : ℕ) → total_of (one_more es code) ≡ total_of es + 1

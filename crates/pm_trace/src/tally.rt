@@ -94,14 +94,19 @@ impl Tally {
 
 // Counts one more line of a code: at its place, or at the end where the code is new, and then
 // memory may be wanted.
-#[tactic(auto, using(crate::proofs::CountLemmas::one_more_is, crate::proofs::CountLemmas::found_bound, crate::proofs::CountLemmas::absent_code))]
+#[tactic(auto, using(crate::proofs::CountLemmas::new_is, crate::proofs::CountLemmas::placed_is, crate::proofs::CountLemmas::found_bound, crate::proofs::CountLemmas::absent_code))]
 fn count_code(codes: &mut IndexMap<u8, u64>, code: u8) -> Result<(), AllocError>
     requires { total_of codes.old.entries + 1 < 2 ^ 64 }
     ensures ok { OnOk result (codes.new.entries ≡ one_more codes.old.entries code) }
     ensures err { OnErr result (codes.new.entries ≡ codes.old.entries) }
     ensures absent { OnErr result (has_code codes.old.entries code ≡ false) }
 {
-    let before = codes.get(&code).copied().unwrap_or(0);
-    codes.insert(code, before + 1)?;
+    let Some(place) = codes.get_index_of(&code) else {
+        codes.insert(code, 1)?;
+        return Ok(());
+    };
+    if let Some(count) = codes.get_index_mut(place) {
+        *count += 1;
+    }
     Ok(())
 }
