@@ -17,7 +17,7 @@ import sys
 sys.dont_write_bytecode = True
 
 import program  # noqa: E402
-from plain.draw_scenarios import chance, draw_events, draw_setup, event_words, setup_lines  # noqa: E402
+from plain.draw_scenarios import chance, draw_events, draw_setup, draw_uncertain, event_words, setup_lines  # noqa: E402
 from plain.promises import Watch  # noqa: E402
 from plain.report import report  # noqa: E402
 from plain.scenario import registers_of  # noqa: E402
@@ -31,11 +31,12 @@ def sound_setup(dice):
             return setup, passes
 
 
-def draw_list(dice, setup, passes):
+def draw_list(dice, setup, passes, is_uncertain):
     """5 to 60 events, each taken but perhaps the last: draws that aren't taken are mostly left out."""
-    world, wanted, events = World(setup, passes), dice.randint(5, 60), []
+    world, wanted, events = World(setup, passes), 60 if is_uncertain else dice.randint(5, 60), []
     while True:
-        for event in draw_events(dice, world, setup):
+        draw = draw_uncertain if is_uncertain and not events else draw_events
+        for event in draw(dice, world, setup):
             plain = ("reading", event[1] or 0, *event[2:]) if event[0] == "reading" else event
             cause = world.step(plain)
             if cause and not chance(dice, 0.05):
@@ -66,7 +67,9 @@ def program_faults(text, watch, cause):
 
 def searched(dice, reached):
     setup, passes = sound_setup(dice)
-    events = draw_list(dice, setup, passes)
+    is_uncertain = chance(dice, 0.02)
+    passes = 1 if is_uncertain else passes
+    events = draw_list(dice, setup, passes, is_uncertain)
     watch, cause, broken = Watch(setup, passes), None, []
     for _, plain in events:
         cause, found = watch.step(plain)
