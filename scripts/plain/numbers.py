@@ -1,4 +1,5 @@
 """Words and values. A format is ("linear11",), ("ulinear16", N) or ("direct", m, b, R)."""
+from bisect import bisect_left
 from fractions import Fraction
 from functools import lru_cache
 from math import floor, lcm
@@ -29,12 +30,15 @@ def rank(form, word):
     return (abs(exponent), exponent) if form[0] == "linear11" else (0, 0)
 
 
-@lru_cache(maxsize=16)
+@lru_cache(maxsize=64)
 def all_values(form):
-    """The values of all words, as whole numbers over one denominator."""
+    """The values of all words in order, as whole numbers over one denominator, each with its first word."""
     pairs = [value_of(form, word) for word in range(65536)]
     whole = lcm(*{den for _, den in pairs})
-    return whole, [num * (whole // den) for num, den in pairs]
+    values = {}
+    for word, (num, den) in sorted(enumerate(pairs), key=lambda pair: rank(form, pair[0])):
+        values.setdefault(num * (whole // den), word)
+    return whole, sorted(values), values
 
 
 def coefficients_fault(m, r):
@@ -47,17 +51,16 @@ def nearest(form, micro):
     """The word of the value nearest to `micro` millionths, or the fault."""
     if abs(micro) > 10**15:
         return None, "N5 TooLarge"
-    whole, values = all_values(form)
+    whole, values, words = all_values(form)
     asked = Fraction(micro, 10**6) * whole
-    if asked < min(values):
+    if asked < values[0]:
         return None, "N3 BelowLeast"
-    if asked > max(values):
+    if asked > values[-1]:
         return None, "N4 AboveGreatest"
-    over, under = asked.numerator, asked.denominator
-    far = [abs(value * under - over) for value in values]
-    least = min(far)
-    words = [word for word in range(65536) if far[word] == least]
-    return min(words, key=lambda word: (values[word], rank(form, word))), None
+    above = bisect_left(values, asked)
+    # Of two as near the lower one.
+    near = min(values[max(above - 1, 0):above + 1], key=lambda value: (abs(value - asked), value))
+    return words[near], None
 
 
 def millionths(pair):
