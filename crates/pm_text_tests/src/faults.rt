@@ -7,11 +7,28 @@ use pm_table::{Cell, Reg, TableFault};
 use pm_text::TextFault;
 use pm_tool::NumberFault;
 use pm_world::SetupFault;
+use std::process::Abort;
 use std::test::Fail;
 
 // No world is made, for this fault of the configuration.
 fn device(fault: ConfigFault) -> TextFault {
     TextFault::Setup(SetupFault::Device(fault))
+}
+
+// A fault's words, its line, if it has one, its derived text, and whether it has a setup's fault.
+fn is_told(
+    rt: &(impl Abort + AllocGlobal),
+    fault: TextFault,
+    words: &str,
+    line: Option<u64>,
+    text: &str,
+) -> Result<(), Fail> {
+    assert_eq!(rt; fault.words(), words);
+    assert_eq!(rt; fault.line(), line, "{text}");
+    let derived = format!(in rt.alloc(); "{fault}")?;
+    assert_eq!(rt; derived.as_str(), text);
+    assert_eq!(rt; fault.setup().is_some(), words == "X7 Setup", "{text}");
+    Ok(())
 }
 
 #[test]
@@ -77,14 +94,25 @@ fn each_fault_of_a_text_has_its_words(rt: HostRuntime) -> Result<(), Fail> {
         ),
     ];
     for (fault, words, line, text) in rows {
-        assert_eq!(rt; fault.words(), words);
-        assert_eq!(rt; fault.line(), line, "{text}");
-        let derived = format!(in rt.alloc(); "{fault}")?;
-        assert_eq!(rt; derived.as_str(), text);
-        assert_eq!(rt; fault.setup().is_some(), words == "X7 Setup", "{text}");
+        is_told(&rt, fault, words, line, text)?;
     }
     let passes = SetupFault::Host(HostFault::Passes);
     assert_eq!(rt; TextFault::Setup(passes).setup(), Some(passes));
+    Ok(())
+}
+
+// A refusal's words, its status and its derived text.
+fn is_refused(
+    rt: &(impl Abort + AllocGlobal),
+    fault: NumberFault,
+    words: &str,
+    status: u8,
+    text: &str,
+) -> Result<(), Fail> {
+    assert_eq!(rt; fault.words(), words);
+    assert_eq!(rt; fault.status(), status, "{words}");
+    let derived = format!(in rt.alloc(); "{fault}")?;
+    assert_eq!(rt; derived.as_str(), text);
     Ok(())
 }
 
@@ -144,10 +172,7 @@ fn each_refusal_of_a_number_has_its_words_and_status(rt: HostRuntime) -> Result<
         ),
     ];
     for (fault, words, status, text) in rows {
-        assert_eq!(rt; fault.words(), words);
-        assert_eq!(rt; fault.status(), status, "{words}");
-        let derived = format!(in rt.alloc(); "{fault}")?;
-        assert_eq!(rt; derived.as_str(), text);
+        is_refused(&rt, fault, words, status, text)?;
     }
     Ok(())
 }
