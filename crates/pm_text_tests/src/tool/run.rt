@@ -115,6 +115,26 @@ fn every_status_has_its_texts(rt: HostRuntime) {
     }
 }
 
+// A scenario that begins so and has these outputs is refused with these words.
+fn is_refused_setup(
+    rt: &(impl Abort + AllocGlobal),
+    head: String,
+    outputs: &[&str],
+    words: &str,
+) -> Result<(), Fail> {
+    let mut text = head;
+    for output in outputs {
+        text.push_str("output ")?;
+        text.push_str(output)?;
+        text.push_str("\n")?;
+    }
+    text.push_str("begin\n")?;
+    let errors = format!(in rt.alloc(); "pmb: X7 Setup {words}\n")?;
+    let found = run_on(rt.alloc(), &["pmb", "replay"], text.as_str());
+    assert!(rt; found.is(1, "", errors.as_str()), "{words}");
+    Ok(())
+}
+
 #[test]
 fn a_refused_setup_is_told(rt: HostRuntime) -> Result<(), Fail> {
     let usual = "14 80 1000 4000 1100 0F00";
@@ -198,20 +218,11 @@ fn a_refused_setup_is_told(rt: HostRuntime) -> Result<(), Fail> {
         ("58", "0", "00", "1 0 0", &[usual], "H2 Passes"),
         ("58", "16", "00", "1 0 0", &[usual], "H2 Passes"),
     ];
-    let alloc = rt.alloc();
     for (address, passes, protect, coefficients, outputs, words) in rows {
-        let mut text = format!(in alloc;
+        let text = format!(in rt.alloc();
             "scenario 1\naddress {address}\npasses {passes}\nprotect {protect}\ncoefficients {coefficients}\n"
         )?;
-        for output in outputs {
-            text.push_str("output ")?;
-            text.push_str(output)?;
-            text.push_str("\n")?;
-        }
-        text.push_str("begin\n")?;
-        let errors = format!(in alloc; "pmb: X7 Setup {words}\n")?;
-        let found = run_on(alloc, &["pmb", "replay"], text.as_str());
-        assert!(rt; found.is(1, "", errors.as_str()), "{words}");
+        is_refused_setup(&rt, text, outputs, words)?;
     }
     Ok(())
 }
