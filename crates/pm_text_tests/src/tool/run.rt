@@ -5,6 +5,7 @@ use crate::worked::{FRAME, LINES, REPORT, SCENARIO, TAKEN, TRACE};
 use pm_tool::{Sink, Source, run};
 use std::alloc::Global;
 use std::io::{ErrorKind, Read};
+use std::process::Abort;
 use std::test::Fail;
 
 /// What a run over memory comes to: the status, and what was written on both streams.
