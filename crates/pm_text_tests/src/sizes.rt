@@ -226,6 +226,27 @@ fn a_text_has_at_most_1048576_bytes(rt: HostRuntime) -> Result<(), Fail> {
     Ok(())
 }
 
+// A line has parts of so many bytes, and says this with that number.
+fn is_rendered(
+    rt: &(impl Abort + AllocGlobal),
+    line: &[u8],
+    sizes: (usize, Option<usize>),
+    number: u64,
+    wanted: &str,
+) -> Result<(), Fail> {
+    let (writes, reads) = sizes;
+    let parts = read_trace_line(rt.alloc(), line)?;
+    assert_eq!(rt; parts.write.as_slice().len(), writes, "{wanted}");
+    let read = match &parts.read {
+        Some(read) => Some(read.as_slice().len()),
+        None => None,
+    };
+    assert_eq!(rt; read, reads, "{wanted}");
+    let text = render_line(rt.alloc(), number, &parts)?;
+    assert_eq!(rt; text.as_str(), wanted);
+    Ok(())
+}
+
 #[test]
 fn long_parts_are_rendered_with_great_numbers(rt: HostRuntime) -> Result<(), Fail> {
     let alloc = rt.alloc();
@@ -256,17 +277,8 @@ fn long_parts_are_rendered_with_great_numbers(rt: HostRuntime) -> Result<(), Fai
             "1000000000000 58 COEFFICIENTS of FF side 255 read m -1 b -1 r -1",
         ),
     ];
-    for (long, (writes, reads), number, wanted) in rows {
-        let line = text_of(alloc, long)?;
-        let parts = read_trace_line(alloc, &line)?;
-        assert_eq!(rt; parts.write.as_slice().len(), writes, "{wanted}");
-        let read = match &parts.read {
-            Some(read) => Some(read.as_slice().len()),
-            None => None,
-        };
-        assert_eq!(rt; read, reads, "{wanted}");
-        let text = render_line(alloc, number, &parts)?;
-        assert_eq!(rt; text.as_str(), wanted);
+    for (long, parts, number, wanted) in rows {
+        is_rendered(&rt, &text_of(alloc, long)?, parts, number, wanted)?;
     }
     Ok(())
 }
