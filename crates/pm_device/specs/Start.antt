@@ -35,6 +35,18 @@ register_start MarginHigh start = start.high
 register_start MarginLow start = start.low
 register_start VoutMin start = start.min
 
+-- the start with this VOUT_MODE byte and these words of its registers
+abbrev pub start_of : ℕ → (Reg → ℕ) → OutputStart
+start_of mode word = record {
+  mode = mode;
+  operation = word Operation;
+  command = word VoutCommand;
+  max = word VoutMax;
+  high = word MarginHigh;
+  low = word MarginLow;
+  min = word VoutMin;
+}
+
 -- an output's start words, in the order of its registers
 abbrev pub start_row : OutputStart → List ℕ
 start_row start = map (λ register. register_start register start) registers
@@ -65,7 +77,7 @@ has_direct config = list_any (λ start. is_direct (mode_of start.mode)) (outputs
 
 -- a start that stands for an output that isn't there
 abbrev pub no_start : OutputStart
-no_start = record { mode = 0; operation = 0; command = 0; max = 0; high = 0; low = 0; min = 0 }
+no_start = start_of 0 (λ register. 0)
 
 -- an output's first register that doesn't accept its start word
 abbrev pub bad_register : ℕ → OutputStart → Option Cell

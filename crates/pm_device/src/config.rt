@@ -32,7 +32,9 @@ pub struct OutputStart {
 }
 
 impl OutputStart {
-    ghost use Rattle.pm_device.specs.Start.{register_start};
+    ghost use Rattle.std.specs.Prelude.{slice_index};
+    ghost use Rattle.pm_table.specs.Cell.{register_number};
+    ghost use Rattle.pm_device.specs.Start.{register_start, start_of};
 
     /// What stands in a configuration for an output that isn't there.
     pub const NONE: OutputStart = OutputStart {
@@ -44,6 +46,22 @@ impl OutputStart {
         low: 0,
         min: 0,
     };
+
+    /// The start with this VOUT_MODE byte and the words of the registers, in the order of `Reg`.
+    pub fn of(mode: u8, words: [u16; Reg::COUNT]) -> OutputStart
+        ensures { result ≡ start_of mode (λ register. slice_index words (register_number register)) }
+    {
+        let [operation, command, max, high, low, min] = words;
+        OutputStart {
+            mode,
+            operation,
+            command,
+            max,
+            high,
+            low,
+            min,
+        }
+    }
 
     /// The start word of a register.
     pub fn word(&self, register: Reg) -> u16

@@ -8,6 +8,17 @@ use std::alloc::AllocError;
 // The digits of hexadecimal numbers, in order, of which the first ten are those of decimal ones.
 const DIGITS: &str = "0123456789ABCDEF";
 
+// The two digits of each byte, in order.
+const PAIRS: &str = "\
+    000102030405060708090A0B0C0D0E0F101112131415161718191A1B1C1D1E1F\
+    202122232425262728292A2B2C2D2E2F303132333435363738393A3B3C3D3E3F\
+    404142434445464748494A4B4C4D4E4F505152535455565758595A5B5C5D5E5F\
+    606162636465666768696A6B6C6D6E6F707172737475767778797A7B7C7D7E7F\
+    808182838485868788898A8B8C8D8E8F909192939495969798999A9B9C9D9E9F\
+    A0A1A2A3A4A5A6A7A8A9AAABACADAEAFB0B1B2B3B4B5B6B7B8B9BABBBCBDBEBF\
+    C0C1C2C3C4C5C6C7C8C9CACBCCCDCECFD0D1D2D3D4D5D6D7D8D9DADBDCDDDEDF\
+    E0E1E2E3E4E5E6E7E8E9EAEBECEDEEEFF0F1F2F3F4F5F6F7F8F9FAFBFCFDFEFF";
+
 /// Appends a number in decimal. Takes memory as the text grows.
 #[tactic(auto, using(crate::proofs::Joins::digit_joins))]
 pub fn push_decimal(text: &mut String, number: u64) -> Result<(), AllocError>
@@ -31,12 +42,10 @@ pub fn push_signed(text: &mut String, number: i128) -> Result<(), AllocError>
 
 /// Appends a byte in hexadecimal, as two digits in upper case. Takes memory as the text
 /// grows.
-#[tactic(auto, using(crate::proofs::Joins::joins), unfolding(crate::specs::Numbers::hex_byte))]
 pub fn push_hex(text: &mut String, byte: u8) -> Result<(), AllocError>
     ensures { OnOk result (string_bytes text.new ≡ string_bytes text.old ++ hex_byte byte) }
 {
-    text.push_str(digit_text(byte / 16))?;
-    text.push_str(digit_text(byte % 16))
+    text.push_str(pair_text(byte))
 }
 
 /// Appends a word in hexadecimal, as four digits in upper case. Takes memory as the text
@@ -83,6 +92,14 @@ fn digit_text(value: u8) -> &'static str
 {
     let at = usize::from(value);
     &DIGITS[at..at + 1]
+}
+
+// The two digits of a byte, as a text.
+fn pair_text(byte: u8) -> &'static str
+    ensures { result.now ≡ hex_byte byte }
+{
+    let at = 2 * usize::from(byte);
+    &PAIRS[at..at + 2]
 }
 
 // The byte of a value's digit.

@@ -2,8 +2,9 @@
 -- selected, and VOUT_MAX and VOUT_MIN limit its value. Values are compared as fractions and never as
 -- words. That VOUT_COMMAND is selected while an output is off, and that VOUT_MAX decides where VOUT_MIN
 -- is above it, is this project's own choice.
-use Rattle.std.specs.Prelude.{◌≡◌, ℕ, ◌/◌, ◌*ℤ◌, Bool, ◌||◌, ◌&&◌, if◌then◌else◌, ◌==◌, pos, int_lt, List, slice_index_or}
+use Rattle.std.specs.Prelude.{◌≡◌, ℕ, ◌/◌, Bool, ◌||◌, ◌&&◌, if◌then◌else◌, ◌==◌, List, slice_index_or}
 use Rattle.pm_num.specs.Ratio.{Ratio}
+pub use Rattle.pm_num.specs.Ratio.{is_above}
 use Rattle.pm_num.specs.AnyFormat.{any_value}
 use Rattle.pm_num.specs.declared.any_format.AnyFormat.{AnyFormat}
 use Rattle.pm_num.specs.declared.any_format.AnyFormat.TheVariants.{Linear11}
@@ -30,10 +31,6 @@ pub record CommandAlike (words others : Words) (output : ℕ) : Type 0 where
   pub selected : selected words output ≡ selected others output
   pub most : word_at words (Out output VoutMax) ≡ word_at others (Out output VoutMax)
   pub least : word_at words (Out output VoutMin) ≡ word_at others (Out output VoutMin)
-
--- the first fraction is the greater one
-abbrev pub is_above : Ratio → Ratio → Bool
-is_above p q = int_lt (q.num *ℤ pos p.den) (p.num *ℤ pos q.den)
 
 -- a selected value is above the greatest value, or below the least one
 abbrev pub is_outside : Ratio → Ratio → Ratio → Bool

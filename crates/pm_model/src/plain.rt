@@ -1,14 +1,14 @@
 ghost use Rattle.std.specs.Prelude.{◌≡◌, ◌↔◌, ◌≤◌, ◌<◌, ◌/◌, ◌%◌, ℕ, [], true, false, IsTrue, slice_index, slice_index_or};
+ghost use Rattle.pm_num.specs.AnyFormat.{any_value};
 ghost use Rattle.pm_table.specs.Cell.{cell_accepts, protect_place, register_accepts, register_count, register_number, IsCell};
 ghost use Rattle.pm_table.specs.declared.cell.Reg.{Reg as Register};
 ghost use Rattle.pm_model.specs.Settings.{word_at, with_word, AreSettings, AreWords};
-ghost use Rattle.pm_model.specs.Commanded.{commanded, greatest_value, least_value, is_above as spec_is_above, is_outside as spec_is_outside, is_cut, scale_at, selected_register as spec_selected_register, selected_value};
+ghost use Rattle.pm_model.specs.Commanded.{commanded, greatest_value, least_value, is_above as spec_is_above, is_outside as spec_is_outside, is_cut, scale_at, selected, selected_register as spec_selected_register};
 
 use crate::formats::Formats;
 use crate::laws::{commands_are_limited, settings_are_a_map};
-use pm_num::{Frac, NumFormat};
+use pm_num::{AnyFormat, Frac, NumFormat};
 use pm_table::{Cell, Reg, cells_are_told_apart};
-use std::cmp::Ordering;
 use std::marker::Model;
 
 /// The settings of a converter with one to eight outputs: a word for each cell that there is.
@@ -144,15 +144,16 @@ impl Plain {
     {
         // For the clauses `limited` and `floored`.
         commands_are_limited();
-        let selected = self.selected(formats, output);
-        let least = self.least(formats, output);
-        let greatest = self.greatest(formats, output);
-        if !is_outside(&selected, &least, &greatest) {
-            selected
-        } else if is_above(&selected, &greatest) || is_above(&least, &greatest) {
-            greatest
+        let format = self.format(formats, output);
+        let selected = self.selected(output);
+        let least = self.word(output, Reg::VoutMin);
+        let greatest = self.word(output, Reg::VoutMax);
+        if !is_outside(format, selected, least, greatest) {
+            format.value_of(selected)
+        } else if format.is_above(selected, greatest) || format.is_above(least, greatest) {
+            format.value_of(greatest)
         } else {
-            least
+            format.value_of(least)
         }
     }
 
@@ -164,50 +165,38 @@ impl Plain {
         ensures { result ≡ is_cut (scale_at formats.now.each output) self.now.words output }
     {
         is_outside(
-            &self.selected(formats, output),
-            &self.least(formats, output),
-            &self.greatest(formats, output),
+            self.format(formats, output),
+            self.selected(output),
+            self.word(output, Reg::VoutMin),
+            self.word(output, Reg::VoutMax),
         )
     }
 
-    // The value of the word that the output's OPERATION selects.
+    // The word that the output's OPERATION selects.
     #[tactic(auto, unfolding(crate::specs::Commanded::selected))]
-    fn selected(&self, formats: &Formats, output: u8) -> Frac
+    fn selected(&self, output: u8) -> u16
         requires { output < self.now.count }
-        ensures { result
-            ≡ selected_value (scale_at formats.now.each output) self.now.words output }
+        ensures { result ≡ selected self.now.words output }
     {
-        let operation = self.get(Cell::Out(output, Reg::Operation));
-        self.value(formats, output, selected_register(operation))
+        self.word(output, selected_register(self.word(output, Reg::Operation)))
     }
 
-    // The value of the output's VOUT_MIN.
-    fn least(&self, formats: &Formats, output: u8) -> Frac
+    // The word of an output's register.
+    fn word(&self, output: u8, register: Reg) -> u16
         requires { output < self.now.count }
-        ensures { result ≡ least_value (scale_at formats.now.each output) self.now.words output }
+        ensures { result ≡ word_at self.now.words (Cell.Out output register) }
     {
-        self.value(formats, output, Reg::VoutMin)
+        self.get(Cell::Out(output, register))
     }
 
-    // The value of the output's VOUT_MAX.
-    fn greatest(&self, formats: &Formats, output: u8) -> Frac
+    // What the words of an output's voltages stand for.
+    fn format<'a>(&self, formats: &'a Formats, output: u8) -> &'a AnyFormat
         requires { output < self.now.count }
-        ensures { result
-            ≡ greatest_value (scale_at formats.now.each output) self.now.words output }
-    {
-        self.value(formats, output, Reg::VoutMax)
-    }
-
-    // The value of an output's register.
-    fn value(&self, formats: &Formats, output: u8, register: Reg) -> Frac
-        requires { output < self.now.count }
-        ensures { result
-            ≡ scale_at formats.now.each output
-            (word_at self.now.words (Cell.Out output register)) }
+        ensures { any_value result.now ≡ scale_at formats.now.each output }
     {
         // There is a format for each of eight outputs at most.
         let _count = self.count();
-        formats.each[usize::from(output)].value_of(self.get(Cell::Out(output, register)))
+        &formats.each[usize::from(output)]
     }
 }
 
@@ -222,16 +211,11 @@ fn selected_register(operation: u16) -> Reg
     }
 }
 
-// Whether the selected fraction is above the greatest one, or below the least one.
-fn is_outside(selected: &Frac, least: &Frac, greatest: &Frac) -> bool
-    ensures { result ≡ spec_is_outside selected.now least.now greatest.now }
+// Whether the value of the selected word is above that of the greatest one, or below that of the least
+// one.
+fn is_outside(format: &AnyFormat, selected: u16, least: u16, greatest: u16) -> bool
+    ensures { let value = any_value format.now in
+        result ≡ spec_is_outside (value selected) (value least) (value greatest) }
 {
-    is_above(selected, greatest) || is_above(least, selected)
-}
-
-// Whether the first fraction is the greater one.
-fn is_above(p: &Frac, q: &Frac) -> bool
-    ensures { result ≡ spec_is_above p.now q.now }
-{
-    p.cmp_value(q) == Ordering::Greater
+    format.is_above(selected, greatest) || format.is_above(least, selected)
 }

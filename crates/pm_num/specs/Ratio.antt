@@ -1,4 +1,4 @@
-use Rattle.std.specs.Prelude.{◌≡◌, ℕ, ◌^◌, ℤ, pos, neg_ℤ, ◌*ℤ◌, ◌<ℤ◌, ◌≤ℤ◌}
+use Rattle.std.specs.Prelude.{◌≡◌, ℕ, ◌^◌, Bool, ℤ, pos, neg_ℤ, ◌*ℤ◌, ◌<ℤ◌, ◌≤ℤ◌, int_lt}
 
 -- A fraction as a pair of whole numbers, as it stands and not reduced.
 pub record Ratio : Type 0 where
@@ -14,6 +14,10 @@ LessThan p q = (p.num *ℤ pos q.den) <ℤ (q.num *ℤ pos p.den)
 
 abbrev pub SameValue : Ratio → Ratio → Type 0
 SameValue p q = p.num *ℤ pos q.den ≡ q.num *ℤ pos p.den
+
+-- The first fraction is the greater one.
+abbrev pub is_above : Ratio → Ratio → Bool
+is_above p q = int_lt (q.num *ℤ pos p.den) (p.num *ℤ pos q.den)
 
 -- x lies between the two, which count as between.
 pub record IsBetween (least greatest x : Ratio) : Type 0 where

@@ -1,11 +1,16 @@
 //! Any of the three formats.
 
+ghost use Rattle.std.specs.Prelude.{◌≡◌};
+ghost use Rattle.pm_num.specs.AnyFormat.{any_value};
+ghost use Rattle.pm_num.specs.Ratio.{is_above};
+
 use crate::direct::Direct;
 use crate::fault::NumFault;
 use crate::format::NumFormat;
 use crate::frac::Frac;
 use crate::linear11::Linear11;
 use crate::ulinear16::Ulinear16;
+use std::cmp::Ordering;
 
 /// One of the three numeric formats, chosen at run time.
 #[derive(Clone, Copy, Debug)]
@@ -16,6 +21,18 @@ pub enum AnyFormat {
     Ulinear16(Ulinear16),
     /// DIRECT with its coefficients.
     Direct(Direct),
+}
+
+impl AnyFormat {
+    /// Whether the value of `word` is greater than that of `other`.
+    pub fn is_above(&self, word: u16, other: u16) -> bool
+        ensures { result ≡ is_above (any_value self.now word) (any_value self.now other) }
+    {
+        match self {
+            AnyFormat::Ulinear16(format) => format.is_above(word, other),
+            _ => self.value_of(word).cmp_value(&self.value_of(other)) == Ordering::Greater,
+        }
+    }
 }
 
 impl NumFormat for AnyFormat {

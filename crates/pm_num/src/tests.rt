@@ -157,6 +157,31 @@ fn fractions_compare_by_value(rt: HostRuntime) {
 }
 
 #[test]
+fn words_compare_by_value(rt: HostRuntime) {
+    let whole = AnyFormat::Ulinear16(unsigned(&rt, 0));
+    let falling = AnyFormat::Direct(slope(&rt, -1, 5, 3));
+    let rising = AnyFormat::Direct(slope(&rt, 1, 0, 0));
+    for (format, word, other, above) in [
+        (whole, 0x8000, 0x7FFF, true),
+        (whole, 0x7FFF, 0x8000, false),
+        (whole, 0x1234, 0x1234, false),
+        (falling, 0x03E8, 0x07D0, true),
+        (falling, 0x07D0, 0x03E8, false),
+        (rising, 0x8000, 0x7FFF, false),
+        (rising, 0x7FFF, 0x8000, true),
+        (AnyFormat::Linear11, 0x0801, 0x0001, true),
+        (AnyFormat::Linear11, 0x0801, 0x0002, false),
+        (AnyFormat::Linear11, 0x07FF, 0x0000, false),
+    ] {
+        assert_eq!(rt;
+            format.is_above(word, other),
+            above,
+            "{word:04X} {other:04X}"
+        );
+    }
+}
+
+#[test]
 fn a_value_is_sent_in_the_preferred_spelling(rt: HostRuntime) {
     assert_eq!(rt; canonical(&Linear11, 0xD300), 0x000C);
     assert_eq!(rt; canonical(&Linear11, 0x8000), 0x0000);

@@ -3,6 +3,7 @@
 ghost use Rattle.std.specs.Prelude.{◌≡◌, ◌^◌, ◌≤◌, ◌↔◌, pos, ◌*ℤ◌, unsigned_abs, IsSome, IfSome};
 ghost use Rattle.pm_num.specs.Value.{upper, lower, ulinear16_value};
 ghost use Rattle.pm_num.specs.Nearest.{one_rank};
+ghost use Rattle.pm_num.specs.Ratio.{is_above};
 ghost use Rattle.pm_num.specs.Formats.{IsExponent};
 ghost use Rattle.pm_num.specs.Lemmas.Found.{nearest_word-found};
 ghost use Rattle.pm_num.specs.Lemmas.OneWord.{same_from_nearest, one_from_nearest};
@@ -38,6 +39,14 @@ impl Ulinear16 {
         } else {
             None
         }
+    }
+
+    /// Whether the value of `word` is greater than that of `other`: the greater word has the greater
+    /// value.
+    pub fn is_above(&self, word: u16, other: u16) -> bool
+        ensures { result ≡ is_above (ulinear16_value self.now.n word) (ulinear16_value self.now.n other) }
+    {
+        word > other
     }
 
     // The numerator of the value of `word`.

@@ -27,10 +27,10 @@ impl Reg {
     ghost use Rattle.pm_table.specs.Cell.{is_voltage, register_code, register_count, register_number, register_of};
 
     /// How many registers an output has.
-    pub const COUNT: usize = 6;
+    pub const COUNT: usize = Reg::ALL.len();
 
     /// The registers of an output, in their order.
-    pub const ALL: [Reg; Reg::COUNT] = [
+    pub const ALL: [Reg; 6] = [
         Reg::Operation,
         Reg::VoutCommand,
         Reg::VoutMax,
@@ -70,8 +70,8 @@ impl Reg {
             .find(|register| register.code() == code)
     }
 
-    // Where it stands among the registers of its output.
-    fn number(self) -> usize
+    /// Where it stands among the registers of its output, from 0.
+    pub fn number(self) -> usize
         ensures number { result ≡ register_number self }
         ensures below { result < register_count }
     {

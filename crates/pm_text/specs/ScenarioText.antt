@@ -1,12 +1,15 @@
 -- The text of a scenario, line by line: what both ends are made from, and what happens between them.
 -- The form is this project's own choice.
-use Rattle.std.specs.Prelude.{⊤, ℕ, suc, nat_lt, min, if◌then◌else◌, List, [], ◌∷◌, ◌++◌, length, replicate, take, Option, Some, None, Result, Ok, Err, IsOk, IsOkAnd, codes}
+use Rattle.std.specs.Prelude.{⊤, ℕ, suc, nat_lt, min, if◌then◌else◌, List, [], ◌∷◌, ◌++◌, length, replicate, slice_index, slice_set, take, Option, Some, None, Result, Ok, Err, IsOk, IsOkAnd, codes}
 use Rattle.pm_num.specs.Value.{direct_least}
+use Rattle.pm_table.specs.Cell.{register_count, register_number}
+use Rattle.pm_table.specs.declared.cell.Cell.TheVariants.{Out}
+use Rattle.pm_table.specs.declared.cell.Reg.{Reg}
 use Rattle.pm_table.specs.declared.coefficients.Coefficients.{Coefficients}
 use Rattle.pm_table.specs.VoutMode.{mode_of}
 use Rattle.pm_device.specs.declared.config.Config.{Config}
 use Rattle.pm_device.specs.declared.config.OutputStart.{OutputStart}
-use Rattle.pm_device.specs.Start.{is_direct, no_start}
+use Rattle.pm_device.specs.Start.{is_direct, no_start, start_of}
 use Rattle.pm_world.specs.declared.event.Event.{Event}
 use Rattle.pm_lines.specs.Digits.{hex_of, signed_of, small_of}
 use Rattle.pm_lines.specs.Lines.{Numbered, lines_of, unskipped_from}
@@ -14,10 +17,9 @@ use Rattle.pm_lines.specs.declared.fault.TextFault.{TextFault}
 use Rattle.pm_lines.specs.declared.fault.TextFault.TheVariants as text
 use Rattle.pm_lines.specs.Streams.{max_text}
 use Rattle.pm_text.specs.EventLines.{event_line}
-use Rattle.pm_text.specs.Kinds.{form_named, is_word, version_of}
+use Rattle.pm_text.specs.Kinds.{cell_word, form_named, is_word, registers_of, version_of}
 use Rattle.pm_text.specs.Readers.{◌>>=◌, Field, Part, Rest, field, gives, line, line_as, one_of}
 use Rattle.pm_text.specs.declared.form.Form.{Form}
-use Rattle.pm_text.specs.declared.form.Form.TheVariants.{First, Second}
 use Rattle.pm_text.specs.declared.scenario.fault.ScenarioFault.{ScenarioFault}
 use Rattle.pm_text.specs.declared.scenario.fault.ScenarioFault.TheVariants as fault
 use Rattle.pm_text.specs.declared.scenario.Scenario.{Scenario}
@@ -64,30 +66,20 @@ coefficients_line = do
 abbrev pub lowest_word : ℕ → Coefficients → ℕ
 lowest_word mode c = if is_direct (mode_of mode) then direct_least c.m else 0x0000
 
--- MIN, which the first form doesn't have
-abbrev pub least_field : Form → ℕ → Coefficients → Field ℕ
-least_field First mode c = gives (lowest_word mode c)
-least_field Second mode c = field fault.BadHex (hex_of 4)
+-- The words of an output's registers: those of these registers are read, each at its number, and the others
+-- stay.
+abbrev pub start_words : List Reg → List ℕ → Field (List ℕ)
+start_words [] words = gives words
+start_words (register ∷ registers) words = do
+  word ← field fault.BadHex (cell_word (Out 0 register))
+  start_words registers (slice_set words (register_number register) word)
 
--- MODE OPERATION COMMAND MAX HIGH LOW, and MIN: two bytes, and four words or five
+-- MODE, a byte, and a word for each register that the form names
 unfoldable pub output_rest : Form → Coefficients → Field OutputStart
 output_rest form c = do
   mode ← field fault.BadHex (hex_of 2)
-  operation ← field fault.BadHex (hex_of 2)
-  command ← field fault.BadHex (hex_of 4)
-  max ← field fault.BadHex (hex_of 4)
-  high ← field fault.BadHex (hex_of 4)
-  low ← field fault.BadHex (hex_of 4)
-  min ← least_field form mode c
-  gives (record {
-    mode = mode;
-    operation = operation;
-    command = command;
-    max = max;
-    high = high;
-    low = low;
-    min = min;
-  })
+  words ← start_words (registers_of form) (replicate register_count (lowest_word mode c))
+  gives (start_of mode (λ register. slice_index words (register_number register)))
 
 abbrev pub some_start : Form → Coefficients → Field (Option OutputStart)
 some_start form c = do

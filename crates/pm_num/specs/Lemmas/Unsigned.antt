@@ -1,8 +1,9 @@
-use Rattle.std.specs.Prelude.{ℕ, ◌^◌, ◌<◌, ◌≤◌, suc, ℤ, pos, negsuc, ◌*ℤ◌, ◌≤ℤ◌}
+use Rattle.std.specs.Prelude.{◌≡◌, ℕ, ◌^◌, ◌<◌, ◌≤◌, suc, ℤ, pos, negsuc, ◌*ℤ◌, ◌≤ℤ◌, nat_lt}
 use Rattle.std.proofs.Common.{arith}
 use Rattle.std.proofs.lemmas.Int.{ints}
 use Rattle.std.proofs.lemmas.Nat.{pow_pos}
-use Rattle.pm_num.specs.Ratio.{AtMost, IsBetween}
+use Rattle.std.proofs.lemmas.Bool.Decides.{nat_tests}
+use Rattle.pm_num.specs.Ratio.{AtMost, IsBetween, is_above}
 use Rattle.pm_num.specs.Value.{upper, lower, ulinear16_value}
 use Rattle.pm_num.specs.Nearest.{one_rank}
 use Rattle.pm_num.specs.Lemmas.Integers.{le-times, same_from_times}
@@ -25,6 +26,15 @@ pub at_most_by_word : (n : ℤ) (u w : ℕ) → u ≤ w → AtMost (ulinear16_va
 at_most_by_word n u w h =
     let p : pos u ≤ℤ pos w = omega (arith, ints) in
     le-times (pos u *ℤ pos (upper 2 n)) (pos w *ℤ pos (upper 2 n)) (lower 2 n) (le-times (pos u) (pos w) (upper 2 n) p)
+
+-- and only a greater word has a greater one
+pub above_by_word : (n : ℤ) (u w : ℕ) → nat_lt w u ≡ is_above (ulinear16_value n u) (ulinear16_value n w)
+above_by_word n u w =
+    let e = same_from_times (pos u *ℤ pos (upper 2 n)) (pos w *ℤ pos (upper 2 n)) (lower 2 n) (lower-positive n) in
+    let at_most = at_most_by_word n u w in
+    let back = at_most_by_word n w u in
+    let f = same_from_times (pos u) (pos w) (upper 2 n) (upper-positive n) in
+    grind (arith, ints, nat_tests, e, f, at_most, back)
 
 -- so the values lie between those of the least and of the greatest word
 pub ulinear16-within : (n : ℤ) (w : ℕ) → w < 2 ^ 16 → IsBetween (ulinear16_value n 0) (ulinear16_value n 65535) (ulinear16_value n w)

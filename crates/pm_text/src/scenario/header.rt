@@ -1,17 +1,18 @@
 //! The lines before the events: what both ends of the bus are made from.
 ghost use Rattle.std.specs.Prelude.{◌≡◌, Ok, Err, List, MatchResult};
 ghost use Rattle.pm_device.specs.declared.config.OutputStart.{OutputStart as Start};
-ghost use Rattle.pm_text.specs.Readers.{Reads, line_as};
+ghost use Rattle.pm_text.specs.Readers.{Reads, ReadsTo, line_as};
 ghost use Rattle.pm_text.specs.ScenarioText as spec;
 
 use crate::form::Form;
+use crate::scenario::cells::cell_word;
 use crate::scenario::fault::ScenarioFault;
 use crate::scenario::fields::Fields;
 use crate::scenario::rows::Rows;
 use crate::scenario::starts::Starts;
 use pm_device::{Config, OutputStart};
 use pm_lines::Line;
-use pm_table::{Coefficients, VoutMode};
+use pm_table::{Cell, Coefficients, Reg, VoutMode};
 
 /// What stands before a scenario's events.
 #[derive(Clone, Copy, Debug)]
@@ -182,7 +183,8 @@ fn output_or_begin(
     }
 }
 
-// MODE OPERATION COMMAND MAX HIGH LOW, and MIN: two bytes, and four words or five.
+// MODE, a byte, and a word for each register that the form names. Where it doesn't name VOUT_MIN, that
+// is a word of the least value that the output's voltages have.
 #[tactic(auto, unfolding(crate::specs::ScenarioText::output_rest))]
 fn output_start(
     form: Form,
@@ -192,36 +194,24 @@ fn output_start(
     ensures { Reads result fields.new (spec.output_rest form c fields.old) }
 {
     let mode = fields.hex_byte()?;
-    let operation = fields.hex_byte()?;
-    let command = fields.hex_word()?;
-    let max = fields.hex_word()?;
-    let high = fields.hex_word()?;
-    let low = fields.hex_word()?;
-    let min = least_word(form, mode, c, fields)?;
-    Ok(OutputStart {
-        mode,
-        operation: u16::from(operation),
-        command,
-        max,
-        high,
-        low,
-        min,
-    })
+    let mut words = [lowest_word(mode, c); Reg::COUNT];
+    start_words(form.registers(), fields, &mut words)?;
+    Ok(OutputStart::of(mode, words))
 }
 
-// MIN; where the form doesn't have it, a word of the least value that the output's voltages have.
-fn least_word(
-    form: Form,
-    mode: u8,
-    c: Coefficients,
+// The words of these registers, each at its number.
+fn start_words(
+    registers: &[Reg],
     fields: &mut Fields<'_>,
-) -> Result<u16, ScenarioFault>
-    ensures { Reads result fields.new (spec.least_field form mode c fields.old) }
+    words: &mut [u16; Reg::COUNT],
+) -> Result<(), ScenarioFault>
+    ensures { ReadsTo result words.new fields.new
+        (spec.start_words registers.now words.old fields.old) }
 {
-    match form {
-        Form::First => Ok(lowest_word(mode, c)),
-        Form::Second => fields.hex_word(),
+    for register in registers {
+        words[register.number()] = cell_word(fields, Cell::Out(0, *register))?;
     }
+    Ok(())
 }
 
 // A word of the least value that the voltages have of an output with this VOUT_MODE.

@@ -13,7 +13,7 @@ const OUTPUT: OutputStart = OutputStart {
     max: 0x4000,
     high: 0x1100,
     low: 0x0F00,
-    min: 0x0000,
+    ..OutputStart::NONE
 };
 
 /// The base configuration: two outputs at address 58h, and no write blocked.
