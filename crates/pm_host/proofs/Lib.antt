@@ -9,3 +9,5 @@ pub mod Left
 pub mod Once
 pub mod OpenJobs
 pub mod RangeLemmas
+pub mod Tested
+pub mod Written

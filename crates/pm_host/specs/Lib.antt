@@ -3,6 +3,7 @@ pub mod Answers
 pub mod Cells
 pub mod FaultWords
 pub mod Frames
+pub mod Image
 pub mod Laws
 pub mod Marks
 pub mod Messages

@@ -1,7 +1,3 @@
-mod asking;
-mod microvolts;
-mod turns;
-
 ghost use Rattle.std.specs.Prelude.{◌≡◌, ◌*◌, ◌<◌, ◌≤◌, true, None, IfOk, OnOk, OnErr, MatchOption, IsNone, IsSomeAnd};
 ghost use Rattle.std.specs.Result.{result_err};
 ghost use Rattle.pm_table.specs.Address.{IsAddress};
@@ -17,16 +13,11 @@ ghost use Rattle.pm_host.specs.Told.{entry_told, OnEnded};
 ghost use Rattle.pm_host.specs.Transcript.{Setup, Accepted, Restarted, Order, Check, Learn, Send};
 ghost use Rattle.pm_host.specs.Turn.{Shows};
 
-use crate::answers::{good_byte, good_coefficients, good_word};
 use crate::command::Command;
 use crate::fault::HostFault;
-use crate::host::microvolts::nearest_word;
-use crate::knowledge::Knowledge;
-use crate::learned::Learned;
-use crate::messages::{cell_read, mode_read};
 use crate::possible::Possible;
-use crate::stage::{Sending, Stage};
 use crate::standing::Standing;
+use crate::state::State;
 use crate::step::Step;
 use crate::told::Told;
 use crate::turn::Turn;
@@ -46,12 +37,9 @@ use std::marker::Model;
 /// changes nothing. No call takes memory.
 #[derive(Drop)]
 pub struct Host {
-    addr: u8,
-    outputs: u8,
-    passes: u8,
-    sending: Option<Sending>,
-    learned: Learned,
-    knowledge: Knowledge,
+    state: State,
+    // The frame that is being sent; where no job is open, any.
+    frame: Frame,
 }
 
 impl Model for Host {
@@ -59,19 +47,17 @@ impl Model for Host {
 
     ghost Value = { Summary };
 
-    ghost use Rattle.std.specs.Prelude.{IfSome, option_map};
+    ghost use Rattle.std.specs.Prelude.{IfSome};
+    ghost use Rattle.pm_host.specs.Image.{held};
     ghost use Rattle.pm_host.specs.Messages.{IsFrameOf};
     ghost use Rattle.pm_host.specs.Sound.{IsSound};
-    ghost use Rattle.pm_host.specs.Summary.{summary, stage_message};
+    ghost use Rattle.pm_host.specs.Summary.{sending_in};
 
-    ghost view = { λ h. summary h.addr h.outputs h.passes
-        (option_map (λ sending. sending.stage) h.sending) h.learned h.knowledge };
+    ghost view = { λ h. held h.state };
 
-    ghost invariant = { λ h.
-        IsSound (summary h.addr h.outputs h.passes
-        (option_map (λ sending. sending.stage) h.sending) h.learned h.knowledge)
-        × IfSome h.sending
-        (λ sending. IsFrameOf h.addr (stage_message sending.stage) sending.frame.items) };
+    ghost invariant = { λ h. IsSound (held h.state)
+        × IfSome (sending_in (held h.state))
+        (λ message. IsFrameOf h.state.address message h.frame.items) };
 }
 
 impl Host {
@@ -85,19 +71,11 @@ impl Host {
         ensures setup { IfOk result (λ host. IsSetup host.setup) }
         ensures fault { result_err result ≡ setup_fault outputs passes }
     {
-        if !(1..=8).contains(&outputs) {
-            return Err(HostFault::OutputCount);
-        }
-        if !(1..=15).contains(&passes) {
-            return Err(HostFault::Passes);
-        }
+        let mut state = State::blank();
+        state.start(addr, outputs, passes)?;
         Ok(Host {
-            addr,
-            outputs,
-            passes,
-            sending: None,
-            learned: Learned::new(),
-            knowledge: Knowledge::new(),
+            state,
+            frame: Frame::new(),
         })
     }
 
@@ -111,7 +89,6 @@ impl Host {
     /// The first that applies refuses: H3 where a job is open, H4 where the output isn't there, H5
     /// where the cell doesn't accept the word, H6 where the cell may hold any of 16 words and this is
     /// another.
-    #[tactic(auto, unfolding(crate::specs::Summary::next))]
     pub fn order(&mut self, cell: Cell, word: u16) -> Result<(), HostFault>
         ensures fault { result_err result ≡ order_fault self.old cell word }
         ensures ok { OnOk result (self.new ≡ next self.old (Accepted (Order cell word))) }
@@ -119,14 +96,8 @@ impl Host {
         ensures kept { self.new.setup ≡ self.old.setup }
         ensures left { OnOk result (frames_left self.new ≤ 2 * self.new.setup.passes) }
     {
-        self.cell_is_free(cell)?;
-        if !cell.accepts(word) {
-            return Err(HostFault::BadWord);
-        }
-        if !self.knowledge.has_room(cell, word) {
-            return Err(HostFault::TooUncertain);
-        }
-        self.begin_write(cell, word, 0);
+        self.state.order(cell, word)?;
+        self.frame = self.state.frame();
         Ok(())
     }
 
@@ -147,15 +118,14 @@ impl Host {
         ensures kept { self.new.setup ≡ self.old.setup }
         ensures left { OnOk result (frames_left self.new ≤ 2 * self.new.setup.passes) }
     {
-        let format = self.voltage_format(cell)?;
-        let word = nearest_word(&format, x)?;
-        self.order(cell, word)
+        self.state.order_micro(cell, x)?;
+        self.frame = self.state.frame();
+        Ok(())
     }
 
     /// Begins a check: the cell is read at most `passes` times. The first good answer ends it as
     /// `Done`, and its word is confirmed; `Unknown` where none came. H3 where a job is open, otherwise
     /// H4 where the output isn't there.
-    #[tactic(auto, unfolding(crate::specs::Summary::next))]
     pub fn check(&mut self, cell: Cell) -> Result<(), HostFault>
         ensures fault { result_err result ≡ cell_fault self.old cell }
         ensures ok { OnOk result (self.new ≡ next self.old (Accepted (Check cell))) }
@@ -163,8 +133,8 @@ impl Host {
         ensures kept { self.new.setup ≡ self.old.setup }
         ensures left { OnOk result (frames_left self.new ≤ 2 * self.new.setup.passes) }
     {
-        self.cell_is_free(cell)?;
-        self.go_on(Stage::Checks { cell, tries: 0 });
+        self.state.check(cell)?;
+        self.frame = self.state.frame();
         Ok(())
     }
 
@@ -172,7 +142,6 @@ impl Host {
     /// and, where it says DIRECT, the coefficients of VOUT_COMMAND at most `passes` times. It ends as
     /// `Learned`, or as `Unknown` where no good answer came or what came has no format; then a format
     /// from before stays. H3 where a job is open, otherwise H4 where the output isn't there.
-    #[tactic(auto, unfolding(crate::specs::Summary::next))]
     pub fn learn(&mut self, output: u8) -> Result<(), HostFault>
         ensures fault { result_err result ≡ output_fault self.old output }
         ensures ok { OnOk result (self.new ≡ next self.old (Accepted (Learn output))) }
@@ -180,15 +149,14 @@ impl Host {
         ensures kept { self.new.setup ≡ self.old.setup }
         ensures left { OnOk result (frames_left self.new ≤ 2 * self.new.setup.passes) }
     {
-        self.is_free(output < self.outputs)?;
-        self.go_on(Stage::AsksMode { output, tries: 0 });
+        self.state.learn(output)?;
+        self.frame = self.state.frame();
         Ok(())
     }
 
     /// Begins to send a command, until it is acknowledged, at most `passes` times. `Done` says no more
     /// than this acknowledgement, `Unknown` that none came. H3 where a job is open, otherwise H4 where
     /// the command names an output that isn't there.
-    #[tactic(auto, unfolding(crate::specs::Summary::next))]
     pub fn send(&mut self, command: Command) -> Result<(), HostFault>
         ensures fault { result_err result ≡ command_fault self.old command }
         ensures ok { OnOk result (self.new ≡ next self.old (Accepted (Send command))) }
@@ -196,14 +164,13 @@ impl Host {
         ensures kept { self.new.setup ≡ self.old.setup }
         ensures left { OnOk result (frames_left self.new ≤ 2 * self.new.setup.passes) }
     {
-        self.is_free(command.is_there(self.outputs))?;
-        self.go_on(Stage::Sends { command, tries: 0 });
+        self.state.send(command)?;
+        self.frame = self.state.frame();
         Ok(())
     }
 
     /// Begins a clear: sends CLEAR_FAULTS for the output. H3 where a job is open, otherwise H4 where the
     /// output isn't there.
-    #[tactic(auto, unfolding(crate::specs::Summary::next))]
     pub fn clear(&mut self, output: u8) -> Result<(), HostFault>
         ensures fault { result_err result ≡ output_fault self.old output }
         ensures ok { OnOk result (self.new ≡ next self.old (Accepted (Send (Command.ClearFaults output)))) }
@@ -219,19 +186,18 @@ impl Host {
     pub fn turn(&self) -> Turn<'_>
         ensures { Shows self.now result }
     {
-        match &self.sending {
+        match self.state.message() {
             None => Turn::Idle,
-            Some(Sending { stage, frame }) => {
-                let message = stage.message();
+            Some(message) => {
                 // Hands the prover that an answer has at most five bytes of payload.
                 let _ = message.answer_length();
                 if message.is_read() {
                     Turn::Request {
-                        frame,
+                        frame: &self.frame,
                         bytes: message.whole_answer(),
                     }
                 } else {
-                    Turn::Write(frame)
+                    Turn::Write(&self.frame)
                 }
             }
         }
@@ -245,8 +211,8 @@ impl Host {
             (λ message. IsSomeAnd result
             (λ frame. IsFrameOf self.now.setup.addr message frame.now.items)) }
     {
-        match &self.sending {
-            Some(sending) => Some(&sending.frame),
+        match self.state.message() {
+            Some(_) => Some(&self.frame),
             None => None,
         }
     }
@@ -256,8 +222,8 @@ impl Host {
     pub fn sending_reads(&self) -> bool
         ensures { result ≡ sends_read self.now }
     {
-        match &self.sending {
-            Some(sending) => sending.stage.message().is_read(),
+        match self.state.message() {
+            Some(message) => message.is_read(),
             None => false,
         }
     }
@@ -267,7 +233,6 @@ impl Host {
     /// where a frame of that kind is being sent. `Step::Next` asks to send what `turn` shows now;
     /// `Step::Ended` says how the job ended, and that nothing is being sent. With each call the job
     /// has fewer frames left to send, so that a loop of these two calls ends.
-    #[tactic(auto, unfolding(crate::specs::Summary::next, crate::specs::Summary::step_of))]
     pub fn told(&mut self, told: Told<'_>) -> Step
         requires { may_come self.old (entry_told told) ≡ true }
         ensures after { self.new ≡ next self.old (entry_told told.entry) }
@@ -276,69 +241,40 @@ impl Host {
         ensures left { frames_left self.new < frames_left self.old }
         ensures over { OnEnded result (frames_left self.new ≡ 0) }
     {
-        let stage = match &self.sending {
-            Some(sending) => sending.stage,
-            None => unreachable!(),
-        };
-        self.sending = None;
-        match (stage, told) {
-            (Stage::Writes { cell, word, pass }, Told::Finished { .. }) => {
-                self.go_on(Stage::Reads { cell, word, pass })
-            }
-            (Stage::Sends { command, tries }, Told::Finished { acked }) => {
-                self.sent(command, tries, acked)
-            }
-            (Stage::Reads { cell, word, pass }, Told::Got(bytes)) => {
-                let read = good_word(self.addr, &cell_read(cell), bytes);
-                self.read_back(cell, word, pass, read)
-            }
-            (Stage::Checks { cell, tries }, Told::Got(bytes)) => {
-                let read = good_word(self.addr, &cell_read(cell), bytes);
-                self.checked(cell, tries, read)
-            }
-            (Stage::AsksMode { output, tries }, Told::Got(bytes)) => {
-                let byte = good_byte(self.addr, &mode_read(output), bytes);
-                self.mode_told(output, tries, byte)
-            }
-            (Stage::AsksCoefficients { output, tries }, Told::Got(bytes)) => {
-                let told = good_coefficients(self.addr, bytes);
-                self.coefficients_told(output, tries, told)
-            }
-            _ => unreachable!(),
-        }
+        let step = self.state.told(told);
+        self.frame = self.state.frame();
+        step
     }
 
     /// Drops the open job and all that is known of cells and formats, as after `new`.
-    #[tactic(auto, unfolding(crate::specs::Summary::next))]
     pub fn restart(&mut self)
         ensures after { self.new ≡ next self.old Restarted }
         ensures kept { self.new.setup ≡ self.old.setup }
         ensures left { frames_left self.new ≡ 0 }
     {
-        self.sending = None;
-        self.learned = Learned::new();
-        self.knowledge = Knowledge::new();
+        self.state.restart();
+        self.frame = self.state.frame();
     }
 
     /// The address of its device.
     pub fn address(&self) -> u8
         ensures { result ≡ self.now.setup.addr }
     {
-        self.addr
+        self.state.address
     }
 
     /// How many outputs its device has, 1 to 8.
     pub fn outputs(&self) -> u8
         ensures { result ≡ self.now.setup.outputs }
     {
-        self.outputs
+        self.state.outputs
     }
 
     /// How many passes or tries a job has at most, 1 to 15.
     pub fn passes(&self) -> u8
         ensures { result ≡ self.now.setup.passes }
     {
-        self.passes
+        self.state.passes
     }
 
     /// What is known of a cell's word: confirmed where a good answer for the cell came after every write
@@ -347,7 +283,7 @@ impl Host {
         requires { IsCell self.now.setup.outputs cell }
         ensures { result ≡ standing_at self.now cell }
     {
-        self.knowledge.standing(cell)
+        self.state.standing(cell).standing()
     }
 
     /// The words that a cell may hold: the word of its last good answer, and those that were put on the
@@ -357,7 +293,7 @@ impl Host {
         requires { IsCell self.now.setup.outputs cell }
         ensures { result ≡ possible_at self.now cell }
     {
-        self.knowledge.possible(cell)
+        self.state.possible(cell).possible()
     }
 
     /// Whether a restart of the device was seen since the host started: a good answer came whose word
@@ -366,6 +302,6 @@ impl Host {
     pub fn restart_seen(&self) -> bool
         ensures { result ≡ self.now.known.seen }
     {
-        self.knowledge.restart_seen()
+        self.state.restart_seen()
     }
 }

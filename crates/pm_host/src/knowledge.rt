@@ -1,111 +1,143 @@
-ghost use Rattle.std.specs.Prelude.{◌≡◌, true};
-ghost use Rattle.pm_table.specs.Cell.{IsCell};
+ghost use Rattle.std.specs.Prelude.{◌≡◌, ◌<◌, true, map, slice_index_or, slice_set};
+ghost use Rattle.pm_table.specs.Cell.{places, IsCell};
+ghost use Rattle.pm_host.specs.Image.{known_held, words_held, standing_held};
 ghost use Rattle.pm_host.specs.Possible.{is_possible, has_room, only};
 ghost use Rattle.pm_host.specs.Known.{known_possible, known_standing, known_after, nothing_known, all_any, all_unknown};
 ghost use Rattle.pm_host.specs.Marks.{Put, Good};
 
 use crate::possible::Possible;
 use crate::standing::Standing;
+use crate::standing_image::StandingImage;
+use crate::words_image::WordsImage;
 use pm_table::Cell;
-use std::array;
-use std::marker::Model;
 
-/// What the host knows of each cell.
+/// What the host knows of each cell, as plain numbers; a cell stands at `Cell::place`.
+#[repr(C)]
 #[derive(Drop)]
-pub(crate) struct Knowledge {
-    possible: [Possible; Cell::PLACES],
-    standing: [Standing; Cell::PLACES],
-    seen: bool,
-}
-
-impl Model for Knowledge {
-    ghost use Rattle.std.specs.Prelude.{◌≡◌, length};
-    ghost use Rattle.pm_table.specs.Cell.{places};
-    ghost use Rattle.pm_host.specs.Known.{Known};
-
-    ghost Value = { Known };
-
-    ghost view = { λ k. record { possible = k.possible; standing = k.standing; seen = k.seen } };
-
-    ghost invariant = { λ k. (length k.possible ≡ places) × (length k.standing ≡ places) };
+pub struct Knowledge {
+    /// The words that each cell may hold.
+    pub possible: [WordsImage; Cell::PLACES],
+    /// What is said of each cell's word.
+    pub standing: [StandingImage; Cell::PLACES],
+    /// 1 where a restart of the device was seen.
+    pub seen: u16,
 }
 
 impl Knowledge {
-    /// Nothing.
-    #[tactic(auto, unfolding(crate::specs::Known::nothing_known, crate::specs::Known::all_unknown))]
-    pub(crate) fn new() -> Knowledge
-        ensures { result ≡ nothing_known }
-    {
+    /// Nothing is known, for a state that isn't a host's yet.
+    pub(crate) fn blank() -> Knowledge {
         Knowledge {
-            possible: all_possible(),
-            standing: [Standing::Unknown; Cell::PLACES],
-            seen: false,
+            possible: [WordsImage::ANY; Cell::PLACES],
+            standing: [StandingImage::UNKNOWN; Cell::PLACES],
+            seen: 0,
         }
     }
 
-    /// The words that a cell may hold.
-    pub(crate) fn possible(&self, cell: Cell) -> Possible
-        requires { IsCell 8 cell }
-        ensures { result ≡ known_possible self.now cell }
+    /// Forgets all.
+    #[tactic(auto, unfolding(crate::specs::Image::known_held, crate::specs::Known::nothing_known))]
+    pub(crate) fn clear(&mut self)
+        ensures { known_held self.new ≡ nothing_known }
     {
-        self.possible[cell.place()].copy()
+        forget_words(&mut self.possible);
+        forget_standing(&mut self.standing);
+        self.seen = 0;
     }
 
-    /// Whether a word may be put on the wire for a cell.
-    pub(crate) fn has_room(&self, cell: Cell, word: u16) -> bool
+    /// The words that a cell may hold.
+    #[tactic(auto, unfolding(crate::specs::Image::known_held))]
+    pub(crate) fn possible(&self, cell: Cell) -> &WordsImage
         requires { IsCell 8 cell }
-        ensures { result ≡ has_room word (known_possible self.now cell) }
+        ensures { words_held result.now ≡ known_possible (known_held self.now) cell }
     {
-        self.possible[cell.place()].has_room(word)
+        &self.possible[cell.place()]
     }
 
     /// What is known of a cell's word.
-    pub(crate) fn standing(&self, cell: Cell) -> Standing
+    #[tactic(auto, unfolding(crate::specs::Image::known_held))]
+    pub(crate) fn standing(&self, cell: Cell) -> StandingImage
         requires { IsCell 8 cell }
-        ensures { result ≡ known_standing self.now cell }
+        ensures { standing_held result ≡ known_standing (known_held self.now) cell }
     {
         self.standing[cell.place()]
     }
 
     /// Whether a restart of the device was seen.
+    #[tactic(auto, unfolding(crate::specs::Image::known_held))]
     pub(crate) fn restart_seen(&self) -> bool
-        ensures { result ≡ self.now.seen }
+        ensures { result ≡ (known_held self.now).seen }
     {
-        self.seen
+        self.seen == 1
     }
 
     /// A write of the cell begins to be sent.
+    #[tactic(auto, unfolding(crate::specs::Image::known_held))]
     pub(crate) fn put(&mut self, cell: Cell, word: u16)
         requires there { IsCell 8 cell }
-        requires room { has_room word (known_possible self.old cell) ≡ true }
-        ensures after { self.new ≡ known_after self.old (Put cell word) }
-        ensures listed { is_possible word (known_possible self.new cell) ≡ true }
-        ensures unknown { known_standing self.new cell ≡ Standing.Unknown }
+        requires room { has_room word (known_possible (known_held self.old) cell) ≡ true }
+        ensures after { known_held self.new ≡ known_after (known_held self.old) (Put cell word) }
+        ensures listed { is_possible word (known_possible (known_held self.new) cell) ≡ true }
+        ensures unknown { known_standing (known_held self.new) cell ≡ Standing.Unknown }
     {
-        let place = cell.place();
-        self.possible[place].join(word);
-        self.standing[place] = Standing::Unknown;
+        let mut words = *self.possible(cell);
+        words.join(word);
+        put_words(&mut self.possible, cell.place(), words);
+        put_standing(&mut self.standing, cell.place(), StandingImage::UNKNOWN);
     }
 
     /// A good answer for the cell.
+    #[tactic(auto, unfolding(crate::specs::Image::known_held))]
     pub(crate) fn good(&mut self, cell: Cell, word: u16)
         requires { IsCell 8 cell }
-        ensures after { self.new ≡ known_after self.old (Good cell word) }
-        ensures alone { known_possible self.new cell ≡ only word }
+        ensures after { known_held self.new ≡ known_after (known_held self.old) (Good cell word) }
+        ensures alone { known_possible (known_held self.new) cell ≡ only word }
     {
-        let place = cell.place();
-        if !self.possible[place].allows(word) {
-            self.possible = all_possible();
-            self.seen = true;
+        if !self.possible(cell).allows(word) {
+            forget_words(&mut self.possible);
+            self.seen = 1;
         }
-        self.possible[place] = Possible::only(word);
-        self.standing[place] = Standing::Confirmed(word);
+        put_words(&mut self.possible, cell.place(), WordsImage::only(word));
+        put_standing(
+            &mut self.standing,
+            cell.place(),
+            StandingImage::confirmed(word),
+        );
     }
 }
 
 // Any word for each cell.
-fn all_possible() -> [Possible; Cell::PLACES]
-    ensures { result ≡ all_any }
+#[tactic(auto, unfolding(crate::specs::Known::all_any))]
+fn forget_words(possible: &mut [WordsImage; Cell::PLACES])
+    ensures { map words_held possible.new ≡ all_any }
 {
-    array::from_fn(|_| Possible::Any)
+    possible.fill(WordsImage::ANY);
+}
+
+// No word of any cell is confirmed.
+#[tactic(auto, unfolding(crate::specs::Known::all_unknown))]
+fn forget_standing(standing: &mut [StandingImage; Cell::PLACES])
+    ensures { map standing_held standing.new ≡ all_unknown }
+{
+    standing.fill(StandingImage::UNKNOWN);
+}
+
+// These words stand at the place.
+fn put_words(possible: &mut [WordsImage; Cell::PLACES], place: usize, words: WordsImage)
+    requires { place < places }
+    ensures after { map words_held possible.new
+        ≡ slice_set (map words_held possible.old) place (words_held words) }
+    ensures there { slice_index_or (map words_held possible.new) place Possible.Any
+        ≡ words_held words }
+{
+    possible[place] = words;
+}
+
+// This stands at the place.
+fn put_standing(standing: &mut [StandingImage; Cell::PLACES], place: usize, said: StandingImage)
+    requires { place < places }
+    ensures after { map standing_held standing.new
+        ≡ slice_set (map standing_held standing.old) place (standing_held said) }
+    ensures there { slice_index_or (map standing_held standing.new) place Standing.Unknown
+        ≡ standing_held said }
+{
+    standing[place] = said;
 }

@@ -35,28 +35,41 @@
 mod answers;
 mod command;
 mod fault;
+mod format_image;
 mod host;
+mod image;
 mod job_end;
 mod knowledge;
 mod laws;
-mod learned;
 mod messages;
 mod possible;
 mod stage;
+mod stage_image;
 mod standing;
+mod standing_image;
+mod state;
 mod step;
 mod told;
 mod turn;
+mod words_image;
 
 pub use command::Command;
 pub use fault::HostFault;
+pub use format_image::FormatImage;
 pub use host::Host;
+pub use image::Image;
 pub use job_end::JobEnd;
+pub use knowledge::Knowledge;
 pub use laws::{
     frames_are_named, jobs_are_bounded, open_orders_are_uncertain, transcripts_are_followed,
 };
 pub use possible::Possible;
+pub use stage::Stage;
+pub use stage_image::StageImage;
 pub use standing::Standing;
+pub use standing_image::StandingImage;
+pub use state::{State, nearest_word};
 pub use step::Step;
 pub use told::Told;
 pub use turn::Turn;
+pub use words_image::WordsImage;

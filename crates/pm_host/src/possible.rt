@@ -1,5 +1,5 @@
-ghost use Rattle.std.specs.Prelude.{◌≡◌, true};
-ghost use Rattle.pm_host.specs.Possible.{is_possible, has_room as spec_has_room, joined, only as spec_only};
+ghost use Rattle.std.specs.Prelude.{◌≡◌};
+ghost use Rattle.pm_host.specs.Possible.{is_possible};
 
 use arrayvec::ArrayVec;
 
@@ -14,15 +14,6 @@ pub enum Possible {
 }
 
 impl Possible {
-    /// Exactly this word.
-    pub(crate) fn only(word: u16) -> Possible
-        ensures { result ≡ spec_only word }
-    {
-        let mut words = ArrayVec::new();
-        words.push(word);
-        Possible::Words(words)
-    }
-
     /// Whether the cell may hold this word.
     pub fn allows(&self, word: u16) -> bool
         ensures { result ≡ is_possible word self.now }
@@ -30,46 +21,6 @@ impl Possible {
         match self {
             Possible::Any => true,
             Possible::Words(words) => words.contains(&word),
-        }
-    }
-
-    /// Whether this word can be joined: it is listed, or there are fewer than 16.
-    pub(crate) fn has_room(&self, word: u16) -> bool
-        ensures { result ≡ spec_has_room word self.now }
-    {
-        match self {
-            Possible::Any => true,
-            Possible::Words(words) => words.contains(&word) || !words.is_full(),
-        }
-    }
-
-    /// Joins this word.
-    pub(crate) fn join(&mut self, word: u16)
-        requires { spec_has_room word self.old ≡ true }
-        ensures joined { self.new ≡ joined self.old word }
-        ensures listed { is_possible word self.new ≡ true }
-    {
-        match self {
-            Possible::Any => {}
-            Possible::Words(words) => {
-                if !words.contains(&word) {
-                    words.push(word);
-                }
-            }
-        }
-    }
-
-    /// The same words.
-    pub(crate) fn copy(&self) -> Possible
-        ensures { result ≡ self.now }
-    {
-        match self {
-            Possible::Any => Possible::Any,
-            Possible::Words(words) => {
-                let mut copied = ArrayVec::new();
-                let _ = copied.try_extend_from_slice(words.as_slice());
-                Possible::Words(copied)
-            }
         }
     }
 }

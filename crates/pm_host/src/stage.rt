@@ -4,19 +4,12 @@ ghost use Rattle.pm_host.specs.Summary.{stage_message};
 
 use crate::command::Command;
 use crate::messages::{cell_read, cell_write, coefficients_read, command_message, mode_read};
-use pm_frame::{Frame, Message};
+use pm_frame::Message;
 use pm_table::Cell;
-
-/// An open job: where it stands, and the frame that it sends there.
-#[derive(Drop)]
-pub(crate) struct Sending {
-    pub(crate) stage: Stage,
-    pub(crate) frame: Frame,
-}
 
 /// Where an open job stands: the frame that it sends, and how many passes or tries came before.
 #[derive(Clone, Copy, Debug)]
-pub(crate) enum Stage {
+pub enum Stage {
     /// An order sends its write, in this pass, counted from 0.
     Writes { cell: Cell, word: u16, pass: u8 },
     /// An order reads its cell back, in this pass.

@@ -3,21 +3,24 @@
 ghost use Rattle.std.specs.Prelude.{◌≡◌, ◌≤◌, true, None, OnOk};
 ghost use Rattle.std.specs.Result.{result_err};
 ghost use Rattle.pm_table.specs.Cell.{IsCell};
+ghost use Rattle.pm_host.specs.Image.{held};
 ghost use Rattle.pm_host.specs.Refusals.{asking_fault, cell_fault};
+ghost use Rattle.pm_host.specs.Sound.{IsSound};
 
 use crate::fault::HostFault;
-use crate::host::Host;
+use crate::state::State;
 use pm_table::Cell;
 
-impl Host {
+impl State {
     /// Refuses where a job is open, or what is asked for isn't there.
     pub(super) fn is_free(&self, there: bool) -> Result<(), HostFault>
-        ensures fault { result_err result ≡ asking_fault self.now there }
-        ensures idle { OnOk result (self.now.stage ≡ None) }
+        requires { IsSound (held self.now) }
+        ensures fault { result_err result ≡ asking_fault (held self.now) there }
+        ensures idle { OnOk result ((held self.now).stage ≡ None) }
         ensures there { OnOk result (there ≡ true) }
-        ensures some { 1 ≤ self.now.setup.passes }
+        ensures some { 1 ≤ (held self.now).setup.passes }
     {
-        if self.sending.is_some() {
+        if self.stage.stage().is_some() {
             return Err(HostFault::Busy);
         }
         if !there {
@@ -28,10 +31,11 @@ impl Host {
 
     /// Refuses where a job is open, or the cell isn't there.
     pub(super) fn cell_is_free(&self, cell: Cell) -> Result<(), HostFault>
-        ensures fault { result_err result ≡ cell_fault self.now cell }
-        ensures idle { OnOk result (self.now.stage ≡ None) }
-        ensures there { OnOk result (IsCell self.now.setup.outputs cell) }
-        ensures some { 1 ≤ self.now.setup.passes }
+        requires { IsSound (held self.now) }
+        ensures fault { result_err result ≡ cell_fault (held self.now) cell }
+        ensures idle { OnOk result ((held self.now).stage ≡ None) }
+        ensures there { OnOk result (IsCell (held self.now).setup.outputs cell) }
+        ensures some { 1 ≤ (held self.now).setup.passes }
     {
         self.is_free(match cell {
             Cell::Out(output, _) => output < self.outputs,

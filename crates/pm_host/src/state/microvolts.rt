@@ -1,40 +1,53 @@
 //! The word of an order that names a number of microvolts.
 
-ghost use Rattle.std.specs.Prelude.{◌≡◌, Some, IfOk};
+ghost use Rattle.std.specs.Prelude.{◌≡◌, ◌<◌, Some, IfOk};
 ghost use Rattle.std.specs.Result.{result_err};
 ghost use Rattle.pm_num.specs.AnyFormat.{shape_of, shape_value, shape_rank};
 ghost use Rattle.pm_num.specs.Nearest.{IsNearest};
 ghost use Rattle.pm_num.specs.NearestWord.{nearest_word as spec_nearest_word};
 ghost use Rattle.pm_num.specs.Ratio.{micros};
 ghost use Rattle.pm_table.specs.Cell.{output_of};
+ghost use Rattle.pm_host.specs.Image.{held, format_held};
 ghost use Rattle.pm_host.specs.Refusals.{range_fault, outside_fault, voltage_fault};
+ghost use Rattle.pm_host.specs.Sound.{IsSound};
 ghost use Rattle.pm_host.specs.Summary.{format_at};
 
 use crate::fault::HostFault;
-use crate::host::Host;
+use crate::format_image::FormatImage;
+use crate::state::State;
 use pm_num::{AnyFormat, Frac, NumFault, NumFormat, micro};
 use pm_table::Cell;
 
-impl Host {
+impl State {
     /// The format of the cell's output, where the cell is a voltage that may be ordered now.
     pub(super) fn voltage_format(&self, cell: Cell) -> Result<AnyFormat, HostFault>
-        ensures fault { result_err result ≡ voltage_fault self.now cell }
+        requires { IsSound (held self.now) }
+        ensures fault { result_err result ≡ voltage_fault (held self.now) cell }
         ensures format { IfOk result (λ format.
-            format_at self.now (output_of cell) ≡ Some (shape_of format)) }
+            format_at (held self.now) (output_of cell) ≡ Some (shape_of format)) }
     {
         self.cell_is_free(cell)?;
         match cell {
             Cell::Out(output, register) if register.is_voltage() => {
-                self.learned.get(output).ok_or(HostFault::FormatUnknown)
+                self.format(output).format().ok_or(HostFault::FormatUnknown)
             }
             _ => Err(HostFault::BadWord),
         }
+    }
+
+    /// The format of an output's voltages, as far as it is known.
+    #[tactic(auto, unfolding(crate::specs::Image::formats_held))]
+    pub fn format(&self, output: u8) -> FormatImage
+        requires { output < 8 }
+        ensures { format_held result ≡ format_at (held self.now) output }
+    {
+        self.formats[usize::from(output)]
     }
 }
 
 /// The word of a format that is nearest to a number of microvolts. N5 where the number is beyond
 /// 10^15 in size, N3 and N4 where it lies outside the format's least and greatest value.
-pub(super) fn nearest_word(format: &AnyFormat, x: i64) -> Result<u16, HostFault>
+pub fn nearest_word(format: &AnyFormat, x: i64) -> Result<u16, HostFault>
     ensures fault { result_err result ≡ range_fault (shape_of format.now) x }
     ensures nearest { let shape = shape_of format.now in
         IfOk result (IsNearest (shape_value shape) (shape_rank shape) (micros x)) }

@@ -1,0 +1,146 @@
+-- The image of a host: plain numbers in a caller's memory, and what they mean. Every number has a
+-- meaning, so that memory of any bytes is an image; that it is a host's is asked apart. This project's
+-- own choice.
+use Rattle.std.specs.Prelude.{ℕ, ℤ, pos, neg_ℤ, int_le, Bool, true, false, ◌&&◌, nat_lt, if◌then◌else◌, ◌==◌, List, map, take, Option, Some, None}
+use Rattle.std.specs.Option.{option_map_or}
+use Rattle.std.specs.Result.{result_ok}
+use Rattle.pm_num.specs.AnyFormat.{Shape, InUlinear16}
+use Rattle.pm_table.specs.declared.cell.Cell.{Cell}
+use Rattle.pm_table.specs.declared.vout_mode.VoutMode.TheVariants.{Direct}
+use Rattle.pm_table.specs.Cell.{cell_at, cell_accepts}
+use Rattle.pm_table.specs.Format.{shape_in}
+use Rattle.pm_host.specs.declared.command.Command.TheVariants.{ClearFaults}
+use Rattle.pm_host.specs.declared.format_image.FormatImage.{FormatImage}
+use Rattle.pm_host.specs.declared.image.Image.{Image}
+use Rattle.pm_host.specs.declared.knowledge.Knowledge.{Knowledge}
+use Rattle.pm_host.specs.declared.possible.Possible.{Possible}
+use Rattle.pm_host.specs.declared.possible.Possible.TheVariants.{Any, Words}
+use Rattle.pm_host.specs.declared.stage.Stage.{Stage}
+use Rattle.pm_host.specs.declared.stage.Stage.TheVariants.{Writes, Reads, Checks, AsksMode, AsksCoefficients, Sends}
+use Rattle.pm_host.specs.declared.stage_image.StageImage.{StageImage}
+use Rattle.pm_host.specs.declared.standing.Standing.{Standing}
+use Rattle.pm_host.specs.declared.standing.Standing.TheVariants.{Confirmed, Unknown}
+use Rattle.pm_host.specs.declared.standing_image.StandingImage.{StandingImage}
+use Rattle.pm_host.specs.declared.state.State.{State}
+use Rattle.pm_host.specs.declared.words_image.WordsImage.{WordsImage}
+use Rattle.pm_host.specs.Cells.{is_cell, is_command}
+use Rattle.pm_host.specs.Known.{Known}
+use Rattle.pm_host.specs.Possible.{is_possible}
+use Rattle.pm_host.specs.Refusals.{is_within}
+use Rattle.pm_host.specs.Summary.{Summary, summary, possible_at, standing_at}
+use Rattle.pm_host.specs.Transcript.{Setup}
+
+-- these words alone
+abbrev pub listing : List ℕ → Possible
+listing words = Words (record { items = words })
+
+-- a count of 1 to 16 lists that many words, any other stands for any word
+abbrev pub words_held : WordsImage → Possible
+words_held i = if is_within 1 16 i.count then listing (take i.count i.words) else Any
+
+abbrev pub standing_held : StandingImage → Standing
+standing_held i = if i.is_confirmed == 1 then Confirmed i.word else Unknown
+
+-- what is known of all cells
+unfoldable pub known_held : Knowledge → Known
+known_held k = record {
+  possible = map words_held k.possible;
+  standing = map standing_held k.standing;
+  seen = k.seen == 1;
+}
+
+-- the exponents that ULINEAR16 may have
+abbrev pub is_exponent : ℤ → Bool
+is_exponent n = int_le (neg_ℤ (pos 16)) n && int_le n (pos 15)
+
+-- kind 1 is ULINEAR16, kind 2 DIRECT, each with numbers that it may have; any other is no format
+abbrev pub format_held : FormatImage → Option Shape
+format_held i =
+    if i.kind == 1 then (if is_exponent i.exponent then Some (InUlinear16 i.exponent) else None)
+    else (if i.kind == 2
+    then result_ok (shape_in Direct (record { m = i.m; b = i.b; r = i.exponent }))
+    else None)
+
+unfoldable pub formats_held : List FormatImage → List (Option Shape)
+formats_held formats = map format_held formats
+
+-- A kind or a command code that means nothing is read as this, a stage that no host stands at, so that
+-- it is refused.
+abbrev pub nowhere : Stage
+nowhere = AsksMode 255 255
+
+-- a stage of the cell that the image names
+abbrev pub at_cell : StageImage → (Cell → Stage) → Stage
+at_cell i stage = option_map_or stage (cell_at i.code i.output) nowhere
+
+abbrev pub stage_in : StageImage → Stage
+stage_in i =
+    if i.kind == 1 then at_cell i (λ cell. Writes cell i.word i.count)
+    else (if i.kind == 2 then at_cell i (λ cell. Reads cell i.word i.count)
+    else (if i.kind == 3 then at_cell i (λ cell. Checks cell i.count)
+    else (if i.kind == 4 then AsksMode i.output i.count
+    else (if i.kind == 5 then AsksCoefficients i.output i.count
+    else (if i.kind == 6 then Sends (ClearFaults i.output) i.count
+    else nowhere)))))
+
+-- kind 0 is no open job
+unfoldable pub stage_held : StageImage → Option Stage
+stage_held i = if i.kind == 0 then None else Some (stage_in i)
+
+-- what the numbers of a state mean
+abbrev pub held : State → Summary
+held state = summary state.address state.outputs state.passes (stage_held state.stage)
+    (formats_held state.formats) (known_held state.known)
+
+-- a host may be made with this
+abbrev pub is_setup : Setup → Bool
+is_setup setup = is_within 0x08 0x77 setup.addr && is_within 1 8 setup.outputs
+    && is_within 1 15 setup.passes
+
+-- nothing is confirmed
+abbrev pub is_unknown : Standing → Bool
+is_unknown (Confirmed word) = false
+is_unknown Unknown = true
+
+-- an order of this cell and word may be open
+abbrev pub may_order : Summary → Cell → ℕ → Bool
+may_order s cell word = is_cell s.setup.outputs cell && cell_accepts cell word
+    && is_possible word (possible_at s cell) && is_unknown (standing_at s cell)
+
+-- an open job may stand at this stage
+abbrev pub is_stage : Summary → Option Stage → Bool
+is_stage s None = true
+is_stage s (Some (Writes cell word pass)) =
+    may_order s cell word && nat_lt pass s.setup.passes
+is_stage s (Some (Reads cell word pass)) =
+    may_order s cell word && nat_lt pass s.setup.passes
+is_stage s (Some (Checks cell tries)) =
+    is_cell s.setup.outputs cell && nat_lt tries s.setup.passes
+is_stage s (Some (AsksMode output tries)) =
+    nat_lt output s.setup.outputs && nat_lt tries s.setup.passes
+is_stage s (Some (AsksCoefficients output tries)) =
+    nat_lt output s.setup.outputs && nat_lt tries s.setup.passes
+is_stage s (Some (Sends command tries)) =
+    is_command s.setup.outputs command && nat_lt tries s.setup.passes
+
+-- the numbers are those of a host
+unfoldable pub is_sound : Summary → Bool
+is_sound s = is_setup s.setup && is_stage s s.stage
+
+-- the bytes 'PM' and the number of this layout, which an image of another layout lacks
+abbrev pub image_mark : ℕ
+image_mark = 0x504D
+
+abbrev pub image_version : ℕ
+image_version = 1
+
+-- the image has this layout
+abbrev pub is_current : Image → Bool
+is_current image = image.mark == image_mark && image.version == image_version
+
+-- the image is that of a host, and that host
+abbrev pub is_host : Image → Bool
+is_host image = is_current image && is_sound (held image.state)
+
+unfoldable pub host_of : Image → Option Summary
+host_of image = if is_host image then Some (held image.state) else None

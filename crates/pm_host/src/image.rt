@@ -1,0 +1,155 @@
+ghost use Rattle.std.specs.Prelude.{◌≡◌, true, false, length, OnOk, OnErr, Some, None};
+ghost use Rattle.std.specs.Result.{result_err};
+ghost use Rattle.pm_table.specs.Address.{IsAddress};
+ghost use Rattle.pm_table.specs.Cell.{IsCell};
+ghost use Rattle.pm_host.specs.Image.{held, formats_held, host_of, is_current, is_host, is_setup, is_sound, is_stage, may_order};
+ghost use Rattle.pm_host.specs.Cells.{is_cell};
+ghost use Rattle.pm_host.specs.Refusals.{setup_fault, IsSetup};
+ghost use Rattle.pm_host.specs.Sound.{IsSound, IsStage};
+ghost use Rattle.pm_host.specs.Summary.{start};
+ghost use Rattle.pm_host.specs.Transcript.{Setup};
+
+use crate::fault::HostFault;
+use crate::format_image::FormatImage;
+use crate::stage::Stage;
+use crate::standing::Standing;
+use crate::state::{OUTPUTS, State};
+use pm_table::{Cell, address_ok};
+
+/// A host in memory that a caller keeps who isn't Rattle: a state behind the mark and the number of its
+/// layout. It has no padding, holds no address of memory, and may be copied.
+#[repr(C)]
+#[derive(Drop)]
+pub struct Image {
+    /// 504Dh, the bytes 'PM'.
+    pub mark: u16,
+    /// The number of this layout.
+    pub version: u16,
+    /// What the host holds.
+    pub state: State,
+}
+
+impl Image {
+    /// The mark of an image.
+    pub const MARK: u16 = 0x504D;
+
+    /// The number of this layout.
+    pub const VERSION: u16 = 1;
+
+    /// Makes it the image of a host as `Host::new` makes one, whatever it was.
+    #[tactic(auto, unfolding(crate::specs::Image::host_of))]
+    pub fn start(&mut self, addr: u8, outputs: u8, passes: u8) -> Result<(), HostFault>
+        requires { IsAddress addr }
+        ensures made { let setup : Setup = record { addr = addr; outputs = outputs; passes = passes } in
+            OnOk result (host_of self.new ≡ Some (start setup)) }
+        ensures err { OnErr result (self.new ≡ self.old) }
+        ensures fault { result_err result ≡ setup_fault outputs passes }
+    {
+        self.state.start(addr, outputs, passes)?;
+        self.mark = Image::MARK;
+        self.version = Image::VERSION;
+        self.state.hosts_are_sound();
+        Ok(())
+    }
+
+    /// Whether it is the image of a host: every other call of its state wants that.
+    #[tactic(auto, unfolding(crate::specs::Image::host_of))]
+    pub fn is_host(&self) -> bool
+        ensures host { result ≡ is_host self.now }
+        ensures sound { result ≡ true → IsSound (held self.now.state) }
+        ensures current { result ≡ true → is_current self.now ≡ true }
+        ensures found { result ≡ true → host_of self.now ≡ Some (held self.now.state) }
+        ensures other { result ≡ false → host_of self.now ≡ None }
+    {
+        self.mark == Image::MARK && self.version == Image::VERSION && self.state.is_sound()
+    }
+
+    /// An image whose state a host holds is that host's: a law of the definitions, for what stands after
+    /// a call of the state.
+    #[tactic(auto, unfolding(crate::specs::Image::host_of))]
+    pub fn holds_a_host(&self)
+        requires current { is_current self.now ≡ true }
+        requires sound { IsSound (held self.now.state) }
+        ensures { host_of self.now ≡ Some (held self.now.state) }
+    {
+        self.state.hosts_are_sound();
+    }
+}
+
+impl State {
+    /// Whether it is a state that a host holds.
+    #[tactic(auto, unfolding(crate::specs::Image::is_sound))]
+    pub fn is_sound(&self) -> bool
+        ensures sound { result ≡ is_sound (held self.now) }
+        ensures fact { result ≡ true → IsSound (held self.now) }
+    {
+        whole_formats(&self.formats);
+        self.setup_is_sound() && self.stage_is_sound()
+    }
+
+    // Whether a host may be made with it.
+    fn setup_is_sound(&self) -> bool
+        ensures test { result ≡ is_setup (held self.now).setup }
+        ensures fact { result ≡ true → IsSetup (held self.now).setup }
+    {
+        address_ok(self.address)
+            && (1..=8).contains(&self.outputs)
+            && (1..=15).contains(&self.passes)
+    }
+
+    // Whether an open job may stand at its stage.
+    fn stage_is_sound(&self) -> bool
+        requires { IsSetup (held self.now).setup }
+        ensures test { result ≡ is_stage (held self.now) (held self.now).stage }
+        ensures fact { result ≡ true → IsStage (held self.now) (held self.now).stage }
+    {
+        let passes = self.passes;
+        match self.stage.stage() {
+            None => true,
+            Some(Stage::Writes { cell, word, pass } | Stage::Reads { cell, word, pass }) => {
+                self.is_ordering(cell, word) && pass < passes
+            }
+            Some(Stage::Checks { cell, tries }) => self.has_cell(cell) && tries < passes,
+            Some(Stage::AsksMode { output, tries } | Stage::AsksCoefficients { output, tries }) => {
+                output < self.outputs && tries < passes
+            }
+            Some(Stage::Sends { command, tries }) => {
+                command.is_there(self.outputs) && tries < passes
+            }
+        }
+    }
+
+    // Whether an order of this cell and word may be open.
+    fn is_ordering(&self, cell: Cell, word: u16) -> bool
+        requires { IsSetup (held self.now).setup }
+        ensures { result ≡ may_order (held self.now) cell word }
+    {
+        self.has_cell(cell)
+            && cell.accepts(word)
+            && self.known.possible(cell).allows(word)
+            && self.known.standing(cell).standing() == Standing::Unknown
+    }
+
+    /// Whether the cell is there.
+    pub fn has_cell(&self, cell: Cell) -> bool
+        ensures test { result ≡ is_cell self.now.outputs cell }
+        ensures fact { result ≡ true → IsCell self.now.outputs cell }
+    {
+        match cell {
+            Cell::Out(output, _) => output < self.outputs,
+            Cell::Protect => true,
+        }
+    }
+
+    /// A state that a host holds passes `is_sound`: a law of the definitions.
+    pub fn hosts_are_sound(&self)
+        requires { IsSound (held self.now) }
+        ensures { is_sound (held self.now) ≡ true }
+    {}
+}
+
+// Hands the prover that there are eight formats.
+#[tactic(auto, unfolding(crate::specs::Image::formats_held))]
+fn whole_formats(formats: &[FormatImage; OUTPUTS])
+    ensures { length (formats_held formats.now) ≡ 8 }
+{}

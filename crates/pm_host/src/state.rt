@@ -1,0 +1,328 @@
+mod asking;
+mod microvolts;
+mod turns;
+
+ghost use Rattle.std.specs.Prelude.{◌≡◌, ◌*◌, ◌<◌, ◌≤◌, true, length, None, OnOk, OnErr, IfSome, IsSomeAnd};
+ghost use Rattle.std.specs.Result.{result_err};
+ghost use Rattle.pm_table.specs.Address.{IsAddress};
+ghost use Rattle.pm_table.specs.Cell.{output_of, IsCell};
+ghost use Rattle.pm_num.specs.AnyFormat.{shape_value, shape_rank};
+ghost use Rattle.pm_num.specs.Nearest.{IsNearest};
+ghost use Rattle.pm_num.specs.Ratio.{micros};
+ghost use Rattle.pm_frame.specs.Layout.{fits_layout};
+ghost use Rattle.pm_host.specs.Frames.{frames_left};
+ghost use Rattle.pm_host.specs.Image.{held, words_held, standing_held, formats_held};
+ghost use Rattle.pm_host.specs.Messages.{IsFrameOf};
+ghost use Rattle.pm_host.specs.Refusals.{setup_fault, IsSetup, output_fault, cell_fault, command_fault, order_fault, micro_fault, micro_word, may_come};
+ghost use Rattle.pm_host.specs.Sound.{IsSound};
+ghost use Rattle.pm_host.specs.Summary.{start, next, step_of, possible_at, standing_at, format_at, sending_in, no_formats};
+ghost use Rattle.pm_host.specs.Told.{entry_told, OnEnded};
+ghost use Rattle.pm_host.specs.Transcript.{Setup, Accepted, Restarted, Order, Check, Learn, Send};
+
+use crate::answers::{good_byte, good_coefficients, good_word};
+use crate::command::Command;
+use crate::fault::HostFault;
+use crate::format_image::FormatImage;
+use crate::knowledge::Knowledge;
+use crate::messages::{cell_read, mode_read};
+use crate::stage::Stage;
+use crate::stage_image::StageImage;
+use crate::standing_image::StandingImage;
+use crate::step::Step;
+use crate::told::Told;
+use crate::words_image::WordsImage;
+pub use microvolts::nearest_word;
+use pm_frame::{Frame, Message, write_part};
+use pm_table::Cell;
+
+/// How many outputs a device has at most.
+pub(crate) const OUTPUTS: usize = 8;
+
+/// What a host holds, as plain numbers in the caller's memory, and its calls. They are those of `Host`,
+/// which says what each does; a state keeps no frame.
+///
+/// Memory of any bytes may be taken for a state: `is_sound` says whether it is one that a host holds,
+/// which each other call but `start` wants, and leaves.
+#[repr(C)]
+#[derive(Drop)]
+pub struct State {
+    /// The address of the device, 08h to 77h.
+    pub address: u8,
+    /// How many outputs it has, 1 to 8.
+    pub outputs: u8,
+    /// How many passes or tries a job has at most, 1 to 15.
+    pub passes: u8,
+    /// No meaning.
+    pub unused: u8,
+    /// Where the open job stands.
+    pub stage: StageImage,
+    /// The format of each output's voltages.
+    pub formats: [FormatImage; OUTPUTS],
+    /// What is known of the cells.
+    pub known: Knowledge,
+}
+
+impl State {
+    /// Zeros: the state of no host, for `start`.
+    pub(crate) fn blank() -> State {
+        State {
+            address: 0,
+            outputs: 0,
+            passes: 0,
+            unused: 0,
+            stage: StageImage::idle(),
+            formats: [FormatImage::NONE; OUTPUTS],
+            known: Knowledge::blank(),
+        }
+    }
+
+    /// Makes it the state of a host as `Host::new` does, whatever it was.
+    pub fn start(&mut self, addr: u8, outputs: u8, passes: u8) -> Result<(), HostFault>
+        requires { IsAddress addr }
+        ensures made { let setup : Setup = record { addr = addr; outputs = outputs; passes = passes } in
+            OnOk result (held self.new ≡ start setup) }
+        ensures sound { OnOk result (IsSound (held self.new)) }
+        ensures err { OnErr result (self.new ≡ self.old) }
+        ensures fault { result_err result ≡ setup_fault outputs passes }
+    {
+        if !(1..=8).contains(&outputs) {
+            return Err(HostFault::OutputCount);
+        }
+        if !(1..=15).contains(&passes) {
+            return Err(HostFault::Passes);
+        }
+        self.address = addr;
+        self.outputs = outputs;
+        self.passes = passes;
+        self.unused = 0;
+        self.forget();
+        Ok(())
+    }
+
+    // No job is open, and nothing is known.
+    fn forget(&mut self)
+        requires { IsSetup (held self.old).setup }
+        ensures after { held self.new ≡ start (held self.old).setup }
+        ensures sound { IsSound (held self.new) }
+    {
+        self.stage = StageImage::idle();
+        forget_formats(&mut self.formats);
+        self.known.clear();
+    }
+
+    /// Begins an order, as `Host::order`.
+    #[tactic(auto, unfolding(crate::specs::Summary::next))]
+    pub fn order(&mut self, cell: Cell, word: u16) -> Result<(), HostFault>
+        requires sound { IsSound (held self.old) }
+        ensures sound { IsSound (held self.new) }
+        ensures fault { result_err result ≡ order_fault (held self.old) cell word }
+        ensures ok { OnOk result (held self.new ≡ next (held self.old) (Accepted (Order cell word))) }
+        ensures err { OnErr result (self.new ≡ self.old) }
+        ensures kept { (held self.new).setup ≡ (held self.old).setup }
+        ensures left { OnOk result (frames_left (held self.new) ≤ 2 * (held self.new).setup.passes) }
+    {
+        self.cell_is_free(cell)?;
+        if !cell.accepts(word) {
+            return Err(HostFault::BadWord);
+        }
+        if !self.known.possible(cell).has_room(word) {
+            return Err(HostFault::TooUncertain);
+        }
+        self.begin_write(cell, word, 0);
+        Ok(())
+    }
+
+    /// Begins an order in microvolts, as `Host::order_micro`.
+    pub fn order_micro(&mut self, cell: Cell, x: i64) -> Result<(), HostFault>
+        requires sound { IsSound (held self.old) }
+        ensures sound { IsSound (held self.new) }
+        ensures fault { result_err result ≡ micro_fault (held self.old) cell x }
+        ensures ok { OnOk result (IsSomeAnd (micro_word (held self.old) cell x)
+            (λ word. held self.new ≡ next (held self.old) (Accepted (Order cell word)))) }
+        ensures nearest { OnOk result (IsSomeAnd (format_at (held self.old) (output_of cell))
+            (λ shape. IsSomeAnd (micro_word (held self.old) cell x)
+            (IsNearest (shape_value shape) (shape_rank shape) (micros x)))) }
+        ensures err { OnErr result (self.new ≡ self.old) }
+        ensures kept { (held self.new).setup ≡ (held self.old).setup }
+        ensures left { OnOk result (frames_left (held self.new) ≤ 2 * (held self.new).setup.passes) }
+    {
+        let format = self.voltage_format(cell)?;
+        let word = nearest_word(&format, x)?;
+        self.order(cell, word)
+    }
+
+    /// Begins a check, as `Host::check`.
+    #[tactic(auto, unfolding(crate::specs::Summary::next))]
+    pub fn check(&mut self, cell: Cell) -> Result<(), HostFault>
+        requires sound { IsSound (held self.old) }
+        ensures sound { IsSound (held self.new) }
+        ensures fault { result_err result ≡ cell_fault (held self.old) cell }
+        ensures ok { OnOk result (held self.new ≡ next (held self.old) (Accepted (Check cell))) }
+        ensures err { OnErr result (self.new ≡ self.old) }
+        ensures kept { (held self.new).setup ≡ (held self.old).setup }
+        ensures left { OnOk result (frames_left (held self.new) ≤ 2 * (held self.new).setup.passes) }
+    {
+        self.cell_is_free(cell)?;
+        self.go_on(Stage::Checks { cell, tries: 0 });
+        Ok(())
+    }
+
+    /// Begins a learn, as `Host::learn`.
+    #[tactic(auto, unfolding(crate::specs::Summary::next))]
+    pub fn learn(&mut self, output: u8) -> Result<(), HostFault>
+        requires sound { IsSound (held self.old) }
+        ensures sound { IsSound (held self.new) }
+        ensures fault { result_err result ≡ output_fault (held self.old) output }
+        ensures ok { OnOk result (held self.new ≡ next (held self.old) (Accepted (Learn output))) }
+        ensures err { OnErr result (self.new ≡ self.old) }
+        ensures kept { (held self.new).setup ≡ (held self.old).setup }
+        ensures left { OnOk result (frames_left (held self.new) ≤ 2 * (held self.new).setup.passes) }
+    {
+        self.is_free(output < self.outputs)?;
+        self.go_on(Stage::AsksMode { output, tries: 0 });
+        Ok(())
+    }
+
+    /// Begins to send a command, as `Host::send`.
+    #[tactic(auto, unfolding(crate::specs::Summary::next))]
+    pub fn send(&mut self, command: Command) -> Result<(), HostFault>
+        requires sound { IsSound (held self.old) }
+        ensures sound { IsSound (held self.new) }
+        ensures fault { result_err result ≡ command_fault (held self.old) command }
+        ensures ok { OnOk result (held self.new ≡ next (held self.old) (Accepted (Send command))) }
+        ensures err { OnErr result (self.new ≡ self.old) }
+        ensures kept { (held self.new).setup ≡ (held self.old).setup }
+        ensures left { OnOk result (frames_left (held self.new) ≤ 2 * (held self.new).setup.passes) }
+    {
+        self.is_free(command.is_there(self.outputs))?;
+        self.go_on(Stage::Sends { command, tries: 0 });
+        Ok(())
+    }
+
+    /// Begins a clear, as `Host::clear`.
+    #[tactic(auto, unfolding(crate::specs::Summary::next))]
+    pub fn clear(&mut self, output: u8) -> Result<(), HostFault>
+        requires sound { IsSound (held self.old) }
+        ensures sound { IsSound (held self.new) }
+        ensures fault { result_err result ≡ output_fault (held self.old) output }
+        ensures ok { OnOk result (held self.new ≡ next (held self.old) (Accepted (Send (Command.ClearFaults output)))) }
+        ensures err { OnErr result (self.new ≡ self.old) }
+        ensures kept { (held self.new).setup ≡ (held self.old).setup }
+        ensures left { OnOk result (frames_left (held self.new) ≤ 2 * (held self.new).setup.passes) }
+    {
+        self.send(Command::ClearFaults { output })
+    }
+
+    /// The message whose frame is being sent, which has its layout; `None` where no job is open.
+    pub fn message(&self) -> Option<Message>
+        requires { IsSound (held self.now) }
+        ensures message { result ≡ sending_in (held self.now) }
+        ensures fits { IfSome result (λ message. fits_layout message ≡ true) }
+    {
+        match self.stage.stage() {
+            Some(stage) => Some(stage.message()),
+            None => None,
+        }
+    }
+
+    /// The frame that is being sent; nothing where no job is open.
+    pub(crate) fn frame(&self) -> Frame
+        requires { IsSound (held self.now) }
+        ensures { IfSome (sending_in (held self.now))
+            (λ message. IsFrameOf self.now.address message result.items) }
+    {
+        match self.message() {
+            Some(message) => write_part(self.address, &message),
+            None => Frame::new(),
+        }
+    }
+
+    /// What became of the frame that is being sent, as `Host::told`.
+    #[tactic(auto, unfolding(crate::specs::Summary::next, crate::specs::Summary::step_of))]
+    pub fn told(&mut self, told: Told<'_>) -> Step
+        requires sound { IsSound (held self.old) }
+        requires may_come { may_come (held self.old) (entry_told told) ≡ true }
+        ensures sound { IsSound (held self.new) }
+        ensures after { held self.new ≡ next (held self.old) (entry_told told.entry) }
+        ensures step { result ≡ step_of (held self.old) (entry_told told.entry) }
+        ensures kept { (held self.new).setup ≡ (held self.old).setup }
+        ensures left { frames_left (held self.new) < frames_left (held self.old) }
+        ensures over { OnEnded result (frames_left (held self.new) ≡ 0) }
+    {
+        let Some(stage) = self.stage.stage() else {
+            unreachable!()
+        };
+        self.stage = StageImage::idle();
+        match (stage, told) {
+            (Stage::Writes { cell, word, pass }, Told::Finished { .. }) => {
+                self.go_on(Stage::Reads { cell, word, pass })
+            }
+            (Stage::Sends { command, tries }, Told::Finished { acked }) => {
+                self.sent(command, tries, acked)
+            }
+            (Stage::Reads { cell, word, pass }, Told::Got(bytes)) => {
+                let read = good_word(self.address, &cell_read(cell), bytes);
+                self.read_back(cell, word, pass, read)
+            }
+            (Stage::Checks { cell, tries }, Told::Got(bytes)) => {
+                let read = good_word(self.address, &cell_read(cell), bytes);
+                self.checked(cell, tries, read)
+            }
+            (Stage::AsksMode { output, tries }, Told::Got(bytes)) => {
+                let byte = good_byte(self.address, &mode_read(output), bytes);
+                self.mode_told(output, tries, byte)
+            }
+            (Stage::AsksCoefficients { output, tries }, Told::Got(bytes)) => {
+                let told = good_coefficients(self.address, bytes);
+                self.coefficients_told(output, tries, told)
+            }
+            _ => unreachable!(),
+        }
+    }
+
+    /// Drops the open job and all that is known, as `Host::restart`.
+    #[tactic(auto, unfolding(crate::specs::Summary::next))]
+    pub fn restart(&mut self)
+        requires sound { IsSound (held self.old) }
+        ensures sound { IsSound (held self.new) }
+        ensures after { held self.new ≡ next (held self.old) Restarted }
+        ensures kept { (held self.new).setup ≡ (held self.old).setup }
+        ensures left { frames_left (held self.new) ≡ 0 }
+    {
+        self.forget();
+    }
+
+    /// What is known of a cell's word, as `Host::standing` says.
+    pub fn standing(&self, cell: Cell) -> StandingImage
+        requires sound { IsSound (held self.now) }
+        requires there { IsCell self.now.outputs cell }
+        ensures { standing_held result ≡ standing_at (held self.now) cell }
+    {
+        self.known.standing(cell)
+    }
+
+    /// The words that a cell may hold, as `Host::possible` says.
+    pub fn possible(&self, cell: Cell) -> &WordsImage
+        requires sound { IsSound (held self.now) }
+        requires there { IsCell self.now.outputs cell }
+        ensures { words_held result.now ≡ possible_at (held self.now) cell }
+    {
+        self.known.possible(cell)
+    }
+
+    /// Whether a restart of the device was seen, as `Host::restart_seen` says.
+    pub fn restart_seen(&self) -> bool
+        ensures { result ≡ (held self.now).known.seen }
+    {
+        self.known.restart_seen()
+    }
+}
+
+// No format is known.
+#[tactic(auto, unfolding(crate::specs::Image::formats_held, crate::specs::Summary::no_formats))]
+fn forget_formats(formats: &mut [FormatImage; OUTPUTS])
+    ensures none { formats_held formats.new ≡ no_formats }
+    ensures all { length (formats_held formats.new) ≡ 8 }
+{
+    formats.fill(FormatImage::NONE);
+}

@@ -1,0 +1,271 @@
+//! What becomes of an open job once its frame was sent.
+
+ghost use Rattle.std.specs.Prelude.{◌≡◌, ◌≢◌, ◌+◌, ◌-◌, ◌*◌, ◌<◌, ◌≤◌, true, slice_set, Some, None};
+ghost use Rattle.std.specs.Result.{ForOk};
+ghost use Rattle.pm_table.specs.Cell.{cell_accepts, IsCell};
+ghost use Rattle.pm_table.specs.VoutMode.{IsMode};
+ghost use Rattle.pm_host.specs.Frames.{frames_from, frames_left};
+ghost use Rattle.pm_host.specs.Image.{held, format_held, formats_held};
+ghost use Rattle.pm_host.specs.Marks.{Good};
+ghost use Rattle.pm_host.specs.Possible.{has_room, only};
+ghost use Rattle.pm_host.specs.Sound.{IsOrdering, IsChecking, IsAsking, IsSending, IsStage, IsSound};
+ghost use Rattle.pm_host.specs.Told.{OnEnded};
+ghost use Rattle.pm_host.specs.Summary.{possible_at, goes_on, ends, another as spec_another, marked, writes, read_back as spec_read_back, checked as spec_checked, learned as spec_learned, mode_taken, mode_answered, coefficients_answered, finished};
+
+use crate::command::Command;
+use crate::format_image::{FormatImage, NO_COEFFICIENTS};
+use crate::job_end::JobEnd;
+use crate::stage::Stage;
+use crate::stage_image::StageImage;
+use crate::state::{OUTPUTS, State};
+use crate::step::Step;
+use pm_table::{Cell, Coefficients, TableFault, VoutMode};
+
+impl State {
+    /// The job goes on at this stage, whose frame is sent next.
+    pub(super) fn go_on(&mut self, stage: Stage) -> Step
+        requires sound { IsSound (held self.old) }
+        requires stage { IsStage (held self.old) (Some stage) }
+        ensures sound { IsSound (held self.new) }
+        ensures after { held self.new ≡ (goes_on (held self.old) stage).after }
+        ensures step { result ≡ Step.Next }
+    {
+        self.stage = StageImage::at(stage);
+        Step::Next
+    }
+
+    /// The job has ended.
+    pub(super) fn end(&mut self, end: JobEnd) -> Step
+        requires sound { IsSound (held self.old) }
+        ensures sound { IsSound (held self.new) }
+        ensures after { held self.new ≡ (ends (held self.old) end).after }
+        ensures step { result ≡ Step.Ended end }
+    {
+        self.stage = StageImage::idle();
+        Step::Ended(end)
+    }
+
+    /// The job goes on at the stage after these tries, where one is left.
+    pub(super) fn another(&mut self, tries: u8, stage: Stage) -> Step
+        requires sound { IsSound (held self.old) }
+        requires few { (held self.old).setup.passes ≤ 15 }
+        requires stage { tries + 1 ≢ (held self.old).setup.passes → IsStage (held self.old) (Some stage) }
+        requires left { tries < (held self.old).setup.passes }
+        ensures sound { IsSound (held self.new) }
+        ensures after { held self.new ≡ (spec_another (held self.old) tries stage).after }
+        ensures step { result ≡ (spec_another (held self.old) tries stage).step }
+        ensures left { frames_left (held self.new) ≤ frames_from (held self.old).setup.passes stage }
+        ensures over { OnEnded result (frames_left (held self.new) ≡ 0) }
+    {
+        if tries + 1 == self.passes {
+            return self.end(JobEnd::Unknown);
+        }
+        self.go_on(stage)
+    }
+
+    /// The write of an order begins to be sent.
+    pub(super) fn begin_write(&mut self, cell: Cell, word: u16, pass: u8) -> Step
+        requires sound { IsSound (held self.old) }
+        requires idle { (held self.old).stage ≡ None }
+        requires there { IsCell (held self.old).setup.outputs cell }
+        requires accepted { cell_accepts cell word ≡ true }
+        requires room { has_room word (possible_at (held self.old) cell) ≡ true }
+        requires left { pass < (held self.old).setup.passes }
+        ensures sound { IsSound (held self.new) }
+        ensures after { held self.new ≡ (writes (held self.old) cell word pass).after }
+        ensures step { result ≡ Step.Next }
+    {
+        self.known.put(cell, word);
+        self.go_on(Stage::Writes { cell, word, pass })
+    }
+
+    /// A good answer for a cell.
+    pub(super) fn note(&mut self, cell: Cell, word: u16)
+        requires sound { IsSound (held self.old) }
+        requires idle { (held self.old).stage ≡ None }
+        requires there { IsCell (held self.old).setup.outputs cell }
+        ensures sound { IsSound (held self.new) }
+        ensures after { held self.new ≡ marked (held self.old) (Good cell word) }
+        ensures alone { possible_at (held self.new) cell ≡ only word }
+    {
+        self.known.good(cell, word);
+    }
+
+    /// An order read its cell back.
+    pub(super) fn read_back(&mut self, cell: Cell, word: u16, pass: u8, read: Option<u16>) -> Step
+        requires sound { IsSound (held self.old) }
+        requires few { (held self.old).setup.passes ≤ 15 }
+        requires idle { (held self.old).stage ≡ None }
+        requires ordering { IsOrdering (held self.old) cell word pass }
+        ensures sound { IsSound (held self.new) }
+        ensures after { held self.new ≡ (spec_read_back (held self.old) cell word pass read).after }
+        ensures step { result ≡ (spec_read_back (held self.old) cell word pass read).step }
+        ensures left { frames_left (held self.new) ≤ 2 * ((held self.old).setup.passes - (pass + 1)) }
+        ensures over { OnEnded result (frames_left (held self.new) ≡ 0) }
+    {
+        if let Some(read) = read {
+            self.note(cell, read);
+            if read == word {
+                return self.end(JobEnd::Done);
+            }
+        }
+        if pass + 1 == self.passes {
+            return self.end(match read {
+                Some(read) => JobEnd::Differs(read),
+                None => JobEnd::Unknown,
+            });
+        }
+        self.begin_write(cell, word, pass + 1)
+    }
+
+    /// A check read its cell.
+    pub(super) fn checked(&mut self, cell: Cell, tries: u8, read: Option<u16>) -> Step
+        requires sound { IsSound (held self.old) }
+        requires few { (held self.old).setup.passes ≤ 15 }
+        requires idle { (held self.old).stage ≡ None }
+        requires checking { IsChecking (held self.old) cell tries }
+        ensures sound { IsSound (held self.new) }
+        ensures after { held self.new ≡ (spec_checked (held self.old) cell tries read).after }
+        ensures step { result ≡ (spec_checked (held self.old) cell tries read).step }
+        ensures left { frames_left (held self.new) ≤ (held self.old).setup.passes - (tries + 1) }
+        ensures over { OnEnded result (frames_left (held self.new) ≡ 0) }
+    {
+        match read {
+            Some(read) => {
+                self.note(cell, read);
+                self.end(JobEnd::Done)
+            }
+            None => self.another(
+                tries,
+                Stage::Checks {
+                    cell,
+                    tries: tries + 1,
+                },
+            ),
+        }
+    }
+
+    /// A learn read VOUT_MODE.
+    pub(super) fn mode_told(&mut self, output: u8, tries: u8, byte: Option<u8>) -> Step
+        requires sound { IsSound (held self.old) }
+        requires few { (held self.old).setup.passes ≤ 15 }
+        requires idle { (held self.old).stage ≡ None }
+        requires asking { IsAsking (held self.old) output tries }
+        ensures sound { IsSound (held self.new) }
+        ensures after { held self.new ≡ (mode_answered (held self.old) output tries byte).after }
+        ensures step { result ≡ (mode_answered (held self.old) output tries byte).step }
+        ensures left { frames_left (held self.new)
+            ≤ ((held self.old).setup.passes - (tries + 1)) + (held self.old).setup.passes }
+        ensures over { OnEnded result (frames_left (held self.new) ≡ 0) }
+    {
+        match byte {
+            Some(byte) => self.mode_known(output, VoutMode::read(byte)),
+            None => self.another(
+                tries,
+                Stage::AsksMode {
+                    output,
+                    tries: tries + 1,
+                },
+            ),
+        }
+    }
+
+    /// A learn knows what VOUT_MODE says.
+    pub(super) fn mode_known(&mut self, output: u8, mode: Result<VoutMode, TableFault>) -> Step
+        requires sound { IsSound (held self.old) }
+        requires idle { (held self.old).stage ≡ None }
+        requires there { output < (held self.old).setup.outputs }
+        requires some { 1 ≤ (held self.old).setup.passes }
+        requires mode { ForOk mode IsMode }
+        ensures sound { IsSound (held self.new) }
+        ensures after { held self.new ≡ (mode_taken (held self.old) output mode).after }
+        ensures step { result ≡ (mode_taken (held self.old) output mode).step }
+        ensures left { frames_left (held self.new) ≤ (held self.old).setup.passes }
+        ensures over { OnEnded result (frames_left (held self.new) ≡ 0) }
+    {
+        match mode {
+            Ok(VoutMode::Direct) => self.go_on(Stage::AsksCoefficients { output, tries: 0 }),
+            Ok(mode) => self.learned(output, FormatImage::of(mode, NO_COEFFICIENTS)),
+            Err(_) => self.end(JobEnd::Unknown),
+        }
+    }
+
+    /// A learn read COEFFICIENTS.
+    pub(super) fn coefficients_told(
+        &mut self,
+        output: u8,
+        tries: u8,
+        told: Option<Coefficients>,
+    ) -> Step
+        requires sound { IsSound (held self.old) }
+        requires few { (held self.old).setup.passes ≤ 15 }
+        requires idle { (held self.old).stage ≡ None }
+        requires asking { IsAsking (held self.old) output tries }
+        ensures sound { IsSound (held self.new) }
+        ensures after { held self.new ≡ (coefficients_answered (held self.old) output tries told).after }
+        ensures step { result ≡ (coefficients_answered (held self.old) output tries told).step }
+        ensures left { frames_left (held self.new) ≤ (held self.old).setup.passes - (tries + 1) }
+        ensures over { OnEnded result (frames_left (held self.new) ≡ 0) }
+    {
+        match told {
+            Some(told) => self.learned(output, FormatImage::of(VoutMode::Direct, told)),
+            None => self.another(
+                tries,
+                Stage::AsksCoefficients {
+                    output,
+                    tries: tries + 1,
+                },
+            ),
+        }
+    }
+
+    /// A learn ends, with a format or with none.
+    pub(super) fn learned(&mut self, output: u8, format: FormatImage) -> Step
+        requires sound { IsSound (held self.old) }
+        requires idle { (held self.old).stage ≡ None }
+        requires there { output < (held self.old).setup.outputs }
+        ensures sound { IsSound (held self.new) }
+        ensures after { held self.new ≡ (spec_learned (held self.old) output (format_held format)).after }
+        ensures step { result ≡ (spec_learned (held self.old) output (format_held format)).step }
+        ensures left { frames_left (held self.new) ≡ 0 }
+    {
+        if format.format().is_none() {
+            return self.end(JobEnd::Unknown);
+        }
+        put_format(&mut self.formats, output, format);
+        self.end(JobEnd::Learned)
+    }
+
+    /// A command was sent.
+    pub(super) fn sent(&mut self, command: Command, tries: u8, acked: bool) -> Step
+        requires sound { IsSound (held self.old) }
+        requires few { (held self.old).setup.passes ≤ 15 }
+        requires idle { (held self.old).stage ≡ None }
+        requires sending { IsSending (held self.old) command tries }
+        ensures sound { IsSound (held self.new) }
+        ensures after { held self.new ≡ (finished (held self.old) (Some (Stage.Sends command tries)) acked).after }
+        ensures step { result ≡ (finished (held self.old) (Some (Stage.Sends command tries)) acked).step }
+        ensures left { frames_left (held self.new) ≤ (held self.old).setup.passes - (tries + 1) }
+        ensures over { OnEnded result (frames_left (held self.new) ≡ 0) }
+    {
+        if acked {
+            return self.end(JobEnd::Done);
+        }
+        self.another(
+            tries,
+            Stage::Sends {
+                command,
+                tries: tries + 1,
+            },
+        )
+    }
+}
+
+// The format of an output's voltages was learned.
+#[tactic(auto, unfolding(crate::specs::Image::formats_held))]
+fn put_format(formats: &mut [FormatImage; OUTPUTS], output: u8, format: FormatImage)
+    requires { output < 8 }
+    ensures { formats_held formats.new ≡ slice_set (formats_held formats.old) output (format_held format) }
+{
+    formats[usize::from(output)] = format;
+}

@@ -1,0 +1,103 @@
+ghost use Rattle.std.specs.Prelude.{◌≡◌, true, false, MatchOption};
+ghost use Rattle.pm_host.specs.Image.{listing, words_held};
+ghost use Rattle.pm_host.specs.Possible.{is_possible, has_room as spec_has_room, joined, only as spec_only};
+
+use crate::possible::Possible;
+use arrayvec::ArrayVec;
+
+/// The words that a cell may hold, as plain numbers: the first `count` of `words`, where that is 1 to
+/// 16; any word where `count` is another number.
+#[repr(C)]
+#[derive(Clone, Copy)]
+pub struct WordsImage {
+    /// How many words are listed.
+    pub count: u16,
+    /// The words, in the order in which they first came; behind them anything.
+    pub words: [u16; 16],
+}
+
+impl WordsImage {
+    /// Any word.
+    pub(crate) const ANY: WordsImage = WordsImage {
+        count: 0,
+        words: [0; 16],
+    };
+
+    /// The words that are listed; `None` where any word is possible.
+    pub(crate) fn listed(&self) -> Option<&[u16]>
+        ensures { MatchOption result (words_held self.now ≡ Possible.Any)
+            (λ words. words_held self.now ≡ listing words.now) }
+    {
+        if (1..=16).contains(&self.count) {
+            Some(&self.words[..usize::from(self.count)])
+        } else {
+            None
+        }
+    }
+
+    /// What the numbers mean.
+    pub fn possible(&self) -> Possible
+        ensures { result ≡ words_held self.now }
+    {
+        match self.listed() {
+            Some(words) => {
+                let mut copied = ArrayVec::new();
+                let _ = copied.try_extend_from_slice(words);
+                Possible::Words(copied)
+            }
+            None => Possible::Any,
+        }
+    }
+
+    /// Whether the cell may hold this word.
+    pub(crate) fn allows(&self, word: u16) -> bool
+        ensures { result ≡ is_possible word (words_held self.now) }
+    {
+        match self.listed() {
+            Some(words) => words.contains(&word),
+            None => true,
+        }
+    }
+
+    /// Whether this word can be joined: it is listed, or there are fewer than 16.
+    pub(crate) fn has_room(&self, word: u16) -> bool
+        ensures { result ≡ spec_has_room word (words_held self.now) }
+    {
+        match self.listed() {
+            Some(words) => words.contains(&word) || words.len() < 16,
+            None => true,
+        }
+    }
+
+    /// Joins this word.
+    pub(crate) fn join(&mut self, word: u16)
+        requires { spec_has_room word (words_held self.old) ≡ true }
+        ensures joined { words_held self.new ≡ joined (words_held self.old) word }
+        ensures listed { is_possible word (words_held self.new) ≡ true }
+    {
+        if !self.allows(word) {
+            self.push(word);
+        }
+    }
+
+    // Joins a word that isn't listed.
+    fn push(&mut self, word: u16)
+        requires room { spec_has_room word (words_held self.old) ≡ true }
+        requires other { is_possible word (words_held self.old) ≡ false }
+        ensures joined { words_held self.new ≡ joined (words_held self.old) word }
+        ensures listed { is_possible word (words_held self.new) ≡ true }
+    {
+        self.words[usize::from(self.count)] = word;
+        self.count += 1;
+    }
+
+    /// Exactly this word.
+    pub(crate) fn only(word: u16) -> WordsImage
+        ensures { words_held result ≡ spec_only word }
+    {
+        WordsImage {
+            count: 1,
+            words: [word, 0, 0, 0, 0, 0, 0, 0, 0, 0, 0, 0, 0, 0, 0, 0],
+        }
+    }
+}
