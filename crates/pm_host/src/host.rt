@@ -16,6 +16,7 @@ ghost use Rattle.pm_host.specs.Turn.{Shows};
 use crate::command::Command;
 use crate::fault::HostFault;
 use crate::possible::Possible;
+use crate::sending::Sending;
 use crate::standing::Standing;
 use crate::state::State;
 use crate::step::Step;
@@ -38,8 +39,8 @@ use std::marker::Model;
 #[derive(Drop)]
 pub struct Host {
     state: State,
-    // The frame that is being sent; where no job is open, any.
-    frame: Frame,
+    // What is being sent; nothing where no job is open.
+    sending: Option<Sending>,
 }
 
 impl Model for Host {
@@ -47,7 +48,8 @@ impl Model for Host {
 
     ghost Value = { Summary };
 
-    ghost use Rattle.std.specs.Prelude.{IfSome};
+    ghost use Rattle.std.specs.Prelude.{◌≡◌, IfSome};
+    ghost use Rattle.std.specs.Option.{option_map};
     ghost use Rattle.pm_host.specs.Image.{held};
     ghost use Rattle.pm_host.specs.Messages.{IsFrameOf};
     ghost use Rattle.pm_host.specs.Sound.{IsSound};
@@ -56,8 +58,8 @@ impl Model for Host {
     ghost view = { λ h. held h.state };
 
     ghost invariant = { λ h. IsSound (held h.state)
-        × IfSome (sending_in (held h.state))
-        (λ message. IsFrameOf h.state.address message h.frame.items) };
+        × (option_map (λ s. s.message) h.sending ≡ sending_in (held h.state))
+        × IfSome h.sending (λ s. IsFrameOf h.state.address s.message s.frame.items) };
 }
 
 impl Host {
@@ -75,7 +77,7 @@ impl Host {
         state.start(addr, outputs, passes)?;
         Ok(Host {
             state,
-            frame: Frame::new(),
+            sending: None,
         })
     }
 
@@ -97,7 +99,7 @@ impl Host {
         ensures left { OnOk result (frames_left self.new ≤ 2 * self.new.setup.passes) }
     {
         self.state.order(cell, word)?;
-        self.frame = self.state.frame();
+        self.sending = self.state.sending();
         Ok(())
     }
 
@@ -119,7 +121,7 @@ impl Host {
         ensures left { OnOk result (frames_left self.new ≤ 2 * self.new.setup.passes) }
     {
         self.state.order_micro(cell, x)?;
-        self.frame = self.state.frame();
+        self.sending = self.state.sending();
         Ok(())
     }
 
@@ -134,7 +136,7 @@ impl Host {
         ensures left { OnOk result (frames_left self.new ≤ 2 * self.new.setup.passes) }
     {
         self.state.check(cell)?;
-        self.frame = self.state.frame();
+        self.sending = self.state.sending();
         Ok(())
     }
 
@@ -150,7 +152,7 @@ impl Host {
         ensures left { OnOk result (frames_left self.new ≤ 2 * self.new.setup.passes) }
     {
         self.state.learn(output)?;
-        self.frame = self.state.frame();
+        self.sending = self.state.sending();
         Ok(())
     }
 
@@ -165,7 +167,7 @@ impl Host {
         ensures left { OnOk result (frames_left self.new ≤ 2 * self.new.setup.passes) }
     {
         self.state.send(command)?;
-        self.frame = self.state.frame();
+        self.sending = self.state.sending();
         Ok(())
     }
 
@@ -186,18 +188,18 @@ impl Host {
     pub fn turn(&self) -> Turn<'_>
         ensures { Shows self.now result }
     {
-        match self.state.message() {
+        match &self.sending {
             None => Turn::Idle,
-            Some(message) => {
+            Some(Sending { message, frame }) => {
                 // Hands the prover that an answer has at most five bytes of payload.
                 let _ = message.answer_length();
                 if message.is_read() {
                     Turn::Request {
-                        frame: &self.frame,
+                        frame,
                         bytes: message.whole_answer(),
                     }
                 } else {
-                    Turn::Write(&self.frame)
+                    Turn::Write(frame)
                 }
             }
         }
@@ -211,8 +213,8 @@ impl Host {
             (λ message. IsSomeAnd result
             (λ frame. IsFrameOf self.now.setup.addr message frame.now.items)) }
     {
-        match self.state.message() {
-            Some(_) => Some(&self.frame),
+        match &self.sending {
+            Some(sending) => Some(&sending.frame),
             None => None,
         }
     }
@@ -222,8 +224,8 @@ impl Host {
     pub fn sending_reads(&self) -> bool
         ensures { result ≡ sends_read self.now }
     {
-        match self.state.message() {
-            Some(message) => message.is_read(),
+        match &self.sending {
+            Some(sending) => sending.message.is_read(),
             None => false,
         }
     }
@@ -242,7 +244,7 @@ impl Host {
         ensures over { OnEnded result (frames_left self.new ≡ 0) }
     {
         let step = self.state.told(told);
-        self.frame = self.state.frame();
+        self.sending = self.state.sending();
         step
     }
 
@@ -253,7 +255,7 @@ impl Host {
         ensures left { frames_left self.new ≡ 0 }
     {
         self.state.restart();
-        self.frame = self.state.frame();
+        self.sending = self.state.sending();
     }
 
     /// The address of its device.

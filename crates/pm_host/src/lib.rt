@@ -43,6 +43,7 @@ mod knowledge;
 mod laws;
 mod messages;
 mod possible;
+mod sending;
 mod stage;
 mod stage_image;
 mod standing;

@@ -1,4 +1,4 @@
-ghost use Rattle.std.specs.Prelude.{◌≡◌, Some, None};
+ghost use Rattle.std.specs.Prelude.{◌≡◌, Some, None, is_some};
 ghost use Rattle.pm_table.specs.Cell.{cell_at};
 ghost use Rattle.pm_host.specs.Image.{stage_held};
 
@@ -36,6 +36,14 @@ impl StageImage {
         ensures { stage_held result ≡ None }
     {
         StageImage::at_output(0, 0, 0)
+    }
+
+    /// Whether a job is open.
+    #[tactic(auto, unfolding(crate::specs::Image::stage_held))]
+    pub(crate) fn is_open(&self) -> bool
+        ensures { result ≡ is_some (stage_held self.now) }
+    {
+        self.kind != 0
     }
 
     /// A job is open at this stage.

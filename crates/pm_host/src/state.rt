@@ -3,6 +3,7 @@ mod microvolts;
 mod turns;
 
 ghost use Rattle.std.specs.Prelude.{◌≡◌, ◌*◌, ◌<◌, ◌≤◌, true, length, None, OnOk, OnErr, IfSome, IsSomeAnd};
+ghost use Rattle.std.specs.Option.{option_map};
 ghost use Rattle.std.specs.Result.{result_err};
 ghost use Rattle.pm_table.specs.Address.{IsAddress};
 ghost use Rattle.pm_table.specs.Cell.{output_of, IsCell};
@@ -25,6 +26,7 @@ use crate::fault::HostFault;
 use crate::format_image::FormatImage;
 use crate::knowledge::Knowledge;
 use crate::messages::{cell_read, mode_read};
+use crate::sending::Sending;
 use crate::stage::Stage;
 use crate::stage_image::StageImage;
 use crate::standing_image::StandingImage;
@@ -32,7 +34,7 @@ use crate::step::Step;
 use crate::told::Told;
 use crate::words_image::WordsImage;
 pub use microvolts::nearest_word;
-use pm_frame::{Frame, Message, write_part};
+use pm_frame::{Message, write_part};
 use pm_table::Cell;
 
 /// How many outputs a device has at most.
@@ -225,15 +227,19 @@ impl State {
         }
     }
 
-    /// The frame that is being sent; nothing where no job is open.
-    pub(crate) fn frame(&self) -> Frame
+    /// What is being sent, with its frame; `None` where no job is open.
+    pub(crate) fn sending(&self) -> Option<Sending>
         requires { IsSound (held self.now) }
-        ensures { IfSome (sending_in (held self.now))
-            (λ message. IsFrameOf self.now.address message result.items) }
+        ensures message { option_map (λ s. s.message) result ≡ sending_in (held self.now) }
+        ensures frame { IfSome result
+            (λ s. IsFrameOf self.now.address s.message s.frame.items) }
     {
         match self.message() {
-            Some(message) => write_part(self.address, &message),
-            None => Frame::new(),
+            Some(message) => Some(Sending {
+                frame: write_part(self.address, &message),
+                message,
+            }),
+            None => None,
         }
     }
 

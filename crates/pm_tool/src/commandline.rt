@@ -14,6 +14,7 @@ ghost use Rattle.pm_tool.specs.Commandline.{UnlessMemory, is_once, number_words,
 
 mod choice;
 mod commands;
+mod helps;
 
 pub use choice::Chosen;
 use clap::error::ErrorKind;

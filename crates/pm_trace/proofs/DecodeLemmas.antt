@@ -113,8 +113,8 @@ pushes_more {text} {mid_text} {new_text} {old} {mid} {new} {front} {rest} before
     }
 
 -- the piece is then what was taken of it, and the rest
-pub split_more : {piece rest : List ℕ} {mid : Holding} {fed : Fed} {new : Holding} (front : List ℕ) → mid.standing ≡ Open → piece ≡ front ++ rest
-    → Feeds mid rest fed new → piece ≡ (front ++ taken_of mid rest) ++ drop fed.taken rest
+pub split_more : {piece rest : List ℕ} {mid : Holding} {fed : Fed} {new : Holding} (front : List ℕ)
+    → mid.standing ≡ Open → piece ≡ front ++ rest → Feeds mid rest fed new → piece ≡ (front ++ taken_of mid rest) ++ drop fed.taken rest
 split_more {piece} {rest} {mid} {fed} front open' split feeds =
     let (left, whole) = taken_front mid rest open' in
     let taken : take fed.taken rest ≡ taken_of mid rest = front_taken (taken_of mid rest) rest left fed.taken whole feeds.taken in
@@ -122,8 +122,8 @@ split_more {piece} {rest} {mid} {fed} front open' split feeds =
     ∙ sym (append_assoc front (taken_of mid rest) (drop fed.taken rest))
 
 -- a piece that was taken whole
-pub pushed_whole : {text new_text : List ℕ} {old new : Holding} {piece : List ℕ} (front rest : List ℕ) → piece ≡ front ++ rest → length rest ≡ 0
-    → Pushes text new_text old new front → PushesFront text new_text old new piece true
+pub pushed_whole : {text new_text : List ℕ} {old new : Holding} {piece : List ℕ} (front rest : List ℕ)
+    → piece ≡ front ++ rest → length rest ≡ 0 → Pushes text new_text old new front → PushesFront text new_text old new piece true
 pushed_whole front rest split none pushes = record {
   front = front;
   rest = rest;
@@ -134,8 +134,8 @@ pushed_whole front rest split none pushes = record {
 }
 
 -- a piece with a byte too many
-pub pushed_front : {text mid_text new_text : List ℕ} {old mid new : Holding} {piece : List ℕ} (front rest : List ℕ) → piece ≡ front ++ rest
-    → 0 < length rest → Pushes text mid_text old mid front → refusal_of mid rest ≡ Some TooLong → new_text ≡ mid_text
+pub pushed_front : {text mid_text new_text : List ℕ} {old mid new : Holding} {piece : List ℕ} (front rest : List ℕ)
+    → piece ≡ front ++ rest → 0 < length rest → Pushes text mid_text old mid front → refusal_of mid rest ≡ Some TooLong → new_text ≡ mid_text
     → PushesFront text new_text old new piece false
 pushed_front {old = old} {mid = mid} front rest split some pushes refused same =
     let full = room_none mid rest pushes.standing refused in

@@ -43,7 +43,6 @@ fn push_shown(text: &mut String, number: u64, shown: &Shown<'_>) -> Result<(), A
     match shown {
         Shown::Accepted { addr, view, answer } => {
             push_hex(text, *addr)?;
-            text.push_str(" ")?;
             push_packet(text, view, *answer)
         }
         Shown::Faulty { addr, read, fault } => {
@@ -87,7 +86,7 @@ fn push_place(text: &mut String, place: Option<usize>) -> Result<(), AllocError>
     push_decimal(text, place as u64)
 }
 
-// What a packet says that was accepted.
+// A space, and what a packet says that was accepted.
 #[tactic(auto, using(crate::proofs::Joins::joins), unfolding(crate::specs::TraceText::plain_text))]
 fn push_packet(
     text: &mut String,
@@ -95,7 +94,7 @@ fn push_packet(
     answer: Option<&[u8]>,
 ) -> Result<(), AllocError>
     ensures { OnOk result (string_bytes text.new ≡ string_bytes text.old
-        ++ message_text view.now (option_map (λ bytes. bytes.now) answer.entry)) }
+        ++ (codes " " ++ message_text view.now (option_map (λ bytes. bytes.now) answer.entry))) }
 {
     match view.message() {
         Message::ReadCoefficients { code, side } => {
@@ -105,7 +104,7 @@ fn push_packet(
     }
 }
 
-// The page that a packet names, its code's name, and what it carries.
+// A space, the page that a packet names, its code's name, and what it carries.
 #[tactic(auto, using(crate::proofs::Joins::joins), unfolding(crate::specs::TraceText::plain_text))]
 fn push_plain(
     text: &mut String,
@@ -113,7 +112,7 @@ fn push_plain(
     answer: Option<&[u8]>,
 ) -> Result<(), AllocError>
     ensures { OnOk result (string_bytes text.new ≡ string_bytes text.old
-        ++ plain_text view.now (option_map (λ bytes. bytes.now) answer.entry)) }
+        ++ (codes " " ++ plain_text view.now (option_map (λ bytes. bytes.now) answer.entry))) }
 {
     push_page(text, view.page())?;
     text.push_str(Code(view.code()).name())?;
@@ -126,15 +125,16 @@ fn push_plain(
     }
 }
 
-// The page, where one is named.
+// A space, and the page where one is named.
 #[tactic(auto, using(crate::proofs::Joins::joins))]
 fn push_page(text: &mut String, page: Option<u8>) -> Result<(), AllocError>
-    ensures { OnOk result (string_bytes text.new ≡ string_bytes text.old ++ page_text page) }
+    ensures { OnOk result (string_bytes text.new
+        ≡ string_bytes text.old ++ (codes " " ++ page_text page)) }
 {
     let Some(page) = page else {
-        return Ok(());
+        return text.push_str(" ");
     };
-    text.push_str("page ")?;
+    text.push_str(" page ")?;
     push_decimal(text, u64::from(page))?;
     text.push_str(" ")
 }
@@ -162,24 +162,24 @@ fn answered<'a>(answer: Option<&'a [u8]>) -> &'a [u8]
     }
 }
 
-// What coefficients were asked of, and the coefficients that were answered.
+// A space, what coefficients were asked of, and the coefficients that were answered.
 #[tactic(auto, using(crate::proofs::Joins::joins))]
 fn push_coefficients(text: &mut String, code: u8, side: u8, answer: &[u8]) -> Result<(), AllocError>
     ensures { OnOk result (string_bytes text.new ≡ string_bytes text.old
-        ++ (asked_text code side ++ numbers_text (coefficients_of answer.now))) }
+        ++ (codes " " ++ (asked_text code side ++ numbers_text (coefficients_of answer.now)))) }
 {
     push_asked(text, code, side)?;
     push_numbers(text, coefficients_in(answer))?;
     Ok(())
 }
 
-// The code and the side that coefficients were asked of.
+// A space, and the code and the side that coefficients were asked of.
 #[tactic(auto, using(crate::proofs::Joins::joins), unfolding(crate::specs::TraceText::asked_text))]
 fn push_asked(text: &mut String, code: u8, side: u8) -> Result<(), AllocError>
     ensures { OnOk result (string_bytes text.new
-        ≡ string_bytes text.old ++ asked_text code side) }
+        ≡ string_bytes text.old ++ (codes " " ++ asked_text code side)) }
 {
-    text.push_str("COEFFICIENTS of ")?;
+    text.push_str(" COEFFICIENTS of ")?;
     push_hex(text, code)?;
     text.push_str(" side ")?;
     push_decimal(text, u64::from(side))?;

@@ -20,7 +20,7 @@ impl State {
         ensures there { OnOk result (there ≡ true) }
         ensures some { 1 ≤ (held self.now).setup.passes }
     {
-        if self.stage.stage().is_some() {
+        if self.stage.is_open() {
             return Err(HostFault::Busy);
         }
         if !there {

@@ -1,5 +1,6 @@
 -- The pairs of digits stand in order.
-use Rattle.std.proofs.Common.{◌≡◌, ℕ, ◌<◌, ◌≤◌, ◌+◌, ◌-◌, ◌*◌, ◌/◌, ◌%◌, ◌∷◌, [], suc, List, length, map, take, drop, get_or, Bool, true, false, cond, refl, ap, ◌∙◌, arith, rules, drop-cons}
+use Rattle.std.proofs.Common.{◌≡◌, ℕ, suc, ◌<◌, ◌≤◌, ◌+◌, ◌-◌, ◌*◌, ◌/◌, ◌%◌, Bool, true, false, cond, refl, ap, ◌∙◌, arith, rules}
+use Rattle.std.proofs.Common.{◌∷◌, [], List, length, map, take, drop, get_or, drop-cons}
 use Rattle.std.specs.Prelude.{◌==◌, ◌&&◌, nat_lt}
 use Rattle.std.specs.Fmt.{digit_glyph}
 use Rattle.std.specs.List.{list_all, range_with_len, slice_range}

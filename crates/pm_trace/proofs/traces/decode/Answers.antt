@@ -35,7 +35,8 @@ returns-clause-same g c =
     let (input, written, at_end) = c.in_ok-decode_pieces.ensures.ok in
     same-whole _ _ input _ (whole_input _ _ _ _
     (g.W.Write.contents c.decode_pieces.new.writer.inner) input c.decode_pieces.new.decoder written at_end)
-    (end_counts _ _ _ _ (g.W.Write.contents c.decode_pieces.new.writer.inner) input c.decode_pieces.new.decoder written c.text_at_end.new.decoder _ c.in_ok-text.ensures.kept c.end_in.ensures)
+    (end_counts _ _ _ _ (g.W.Write.contents c.decode_pieces.new.writer.inner) input c.decode_pieces.new.decoder written
+    c.text_at_end.new.decoder _ c.in_ok-text.ensures.kept c.end_in.ensures)
 
 pub returns-clause-ok : goal.returns-clause-ok
 returns-clause-ok g c =
@@ -45,5 +46,6 @@ returns-clause-ok g c =
       whole_input _ _ _ _ (g.W.Write.contents c.decode_pieces.new.writer.inner) input c.decode_pieces.new.decoder written at_end,
       end_all _ _ _ _ _ input c.decode_pieces.new.decoder written _ c.in_ok-text.ensures.text
           (as_all _ _ _ _ shown c.in_ok-put.ensures.all),
-      end_counts _ _ _ _ (g.W.Write.contents c.decode_pieces.new.writer.inner) input c.decode_pieces.new.decoder written c.text_at_end.new.decoder _ c.in_ok-text.ensures.kept c.end_in.ensures,
+      end_counts _ _ _ _ (g.W.Write.contents c.decode_pieces.new.writer.inner) input c.decode_pieces.new.decoder written
+          c.text_at_end.new.decoder _ c.in_ok-text.ensures.kept c.end_in.ensures,
     )

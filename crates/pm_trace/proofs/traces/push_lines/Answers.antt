@@ -27,7 +27,13 @@ pieces-smaller c =
     let (front, split, pushes) = c.pieces.invariant in
     let some : 0 < length c.pieces.rest.now = grind (arith, nat_tests) in
     let taken = some_taken c.pieces.decoder c.pieces.rest.now pushes.standing some c.in-Ok.ensures.taken in
-    omega (arith, ap length c.past-rest.ensures, length-drop c.in-Ok.fed.taken c.pieces.rest.now, c.in-Ok.ensures.fed.taken, c.in-Ok.ensures.within)
+    omega (
+      arith,
+      ap length c.past-rest.ensures,
+      length-drop c.in-Ok.fed.taken c.pieces.rest.now,
+      c.in-Ok.ensures.fed.taken,
+      c.in-Ok.ensures.within,
+    )
 
 pub pieces-preserved : goal.pieces-preserved
 pieces-preserved c =

@@ -10,7 +10,8 @@ returns-in-None c =
       unreturned = c.if-self.false;
       undigited = sym c.is_some.ensures ∙ c.if-is_some.false;
       takes = sym c.takes_pairs.ensures ∙ c.if-not-takes_pairs.false;
-    }) c.in-None.is (ap (λ w. record c.args.self.now { kind = Packet; write = w }) c.take_pairs.ensures.taken) c.take_pairs.ensures.rest
+    }) c.in-None.is (ap (λ w. record c.args.self.now { kind = Packet; write = w }) c.take_pairs.ensures.taken)
+    c.take_pairs.ensures.rest
 
 pub returns-in-One : goal.returns-in-One
 returns-in-One c =
@@ -19,4 +20,5 @@ returns-in-One c =
       unreturned = c.if-self.false;
       undigited = sym c.is_some.ensures ∙ c.if-is_some.false;
       takes = sym c.takes_pairs.ensures ∙ c.if-not-takes_pairs.false;
-    }) some (ap (λ r. record c.args.self.now { kind = Packet; read = r }) c.take_pairs-in-One.ensures.taken) c.take_pairs-in-One.ensures.rest
+    }) some (ap (λ r. record c.args.self.now { kind = Packet; read = r }) c.take_pairs-in-One.ensures.taken)
+    c.take_pairs-in-One.ensures.rest
