@@ -1,0 +1,3 @@
+mod GotLemmas
+pub mod Joins
+mod SendLemmas
