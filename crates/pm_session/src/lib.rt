@@ -10,14 +10,26 @@
 
 mod ask;
 mod ask_line;
+mod execution;
+mod happening;
+mod options;
+mod port;
 mod refusal;
 mod reply;
 mod reply_text;
 mod session;
+mod streams;
+mod talk;
 
 pub use ask::Ask;
 pub use ask_line::read_ask;
+pub use execution::{program, run};
+pub use happening::Happening;
+pub use options::{Options, StartFault};
+pub use port::Port;
 pub use refusal::Refusal;
 pub use reply::Reply;
 pub use reply_text::{ReplyText, reply_text as text_of};
 pub use session::answer_line;
+pub use streams::Streams;
+pub use talk::converse;
