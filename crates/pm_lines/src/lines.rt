@@ -76,8 +76,8 @@ impl<'a> Lines<'a> {
     }
 }
 
-// The line without a carriage return at its end.
-fn without_carriage_return(line: &[u8]) -> &[u8]
+/// The line without one carriage return at its end, where it has one.
+pub fn without_carriage_return(line: &[u8]) -> &[u8]
     ensures { result.now ≡ without_return line.now }
 {
     if line.ends_with(b"\r") {

@@ -1,4 +1,4 @@
-ghost use Rattle.std.specs.Prelude.{◌≡◌, [], ◌∷◌, MatchOption, position};
+ghost use Rattle.std.specs.Prelude.{◌≡◌, [], ◌∷◌, IfNone, MatchOption, position};
 ghost use Rattle.std.specs.List.{before_first, after_first};
 ghost use Rattle.pm_lines.specs.Lines.{is_space, words_of};
 
@@ -39,10 +39,11 @@ impl<'a> Words<'a> {
         self.line
     }
 
-    /// The next word.
+    /// The next word. After None no word is left.
     pub fn next_word(&mut self) -> Option<&'a [u8]>
         ensures words { MatchOption result (self.old.words ≡ [])
             (λ word. self.old.words ≡ word.now ∷ self.new.words) }
+        ensures end { IfNone result (self.new.words ≡ []) }
         ensures line { self.new.line ≡ self.old.line }
     {
         'spaces: while !self.rest.is_empty() {

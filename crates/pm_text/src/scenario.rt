@@ -4,12 +4,12 @@ ghost use Rattle.pm_lines.specs.Streams.{max_text};
 ghost use Rattle.pm_lines.specs.declared.fault.TextFault.TheVariants.{Memory};
 ghost use Rattle.pm_text.specs.ScenarioText.{HasEvent, HasFirst, IsOfScenario, as_text_fault, events_in, scenario_of};
 
-mod cells;
-mod event_line;
+pub(crate) mod cells;
+pub(crate) mod event_line;
 pub(crate) mod events;
-mod fault;
-mod fields;
-mod frames;
+pub(crate) mod fault;
+pub(crate) mod fields;
+pub(crate) mod frames;
 mod header;
 mod rows;
 mod starts;

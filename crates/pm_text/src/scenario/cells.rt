@@ -14,7 +14,7 @@ use pm_table::{Cell, Reg};
 
 /// `O NAME`, or `- WRITE_PROTECT`.
 #[tactic(auto, unfolding(crate::specs::EventLines::cell))]
-pub(crate) fn cell(form: Form, fields: &mut Fields<'_>) -> Result<Cell, ScenarioFault>
+pub fn cell(form: Form, fields: &mut Fields<'_>) -> Result<Cell, ScenarioFault>
     ensures { Reads result fields.new (cell_field form fields.old) }
 {
     let Some(output) = fields.output_or_device()? else {

@@ -56,9 +56,9 @@ fn read_event(form: Form, fields: &mut Fields<'_>, event: &mut Event) -> Result<
     }
 }
 
-// `order O NAME HEX`, or `order - WRITE_PROTECT HH`.
+/// What follows the first word of `order O NAME HEX`, or `order - WRITE_PROTECT HH`.
 #[tactic(auto, unfolding(crate::specs::EventLines::order_rest))]
-fn order(form: Form, fields: &mut Fields<'_>, event: &mut Event) -> Result<(), ScenarioFault>
+pub fn order(form: Form, fields: &mut Fields<'_>, event: &mut Event) -> Result<(), ScenarioFault>
     ensures { ReadsTo result event.new fields.new (spec.order_rest form fields.old) }
 {
     let cell = cell(form, fields)?;
@@ -67,9 +67,9 @@ fn order(form: Form, fields: &mut Fields<'_>, event: &mut Event) -> Result<(), S
     Ok(())
 }
 
-// `volts O NAME K`, K in microvolts.
+/// What follows the first word of `volts O NAME K`, K in microvolts.
 #[tactic(auto, unfolding(crate::specs::EventLines::volts_rest))]
-fn volts(form: Form, fields: &mut Fields<'_>, event: &mut Event) -> Result<(), ScenarioFault>
+pub fn volts(form: Form, fields: &mut Fields<'_>, event: &mut Event) -> Result<(), ScenarioFault>
     ensures { ReadsTo result event.new fields.new (spec.volts_rest form fields.old) }
 {
     let output = fields.small_number()?;
@@ -79,9 +79,9 @@ fn volts(form: Form, fields: &mut Fields<'_>, event: &mut Event) -> Result<(), S
     Ok(())
 }
 
-// `check O NAME`, or `check - WRITE_PROTECT`.
+/// What follows the first word of `check O NAME`, or `check - WRITE_PROTECT`.
 #[tactic(auto, unfolding(crate::specs::EventLines::check_rest))]
-fn check(form: Form, fields: &mut Fields<'_>, event: &mut Event) -> Result<(), ScenarioFault>
+pub fn check(form: Form, fields: &mut Fields<'_>, event: &mut Event) -> Result<(), ScenarioFault>
     ensures { ReadsTo result event.new fields.new (spec.check_rest form fields.old) }
 {
     let cell = cell(form, fields)?;
@@ -89,9 +89,9 @@ fn check(form: Form, fields: &mut Fields<'_>, event: &mut Event) -> Result<(), S
     Ok(())
 }
 
-// `learn O`.
+/// What follows the first word of `learn O`.
 #[tactic(auto, unfolding(crate::specs::EventLines::learn_rest))]
-fn learn(fields: &mut Fields<'_>, event: &mut Event) -> Result<(), ScenarioFault>
+pub fn learn(fields: &mut Fields<'_>, event: &mut Event) -> Result<(), ScenarioFault>
     ensures { ReadsTo result event.new fields.new (spec.learn_rest fields.old) }
 {
     let output = fields.small_number()?;
@@ -99,9 +99,9 @@ fn learn(fields: &mut Fields<'_>, event: &mut Event) -> Result<(), ScenarioFault
     Ok(())
 }
 
-// `clear O`.
+/// What follows the first word of `clear O`.
 #[tactic(auto, unfolding(crate::specs::EventLines::clear_rest))]
-fn clear(fields: &mut Fields<'_>, event: &mut Event) -> Result<(), ScenarioFault>
+pub fn clear(fields: &mut Fields<'_>, event: &mut Event) -> Result<(), ScenarioFault>
     ensures { ReadsTo result event.new fields.new (spec.clear_rest fields.old) }
 {
     let output = fields.small_number()?;
@@ -119,9 +119,9 @@ fn deliver(fields: &mut Fields<'_>, event: &mut Event) -> Result<(), ScenarioFau
     Ok(())
 }
 
-// `finish ack` or `finish nack`.
+/// What follows the first word of `finish ack` or `finish nack`.
 #[tactic(auto, unfolding(crate::specs::EventLines::finish_rest))]
-fn finish(fields: &mut Fields<'_>, event: &mut Event) -> Result<(), ScenarioFault>
+pub fn finish(fields: &mut Fields<'_>, event: &mut Event) -> Result<(), ScenarioFault>
     ensures { ReadsTo result event.new fields.new (spec.finish_rest fields.old) }
 {
     let name = fields.word()?;

@@ -2,7 +2,7 @@ use pm_lines::TextFault;
 
 /// Why a line of a scenario can't be read.
 #[derive(Clone, Copy, Debug, PartialEq, Eq)]
-pub(crate) enum ScenarioFault {
+pub enum ScenarioFault {
     /// X1: a word of this line isn't what stands at its place, or a word or the line is missing, or
     /// one is too many.
     Syntax(u64),

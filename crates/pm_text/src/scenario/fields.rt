@@ -1,5 +1,5 @@
 //! The words of a line, each read as what stands at its place.
-ghost use Rattle.std.specs.Prelude.{◌≡◌, Ok, Err, [], ◌∷◌, MatchResult, List, ℕ};
+ghost use Rattle.std.specs.Prelude.{◌≡◌, Ok, Err, [], ◌∷◌, IfNone, MatchOption, MatchResult, List, ℕ};
 ghost use Rattle.pm_lines.specs.Digits.{hex_of, signed_of, small_of};
 ghost use Rattle.pm_lines.specs.Lines.{words_of};
 ghost use Rattle.pm_text.specs.Kinds.{is_word, output_or_device};
@@ -12,7 +12,7 @@ use std::marker::Model;
 
 /// The words that are left of a line. A call takes the next one, and answers X1 where there is none.
 #[derive(Debug, Drop)]
-pub(crate) struct Fields<'a> {
+pub struct Fields<'a> {
     words: Words<'a>,
 }
 
@@ -26,7 +26,7 @@ impl<'a> Model for Fields<'a> {
 
 impl<'a> Fields<'a> {
     /// All words of a line.
-    pub(crate) fn new(line: Line<'a>) -> Fields<'a>
+    pub fn new(line: Line<'a>) -> Fields<'a>
         ensures line { result.line ≡ line.entry.number }
         ensures words { result.words ≡ words_of line.entry.text.now }
     {
@@ -37,7 +37,7 @@ impl<'a> Fields<'a> {
 
     /// The next word.
     #[tactic(auto, unfolding(crate::specs::Readers::word))]
-    pub(crate) fn word(&mut self) -> Result<&'a [u8], ScenarioFault>
+    pub fn word(&mut self) -> Result<&'a [u8], ScenarioFault>
         ensures read { MatchResult result
             (λ text. next_word self.old ≡ Ok (text.now, self.new))
             (λ fault. next_word self.old ≡ Err fault) }
@@ -49,22 +49,32 @@ impl<'a> Fields<'a> {
         }
     }
 
+    /// The next word, where there is one.
+    pub fn next_word(&mut self) -> Option<&'a [u8]>
+        ensures words { MatchOption result (self.old.words ≡ [])
+            (λ word. self.old.words ≡ word.now ∷ self.new.words) }
+        ensures end { IfNone result (self.new.words ≡ []) }
+        ensures line { self.new.line ≡ self.old.line }
+    {
+        self.words.next_word()
+    }
+
     /// X1 for this line.
-    pub(crate) fn syntax(&self) -> ScenarioFault
+    pub fn syntax(&self) -> ScenarioFault
         ensures { result ≡ Syntax self.now.line }
     {
         ScenarioFault::Syntax(self.words.line())
     }
 
     /// X2 for this line.
-    pub(crate) fn bad_hex(&self) -> ScenarioFault
+    pub fn bad_hex(&self) -> ScenarioFault
         ensures { result ≡ BadHex self.now.line }
     {
         ScenarioFault::BadHex(self.words.line())
     }
 
     /// Takes this very word: X1 for another.
-    pub(crate) fn keyword(&mut self, name: &str) -> Result<(), ScenarioFault>
+    pub fn keyword(&mut self, name: &str) -> Result<(), ScenarioFault>
         ensures { Reads result self.new (field Syntax (is_word name.now) self.old) }
     {
         let word = self.word()?;
@@ -76,7 +86,7 @@ impl<'a> Fields<'a> {
     }
 
     /// A decimal number of 0 to 255: otherwise X1.
-    pub(crate) fn small_number(&mut self) -> Result<u8, ScenarioFault>
+    pub fn small_number(&mut self) -> Result<u8, ScenarioFault>
         ensures { Reads result self.new (field Syntax small_of self.old) }
     {
         let word = self.word()?;
@@ -87,7 +97,7 @@ impl<'a> Fields<'a> {
     }
 
     /// A decimal number that is an `i8`: otherwise X1.
-    pub(crate) fn signed_8(&mut self) -> Result<i8, ScenarioFault>
+    pub fn signed_8(&mut self) -> Result<i8, ScenarioFault>
         ensures { Reads result self.new (field Syntax (signed_of 8) self.old) }
     {
         let word = self.word()?;
@@ -98,7 +108,7 @@ impl<'a> Fields<'a> {
     }
 
     /// A decimal number that is an `i16`: otherwise X1.
-    pub(crate) fn signed_16(&mut self) -> Result<i16, ScenarioFault>
+    pub fn signed_16(&mut self) -> Result<i16, ScenarioFault>
         ensures { Reads result self.new (field Syntax (signed_of 16) self.old) }
     {
         let word = self.word()?;
@@ -109,7 +119,7 @@ impl<'a> Fields<'a> {
     }
 
     /// A decimal number that is an `i64`: otherwise X1.
-    pub(crate) fn signed_64(&mut self) -> Result<i64, ScenarioFault>
+    pub fn signed_64(&mut self) -> Result<i64, ScenarioFault>
         ensures { Reads result self.new (field Syntax (signed_of 64) self.old) }
     {
         let word = self.word()?;
@@ -120,7 +130,7 @@ impl<'a> Fields<'a> {
     }
 
     /// A byte of two hexadecimal digits: otherwise X2.
-    pub(crate) fn hex_byte(&mut self) -> Result<u8, ScenarioFault>
+    pub fn hex_byte(&mut self) -> Result<u8, ScenarioFault>
         ensures { Reads result self.new (field BadHex (hex_of 2) self.old) }
     {
         let word = self.word()?;
@@ -131,7 +141,7 @@ impl<'a> Fields<'a> {
     }
 
     /// A word of four hexadecimal digits: otherwise X2.
-    pub(crate) fn hex_word(&mut self) -> Result<u16, ScenarioFault>
+    pub fn hex_word(&mut self) -> Result<u16, ScenarioFault>
         ensures { Reads result self.new (field BadHex (hex_of 4) self.old) }
     {
         let word = self.word()?;
@@ -142,7 +152,7 @@ impl<'a> Fields<'a> {
     }
 
     /// An output's number, 0 to 255, or `-` for the device: otherwise X1.
-    pub(crate) fn output_or_device(&mut self) -> Result<Option<u8>, ScenarioFault>
+    pub fn output_or_device(&mut self) -> Result<Option<u8>, ScenarioFault>
         ensures { Reads result self.new (field Syntax output_or_device self.old) }
     {
         let word = self.word()?;
@@ -156,7 +166,7 @@ impl<'a> Fields<'a> {
     }
 
     /// The line's end: X1 where a word is left.
-    pub(crate) fn end(mut self) -> Result<(), ScenarioFault>
+    pub fn end(mut self) -> Result<(), ScenarioFault>
         ensures { MatchResult result (λ _. self.entry.words ≡ [])
             (λ fault. (fault ≡ Syntax self.entry.line) × (word : List ℕ) × (words : List (List ℕ))
             × (self.entry.words ≡ word ∷ words)) }

@@ -78,8 +78,8 @@ fn frame(fields: &mut Fields<'_>) -> Result<Frame, ScenarioFault>
     }
 }
 
-// The bytes of a word of 2 to 32 hexadecimal digits.
-fn frame_of(word: &[u8]) -> Option<Frame>
+/// The bytes of a word of 2 to 32 hexadecimal digits, an even number of them. `None` for another word.
+pub fn frame_of(word: &[u8]) -> Option<Frame>
     ensures { MatchOption result (frame_bytes_of word.now ≡ None)
         (λ frame. frame_bytes_of word.now ≡ Some frame.items) }
 {

@@ -18,3 +18,6 @@ spaces-preserved c = record {
 
 pub returns-clause-words : goal.returns-clause-words
 returns-clause-words c = c.spaces.invariant.words ∙ words-end c.spaces.self-inside.rest.now (sym c.is_empty.ensures ∙ c.spaces-test.false)
+
+pub returns-clause-end : goal.returns-clause-end
+returns-clause-end c = words-end c.spaces.self-inside.rest.now (sym c.is_empty.ensures ∙ c.spaces-test.false)

@@ -1,0 +1,4 @@
+mod GotLemmas
+pub mod Joins
+mod SendLemmas
+mod TalkLemmas

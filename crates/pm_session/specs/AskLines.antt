@@ -1,0 +1,89 @@
+-- The lines that are said to a host, each with its words in their order. A job is asked for as in a
+-- scenario, by the same readers. This project's own choice.
+use Rattle.std.specs.Prelude.{ℕ, nat_le, nat_lt, if◌then◌else◌, List, [], ◌∷◌, length, Option, Some, None, option_map, option_and_then, Result, Ok, Err, codes}
+use Rattle.pm_world.specs.declared.event.Event.{Event}
+use Rattle.pm_world.specs.declared.event.Event.TheVariants as event
+use Rattle.pm_lines.specs.Bytes.{bytes_before}
+use Rattle.pm_lines.specs.Lines.{without_return}
+use Rattle.pm_text.specs.EventLines.{cell, order_rest, volts_rest, check_rest, learn_rest, clear_rest, finish_rest}
+use Rattle.pm_text.specs.Kinds.{frame_bytes}
+use Rattle.pm_text.specs.Readers.{◌>>=◌, Field, gives, line_as, one_of, or_fault}
+use Rattle.pm_text.specs.declared.form.Form.TheVariants.{Second}
+use Rattle.pm_text.specs.declared.scenario.fault.ScenarioFault.{ScenarioFault}
+use Rattle.pm_text.specs.declared.scenario.fault.ScenarioFault.TheVariants as fault
+use Rattle.pm_session.specs.declared.ask.Ask.{Ask}
+use Rattle.pm_session.specs.declared.ask.Ask.TheVariants.{Order, Volts, Check, Learn, Clear, Finished, Got, Sending, Restart, State, Seen}
+use Rattle.pm_session.specs.declared.refusal.Refusal.{Refusal}
+use Rattle.pm_session.specs.declared.refusal.Refusal.TheVariants.{Syntax, BadHex, TooLong}
+
+-- what an event of a scenario asks of the host; X1 for one that asks nothing of it
+abbrev pub asked_as : Event → Field Ask
+asked_as (event.Order ordered word) left = gives (Order ordered word) left
+asked_as (event.OrderMicro ordered microvolts) left = gives (Volts ordered microvolts) left
+asked_as (event.Check checked) left = gives (Check checked) left
+asked_as (event.Learn output) left = gives (Learn output) left
+asked_as (event.Clear output) left = gives (Clear output) left
+asked_as (event.Finish acked) left = gives (Finished acked) left
+asked_as _ left = Err (fault.Syntax left.line)
+
+-- what follows the first word of a line that asks what a scenario's event does
+abbrev pub asking : Field Event → Field Ask
+asking read = do
+  event ← read
+  asked_as event
+
+-- the bytes that came back, at most 16 of them
+abbrev pub as_answer : List ℕ → Option (List ℕ)
+as_answer bytes = if nat_le (length bytes) 16 then Some bytes else None
+
+-- the bytes of words that each write 1 to 16 of them in hexadecimal
+abbrev pub joined_bytes : List (List ℕ) → Option (List ℕ)
+joined_bytes [] = Some []
+joined_bytes (word ∷ words) = bytes_before (frame_bytes word) (joined_bytes words)
+
+abbrev pub got_bytes : List (List ℕ) → Option (List ℕ)
+got_bytes words = option_and_then as_answer (joined_bytes words)
+
+-- all words that are left: the bytes that came back; X2 where they aren't so
+unfoldable pub got_rest : Field Ask
+got_rest left = or_fault (option_map (λ bytes. Got (record { items = bytes })) (got_bytes left.words))
+    (fault.BadHex left.line) (record { line = left.line; words = [] })
+
+-- `O NAME`, or `- WRITE_PROTECT`
+unfoldable pub state_rest : Field Ask
+state_rest = do
+  named ← cell Second
+  gives (State named)
+
+-- a line: its first word, and the words that follow it
+unfoldable pub ask_line : Field Ask
+ask_line = one_of (
+    (codes "order", asking (order_rest Second)) ∷
+    (codes "volts", asking (volts_rest Second)) ∷
+    (codes "check", asking (check_rest Second)) ∷
+    (codes "learn", asking learn_rest) ∷
+    (codes "clear", asking clear_rest) ∷
+    (codes "finished", asking finish_rest) ∷
+    (codes "got", got_rest) ∷
+    (codes "sending", gives Sending) ∷
+    (codes "restart", gives Restart) ∷
+    (codes "state", state_rest) ∷
+    (codes "seen", gives Seen) ∷ [])
+
+-- the most bytes that a line may have before its line feed
+abbrev pub max_line : ℕ
+max_line = 256
+
+abbrev pub as_refusal : ScenarioFault → Refusal
+as_refusal (fault.Syntax line) = Syntax
+as_refusal (fault.BadHex line) = BadHex
+
+abbrev pub refused_as : {A : Type 0} → Result A ScenarioFault → Result A Refusal
+refused_as (Ok x) = Ok x
+refused_as (Err first) = Err (as_refusal first)
+
+-- What a line asks, or why it is refused: X3 for more than 256 bytes, X2 for a word that should be
+-- hexadecimal and isn't, X1 for every other line that isn't one of these, also for an empty one.
+unfoldable pub ask_of : List ℕ → Result Ask Refusal
+ask_of line = if nat_lt max_line (length line) then Err TooLong
+    else refused_as (line_as ask_line (1, without_return line))

@@ -1,0 +1,159 @@
+//! The program: its options make a host, which is then spoken to over its streams.
+ghost use Rattle.std.specs.Prelude.{◌≡◌, ◌++◌, IsFalse, IfErr, IfOk, codes};
+ghost use Rattle.clap.specs.Words.{kind_of};
+
+use crate::options::Options;
+use crate::streams::Streams;
+use crate::talk::converse;
+use clap::error::ErrorKind;
+use pm_lines::{Sink, Source, TextFault};
+use std::alloc::{AllocError, Global};
+use std::env;
+use std::io::{self, Read, Write};
+use std::process::ExitCode;
+use std::rt::Runtime;
+
+/// Runs the program over the parts of a runtime: its arguments and its input, standard output and
+/// standard error. What `main` does is this one call. No clause can say what a terminal or a pipe
+/// gives or takes: `run` says what is read and written.
+pub fn program<R: Runtime + AllocGlobal, W: Write + Drop, E: Write + Drop>(
+    rt: &R,
+    output: W,
+    errors: E,
+) -> ExitCode {
+    let mut streams = Streams {
+        source: Source::new(rt.reader()),
+        sink: Sink::new(output),
+    };
+    let mut errors = Sink::new(errors);
+    let texts = arguments(rt);
+    let words = match &texts {
+        Ok(texts) => texts
+            .iter()
+            .map(|text| text.as_str())
+            .collect(rt.alloc())
+            .map_err(|_| io::ErrorKind::OutOfMemory),
+        Err(kind) => Err(*kind),
+    };
+    let words = words
+        .as_ref()
+        .map(|words: &Vec<&str>| words.as_slice())
+        .map_err(|kind| *kind);
+    ExitCode::from(run(rt.alloc(), words, &mut streams, &mut errors))
+}
+
+// The arguments as texts, or why they can't be had as such.
+fn arguments<R: Runtime + AllocGlobal>(rt: &R) -> Result<Vec<String>, io::ErrorKind> {
+    let arguments = env::args(rt).map_err(|error| error.kind())?;
+    arguments
+        .collect(rt.alloc())
+        .map_err(|_| io::ErrorKind::OutOfMemory)
+}
+
+/// Runs the program: makes the host that the words of the command line ask for, answers the lines that
+/// come until the input ends, and gives the exit status. The words are those of the arguments, the
+/// program's name first, or the error's kind where they couldn't be had as texts. `errors` hasn't failed
+/// before.
+///
+/// Status 0 at the end of input, and for help or the version that was asked for; 1 for a failed stream,
+/// for H1 and H2, and for want of memory, which is wanted for the command line alone; 2 for bad options.
+/// Status 1 and 2 come with one line on `errors`, but for the parser's own texts.
+pub fn run<R: Read, W: Write, E: Write>(
+    alloc: Global,
+    words: Result<&[&str], io::ErrorKind>,
+    streams: &mut Streams<R, W>,
+    errors: &mut Sink<E>,
+) -> u8
+    requires { IsFalse errors.old.failed }
+{
+    let words = match words {
+        Ok(words) => words,
+        Err(io::ErrorKind::OutOfMemory) => return refuse_memory(errors),
+        Err(_) => {
+            say(errors, "bad arguments");
+            return 2;
+        }
+    };
+    match Options::read(alloc, words) {
+        Ok(options) => serve(&options, streams, errors),
+        Err(error) => show_usage(alloc, &error, &mut streams.sink, errors),
+    }
+}
+
+// Answers the lines that come, over a host that these options make.
+fn serve<R: Read, W: Write, E: Write>(
+    options: &Options<'_>,
+    streams: &mut Streams<R, W>,
+    errors: &mut Sink<E>,
+) -> u8
+    requires { IsFalse errors.old.failed }
+{
+    let mut host = match options.start() {
+        Ok(host) => host,
+        Err(fault) => {
+            say(errors, fault.words());
+            return fault.status();
+        }
+    };
+    match converse(&mut host, streams) {
+        Ok(()) => 0,
+        Err(fault) => {
+            say(errors, fault.words());
+            1
+        }
+    }
+}
+
+// What the parser says in place of options: help and the version on the output, a fault on `errors`.
+fn show_usage<W: Write, E: Write>(
+    alloc: Global,
+    error: &clap::Error,
+    output: &mut Sink<W>,
+    errors: &mut Sink<E>,
+) -> u8
+    requires { IsFalse errors.old.failed }
+{
+    let Ok(text) = format!(in alloc; "{error}") else {
+        return refuse_memory(errors);
+    };
+    match error.kind() {
+        ErrorKind::OutOfMemory => refuse_memory(errors),
+        ErrorKind::DisplayHelp | ErrorKind::DisplayVersion => print_whole(
+            text.as_bytes(),
+            output,
+            errors,
+        ),
+        _ => {
+            let _ = errors.put(text.as_bytes());
+            2
+        }
+    }
+}
+
+// Prints a whole text.
+fn print_whole<W: Write, E: Write>(text: &[u8], output: &mut Sink<W>, errors: &mut Sink<E>) -> u8
+    requires { IsFalse errors.old.failed }
+{
+    let is_printed = !output.failed() && output.put(text).is_ok() && output.flush().is_ok();
+    if is_printed {
+        return 0;
+    }
+    say(errors, TextFault::Write.words());
+    1
+}
+
+// Says that memory was refused.
+fn refuse_memory<E: Write>(errors: &mut Sink<E>) -> u8
+    requires { IsFalse errors.old.failed }
+    ensures { result ≡ 1 }
+{
+    say(errors, TextFault::from(AllocError).words());
+    1
+}
+
+// Says a refusal as the one line `pmbhost: WORDS`. Where that fails too, the status alone tells.
+fn say<E: Write>(errors: &mut Sink<E>, words: &str)
+    requires { IsFalse errors.old.failed }
+{
+    let _ = errors.put_all(&[b"pmbhost: ", words.as_bytes(), b"\n"]);
+}

@@ -1,0 +1,35 @@
+//! The proved host for those who can't link it: it is spoken to in lines. A line asks for a job, tells what
+//! became of a frame, or asks what is known, and gets one line as its answer at once.
+//!
+//! `answer_line` is the whole engine, without input or output: a host and a line give an answer. It makes
+//! no difference who speaks, a shell, a Python script or firmware over a serial line.
+//!
+//! What the lines of a job say is read by the readers of scenarios, and what is answered of a cell is
+//! written as in a report. It knows no bus: whoever speaks to it sends the frames.
+#![tactic(auto)]
+
+mod ask;
+mod ask_line;
+mod execution;
+mod happening;
+mod options;
+mod port;
+mod refusal;
+mod reply;
+mod reply_text;
+mod session;
+mod streams;
+mod talk;
+
+pub use ask::Ask;
+pub use ask_line::read_ask;
+pub use execution::{program, run};
+pub use happening::Happening;
+pub use options::{Options, StartFault};
+pub use port::Port;
+pub use refusal::Refusal;
+pub use reply::Reply;
+pub use reply_text::{ReplyText, reply_text as text_of};
+pub use session::answer_line;
+pub use streams::Streams;
+pub use talk::converse;

@@ -1,0 +1,47 @@
+use pm_host::HostFault;
+use thiserror::Error;
+
+/// Why the options make no host: the first that applies, in the order of these.
+#[derive(Clone, Copy, Debug, PartialEq, Eq, Error)]
+pub enum StartFault {
+    /// `--address` isn't two hexadecimal digits, 08 to 77.
+    #[error("a bad address")]
+    Address,
+    /// `--outputs` isn't a number of 0 to 255.
+    #[error("a bad number of outputs")]
+    Outputs,
+    /// `--passes` isn't a number of 0 to 255.
+    #[error("a bad number of passes")]
+    Passes,
+    /// H1 or H2: the host can't have so many.
+    #[error("{0}")]
+    Host(HostFault),
+}
+
+impl StartFault {
+    ghost use Rattle.std.specs.Prelude.{◌≡◌};
+    ghost use Rattle.pm_session.specs.Options.{start_fault_words, start_status};
+
+    /// What the program says of the fault: `bad address`, `H1 OutputCount`.
+    pub fn words(self) -> &'static str
+        ensures { result.now ≡ start_fault_words self }
+    {
+        match self {
+            StartFault::Address => "bad address",
+            StartFault::Outputs => "bad outputs",
+            StartFault::Passes => "bad passes",
+            StartFault::Host(fault) => fault.words(),
+        }
+    }
+
+    /// The status with which the program then ends: 2 for a text that is no such option, 1 where the host
+    /// refuses.
+    pub fn status(self) -> u8
+        ensures { result ≡ start_status self }
+    {
+        match self {
+            StartFault::Host(_) => 1,
+            _ => 2,
+        }
+    }
+}

@@ -1,0 +1,61 @@
+use pm_host::HostFault;
+use pm_lines::TextFault;
+use pm_text::ScenarioFault;
+use pm_world::Cause;
+use thiserror::Error;
+
+/// Why a line is refused. Then nothing has changed.
+#[derive(Clone, Copy, Debug, PartialEq, Eq, Error)]
+pub enum Refusal {
+    /// X1: the line isn't one of those that may be said; an empty line and a comment are none.
+    #[error("an unexpected line")]
+    Syntax,
+    /// X2: a word should be hexadecimal of a stated length and isn't, or more than 16 bytes came back.
+    #[error("bad hexadecimal")]
+    BadHex,
+    /// X3: the line has more than 256 bytes.
+    #[error("a line of more than 256 bytes")]
+    TooLong,
+    /// S2: it is told what became of a frame, and none is being sent.
+    #[error("no frame is being sent")]
+    NothingSent,
+    /// S3: it is told the end of a write while a read is being sent, or an answer while a write is.
+    #[error("a frame of the other kind is being sent")]
+    WrongKind,
+    /// H3 to H7 and N3 to N5: the host refuses.
+    #[error("the host refuses: {0}")]
+    Host(HostFault),
+}
+
+impl Refusal {
+    ghost use Rattle.std.specs.Prelude.{◌≡◌};
+    ghost use Rattle.pm_session.specs.ReplyText.{refusal_words};
+
+    /// The letter and the name of the refusal, as programs print them: `X1 Syntax`, `H6 TooUncertain`.
+    pub fn words(self) -> &'static str
+        ensures { result.now ≡ refusal_words self }
+    {
+        match self {
+            Refusal::Syntax => TextFault::Syntax(1).words(),
+            Refusal::BadHex => TextFault::BadHex(1).words(),
+            Refusal::TooLong => TextFault::TooLong.words(),
+            Refusal::NothingSent => Cause::NothingSent.words(),
+            Refusal::WrongKind => Cause::WrongKind.words(),
+            Refusal::Host(fault) => fault.words(),
+        }
+    }
+}
+
+impl From<ScenarioFault> for Refusal {
+    ghost use Rattle.std.specs.Prelude.{◌≡◌};
+    ghost use Rattle.pm_session.specs.AskLines.{as_refusal};
+
+    ghost from_gives = { λ line refusal. refusal ≡ as_refusal line };
+
+    fn from(fault: ScenarioFault) -> Refusal {
+        match fault {
+            ScenarioFault::Syntax(_) => Refusal::Syntax,
+            ScenarioFault::BadHex(_) => Refusal::BadHex,
+        }
+    }
+}

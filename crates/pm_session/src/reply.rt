@@ -1,0 +1,27 @@
+use crate::refusal::Refusal;
+use pm_frame::Frame;
+use pm_host::{JobEnd, Possible, Standing};
+use pm_table::Cell;
+
+/// The answer to a line.
+#[derive(Debug, Drop)]
+pub enum Reply {
+    /// `send B0 05 04 00 21 CD 34 5A`: to send this write, and then to say `finished`.
+    Write(Frame),
+    /// `send B0 06 02 00 21 read 4`: to send this request, to read so many bytes behind the read
+    /// address, and then to say `got`.
+    Request(Frame, usize),
+    /// `idle`: nothing is to be sent.
+    Idle,
+    /// `ended done`, `ended differs 1000`, `ended unknown`, `ended learned`: the job is over.
+    Ended(JobEnd),
+    /// `restarted`: nothing is known, and no job is open.
+    Restarted,
+    /// `state confirmed 34CD possible 34CD`, `state unknown possible 1000 34CD`, `state unknown possible
+    /// any`: what is known of a cell, and the words that it may hold.
+    State(Cell, Standing, Possible),
+    /// `seen yes` or `seen no`: whether a restart of the device was seen.
+    Seen(bool),
+    /// `refused H6 TooUncertain`: nothing has changed.
+    Refused(Refusal),
+}

@@ -1,0 +1,187 @@
+//! The line of an answer. Nothing here takes memory: the longest line has 110 bytes.
+ghost use Rattle.std.specs.Prelude.{◌≡◌, ◌+◌, ◌*◌, ◌≤◌, ◌++◌, codes, length};
+ghost use Rattle.arrayvec.specs.ArrayVec.{array_vec_len};
+ghost use Rattle.pm_text.specs.Report.{cell_text, end_text, standing_text};
+ghost use Rattle.pm_session.specs.ReplyText.{possible_text, refusal_words, reply_text as spec_reply_text, reply_words, spaced_bytes, spaced_words};
+ghost use Rattle.pm_lines.specs.Numbers.{hex_byte, hex_word};
+
+use crate::refusal::Refusal;
+use crate::reply::Reply;
+use arrayvec::ArrayVec;
+use pm_host::{JobEnd, Possible, Standing};
+use pm_lines::hex_digits;
+use pm_table::Cell;
+
+/// The line of an answer, with its line feed: at most 110 bytes.
+pub type ReplyText = ArrayVec<u8, 128>;
+
+/// The line of an answer, with its line feed.
+#[tactic(auto, unfolding(crate::specs::ReplyText::reply_text))]
+pub fn reply_text(reply: &Reply) -> ReplyText
+    ensures { result.items ≡ spec_reply_text reply.now }
+{
+    let mut text = ReplyText::new();
+    push_reply(&mut text, reply);
+    push(&mut text, b"\n");
+    text
+}
+
+// Appends the words of an answer to a text that is empty.
+#[tactic(auto, using(crate::proofs::Joins::joins), unfolding(crate::specs::ReplyText::reply_words))]
+fn push_reply(text: &mut ReplyText, reply: &Reply)
+    requires { array_vec_len text.old ≡ 0 }
+    ensures words { text.new.items ≡ text.old.items ++ reply_words reply.now }
+    ensures room { array_vec_len text.new ≤ 127 }
+{
+    match reply {
+        Reply::Write(frame) => {
+            push(text, b"send");
+            push_bytes(text, frame.as_slice());
+        }
+        Reply::Request(frame, count) => {
+            let mut digits = itoa::Buffer::new();
+            push(text, b"send");
+            push_bytes(text, frame.as_slice());
+            push(text, b" read ");
+            push(text, digits.format(*count).as_bytes());
+        }
+        Reply::Idle => push(text, b"idle"),
+        Reply::Ended(end) => {
+            push(text, b"ended ");
+            push_end(text, *end);
+        }
+        Reply::Restarted => push(text, b"restarted"),
+        Reply::State(cell, standing, possible) => push_state(text, *cell, *standing, possible),
+        Reply::Seen(seen) => {
+            push(text, b"seen ");
+            push(
+                text,
+                if *seen {
+                    b"yes".as_slice()
+                } else {
+                    b"no".as_slice()
+                },
+            );
+        }
+        Reply::Refused(refusal) => {
+            push(text, b"refused ");
+            push(text, short_words(*refusal).as_bytes());
+        }
+    }
+}
+
+// The words of a refusal, which are short.
+fn short_words(refusal: Refusal) -> &'static str
+    ensures words { result.now ≡ refusal_words refusal }
+    ensures short { length result.now ≤ 32 }
+{
+    refusal.words()
+}
+
+// Appends how a job ended.
+#[tactic(auto, using(crate::proofs::Joins::joins))]
+fn push_end(text: &mut ReplyText, end: JobEnd)
+    requires { array_vec_len text.old + 12 ≤ 128 }
+    ensures words { text.new.items ≡ text.old.items ++ end_text end }
+    ensures room { array_vec_len text.new ≤ array_vec_len text.old + 12 }
+{
+    match end {
+        JobEnd::Done => push(text, b"done"),
+        JobEnd::Differs(word) => {
+            push(text, b"differs ");
+            push_word(text, word);
+        }
+        JobEnd::Unknown => push(text, b"unknown"),
+        JobEnd::Learned => push(text, b"learned"),
+    }
+}
+
+// Appends what is known of a cell.
+#[tactic(auto, using(crate::proofs::Joins::joins))]
+fn push_state(text: &mut ReplyText, cell: Cell, standing: Standing, possible: &Possible)
+    requires { array_vec_len text.old ≡ 0 }
+    ensures words { text.new.items ≡ text.old.items ++ (codes "state "
+        ++ (standing_text cell standing ++ (codes " possible" ++ possible_text cell possible.now))) }
+    ensures room { array_vec_len text.new ≤ 127 }
+{
+    push(text, b"state ");
+    push_standing(text, cell, standing);
+    push(text, b" possible");
+    match possible {
+        Possible::Any => push(text, b" any"),
+        Possible::Words(words) => push_words(text, cell, words.as_slice()),
+    }
+}
+
+// Appends what the host says of a cell.
+#[tactic(auto, using(crate::proofs::Joins::joins))]
+fn push_standing(text: &mut ReplyText, cell: Cell, standing: Standing)
+    requires { array_vec_len text.old + 14 ≤ 128 }
+    ensures words { text.new.items ≡ text.old.items ++ standing_text cell standing }
+    ensures room { array_vec_len text.new ≤ array_vec_len text.old + 14 }
+{
+    match standing {
+        Standing::Confirmed(word) => {
+            push(text, b"confirmed ");
+            push_cell_word(text, cell, word);
+        }
+        Standing::Unknown => push(text, b"unknown"),
+    }
+}
+
+// Appends words of a cell, with a space before each.
+fn push_words(text: &mut ReplyText, cell: Cell, words: &[u16])
+    requires { array_vec_len text.old + 5 * length words.now ≤ 128 }
+    ensures words { text.new.items ≡ text.old.items ++ spaced_words cell words.now }
+    ensures room { array_vec_len text.new ≤ array_vec_len text.old + 5 * length words.now }
+{
+    for word in words {
+        push(text, b" ");
+        push_cell_word(text, cell, *word);
+    }
+}
+
+// Appends bytes in hexadecimal, with a space before each.
+fn push_bytes(text: &mut ReplyText, bytes: &[u8])
+    requires { array_vec_len text.old + 3 * length bytes.now ≤ 128 }
+    ensures bytes { text.new.items ≡ text.old.items ++ spaced_bytes bytes.now }
+    ensures room { array_vec_len text.new ≡ array_vec_len text.old + 3 * length bytes.now }
+{
+    for byte in bytes {
+        push(text, b" ");
+        push(text, &hex_digits(*byte));
+    }
+}
+
+// Appends a cell's word with its digits.
+fn push_cell_word(text: &mut ReplyText, cell: Cell, word: u16)
+    requires { array_vec_len text.old + 4 ≤ 128 }
+    ensures word { text.new.items ≡ text.old.items ++ cell_text cell word }
+    ensures room { array_vec_len text.new ≤ array_vec_len text.old + 4 }
+{
+    if cell.is_voltage() {
+        push_word(text, word);
+    } else {
+        push(text, &hex_digits((word % 256) as u8));
+    }
+}
+
+// Appends a word as four hexadecimal digits.
+#[tactic(auto, using(crate::proofs::Joins::joins), unfolding(pm_lines::specs::Numbers::hex_word))]
+fn push_word(text: &mut ReplyText, word: u16)
+    requires { array_vec_len text.old + 4 ≤ 128 }
+    ensures word { text.new.items ≡ text.old.items ++ hex_word word }
+    ensures room { array_vec_len text.new ≡ array_vec_len text.old + 4 }
+{
+    push(text, &hex_digits((word / 256) as u8));
+    push(text, &hex_digits((word % 256) as u8));
+}
+
+// Appends bytes for which there is room.
+fn push(text: &mut ReplyText, bytes: &[u8])
+    requires { array_vec_len text.old + length bytes.now ≤ 128 }
+    ensures bytes { text.new.items ≡ text.old.items ++ bytes.now }
+    ensures room { array_vec_len text.new ≡ array_vec_len text.old + length bytes.now }
+{
+    text.try_extend_from_slice(bytes).unwrap();
+}

@@ -1,0 +1,185 @@
+//! What the host answers to a line.
+ghost use Rattle.std.specs.Prelude.{◌≡◌, true};
+ghost use Rattle.pm_table.specs.Cell.{IsCell};
+ghost use Rattle.pm_host.specs.Cells.{is_cell};
+ghost use Rattle.pm_host.specs.Refusals.{cell_fault, micro_fault, order_fault, output_fault};
+ghost use Rattle.pm_host.specs.Transcript.{Got};
+ghost use Rattle.pm_session.specs.Session.{answer_to, answers, sending_reply, step_reply, tells, volts as spec_volts};
+ghost use Rattle.pm_session.specs.declared.ask.Ask.TheVariants as ask;
+
+use crate::ask::Ask;
+use crate::ask_line::read_ask;
+use crate::refusal::Refusal;
+use crate::reply::Reply;
+use pm_frame::Frame;
+use pm_host::{Host, HostFault, Step, Told, Turn};
+use pm_table::Cell;
+
+/// Answers a line, which is without its line feed. The answer and the host after it are those that the
+/// host's own model has for the line; a refused line changes nothing. It takes no memory.
+pub fn answer_line(host: &mut Host, line: &[u8]) -> Reply
+    ensures reply { result ≡ (answer_to host.old line.now).reply }
+    ensures after { host.new ≡ (answer_to host.old line.now).after }
+{
+    match read_ask(line) {
+        Ok(ask) => answer(host, ask),
+        Err(refusal) => Reply::Refused(refusal),
+    }
+}
+
+// Answers what a line asks.
+fn answer(host: &mut Host, ask: Ask) -> Reply
+    ensures reply { result ≡ (answers host.old ask).reply }
+    ensures after { host.new ≡ (answers host.old ask).after }
+{
+    match ask {
+        Ask::Order(cell, word) => order(host, cell, word),
+        Ask::Volts(cell, microvolts) => volts(host, cell, microvolts),
+        Ask::Check(cell) => check(host, cell),
+        Ask::Learn(output) => learn(host, output),
+        Ask::Clear(output) => clear(host, output),
+        Ask::Finished(acked) => finished(host, acked),
+        Ask::Got(frame) => got(host, frame.as_slice()),
+        Ask::Sending => sending(host),
+        Ask::Restart => {
+            host.restart();
+            Reply::Restarted
+        }
+        Ask::State(cell) => state(host, cell),
+        Ask::Seen => Reply::Seen(host.restart_seen()),
+    }
+}
+
+fn order(host: &mut Host, cell: Cell, word: u16) -> Reply
+    ensures reply { result ≡ (answers host.old (ask.Order cell word)).reply }
+    ensures after { host.new ≡ (answers host.old (ask.Order cell word)).after }
+{
+    match host.order(cell, word) {
+        Ok(()) => sending(host),
+        Err(fault) => Reply::Refused(Refusal::Host(fault)),
+    }
+}
+
+#[tactic(auto, unfolding(crate::specs::Session::volts))]
+fn volts(host: &mut Host, cell: Cell, microvolts: i64) -> Reply
+    ensures reply { result ≡ (spec_volts host.old cell microvolts).reply }
+    ensures after { host.new ≡ (spec_volts host.old cell microvolts).after }
+{
+    match host.order_micro(cell, microvolts) {
+        Ok(()) => sending(host),
+        Err(fault) => Reply::Refused(Refusal::Host(fault)),
+    }
+}
+
+fn check(host: &mut Host, cell: Cell) -> Reply
+    ensures reply { result ≡ (answers host.old (ask.Check cell)).reply }
+    ensures after { host.new ≡ (answers host.old (ask.Check cell)).after }
+{
+    match host.check(cell) {
+        Ok(()) => sending(host),
+        Err(fault) => Reply::Refused(Refusal::Host(fault)),
+    }
+}
+
+fn learn(host: &mut Host, output: u8) -> Reply
+    ensures reply { result ≡ (answers host.old (ask.Learn output)).reply }
+    ensures after { host.new ≡ (answers host.old (ask.Learn output)).after }
+{
+    match host.learn(output) {
+        Ok(()) => sending(host),
+        Err(fault) => Reply::Refused(Refusal::Host(fault)),
+    }
+}
+
+fn clear(host: &mut Host, output: u8) -> Reply
+    ensures reply { result ≡ (answers host.old (ask.Clear output)).reply }
+    ensures after { host.new ≡ (answers host.old (ask.Clear output)).after }
+{
+    match host.clear(output) {
+        Ok(()) => sending(host),
+        Err(fault) => Reply::Refused(Refusal::Host(fault)),
+    }
+}
+
+// The write that was sent is over.
+fn finished(host: &mut Host, acked: bool) -> Reply
+    ensures reply { result ≡ (answers host.old (ask.Finished acked)).reply }
+    ensures after { host.new ≡ (answers host.old (ask.Finished acked)).after }
+{
+    match host.turn() {
+        Turn::Idle => Reply::Refused(Refusal::NothingSent),
+        Turn::Request { .. } => Reply::Refused(Refusal::WrongKind),
+        Turn::Write(_) => {
+            let step = host.told(Told::Finished { acked });
+            stepped(host, step)
+        }
+    }
+}
+
+// These bytes came back for the request.
+fn got(host: &mut Host, bytes: &[u8]) -> Reply
+    ensures reply { result ≡ (tells host.old (Got bytes.now)).reply }
+    ensures after { host.new ≡ (tells host.old (Got bytes.now)).after }
+{
+    match host.turn() {
+        Turn::Idle => Reply::Refused(Refusal::NothingSent),
+        Turn::Write(_) => Reply::Refused(Refusal::WrongKind),
+        Turn::Request { .. } => {
+            let step = host.told(Told::Got(bytes));
+            stepped(host, step)
+        }
+    }
+}
+
+// How the job goes on or ends.
+fn stepped(host: &Host, step: Step) -> Reply
+    ensures { result ≡ step_reply host.now step }
+{
+    match step {
+        Step::Next => sending(host),
+        Step::Ended(end) => Reply::Ended(end),
+    }
+}
+
+// What is to be sent now.
+#[tactic(auto, unfolding(crate::specs::Session::sending_reply))]
+fn sending(host: &Host) -> Reply
+    ensures { result ≡ sending_reply host.now }
+{
+    match host.turn() {
+        Turn::Idle => Reply::Idle,
+        Turn::Write(frame) => Reply::Write(copy_of(frame)),
+        Turn::Request { frame, bytes } => Reply::Request(copy_of(frame), bytes - 1),
+    }
+}
+
+// The same frame.
+fn copy_of(frame: &Frame) -> Frame
+    ensures { result ≡ frame.now }
+{
+    let mut copied = Frame::new();
+    let _ = copied.try_extend_from_slice(frame.as_slice());
+    copied
+}
+
+// What is known of a cell: H4 where its output isn't there.
+fn state(host: &Host, cell: Cell) -> Reply
+    ensures { result ≡ (answers host.now (ask.State cell)).reply }
+{
+    if is_there(host, cell) {
+        Reply::State(cell, host.standing(cell), host.possible(cell))
+    } else {
+        Reply::Refused(Refusal::Host(HostFault::UnknownOutput))
+    }
+}
+
+// Whether the host's device has the cell.
+fn is_there(host: &Host, cell: Cell) -> bool
+    ensures test { result ≡ is_cell host.now.setup.outputs cell }
+    ensures there { result ≡ true → IsCell host.now.setup.outputs cell }
+{
+    match cell {
+        Cell::Out(output, _) => output < host.outputs(),
+        Cell::Protect => true,
+    }
+}

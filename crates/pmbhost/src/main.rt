@@ -1,0 +1,9 @@
+//! The program `pmbhost`: it hands the runtime and its standard streams to the library.
+#![tactic(auto)]
+
+use pm_session::program;
+use std::process::ExitCode;
+
+fn main(rt: HostRuntime) -> ExitCode {
+    program(&rt, rt.stdout().lock(), rt.stderr().lock())
+}
