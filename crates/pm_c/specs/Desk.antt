@@ -1,0 +1,104 @@
+-- A converter on a desk: its configuration and the words that its cells hold now, as plain numbers. At
+-- each call a converter starts with these words: it keeps no PAGE, no readings and no latched status.
+use Rattle.std.specs.Prelude.{◌≡◌, ℕ, if◌then◌else◌, ◌==◌, List, [], map, take, Option, Some, None, is_none}
+use Rattle.std.specs.Option.{option_map_or}
+use Rattle.pm_table.specs.declared.cell.Cell.{Cell}
+use Rattle.pm_device.specs.declared.config.Config.{Config}
+use Rattle.pm_device.specs.declared.config.OutputStart.{OutputStart}
+use Rattle.pm_device.specs.declared.fault.DeviceFault.{DeviceFault}
+use Rattle.pm_device.specs.declared.fault.DeviceFault.TheVariants.{Frame, UnsupportedCode, UnsupportedData, BadPage, Protected, Nested, ReadOnly}
+use Rattle.pm_device.specs.declared.heard.Heard.{Heard}
+use Rattle.pm_device.specs.declared.heard.Heard.TheVariants.{Silent, Taken, Answer, Refused}
+use Rattle.pm_device.specs.declared.heard.Ending.{Ending}
+use Rattle.pm_device.specs.declared.heard.Ending.TheVariants.{Stop, Restart}
+use Rattle.pm_device.specs.Held.{Held, value_for}
+use Rattle.pm_device.specs.History.{start_of}
+use Rattle.pm_device.specs.Start.{config_fault, start_word}
+use Rattle.pm_host.specs.Cells.{is_cell}
+use Rattle.pm_host.specs.declared.fault.HostFault.TheVariants.{UnknownOutput}
+use Rattle.pm_model.specs.Commanded.{commanded}
+use Rattle.pm_model.specs.Settings.{word_at}
+use Rattle.pm_num.specs.Ratio.{Ratio}
+use Rattle.pm_c.specs.declared.desk.Desk.{Desk}
+use Rattle.pm_c.specs.declared.desk.OutputWords.{OutputWords}
+use Rattle.pm_c.specs.declared.desk.Reply.{Reply}
+use Rattle.pm_c.specs.Numbers.{accepted, no_cell, no_converter, host_number}
+
+-- an output's mode and words
+abbrev pub output_start : OutputWords → OutputStart
+output_start words = record {
+  mode = words.mode;
+  operation = words.operation;
+  command = words.command;
+  max = words.max;
+  high = words.high;
+  low = words.low;
+  min = words.min;
+}
+
+-- the configuration that it starts with at a call: the words as they are now
+abbrev pub desk_config : Desk → Config
+desk_config desk = record {
+  addr = desk.address;
+  count = desk.outputs;
+  starts = map output_start desk.words;
+  protect = desk.protect;
+  coefficients = record { m = desk.m; b = desk.b; r = desk.r };
+}
+
+-- the converter; None where the words are none that one may start with
+abbrev pub desk_of : Desk → Option Held
+desk_of desk =
+    if is_none (config_fault (desk_config desk)) then Some (start_of (desk_config desk)) else None
+
+-- the word of a cell now
+abbrev pub desk_word : Desk → Cell → ℕ
+desk_word desk cell = start_word (desk_config desk) cell
+
+-- K1 to K7 are 41h to 47h
+abbrev pub device_number : DeviceFault → ℕ
+device_number (Frame fault) = 0x41
+device_number UnsupportedCode = 0x42
+device_number UnsupportedData = 0x43
+device_number BadPage = 0x44
+device_number Protected = 0x45
+device_number Nested = 0x46
+device_number ReadOnly = 0x47
+
+-- what it answers: 0 for silence, 1 for a write that it took, 2 for bytes
+abbrev pub heard_number : Heard → ℕ
+heard_number Silent = 0
+heard_number Taken = 1
+heard_number (Answer frame) = 2
+heard_number (Refused fault) = device_number fault
+
+abbrev pub desk_number : Option Heard → ℕ
+desk_number None = no_converter
+desk_number (Some heard) = heard_number heard
+
+-- the bytes of the answer; none where there is none
+abbrev pub heard_bytes : Heard → List ℕ
+heard_bytes (Answer frame) = frame.items
+heard_bytes _ = []
+
+abbrev pub IsReply : Option Heard → Reply → Type 0
+IsReply heard reply = take reply.length reply.bytes ≡ option_map_or heard_bytes heard []
+
+-- a stop ends the frame, or a repeated start where this isn't 0
+abbrev pub ending_of : ℕ → Ending
+ending_of request = if request == 0 then Stop else Restart
+
+-- what is asked of a cell
+abbrev pub asked_number : Option Held → Option Cell → ℕ
+asked_number None cell = no_converter
+asked_number (Some held) None = no_cell
+asked_number (Some held) (Some cell) =
+    if is_cell held.config.count cell then accepted else host_number UnknownOutput
+
+abbrev pub IsWord : Option Held → Option Cell → ℕ → Type 0
+IsWord (Some held) (Some cell) word = word ≡ word_at held.words cell
+IsWord _ _ word = Unit {0}
+
+-- the voltage that an output commands
+abbrev pub commanded_now : Held → ℕ → Ratio
+commanded_now held output = commanded (value_for held.config output) held.words output

@@ -1,0 +1,126 @@
+-- What the calls of a host answer and do, by the host's own model. Memory that holds no host, a code
+-- that is no cell's and a frame of the other kind are refused first; then the host decides.
+use Rattle.std.specs.Prelude.{◌≡◌, ℕ, ℤ, Bool, false, if◌then◌else◌, take, Option, Some, None, option_map, option_and_then, MatchOption}
+use Rattle.std.specs.Option.{option_map_or}
+use Rattle.pm_table.specs.declared.cell.Cell.{Cell}
+use Rattle.pm_frame.specs.declared.message.Message.{Message}
+use Rattle.pm_frame.specs.Fault.{whole_answer}
+use Rattle.pm_frame.specs.Layout.{is_read_message}
+use Rattle.pm_host.specs.declared.job_end.JobEnd.TheVariants.{Done, Differs, Unknown, Learned}
+use Rattle.pm_host.specs.declared.step.Step.{Step}
+use Rattle.pm_host.specs.declared.step.Step.TheVariants.{Next, Ended}
+use Rattle.pm_host.specs.declared.fault.HostFault.TheVariants.{UnknownOutput}
+use Rattle.pm_host.specs.declared.standing_image.StandingImage.{StandingImage}
+use Rattle.pm_host.specs.declared.words_image.WordsImage.{WordsImage}
+use Rattle.pm_host.specs.Cells.{is_cell}
+use Rattle.pm_host.specs.Image.{standing_held, words_held}
+use Rattle.pm_host.specs.Messages.{IsFrameOf}
+use Rattle.pm_host.specs.Refusals.{is_within, setup_fault, job_fault, micro_fault, micro_word, may_come}
+use Rattle.pm_host.specs.Summary.{Summary, next, step_of, sending_in, possible_at, standing_at}
+use Rattle.pm_host.specs.Transcript.{Job, Order, Entry, Accepted}
+use Rattle.pm_c.specs.declared.numbers.HostStep.{HostStep}
+use Rattle.pm_c.specs.declared.sending.Sending.{Sending}
+use Rattle.pm_c.specs.Numbers.{accepted, no_host, no_cell, other_frame, no_address, outcome, host_number}
+
+-- a host is made
+abbrev pub new_number : ℕ → ℕ → ℕ → ℕ
+new_number address outputs passes =
+    if is_within 0x08 0x77 address then outcome (setup_fault outputs passes) else no_address
+
+-- A job begins: the number, and the host after it. No job stands for a code that is no cell's.
+abbrev pub job_number : Option Summary → Option Job → ℕ
+job_number None job = no_host
+job_number (Some s) None = no_cell
+job_number (Some s) (Some job) = outcome (job_fault s job)
+
+abbrev pub job_begun : Option Summary → Option Job → Option Summary
+job_begun host job = option_and_then (λ s. option_map (λ j. next s (Accepted j)) job) host
+
+-- the same for an order in microvolts
+abbrev pub micro_number : Option Summary → Option Cell → ℤ → ℕ
+micro_number None cell x = no_host
+micro_number (Some s) None x = no_cell
+micro_number (Some s) (Some cell) x = outcome (micro_fault s cell x)
+
+abbrev pub micro_begun : Option Summary → Option Cell → ℤ → Option Summary
+micro_begun host cell x = option_and_then (λ s. option_and_then (λ at.
+    option_map (λ word. next s (Accepted (Order at word))) (micro_word s at x)) cell) host
+
+-- the memory holds a host
+abbrev pub memory_number : Option Summary → ℕ
+memory_number None = no_host
+memory_number (Some s) = accepted
+
+-- what is being sent: nothing, a write or a request, with the bytes before the stop or the repeated
+-- start, and how many bytes a whole answer has
+abbrev pub idle_kind : ℕ
+idle_kind = 0
+
+abbrev pub write_kind : ℕ
+write_kind = 1
+
+abbrev pub request_kind : ℕ
+request_kind = 2
+
+abbrev pub IsNothing : Sending → Type 0
+IsNothing sending = (sending.kind ≡ idle_kind) × (sending.length ≡ 0) × (sending.answer ≡ 0)
+
+pub record IsSending (addr : ℕ) (message : Message) (sending : Sending) : Type 0 where
+  pub kind : sending.kind ≡ (if is_read_message message then request_kind else write_kind)
+  pub answer : sending.answer ≡ (if is_read_message message then whole_answer message else 0)
+  pub frame : IsFrameOf addr message (take sending.length sending.bytes)
+
+abbrev pub IsSent : Option Summary → Sending → Type 0
+IsSent None sending = IsNothing sending
+IsSent (Some s) sending = MatchOption (sending_in s) (IsNothing sending)
+    (λ message. IsSending s.setup.addr message sending)
+
+-- how a call that tells what became of a frame is answered
+abbrev pub step_kind : Step → ℕ
+step_kind Next = 0
+step_kind (Ended Done) = 1
+step_kind (Ended (Differs word)) = 2
+step_kind (Ended Unknown) = 3
+step_kind (Ended Learned) = 4
+
+abbrev pub step_word : Step → ℕ
+step_word (Ended (Differs word)) = word
+step_word _ = 0
+
+abbrev pub host_step : Step → HostStep
+host_step step = record { kind = step_kind step; word = step_word step }
+
+abbrev pub refused_step : ℕ → HostStep
+refused_step number = record { kind = number; word = 0 }
+
+-- the entry may come where a host is there that is sending a frame of its kind
+abbrev pub is_told : Option Summary → Entry → Bool
+is_told host entry = option_map_or (λ s. may_come s entry) host false
+
+abbrev pub told_answer : Option Summary → Entry → HostStep
+told_answer None entry = refused_step no_host
+told_answer (Some s) entry =
+    if may_come s entry then host_step (step_of s entry) else refused_step other_frame
+
+abbrev pub after : Option Summary → Entry → Option Summary
+after host entry = option_map (λ s. next s entry) host
+
+-- what is asked of a cell
+abbrev pub cell_number : Option Summary → Option Cell → ℕ
+cell_number None cell = no_host
+cell_number (Some s) None = no_cell
+cell_number (Some s) (Some cell) =
+    if is_cell s.setup.outputs cell then accepted else host_number UnknownOutput
+
+abbrev pub IsStanding : Option Summary → Option Cell → StandingImage → Type 0
+IsStanding (Some s) (Some cell) said = standing_held said ≡ standing_at s cell
+IsStanding _ _ said = Unit {0}
+
+abbrev pub IsPossible : Option Summary → Option Cell → WordsImage → Type 0
+IsPossible (Some s) (Some cell) words = words_held words ≡ possible_at s cell
+IsPossible _ _ words = Unit {0}
+
+-- 1 where a restart of the device was seen, 0 where none was
+abbrev pub seen_number : Option Summary → ℕ
+seen_number None = no_host
+seen_number (Some s) = if s.known.seen then 1 else 0

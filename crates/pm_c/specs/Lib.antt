@@ -1,0 +1,5 @@
+pub mod Desk
+pub mod Host
+pub mod Numbers
+pub mod Packets
+pub mod Voltages

@@ -1,0 +1,60 @@
+-- A packet as plain numbers, and what they mean: the message that stands in pm_frame's layouts.
+use Rattle.std.specs.Prelude.{ℕ, nat_lt, if◌then◌else◌, ◌==◌, Option, Some, None}
+use Rattle.std.specs.Option.{option_map, option_map_or}
+use Rattle.pm_frame.specs.declared.fault.FrameFault.{FrameFault}
+use Rattle.pm_frame.specs.declared.fault.FrameFault.TheVariants.{NotOurs, Short, Long, WrongCount, WrongPec, UnknownCode, WrongDirection, Nested}
+use Rattle.pm_frame.specs.declared.message.Message.{Message}
+use Rattle.pm_frame.specs.declared.message.Message.TheVariants.{SendByte, WriteByte, WriteWord, PagePlusWrite, ReadCommand, PagePlusRead, ReadCoefficients}
+use Rattle.pm_frame.specs.declared.message.Payload.{Payload}
+use Rattle.pm_frame.specs.declared.message.Payload.TheVariants.{Empty, Byte, Word}
+use Rattle.pm_frame.specs.Layout.{fits_layout}
+use Rattle.pm_host.specs.Refusals.{is_within}
+use Rattle.pm_c.specs.declared.packet.Packet.{Packet}
+use Rattle.pm_c.specs.Numbers.{accepted, no_address, no_packet}
+
+-- a byte is a word below 256
+abbrev pub byte_in : ℕ → Option ℕ
+byte_in word = if nat_lt word 256 then Some word else None
+
+-- what a write carries, by how many bytes that is
+abbrev pub payload_in : ℕ → ℕ → Option Payload
+payload_in count word =
+    if count == 0 then Some Empty
+    else (if count == 1 then option_map (λ byte. Byte byte) (byte_in word)
+    else (if count == 2 then Some (Word word) else None))
+
+-- the message; None where the numbers mean none
+abbrev pub packet_message : Packet → Option Message
+packet_message p =
+    if p.kind == 1 then Some (SendByte p.code)
+    else (if p.kind == 2 then option_map (λ byte. WriteByte p.code byte) (byte_in p.word)
+    else (if p.kind == 3 then Some (WriteWord p.code p.word)
+    else (if p.kind == 4
+    then option_map (λ payload. PagePlusWrite p.page p.code payload) (payload_in p.count p.word)
+    else (if p.kind == 5 then Some (ReadCommand p.code)
+    else (if p.kind == 6 then Some (PagePlusRead p.page p.code)
+    else (if p.kind == 7 then Some (ReadCoefficients p.code p.page) else None))))))
+
+-- a packet is written: the device has an address, and the message its layout
+abbrev pub written_number : ℕ → Option Message → ℕ
+written_number address message =
+    if is_within 0x08 0x77 address
+    then option_map_or (λ m. if fits_layout m then accepted else no_packet) message no_packet
+    else no_address
+
+-- F1 to F8 are 31h to 38h
+abbrev pub frame_number : FrameFault → ℕ
+frame_number NotOurs = 0x31
+frame_number (Short place) = 0x32
+frame_number (Long place) = 0x33
+frame_number (WrongCount place) = 0x34
+frame_number (WrongPec place) = 0x35
+frame_number (UnknownCode place) = 0x36
+frame_number (WrongDirection place) = 0x37
+frame_number (Nested place) = 0x38
+
+-- a packet is read: it is refused with this fault, or it isn't
+abbrev pub read_number : ℕ → Option FrameFault → ℕ
+read_number address fault =
+    if is_within 0x08 0x77 address then option_map_or frame_number fault accepted
+    else no_address

@@ -1,0 +1,274 @@
+//! A model converter on a desk.
+
+ghost use Rattle.std.specs.Prelude.{◌≡◌, ◌≢◌, ◌↔◌, true, map, take, Some, None, option_map, IfSome, IsSomeAnd};
+ghost use Rattle.pm_table.specs.Cell.{cell_at, IsCell};
+ghost use Rattle.pm_device.specs.Reply.{reply_of};
+ghost use Rattle.pm_host.specs.Cells.{is_cell};
+ghost use Rattle.pm_c.specs.Desk.{asked_number, commanded_now, desk_config, desk_of, desk_number, device_number, ending_of, heard_bytes, heard_number, output_start, IsReply, IsWord};
+ghost use Rattle.pm_c.specs.Voltages.{IsFar, IsFloor};
+
+use crate::numbers::{ACCEPTED, NO_CELL, NO_CONVERTER, NO_OUTPUT};
+use crate::sending::copy_frame;
+use crate::voltages::put_floor;
+use pm_device::{Config, Converter, DeviceFault, Ending, Heard, OutputStart};
+use pm_table::{Cell, Code, Coefficients, Reg, cell_of};
+use std::mem::size_of;
+
+/// An output's VOUT_MODE and the words of its registers.
+#[repr(C)]
+#[derive(Clone, Copy, Debug)]
+pub struct OutputWords {
+    /// VOUT_MODE.
+    pub mode: u8,
+    /// No meaning.
+    pub unused: u8,
+    /// OPERATION, one byte.
+    pub operation: u16,
+    /// VOUT_COMMAND.
+    pub command: u16,
+    /// VOUT_MAX.
+    pub max: u16,
+    /// VOUT_MARGIN_HIGH.
+    pub high: u16,
+    /// VOUT_MARGIN_LOW.
+    pub low: u16,
+    /// VOUT_MIN.
+    pub min: u16,
+}
+
+/// A converter: what it was made with, but for the words, which are those that its cells hold now.
+#[repr(C)]
+#[derive(Clone, Copy, Debug)]
+pub struct Desk {
+    /// The address, 08h to 77h.
+    pub address: u8,
+    /// How many outputs there are, 1 to 8.
+    pub outputs: u8,
+    /// R of every output with VOUT_MODE 40h.
+    pub r: i8,
+    /// No meaning.
+    pub unused: u8,
+    /// The slope m of these.
+    pub m: i16,
+    /// The offset b of these.
+    pub b: i16,
+    /// WRITE_PROTECT, one byte.
+    pub protect: u16,
+    /// The outputs; those that aren't there mean nothing.
+    pub words: [OutputWords; 8],
+}
+
+/// What a converter answers to a request.
+#[repr(C)]
+#[derive(Clone, Copy, Debug)]
+pub struct Reply {
+    /// How many bytes it has, the read address first; 0 where there is no answer.
+    pub length: u8,
+    /// No meaning.
+    pub unused: u8,
+    /// The bytes; behind them anything.
+    pub bytes: [u8; 16],
+}
+
+impl OutputWords {
+    // As a converter starts with it.
+    fn start(&self) -> OutputStart
+        ensures { result ≡ output_start self.now }
+    {
+        OutputStart {
+            mode: self.mode,
+            operation: self.operation,
+            command: self.command,
+            max: self.max,
+            high: self.high,
+            low: self.low,
+            min: self.min,
+        }
+    }
+}
+
+// As a converter starts with them.
+fn starts_of(words: &[OutputWords; 8]) -> [OutputStart; 8]
+    ensures { result ≡ map output_start words.now }
+{
+    words.map(|output| output.start())
+}
+
+impl Desk {
+    // What it is made from.
+    fn config(&self) -> Config
+        ensures { result ≡ desk_config self.now }
+    {
+        Config {
+            addr: self.address,
+            count: self.outputs,
+            starts: starts_of(&self.words),
+            protect: self.protect,
+            coefficients: Coefficients {
+                m: self.m,
+                b: self.b,
+                r: self.r,
+            },
+        }
+    }
+
+    // The converter that starts with its words now.
+    fn converter(&self) -> Option<Converter>
+        ensures made { result ≡ desk_of self.now }
+        ensures config { IfSome result (λ made. made.config ≡ desk_config self.now) }
+    {
+        match Converter::new(self.config()) {
+            Ok(converter) => Some(converter),
+            Err(_) => None,
+        }
+    }
+
+    // Its cells hold the converter's words.
+    fn take(&mut self, converter: &Converter) {
+        store(&mut self.words, converter);
+        self.protect = converter.word(Cell::Protect);
+    }
+}
+
+// The words of the outputs that there are, as the converter has them.
+fn store(words: &mut [OutputWords; 8], converter: &Converter) {
+    for output in 0..converter.count() {
+        let word = |register| converter.word(Cell::Out(output, register));
+        let kept = &mut words[usize::from(output)];
+        kept.operation = word(Reg::Operation);
+        kept.command = word(Reg::VoutCommand);
+        kept.max = word(Reg::VoutMax);
+        kept.high = word(Reg::MarginHigh);
+        kept.low = word(Reg::MarginLow);
+        kept.min = word(Reg::VoutMin);
+    }
+}
+
+// The number of a converter's fault.
+fn of_device(fault: DeviceFault) -> u8
+    ensures { result ≡ device_number fault }
+{
+    match fault {
+        DeviceFault::Frame(_) => 0x41,
+        DeviceFault::UnsupportedCode => 0x42,
+        DeviceFault::UnsupportedData => 0x43,
+        DeviceFault::BadPage => 0x44,
+        DeviceFault::Protected => 0x45,
+        DeviceFault::Nested => 0x46,
+        DeviceFault::ReadOnly => 0x47,
+    }
+}
+
+// Its number, and its bytes where it has any.
+fn give(heard: Heard, reply: &mut Reply) -> u8
+    ensures number { result ≡ heard_number heard }
+    ensures reply { take reply.new.length reply.new.bytes ≡ heard_bytes heard }
+{
+    reply.length = 0;
+    match heard {
+        Heard::Silent => 0,
+        Heard::Taken => 1,
+        Heard::Answer(frame) => {
+            reply.length = copy_frame(&mut reply.bytes, &frame);
+            2
+        }
+        Heard::Refused(fault) => of_device(fault),
+    }
+}
+
+/// How many bytes a converter has.
+#[unsafe(no_mangle)]
+pub extern "C" fn pm_desk_size() -> usize
+    ensures { result ≡ 122 }
+{
+    size_of::<Desk>()
+}
+
+/// The converter hears the bytes of one frame, which a repeated start ends where `is_request` isn't 0,
+/// otherwise a stop. 0 where it is silent, 1 where it took a write, 2 where it answers a read, K1 to
+/// K7 as 41h to 47h, 25h where the memory holds no converter.
+#[unsafe(no_mangle)]
+pub extern "C" fn pm_desk_hear(
+    desk: &mut Desk,
+    bytes: &[u8],
+    is_request: u8,
+    reply: &mut Reply,
+) -> u8
+    ensures number { let heard = option_map (λ held. reply_of held bytes.now (ending_of is_request))
+        (desk_of desk.old) in
+        result ≡ desk_number heard }
+    ensures answer { let heard = option_map (λ held. reply_of held bytes.now (ending_of is_request))
+        (desk_of desk.old) in
+        IsReply heard reply.new }
+    ensures refused { result ≡ 0x25 → desk.new ≡ desk.old }
+{
+    let Some(mut converter) = desk.converter() else {
+        reply.length = 0;
+        return NO_CONVERTER;
+    };
+    let heard = converter.hear(bytes, ending(is_request));
+    desk.take(&converter);
+    give(heard, reply)
+}
+
+// How a frame ends.
+fn ending(is_request: u8) -> Ending
+    ensures { result ≡ ending_of is_request }
+{
+    if is_request == 0 {
+        Ending::Stop
+    } else {
+        Ending::Restart
+    }
+}
+
+/// The word of a cell. 25h, 21h, 4 where the output isn't there.
+#[unsafe(no_mangle)]
+pub extern "C" fn pm_desk_word(desk: &Desk, output: u8, code: u8, word: &mut u16) -> u8
+    ensures number { result ≡ asked_number (desk_of desk.now) (cell_at code output) }
+    ensures word { result ≡ 0 → IsWord (desk_of desk.now) (cell_at code output) word.new }
+    ensures refused { result ≢ 0 → word.new ≡ word.old }
+{
+    let Some(converter) = desk.converter() else {
+        return NO_CONVERTER;
+    };
+    let Some(cell) = cell_of(Code(code), output) else {
+        return NO_CELL;
+    };
+    if !has_cell(converter.count(), cell) {
+        return NO_OUTPUT;
+    }
+    *word = converter.word(cell);
+    ACCEPTED
+}
+
+// Whether a cell is there.
+fn has_cell(outputs: u8, cell: Cell) -> bool
+    ensures test { result ≡ is_cell outputs cell }
+    ensures fact { result ≡ true → IsCell outputs cell }
+{
+    match cell {
+        Cell::Out(output, _) => output < outputs,
+        Cell::Protect => true,
+    }
+}
+
+/// The whole microvolts that an output commands, rounded down. 25h, 4 where the output isn't there, N5
+/// beyond 10^15 in size.
+#[unsafe(no_mangle)]
+pub extern "C" fn pm_desk_commanded(desk: &Desk, output: u8, microvolts: &mut i64) -> u8
+    ensures floor { result ≡ 0 → IsSomeAnd (desk_of desk.now)
+        (λ held. IsFloor (commanded_now held output) microvolts.new) }
+    ensures far { result ≡ 0x15 → IsSomeAnd (desk_of desk.now)
+        (λ held. IsFar (commanded_now held output)) }
+    ensures none { (result ≡ 0x25) ↔ (desk_of desk.now ≡ None) }
+    ensures refused { result ≢ 0 → microvolts.new ≡ microvolts.old }
+{
+    let Some(converter) = desk.converter() else {
+        return NO_CONVERTER;
+    };
+    if converter.count() <= output {
+        return NO_OUTPUT;
+    }
+    put_floor(&converter.commanded(output), microvolts)
+}

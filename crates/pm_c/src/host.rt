@@ -1,0 +1,152 @@
+//! A host's life: it is made, begins jobs, and starts again.
+
+ghost use Rattle.std.specs.Prelude.{◌≡◌, ◌≢◌, Some, option_map};
+ghost use Rattle.pm_table.specs.Cell.{cell_at};
+ghost use Rattle.pm_host.specs.Image.{host_of, image_version};
+ghost use Rattle.pm_host.specs.Summary.{start};
+ghost use Rattle.pm_host.specs.Transcript.{Setup, Order, Check, Learn, Send, Restarted};
+ghost use Rattle.pm_host.specs.declared.command.Command.TheVariants.{ClearFaults};
+ghost use Rattle.pm_c.specs.Host.{new_number, job_number, job_begun, micro_number, micro_begun, memory_number, after};
+
+use crate::numbers::{ACCEPTED, NO_ADDRESS, NO_CELL, NO_HOST, number_of};
+use pm_host::Image;
+use pm_table::{Code, address_ok, cell_of};
+use std::mem::size_of;
+
+/// How many bytes a host has.
+#[unsafe(no_mangle)]
+pub extern "C" fn pm_host_size() -> usize
+    ensures { result ≡ 1926 }
+{
+    size_of::<Image>()
+}
+
+/// The number of a host's layout.
+#[unsafe(no_mangle)]
+pub extern "C" fn pm_host_version() -> u16
+    ensures { result ≡ image_version }
+{
+    Image::VERSION
+}
+
+/// Makes a host for the device at this address, which has this many outputs; a job has at most this
+/// many passes or tries. 23h, H1, H2.
+#[unsafe(no_mangle)]
+pub extern "C" fn pm_host_new(host: &mut Image, address: u8, outputs: u8, passes: u8) -> u8
+    ensures number { result ≡ new_number address outputs passes }
+    ensures begun { let setup : Setup = record { addr = address; outputs = outputs; passes = passes } in
+        result ≡ 0 → host_of host.new ≡ Some (start setup) }
+    ensures refused { result ≢ 0 → host.new ≡ host.old }
+{
+    if !address_ok(address) {
+        return NO_ADDRESS;
+    }
+    number_of(host.start(address, outputs, passes))
+}
+
+/// Begins an order. 20h, 21h, H3, H4, H5, H6.
+#[unsafe(no_mangle)]
+pub extern "C" fn pm_host_order(host: &mut Image, output: u8, code: u8, word: u16) -> u8
+    ensures number { let job = option_map (λ cell. Order cell word) (cell_at code output) in
+        result ≡ job_number (host_of host.old) job }
+    ensures begun { let job = option_map (λ cell. Order cell word) (cell_at code output) in
+        result ≡ 0 → host_of host.new ≡ job_begun (host_of host.old) job }
+    ensures refused { result ≢ 0 → host.new ≡ host.old }
+{
+    if !host.is_host() {
+        return NO_HOST;
+    }
+    let Some(cell) = cell_of(Code(code), output) else {
+        return NO_CELL;
+    };
+    let outcome = host.state.order(cell, word);
+    host.holds_a_host();
+    number_of(outcome)
+}
+
+/// Begins an order of the word nearest to a number of microvolts, in the format that was learned for
+/// the output. 20h, 21h, H3, H4, H5, H7, N5, N3 or N4, H6.
+#[unsafe(no_mangle)]
+pub extern "C" fn pm_host_order_micro(host: &mut Image, output: u8, code: u8, microvolts: i64) -> u8
+    ensures number { result ≡ micro_number (host_of host.old) (cell_at code output) microvolts }
+    ensures begun { result ≡ 0 →
+        host_of host.new ≡ micro_begun (host_of host.old) (cell_at code output) microvolts }
+    ensures refused { result ≢ 0 → host.new ≡ host.old }
+{
+    if !host.is_host() {
+        return NO_HOST;
+    }
+    let Some(cell) = cell_of(Code(code), output) else {
+        return NO_CELL;
+    };
+    let outcome = host.state.order_micro(cell, microvolts);
+    host.holds_a_host();
+    number_of(outcome)
+}
+
+/// Begins a check of a cell. 20h, 21h, H3, H4.
+#[unsafe(no_mangle)]
+pub extern "C" fn pm_host_check(host: &mut Image, output: u8, code: u8) -> u8
+    ensures number { let job = option_map (λ cell. Check cell) (cell_at code output) in
+        result ≡ job_number (host_of host.old) job }
+    ensures begun { let job = option_map (λ cell. Check cell) (cell_at code output) in
+        result ≡ 0 → host_of host.new ≡ job_begun (host_of host.old) job }
+    ensures refused { result ≢ 0 → host.new ≡ host.old }
+{
+    if !host.is_host() {
+        return NO_HOST;
+    }
+    let Some(cell) = cell_of(Code(code), output) else {
+        return NO_CELL;
+    };
+    let outcome = host.state.check(cell);
+    host.holds_a_host();
+    number_of(outcome)
+}
+
+/// Begins a learn of the format of an output's voltages. 20h, H3, H4.
+#[unsafe(no_mangle)]
+pub extern "C" fn pm_host_learn(host: &mut Image, output: u8) -> u8
+    ensures number { result ≡ job_number (host_of host.old) (Some (Learn output)) }
+    ensures begun { result ≡ 0 →
+        host_of host.new ≡ job_begun (host_of host.old) (Some (Learn output)) }
+    ensures refused { result ≢ 0 → host.new ≡ host.old }
+{
+    if !host.is_host() {
+        return NO_HOST;
+    }
+    let outcome = host.state.learn(output);
+    host.holds_a_host();
+    number_of(outcome)
+}
+
+/// Begins to clear the latched faults of an output. 20h, H3, H4.
+#[unsafe(no_mangle)]
+pub extern "C" fn pm_host_clear(host: &mut Image, output: u8) -> u8
+    ensures number { result ≡ job_number (host_of host.old) (Some (Send (ClearFaults output))) }
+    ensures begun { result ≡ 0 →
+        host_of host.new ≡ job_begun (host_of host.old) (Some (Send (ClearFaults output))) }
+    ensures refused { result ≢ 0 → host.new ≡ host.old }
+{
+    if !host.is_host() {
+        return NO_HOST;
+    }
+    let outcome = host.state.clear(output);
+    host.holds_a_host();
+    number_of(outcome)
+}
+
+/// Drops the open job and all that is known of cells and formats. 20h.
+#[unsafe(no_mangle)]
+pub extern "C" fn pm_host_restart(host: &mut Image) -> u8
+    ensures number { result ≡ memory_number (host_of host.old) }
+    ensures begun { host_of host.new ≡ after (host_of host.old) Restarted }
+    ensures refused { result ≢ 0 → host.new ≡ host.old }
+{
+    if !host.is_host() {
+        return NO_HOST;
+    }
+    host.state.restart();
+    host.holds_a_host();
+    ACCEPTED
+}

@@ -1,0 +1,66 @@
+//! What a host knows.
+
+ghost use Rattle.std.specs.Prelude.{◌≡◌, ◌≢◌};
+ghost use Rattle.pm_table.specs.Cell.{cell_at};
+ghost use Rattle.pm_host.specs.Image.{host_of};
+ghost use Rattle.pm_c.specs.Host.{cell_number, IsStanding, IsPossible, seen_number};
+
+use crate::numbers::{ACCEPTED, NO_CELL, NO_HOST, of_host};
+use pm_host::{HostFault, Image, StandingImage, WordsImage};
+use pm_table::{Code, cell_of};
+
+/// What is known of a cell's word. 20h, 21h, H4.
+#[unsafe(no_mangle)]
+pub extern "C" fn pm_host_standing(
+    host: &Image,
+    output: u8,
+    code: u8,
+    standing: &mut StandingImage,
+) -> u8
+    ensures number { result ≡ cell_number (host_of host.now) (cell_at code output) }
+    ensures said { result ≡ 0 → IsStanding (host_of host.now) (cell_at code output) standing.new }
+    ensures refused { result ≢ 0 → standing.new ≡ standing.old }
+{
+    if !host.is_host() {
+        return NO_HOST;
+    }
+    let Some(cell) = cell_of(Code(code), output) else {
+        return NO_CELL;
+    };
+    if !host.state.has_cell(cell) {
+        return of_host(HostFault::UnknownOutput);
+    }
+    *standing = host.state.standing(cell);
+    ACCEPTED
+}
+
+/// The words that a cell may hold. 20h, 21h, H4.
+#[unsafe(no_mangle)]
+pub extern "C" fn pm_host_possible(host: &Image, output: u8, code: u8, words: &mut WordsImage) -> u8
+    ensures number { result ≡ cell_number (host_of host.now) (cell_at code output) }
+    ensures said { result ≡ 0 → IsPossible (host_of host.now) (cell_at code output) words.new }
+    ensures refused { result ≢ 0 → words.new ≡ words.old }
+{
+    if !host.is_host() {
+        return NO_HOST;
+    }
+    let Some(cell) = cell_of(Code(code), output) else {
+        return NO_CELL;
+    };
+    if !host.state.has_cell(cell) {
+        return of_host(HostFault::UnknownOutput);
+    }
+    *words = *host.state.possible(cell);
+    ACCEPTED
+}
+
+/// 1 where a restart of the device was seen since the host started, 0 where none was. 20h.
+#[unsafe(no_mangle)]
+pub extern "C" fn pm_host_restart_seen(host: &Image) -> u8
+    ensures { result ≡ seen_number (host_of host.now) }
+{
+    if !host.is_host() {
+        return NO_HOST;
+    }
+    u8::from(host.state.restart_seen())
+}

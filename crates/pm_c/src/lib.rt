@@ -1,0 +1,16 @@
+//! The host core for callers in C: a static library, whose header is `include/pm.h`. It has the host, a
+//! model converter for a desk, and packets and numbers alone.
+//!
+//! A host lives in the caller's memory, as plain numbers that are worked on in place. No call wants
+//! anything of what is in that memory: a call of a host asks first whether a host is there, and refuses
+//! where none is. The library takes no memory, keeps nothing between calls and calls nothing.
+#![tactic(auto)]
+
+mod desk;
+mod host;
+mod known;
+mod numbers;
+mod packet;
+mod sending;
+mod told;
+mod voltages;

@@ -1,0 +1,88 @@
+//! Words and microvolts, both ways.
+
+ghost use Rattle.std.specs.Prelude.{◌≡◌, ◌≢◌, ◌↔◌, ◌⊎◌, Some, IsSomeAnd, is_none, true};
+ghost use Rattle.pm_num.specs.AnyFormat.{shape_value, shape_rank};
+ghost use Rattle.pm_num.specs.NearestWord.{nearest_word as spec_nearest_word};
+ghost use Rattle.pm_num.specs.Ratio.{micros};
+ghost use Rattle.pm_host.specs.Image.{format_held, host_of};
+ghost use Rattle.pm_host.specs.Summary.{format_at};
+ghost use Rattle.pm_c.specs.Voltages.{output_number, word_number, IsFar, IsFloor};
+
+use crate::numbers::{ACCEPTED, NO_HOST, of_host, of_number};
+use pm_host::{FormatImage, HostFault, Image, nearest_word};
+use pm_num::{Frac, NumFault, NumFormat};
+
+/// The greatest number of microvolts that there is a word for, in size.
+const LIMIT: i128 = 1_000_000_000_000_000;
+
+/// The format of an output's voltages, as far as the host learned it. 20h, H4.
+#[unsafe(no_mangle)]
+pub extern "C" fn pm_host_format(host: &Image, output: u8, format: &mut FormatImage) -> u8
+    ensures number { result ≡ output_number (host_of host.now) output }
+    ensures said { result ≡ 0 → IsSomeAnd (host_of host.now)
+        (λ s. format_held format.new ≡ format_at s output) }
+    ensures refused { result ≢ 0 → format.new ≡ format.old }
+{
+    if !host.is_host() {
+        return NO_HOST;
+    }
+    if host.state.outputs <= output {
+        return of_host(HostFault::UnknownOutput);
+    }
+    *format = host.state.format(output);
+    ACCEPTED
+}
+
+/// The whole microvolts of a word, rounded down. H7 where the numbers mean no format, N5 beyond 10^15
+/// in size.
+#[unsafe(no_mangle)]
+pub extern "C" fn pm_microvolts(format: &FormatImage, word: u16, microvolts: &mut i64) -> u8
+    ensures unknown { (result ≡ 7) ↔ (is_none (format_held format.now) ≡ true) }
+    ensures floor { result ≡ 0 → IsSomeAnd (format_held format.now)
+        (λ shape. IsFloor (shape_value shape word) microvolts.new) }
+    ensures far { result ≡ 0x15 → IsSomeAnd (format_held format.now)
+        (λ shape. IsFar (shape_value shape word)) }
+    ensures number { (result ≡ 0) ⊎ (result ≡ 7) ⊎ (result ≡ 0x15) }
+    ensures refused { result ≢ 0 → microvolts.new ≡ microvolts.old }
+{
+    let Some(format) = format.format() else {
+        return of_host(HostFault::FormatUnknown);
+    };
+    put_floor(&format.value_of(word), microvolts)
+}
+
+/// The whole microvolts of a value, rounded down. N5 beyond 10^15 in size.
+pub(crate) fn put_floor(value: &Frac, microvolts: &mut i64) -> u8
+    ensures floor { result ≡ 0 → IsFloor value.now microvolts.new }
+    ensures far { result ≡ 0x15 → IsFar value.now }
+    ensures number { (result ≡ 0) ⊎ (result ≡ 0x15) }
+    ensures refused { result ≢ 0 → microvolts.new ≡ microvolts.old }
+{
+    let floor = value.floor_micro();
+    if floor < -LIMIT || LIMIT < floor {
+        return of_number(NumFault::TooLarge);
+    }
+    *microvolts = floor as i64;
+    ACCEPTED
+}
+
+/// The word nearest to a number of microvolts. H7 where the numbers mean no format, N5, N3, N4.
+#[unsafe(no_mangle)]
+pub extern "C" fn pm_nearest_word(format: &FormatImage, microvolts: i64, word: &mut u16) -> u8
+    ensures number { result ≡ word_number (format_held format.now) microvolts }
+    ensures nearest { result ≡ 0 → IsSomeAnd (format_held format.now)
+        (λ shape. spec_nearest_word (shape_value shape) (shape_rank shape) (micros microvolts)
+        ≡ Some word.new) }
+    ensures refused { result ≢ 0 → word.new ≡ word.old }
+{
+    let Some(format) = format.format() else {
+        return of_host(HostFault::FormatUnknown);
+    };
+    match nearest_word(&format, microvolts) {
+        Ok(found) => {
+            *word = found;
+            ACCEPTED
+        }
+        Err(fault) => of_host(fault),
+    }
+}

@@ -1,0 +1,120 @@
+/* Both ends under faults: random jobs, frames that are lost, cut or damaged, answers that are lost or
+ * damaged, false acknowledgements, and restarts of either end. It counts the words that the host calls
+ * confirmed, and those of them that the converter doesn't hold, which the guarantees rule out while it
+ * didn't restart. Damage here changes one byte, which the PEC always betrays. */
+#include "pm.h"
+#include <stdio.h>
+#include <stdlib.h>
+#include <string.h>
+
+static const uint8_t codes[] = {PM_OPERATION, PM_VOUT_COMMAND, PM_VOUT_MAX, PM_VOUT_MARGIN_HIGH,
+                                PM_VOUT_MARGIN_LOW, PM_VOUT_MIN};
+enum { OUTPUTS = 2, CODES = sizeof codes };
+
+static uint64_t seed = 1;
+
+static unsigned draw(unsigned below) {
+    seed ^= seed << 13;
+    seed ^= seed >> 7;
+    seed ^= seed << 17;
+    return (unsigned)((seed >> 11) % below);
+}
+
+static pm_desk start_desk(void) {
+    pm_desk desk;
+    memset(&desk, 0, sizeof desk);
+    desk.address = 0x58;
+    desk.outputs = OUTPUTS;
+    desk.m = 1;
+    for (int i = 0; i < OUTPUTS; i++) {
+        pm_output output = {0x14, 0, 0x80, 0x1000, 0x4000, 0x1100, 0x0F00, 0x0000};
+        desk.words[i] = output;
+    }
+    return desk;
+}
+
+static size_t damage(uint8_t *bytes, size_t count) {
+    if (draw(2))
+        return draw((unsigned)count);
+    bytes[draw((unsigned)count)] ^= (uint8_t)(1 + draw(255));
+    return count;
+}
+
+/* What becomes of the frame that is to be sent. */
+static pm_step exchange(pm_host *host, pm_desk *desk) {
+    pm_sending frame;
+    pm_reply reply;
+    pm_host_sending(host, &frame);
+    size_t count = frame.length;
+    unsigned fate = draw(8);
+    if (fate == 0)
+        count = damage(frame.bytes, count);
+    int heard = fate != 1;
+    if (frame.kind == PM_WRITE) {
+        int taken = heard && pm_desk_hear(desk, frame.bytes, count, 0, &reply) == PM_TAKEN;
+        return pm_host_finished(host, fate == 2 ? !taken : taken);
+    }
+    reply.length = 0;
+    if (heard)
+        pm_desk_hear(desk, frame.bytes, count, 1, &reply);
+    count = reply.length;
+    if (fate == 3 && count)
+        count = damage(reply.bytes, count);
+    return pm_host_got(host, reply.bytes, fate == 4 ? 0 : count);
+}
+
+static void begin(pm_host *host) {
+    uint8_t output = (uint8_t)draw(OUTPUTS), code = codes[draw(CODES)];
+    switch (draw(8)) {
+    case 0: pm_host_check(host, output, code); break;
+    case 1: pm_host_learn(host, output); break;
+    case 2: pm_host_clear(host, output); break;
+    case 3: pm_host_order_micro(host, output, code, (int64_t)draw(4000000)); break;
+    default:
+        pm_host_order(host, output, code, code == PM_OPERATION ? 0x80 : (uint16_t)(0x1000 + draw(0x400)));
+    }
+}
+
+int main(int count, char **words) {
+    long jobs = count > 1 ? atol(words[1]) : 20000;
+    long confirmed = 0, wrong = 0, unlisted = 0, done = 0, ended = 0;
+    pm_host host;
+    pm_desk desk = start_desk();
+    int restarted = 0;
+    pm_host_new(&host, 0x58, OUTPUTS, 3);
+    for (long job = 0; job < jobs; job++) {
+        pm_sending frame;
+        begin(&host);
+        for (pm_host_sending(&host, &frame); frame.kind != PM_NOTHING; pm_host_sending(&host, &frame)) {
+            pm_step step = exchange(&host, &desk);
+            done += step.kind == PM_DONE;
+            ended += step.kind != PM_NEXT;
+        }
+        for (uint8_t output = 0; output < OUTPUTS; output++)
+            for (int i = 0; i < CODES; i++) {
+                pm_standing standing;
+                pm_words words_held;
+                uint16_t held;
+                pm_host_standing(&host, output, codes[i], &standing);
+                pm_host_possible(&host, output, codes[i], &words_held);
+                pm_desk_word(&desk, output, codes[i], &held);
+                int listed = words_held.count == 0;
+                for (int at = 0; at < words_held.count; at++)
+                    listed |= words_held.words[at] == held;
+                confirmed += standing.is_confirmed == 1;
+                wrong += standing.is_confirmed == 1 && standing.word != held && !restarted;
+                unlisted += !listed && !restarted;
+            }
+        if (draw(200) == 0) {
+            desk = start_desk();
+            restarted = 1;
+        }
+        if (restarted && draw(20) == 0) {
+            pm_host_restart(&host);
+            restarted = 0;
+        }
+    }
+    printf("%ld jobs, %ld ended, %ld done; %ld confirmed, %ld wrong, %ld not listed\n", jobs, ended, done, confirmed,
+           wrong, unlisted);
+    return wrong || unlisted || !done;
+}
