@@ -1,7 +1,7 @@
 //! Frames that are cut, changed in one bit, or very long.
 
-use crate::fixtures::{BASE, CELLS, OUTPUT};
-use crate::frames::{frame, hear, made, word};
+use crate::fixtures::{CELLS, OUTPUT};
+use crate::frames::{base, frame, hear, made, word};
 use pm_device::{Config, ConfigFault, Converter, DeviceFault, Ending, Heard, OutputStart};
 use pm_frame::{Frame, FrameFault, Message, fits, read_answer, read_request, read_write};
 use pm_table::Coefficients;
@@ -68,9 +68,14 @@ fn changed(rt: &impl Abort, whole: &Frame, place: usize, bits: u8) -> Frame {
 
 const BITS: [u8; 8] = [0x80, 0x40, 0x20, 0x10, 0x08, 0x04, 0x02, 0x01];
 
+// A converter of that configuration.
+fn mixed() -> Result<Converter, ConfigFault> {
+    made(MIXED)
+}
+
 // Every cell and PAGE are as at the start.
 fn is_at_start(converter: &Converter) -> Result<bool, ConfigFault> {
-    let started = made(MIXED)?;
+    let started = mixed()?;
     let mut same = converter.page() == 0;
     for cell in CELLS {
         same = same && word(converter, cell) == word(&started, cell);
@@ -94,7 +99,7 @@ fn is_answer(sent: &Message, bytes: &[u8]) -> bool {
 // A write that is cut or changed in one bit is none, and takes no effect.
 fn is_no_write(rt: &impl Abort, bytes: &[u8]) -> Result<(), ConfigFault> {
     assert!(rt; !is_write(bytes), "{bytes:?}");
-    let mut converter = made(MIXED)?;
+    let mut converter = mixed()?;
     let heard = hear(&mut converter, bytes, Ending::Stop);
     let unheard = matches!(heard, Heard::Refused(_) | Heard::Silent);
     assert!(rt; unheard, "{heard:?} for {bytes:?}");
@@ -128,7 +133,7 @@ fn a_damaged_write_is_none(rt: HostRuntime) -> Result<(), Fail> {
 // refused by a host that sent the first.
 fn is_another_request(rt: &impl Abort, sent: &Message, bytes: &[u8]) -> Result<(), ConfigFault> {
     for ending in [Ending::Restart, Ending::Stop] {
-        let mut converter = made(MIXED)?;
+        let mut converter = mixed()?;
         let heard = hear(&mut converter, bytes, ending);
         if let Heard::Answer(answer) = &heard {
             let is_good = is_answer(sent, answer.as_slice());
@@ -186,7 +191,7 @@ fn is_betrayed_answer(rt: &impl Abort, sent: &Message, whole: &Frame, place: usi
 
 // The converter answers a request so.
 fn is_answered(rt: &impl Abort, request: &str, whole: &Frame) -> Result<(), ConfigFault> {
-    let mut converter = made(MIXED)?;
+    let mut converter = mixed()?;
     let heard = hear(
         &mut converter,
         frame(rt, request).as_slice(),
@@ -212,7 +217,7 @@ fn a_damaged_answer_is_none(rt: HostRuntime) -> Result<(), Fail> {
 
 // The frame is refused for this fault of it.
 fn is_faulty(rt: &impl Abort, bytes: &[u8], fault: FrameFault) -> Result<(), ConfigFault> {
-    let mut converter = made(BASE)?;
+    let mut converter = base()?;
     let heard = hear(&mut converter, bytes, Ending::Stop);
     let wanted = DeviceFault::Frame(fault);
     let is_refused = matches!(&heard, Heard::Refused(found) if *found == wanted);
@@ -233,7 +238,7 @@ fn very_long_frames_are_refused_or_not_heard(rt: HostRuntime) -> Result<(), Fail
     is_faulty(&rt, &bytes[..258], FrameFault::Short(258))?;
     is_faulty(&rt, &bytes[..259], FrameFault::WrongCount(2))?;
     is_faulty(&rt, &bytes, FrameFault::Long(259))?;
-    let mut converter = made(BASE)?;
+    let mut converter = base()?;
     let million = vec![in rt.alloc(); 0x05; 1_000_000]?;
     for ending in [Ending::Stop, Ending::Restart] {
         let heard = hear(&mut converter, &million, ending);

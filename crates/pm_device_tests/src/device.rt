@@ -11,7 +11,7 @@ mod registers;
 mod status_bits;
 
 use crate::fixtures::{BASE, CELLS, FIRST, OUTPUT, SECOND};
-use crate::frames::{frame, hear, made, word};
+use crate::frames::{base, frame, hear, made, word};
 use pm_device::{Config, ConfigFault, Converter, DeviceFault, Ending, Heard, OutputStart};
 use pm_frame::{Frame, FrameFault};
 use pm_table::Coefficients;
@@ -35,6 +35,25 @@ fn is_wanted(heard: &Heard, wanted: Wanted<'_>) -> bool {
         (Heard::Answer(frame), Wanted::Answer(bytes)) => frame.as_slice() == bytes,
         _ => false,
     }
+}
+
+// A converter of the base configuration with this WRITE_PROTECT, with so many outputs, and one whose second
+// output starts with this OPERATION.
+fn with_protect(protect: u16) -> Result<Converter, ConfigFault> {
+    made(Config { protect, ..BASE })
+}
+
+fn with_count(count: u8) -> Result<Converter, ConfigFault> {
+    made(Config { count, ..BASE })
+}
+
+fn with_operation(operation: u16) -> Result<Converter, ConfigFault> {
+    let mut starts = [OUTPUT; 8];
+    starts[1] = OutputStart {
+        operation,
+        ..OUTPUT
+    };
+    made(Config { starts, ..BASE })
 }
 
 // Hears bytes, which are answered as wanted, and beforehand by `reply` too.
@@ -107,7 +126,7 @@ const WRITES: [(&[&str], [u16; 2], u8); 5] = [
 
 // Each cell has its start word, and VOUT_COMMAND of both outputs these.
 fn holds(rt: &impl Abort, converter: &Converter, words: [u16; 2]) -> Result<(), ConfigFault> {
-    let started = made(BASE)?;
+    let started = base()?;
     let [first, second] = words;
     for cell in CELLS {
         let wanted = match cell {
@@ -122,7 +141,7 @@ fn holds(rt: &impl Abort, converter: &Converter, words: [u16; 2]) -> Result<(), 
 
 // Writes leave every other cell; after a restart a plain write acts on output 0 again.
 fn act(rt: &impl Abort, rows: &[&str], words: [u16; 2], page: u8) -> Result<(), ConfigFault> {
-    let mut converter = made(BASE)?;
+    let mut converter = base()?;
     hears_rows(rt, &mut converter, rows);
     holds(rt, &converter, words)?;
     assert_eq!(rt; converter.page(), page, "{rows:?}");
@@ -141,7 +160,7 @@ fn writes_act_on_the_output_that_they_name(rt: HostRuntime) -> Result<(), Fail> 
 
 // A cut write is refused where it ends; no bytes at all aren't heard.
 fn is_short(rt: &impl Abort, cut: &[u8]) -> Result<(), ConfigFault> {
-    let mut converter = made(BASE)?;
+    let mut converter = base()?;
     let short = DeviceFault::Frame(FrameFault::Short(cut.len()));
     let (wanted, cml) = match cut.len() {
         0 => (Wanted::Silent, 0x00),
@@ -165,7 +184,7 @@ fn a_cut_frame_is_refused_where_it_ends(rt: HostRuntime) -> Result<(), Fail> {
 // WRITE_PROTECT is raised and lowered; what was blocked before goes through, and margins are selected.
 #[test]
 fn write_protect_is_always_written(rt: HostRuntime) -> Result<(), Fail> {
-    let mut converter = made(BASE)?;
+    let mut converter = base()?;
     let order = "B0 05 04 00 21 CD 34 5A";
     let protected = Some(DeviceFault::Protected);
     hears_rows(&rt, &mut converter, &["B0 10 80 34"]);
@@ -188,13 +207,7 @@ fn write_protect_is_always_written(rt: HostRuntime) -> Result<(), Fail> {
 
 // What both outputs show where the second starts with this OPERATION.
 fn shows(rt: &impl Abort, operation: u16) -> Result<[(u16, u8); 2], ConfigFault> {
-    let start = OutputStart {
-        operation,
-        ..OUTPUT
-    };
-    let mut starts = [OUTPUT; 8];
-    starts[1] = start;
-    let converter = made(Config { starts, ..BASE })?;
+    let converter = with_operation(operation)?;
     Ok([status(rt, &converter, 0), status(rt, &converter, 1)])
 }
 
@@ -211,21 +224,24 @@ fn an_output_that_is_off_shows_it(rt: HostRuntime) -> Result<(), Fail> {
 }
 
 // DIRECT with a slope of -1, where the greater word is the lower value.
-#[test]
-fn the_voltage_is_cut_by_value(rt: HostRuntime) -> Result<(), Fail> {
+fn falling() -> Result<Converter, ConfigFault> {
     let start = OutputStart {
         mode: 0x40,
         command: 0x03E8,
         max: 0x0BB8,
         ..OUTPUT
     };
-    let falling = Config {
+    made(Config {
         count: 1,
         starts: [start; 8],
         coefficients: Coefficients { m: -1, b: 5, r: 3 },
         ..BASE
-    };
-    let mut converter = made(falling)?;
+    })
+}
+
+#[test]
+fn the_voltage_is_cut_by_value(rt: HostRuntime) -> Result<(), Fail> {
+    let mut converter = falling()?;
     assert_eq!(rt; commanded(&converter, 0), (2000, 1000));
     assert_eq!(rt; status(&rt, &converter, 0), (0x8001, 0x08));
     // m is FFFFh, b 0005h, and R 03h.

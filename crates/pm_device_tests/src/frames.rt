@@ -1,10 +1,11 @@
 //! Frames written as texts, converters, and their words.
 //!
-//! The calls of the converter stand in functions with no contract of their own, so that no test's proof
-//! carries what a call promises, which no test needs.
+//! Configurations and the calls of the converter stand in functions with no contract of their own, so that
+//! no test's proof carries what a call promises, which no test needs.
 
 ghost use Rattle.std.specs.Prelude.{◌≡◌, ◌<◌};
 
+use crate::fixtures::BASE;
 use pm_device::{Config, ConfigFault, Converter, Ending, Heard};
 use pm_frame::Frame;
 use pm_table::Cell;
@@ -27,6 +28,11 @@ pub(crate) fn frame(rt: &impl Abort, text: &str) -> Frame {
 /// A converter of a configuration.
 pub(crate) fn made(config: Config) -> Result<Converter, ConfigFault> {
     Converter::new(config)
+}
+
+/// A converter of the base configuration.
+pub(crate) fn base() -> Result<Converter, ConfigFault> {
+    made(BASE)
 }
 
 /// What a converter answers to bytes.

@@ -1,9 +1,8 @@
 //! All 256 bytes of OPERATION.
 
-use super::{Wanted, commanded, hears};
-use crate::fixtures::{BASE, OUTPUT};
-use crate::frames::{made, word};
-use pm_device::{Config, ConfigFault, Converter, DeviceFault, Ending, OutputStart};
+use super::{Wanted, commanded, hears, with_operation};
+use crate::frames::{base, word};
+use pm_device::{ConfigFault, Converter, DeviceFault, Ending};
 use pm_frame::pec;
 use pm_table::{Cell, Reg};
 use std::process::Abort;
@@ -49,14 +48,8 @@ fn does(rt: &impl Abort, converter: &Converter, byte: u8, on: bool, volts: i128)
 
 // A byte as the start word of output 1, and written to it.
 fn means(rt: &impl Abort, byte: u8) -> Result<(), ConfigFault> {
-    let start = OutputStart {
-        operation: u16::from(byte),
-        ..OUTPUT
-    };
-    let mut starts = [OUTPUT; 8];
-    starts[1] = start;
-    let started = made(Config { starts, ..BASE });
-    let mut converter = made(BASE)?;
+    let started = with_operation(u16::from(byte));
+    let mut converter = base()?;
     let packet = [0xB0, 0x05, 0x03, 0x01, 0x01, byte];
     let whole = [0xB0, 0x05, 0x03, 0x01, 0x01, byte, pec(&packet)];
     match (meaning(byte), started) {

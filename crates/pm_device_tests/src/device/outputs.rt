@@ -1,9 +1,7 @@
 //! Each of eight outputs by itself, and the readings that each has.
 
-use super::hears_rows;
-use crate::fixtures::BASE;
-use crate::frames::made;
-use pm_device::{Config, Converter};
+use super::{hears_rows, with_count};
+use pm_device::Converter;
 use pm_table::Code;
 use std::process::Abort;
 use std::test::Fail;
@@ -51,7 +49,7 @@ const EIGHT: [&str; 36] = [
 
 #[test]
 fn each_of_eight_outputs_has_registers_of_its_own(rt: HostRuntime) -> Result<(), Fail> {
-    let mut converter = made(Config { count: 8, ..BASE })?;
+    let mut converter = with_count(8)?;
     for output in 0..8u8 {
         for (code, first) in [(0x8B, 0x3000u16), (0x8C, 0x4000)] {
             let reading = first + u16::from(output);
@@ -84,7 +82,7 @@ fn takes_readings(
 #[test]
 fn a_reading_is_of_an_output_that_is_there_or_of_the_device(rt: HostRuntime) -> Result<(), Fail> {
     for count in 1..=8 {
-        let mut converter = made(Config { count, ..BASE })?;
+        let mut converter = with_count(count)?;
         takes_readings(&rt, &mut converter, count, &[0x88], &[0x8B, 0x8C]);
         takes_readings(&rt, &mut converter, 255, &[0x8D], &[0x8B, 0x8C]);
         takes_readings(&rt, &mut converter, count - 1, &[0x8B, 0x8C], &[]);

@@ -1,8 +1,8 @@
 //! What is refused, for what, and which of two refusals comes first.
 
-use super::{Wanted, hears, hears_row, status};
+use super::{Wanted, hears, hears_row, status, with_protect};
 use crate::fixtures::{BASE, CELLS, OUTPUT};
-use crate::frames::{frame, made, word};
+use crate::frames::{base, frame, made, word};
 use pm_device::{Config, ConfigFault, Converter, DeviceFault, Ending, OutputStart};
 use pm_frame::FrameFault;
 use std::process::Abort;
@@ -126,9 +126,8 @@ fn is_refused(
     fault: DeviceFault,
     cml: u8,
 ) -> Result<(), ConfigFault> {
-    let config = Config { protect, ..BASE };
-    let started = made(config)?;
-    let mut converter = made(config)?;
+    let started = with_protect(protect)?;
+    let mut converter = with_protect(protect)?;
     hears_row(rt, &mut converter, row, Some(fault));
     assert_eq!(rt; converter.status_cml(), cml, "{row}");
     assert_eq!(rt; converter.page(), 0, "{row}");
@@ -163,7 +162,7 @@ fn is_not_heard(rt: &impl Abort, converter: &mut Converter, text: &str, ending: 
 // Frames to another device, and no bytes.
 #[test]
 fn what_is_for_another_device_is_not_heard(rt: HostRuntime) -> Result<(), Fail> {
-    let mut converter = made(BASE)?;
+    let mut converter = base()?;
     for (text, ending) in [
         ("", Ending::Stop),
         ("", Ending::Restart),
@@ -178,23 +177,30 @@ fn what_is_for_another_device_is_not_heard(rt: HostRuntime) -> Result<(), Fail> 
     Ok(())
 }
 
-// A COEFFICIENTS request is refused for its code and for its side, and where no output that is there
-// is DIRECT.
-#[test]
-fn coefficients_are_refused_for_code_side_and_mode(rt: HostRuntime) -> Result<(), Fail> {
+// So many outputs, of which the third is DIRECT.
+fn with_third(count: u8) -> Result<Converter, ConfigFault> {
     let direct = OutputStart {
         mode: 0x40,
         ..OUTPUT
     };
     let mut starts = [OUTPUT; 8];
     starts[2] = direct;
-    let two = Config { starts, ..BASE };
-    let three = Config { count: 3, ..two };
-    let mut without = made(two)?;
+    made(Config {
+        count,
+        starts,
+        ..BASE
+    })
+}
+
+// A COEFFICIENTS request is refused for its code and for its side, and where no output that is there
+// is DIRECT.
+#[test]
+fn coefficients_are_refused_for_code_side_and_mode(rt: HostRuntime) -> Result<(), Fail> {
+    let mut without = with_third(2)?;
     for row in ["B0 30 02 21 00 /", "B0 30 02 8B 01 /"] {
         hears_row(&rt, &mut without, row, Some(K3));
     }
-    let mut with = made(three)?;
+    let mut with = with_third(3)?;
     for row in [
         "B0 30 02 21 02 /",
         "B0 30 02 21 FF /",
@@ -236,7 +242,7 @@ const PROTECTION: [(&str, [bool; 4]); 21] = [
 ];
 
 fn is_allowed(rt: &impl Abort, protect: u16, row: &str, is_taken: bool) -> Result<(), ConfigFault> {
-    let mut converter = made(Config { protect, ..BASE })?;
+    let mut converter = with_protect(protect)?;
     let fault = if is_taken { None } else { Some(K5) };
     hears_row(rt, &mut converter, row, fault);
     Ok(())

@@ -2,7 +2,7 @@
 
 use super::{commanded, hears_row, hears_rows};
 use crate::fixtures::{BASE, CELLS, OUTPUT};
-use crate::frames::{made, word};
+use crate::frames::{base, made, word};
 use pm_device::{Config, ConfigFault, Converter, DeviceFault, OutputStart};
 use pm_frame::FrameFault;
 use pm_table::{Cell, Code, Coefficients};
@@ -164,9 +164,13 @@ fn reads(rt: &impl Abort, converter: &mut Converter, readings: &[(u8, u8, u16)])
     }
 }
 
+fn at_start() -> Result<Converter, ConfigFault> {
+    made(TOLD_APART)
+}
+
 // A converter with each reading set, which refused an unknown code and a wrong PEC.
 fn told_apart(rt: &impl Abort) -> Result<Converter, ConfigFault> {
-    let mut converter = made(TOLD_APART)?;
+    let mut converter = at_start()?;
     reads(rt, &mut converter, &READINGS);
     let wrong_pec = DeviceFault::Frame(FrameFault::WrongPec(3));
     hears_row(
@@ -242,7 +246,7 @@ fn is_limited(
     vout: &str,
     word: &str,
 ) -> Result<(), ConfigFault> {
-    let mut converter = made(BASE)?;
+    let mut converter = base()?;
     hears_rows(rt, &mut converter, &[write, vout, word]);
     assert_eq!(rt; commanded(&converter, 0), (wanted, 4096), "{write}");
     Ok(())
@@ -299,27 +303,32 @@ const MEASURED: [&str; 4] = [
     "B0 06 02 01 8D / B1 02 78 56 D2",
 ];
 
-#[test]
-fn outputs_above_vout_max_and_in_millivolts_read_so(rt: HostRuntime) -> Result<(), Fail> {
-    let mut above = made(BASE)?;
-    hears_rows(&rt, &mut above, &ABOVE);
+// A converter of one output, which is DIRECT, in millivolts.
+fn in_millivolts() -> Result<Converter, ConfigFault> {
     let start = OutputStart {
         mode: 0x40,
         ..OUTPUT
     };
-    let mut direct = made(Config {
+    made(Config {
         count: 1,
         starts: [start; 8],
         coefficients: Coefficients { m: 1, b: 0, r: 3 },
         ..BASE
-    })?;
+    })
+}
+
+#[test]
+fn outputs_above_vout_max_and_in_millivolts_read_so(rt: HostRuntime) -> Result<(), Fail> {
+    let mut above = base()?;
+    hears_rows(&rt, &mut above, &ABOVE);
+    let mut direct = in_millivolts()?;
     hears_rows(&rt, &mut direct, &MILLIVOLTS);
     Ok(())
 }
 
 #[test]
 fn readings_are_zero_until_they_are_set(rt: HostRuntime) -> Result<(), Fail> {
-    let mut measured = made(BASE)?;
+    let mut measured = base()?;
     hears_rows(&rt, &mut measured, &UNMEASURED);
     let readings = [(0, 0x88, 0x1234), (0, 0x8D, 0x5678), (1, 0x8C, 0x1234)];
     reads(&rt, &mut measured, &readings);
@@ -401,8 +410,8 @@ fn has_its_start(
 // word again.
 #[test]
 fn each_write_reaches_its_own_register(rt: HostRuntime) -> Result<(), Fail> {
-    let started = made(BASE)?;
-    let mut converter = made(BASE)?;
+    let started = base()?;
+    let mut converter = base()?;
     hears_rows(&rt, &mut converter, &WRITES);
     for cell in CELLS {
         has_its_start(&rt, &converter, &started, cell, false);

@@ -1,8 +1,7 @@
 //! Latched status, bit by bit, and the bits by name.
 
 use super::{hears_row, hears_rows, status};
-use crate::fixtures::BASE;
-use crate::frames::made;
+use crate::frames::base;
 use bitflags::Flags;
 use pm_device::{Converter, DeviceFault, StatusByte, StatusCml, StatusVout, StatusWord};
 use pm_frame::FrameFault;
@@ -41,7 +40,7 @@ fn goes_with(
     write: &str,
 ) -> Result<(), Fail> {
     let (bit, row, fault) = latch;
-    let mut converter = made(BASE)?;
+    let mut converter = base()?;
     hears_row(rt, &mut converter, row, Some(fault));
     hears_rows(rt, &mut converter, &[write]);
     let left = bit & !byte;
@@ -51,7 +50,7 @@ fn goes_with(
 
 // A converter in which all four are latched.
 fn latched(rt: &impl Abort) -> Result<Converter, Fail> {
-    let mut all = made(BASE)?;
+    let mut all = base()?;
     for (_, row, fault) in LATCHES {
         hears_row(rt, &mut all, row, Some(fault));
     }
@@ -108,7 +107,7 @@ const VOUT_WRITES: [(&str, &str, bool); 11] = [
 
 // What both outputs show after rows, in a converter of its own where both are warned.
 fn shown(rt: &impl Abort, rows: &[&str]) -> Result<[(u16, u8); 2], Fail> {
-    let mut converter = made(BASE)?;
+    let mut converter = base()?;
     hears_rows(rt, &mut converter, &WERE_ABOVE);
     hears_rows(rt, &mut converter, rows);
     Ok([status(rt, &converter, 0), status(rt, &converter, 1)])
@@ -180,7 +179,7 @@ const WARNINGS: [(&[&str], bool); 7] = [
 
 // The first output warns after these rows, or doesn't, until it is cleared; the second never does.
 fn warns_after(rt: &impl Abort, rows: &[&str], warns: bool) -> Result<(), Fail> {
-    let mut converter = made(BASE)?;
+    let mut converter = base()?;
     hears_rows(rt, &mut converter, rows);
     let first = if warns { WARNED } else { CLEAN };
     assert_eq!(rt; status(rt, &converter, 0), first, "{rows:?}");
