@@ -165,7 +165,7 @@ fn is_unknown(rt: &impl Abort, world: &World, cell: Cell, at: usize) {
 // The events with one more before the one at this place.
 fn follow(rt: &impl Abort, events: &[Event], more: &Event, place: usize) -> Result<(), SetupFault> {
     let mut world = begun(base(), 2)?;
-    let mut watch = Watch::new(machine(0x00));
+    let mut watch = Watch::new(open());
     for (at, event) in events.iter().enumerate() {
         if at == place {
             happens(rt, &mut world, &mut watch, more);
@@ -217,9 +217,14 @@ fn are_ordered(rt: &impl Abort, world: &World, machine: &OrderMachine, at: usize
 }
 
 // After each number of events a run with this WRITE_PROTECT holds what the order machine does.
-fn runs(rt: &impl Abort, protect: u16, events: &[Event]) -> Result<(), SetupFault> {
+fn runs(
+    rt: &impl Abort,
+    protect: u16,
+    machine: OrderMachine,
+    events: &[Event],
+) -> Result<(), SetupFault> {
     let mut world = begun(with_protect(protect), 2)?;
-    let mut watch = Watch::new(machine(protect));
+    let mut watch = Watch::new(machine);
     for (at, event) in events.iter().enumerate() {
         let (ran, _) = ran(with_protect(protect), 2, &events[..at])?;
         are_ordered(rt, &ran, &watch.machine, at);
@@ -228,9 +233,13 @@ fn runs(rt: &impl Abort, protect: u16, events: &[Event]) -> Result<(), SetupFaul
     Ok(())
 }
 
-// The order machine of two outputs with this WRITE_PROTECT.
-fn machine(protect: u16) -> OrderMachine {
-    OrderMachine::new(Plain::new(2, [START; 8], protect))
+// The order machine of two outputs, while no write is blocked, and while those of a voltage are.
+fn open() -> OrderMachine {
+    OrderMachine::new(Plain::new(2, [START; 8], 0x00))
+}
+
+fn blocked() -> OrderMachine {
+    OrderMachine::new(Plain::new(2, [START; 8], 0x40))
 }
 
 #[test]
@@ -238,14 +247,14 @@ fn a_run_holds_what_orders_alone_make(rt: HostRuntime) -> Result<(), SetupFault>
     let answers_lost = [
         CHECK, READ, ORDER, WHOLE, NOT_ACKED, READ_LOST, LOST, NOT_ACKED, READ_LOST, CHECK,
     ];
-    runs(&rt, 0x00, &answers_lost)?;
+    runs(&rt, 0x00, open(), &answers_lost)?;
     let restarted = Event::RestartDevice;
     let falsely_acked = [
         CHECK, READ, ORDER, LOST, ACKED, READ, WHOLE, ACKED, READ, restarted, CHECK, READ, CHECK,
     ];
-    runs(&rt, 0x00, &falsely_acked)?;
+    runs(&rt, 0x00, open(), &falsely_acked)?;
     let other = Event::Deliver(arrival(&rt, "stop: B0 05 04 01 21 CD 34 4C"));
-    runs(&rt, 0x00, &[ORDER, other, ACKED, READ])
+    runs(&rt, 0x00, open(), &[ORDER, other, ACKED, READ])
 }
 
 #[test]
@@ -253,5 +262,5 @@ fn a_run_of_a_blocked_order_holds_what_orders_alone_make(
     rt: HostRuntime,
 ) -> Result<(), SetupFault> {
     let events = [ORDER, WHOLE, ACKED, READ, WHOLE, ACKED, READ, CHECK];
-    runs(&rt, 0x40, &events)
+    runs(&rt, 0x40, blocked(), &events)
 }

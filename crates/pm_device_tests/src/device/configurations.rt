@@ -5,6 +5,7 @@ use crate::frames::made;
 use pm_device::{Config, ConfigFault, OutputStart};
 use pm_num::NumFault;
 use pm_table::{Cell, Coefficients, Reg, TableFault};
+use std::process::Abort;
 
 const V1: Option<ConfigFault> = Some(ConfigFault::OutputCount);
 
@@ -47,7 +48,7 @@ type Row = (
 );
 
 // Each fault alone, then each with each that comes after it, then what is no fault.
-const ROWS: [Row; 44] = [
+static ROWS: [Row; 44] = [
     (0, [0x80, 0x80], 0x00, 0x58, [0x14, 0x14], (1, 0), V1),
     (9, [0x80, 0x80], 0x00, 0x58, [0x14, 0x14], (1, 0), V1),
     (255, [0x80, 0x80], 0x00, 0x58, [0x14, 0x14], (1, 0), V1),
@@ -195,10 +196,14 @@ fn configured(row: Row) -> (Config, Option<ConfigFault>) {
     (config, wanted)
 }
 
+fn has_fault(rt: &impl Abort, row: &Row) {
+    let (config, wanted) = configured(*row);
+    assert_eq!(rt; made(config).err(), wanted, "{config:?}");
+}
+
 #[test]
 fn a_configuration_has_the_first_fault_that_applies(rt: HostRuntime) {
-    for row in ROWS {
-        let (config, wanted) = configured(row);
-        assert_eq!(rt; made(config).err(), wanted, "{config:?}");
+    for row in &ROWS {
+        has_fault(&rt, row);
     }
 }
