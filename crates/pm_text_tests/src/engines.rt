@@ -92,7 +92,11 @@ fn ends_at_read(
         ..in_pieces(input.as_bytes(), piece)
     };
     let ended = engine.over(rt.alloc(), read, blank_paper(rt.alloc(), piece));
-    assert_eq!(rt; ended.end, Err(TextFault::Read), "{engine:?} {fails_at} {piece}");
+    assert_eq!(rt;
+        ended.end,
+        Err(TextFault::Read),
+        "{engine:?} {fails_at} {piece}"
+    );
     assert!(rt; ended.read_failed && !ended.write_failed);
     assert_eq!(rt; ended.read.calls, fails_at, "{engine:?} {piece}");
     let lines = lines_read(engine, input, piece, fails_at.saturating_sub(1));
@@ -100,7 +104,10 @@ fn ends_at_read(
         are_first_lines(ended.written.taken.as_slice(), text, lines),
         "{engine:?} {fails_at} {piece}"
     );
-    assert!(rt; lines > 0 || ended.written.calls == 0, "{engine:?} {fails_at}");
+    assert!(rt;
+        lines > 0 || ended.written.calls == 0,
+        "{engine:?} {fails_at}"
+    );
     assert_eq!(rt; ended.written.flushes, 0);
 }
 
@@ -133,7 +140,11 @@ fn ends_at_write(
         ..blank_paper(rt.alloc(), piece)
     };
     let ended = engine.over(rt.alloc(), in_pieces(input.as_bytes(), piece), written);
-    assert_eq!(rt; ended.end, Err(TextFault::Write), "{engine:?} {fails_at} {piece}");
+    assert_eq!(rt;
+        ended.end,
+        Err(TextFault::Write),
+        "{engine:?} {fails_at} {piece}"
+    );
     assert!(rt; ended.write_failed && !ended.read_failed);
     let written = ended.written;
     assert_eq!(rt; written.calls, fails_at, "{engine:?} {piece} {failure:?}");
@@ -272,8 +283,7 @@ fn is_decoded_by(
 #[test]
 fn a_trace_is_read_by_512_bytes_and_written_where_a_line_ends(rt: HostRuntime) -> Result<(), Fail> {
     let none = "lines 0 accepted 0 faults 0 bad 0\n";
-    let one =
-        "1 58 CLEAR_FAULTS send\ncount CLEAR_FAULTS 1\nlines 1 accepted 1 faults 0 bad 0\n";
+    let one = "1 58 CLEAR_FAULTS send\ncount CLEAR_FAULTS 1\nlines 1 accepted 1 faults 0 bad 0\n";
     is_decoded_by(&rt, b"# none\n", none, 1)?;
     is_decoded_by(&rt, b"B0 03 46", one, 1)?;
     is_decoded_by(&rt, b"B0 03 46\n", one, 2)
