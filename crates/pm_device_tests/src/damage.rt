@@ -1,7 +1,7 @@
 //! Frames that are cut, changed in one bit, or very long.
 
-use crate::fixtures::{BASE, CELLS, OUTPUT};
-use crate::frames::{frame, word};
+use crate::fixtures::{CELLS, OUTPUT};
+use crate::frames::{base, frame, hear, made, word};
 use pm_device::{Config, ConfigFault, Converter, DeviceFault, Ending, Heard, OutputStart};
 use pm_frame::{Frame, FrameFault, Message, fits, read_answer, read_request, read_write};
 use pm_table::Coefficients;
@@ -68,9 +68,14 @@ fn changed(rt: &impl Abort, whole: &Frame, place: usize, bits: u8) -> Frame {
 
 const BITS: [u8; 8] = [0x80, 0x40, 0x20, 0x10, 0x08, 0x04, 0x02, 0x01];
 
+// A converter of that configuration.
+fn mixed() -> Result<Converter, ConfigFault> {
+    made(MIXED)
+}
+
 // Every cell and PAGE are as at the start.
 fn is_at_start(converter: &Converter) -> Result<bool, ConfigFault> {
-    let started = Converter::new(MIXED)?;
+    let started = mixed()?;
     let mut same = converter.page() == 0;
     for cell in CELLS {
         same = same && word(converter, cell) == word(&started, cell);
@@ -78,14 +83,37 @@ fn is_at_start(converter: &Converter) -> Result<bool, ConfigFault> {
     Ok(same)
 }
 
+// Whether these bytes are a write, a request, or the answer to a request that was sent.
+fn is_write(bytes: &[u8]) -> bool {
+    read_write(0x58, bytes).is_ok()
+}
+
+fn is_request(bytes: &[u8]) -> bool {
+    read_request(0x58, bytes).is_ok()
+}
+
+fn is_answer(sent: &Message, bytes: &[u8]) -> bool {
+    sent.is_read() && fits(sent) && read_answer(0x58, sent, bytes).is_ok()
+}
+
 // A write that is cut or changed in one bit is none, and takes no effect.
 fn is_no_write(rt: &impl Abort, bytes: &[u8]) -> Result<(), ConfigFault> {
-    assert!(rt; read_write(0x58, bytes).is_err(), "{bytes:?}");
-    let mut converter = Converter::new(MIXED)?;
-    let heard = converter.hear(bytes, Ending::Stop);
+    assert!(rt; !is_write(bytes), "{bytes:?}");
+    let mut converter = mixed()?;
+    let heard = hear(&mut converter, bytes, Ending::Stop);
     let unheard = matches!(heard, Heard::Refused(_) | Heard::Silent);
     assert!(rt; unheard, "{heard:?} for {bytes:?}");
     assert!(rt; is_at_start(&converter)?, "{bytes:?}");
+    Ok(())
+}
+
+// A write is none where it is cut at this place, or the byte there is changed in one bit.
+fn is_betrayed_write(rt: &impl Abort, whole: &Frame, place: usize) -> Result<(), ConfigFault> {
+    assert!(rt; place < whole.as_slice().len());
+    is_no_write(rt, &whole.as_slice()[..place])?;
+    for bits in BITS {
+        is_no_write(rt, changed(rt, whole, place, bits).as_slice())?;
+    }
     Ok(())
 }
 
@@ -93,12 +121,9 @@ fn is_no_write(rt: &impl Abort, bytes: &[u8]) -> Result<(), ConfigFault> {
 fn a_damaged_write_is_none(rt: HostRuntime) -> Result<(), Fail> {
     for text in WRITES {
         let whole = frame(&rt, text);
-        assert!(rt; read_write(0x58, whole.as_slice()).is_ok(), "{text}");
+        assert!(rt; is_write(whole.as_slice()), "{text}");
         for place in 0..whole.as_slice().len() {
-            is_no_write(&rt, &whole.as_slice()[..place])?;
-            for bits in BITS {
-                is_no_write(&rt, changed(&rt, &whole, place, bits).as_slice())?;
-            }
+            is_betrayed_write(&rt, &whole, place)?;
         }
     }
     Ok(())
@@ -107,64 +132,102 @@ fn a_damaged_write_is_none(rt: HostRuntime) -> Result<(), Fail> {
 // A request that is cut is none. One that is changed in a bit may be another one, whose answer is
 // refused by a host that sent the first.
 fn is_another_request(rt: &impl Abort, sent: &Message, bytes: &[u8]) -> Result<(), ConfigFault> {
-    assert!(rt; sent.is_read() && fits(sent));
     for ending in [Ending::Restart, Ending::Stop] {
-        let mut converter = Converter::new(MIXED)?;
-        let heard = converter.hear(bytes, ending);
+        let mut converter = mixed()?;
+        let heard = hear(&mut converter, bytes, ending);
         if let Heard::Answer(answer) = &heard {
-            let got = read_answer(0x58, sent, answer.as_slice());
-            assert!(rt; got.is_err(), "{answer:?} for {bytes:?}");
+            let is_good = is_answer(sent, answer.as_slice());
+            assert!(rt; !is_good, "{answer:?} for {bytes:?}");
         }
         assert!(rt; is_at_start(&converter)?, "{bytes:?}");
     }
     Ok(())
 }
 
+// So is a request that is cut at this place, or whose byte there is changed in one bit.
+fn is_betrayed_request(
+    rt: &impl Abort,
+    sent: &Message,
+    whole: &Frame,
+    place: usize,
+) -> Result<(), ConfigFault> {
+    assert!(rt; place < whole.as_slice().len());
+    let cut = &whole.as_slice()[..place];
+    assert!(rt; !is_request(cut), "{cut:?}");
+    is_another_request(rt, sent, cut)?;
+    for bits in BITS {
+        let other = changed(rt, whole, place, bits);
+        is_another_request(rt, sent, other.as_slice())?;
+    }
+    Ok(())
+}
+
 #[test]
 fn a_damaged_request_gets_no_good_answer(rt: HostRuntime) -> Result<(), Fail> {
-    for (message, request, _) in READS {
+    for (message, request, answer) in READS {
         let whole = frame(&rt, request);
-        assert!(rt; read_request(0x58, whole.as_slice()).is_ok(), "{request}");
+        assert!(rt; is_request(whole.as_slice()), "{request}");
+        assert!(rt;
+            is_answer(&message, frame(&rt, answer).as_slice()),
+            "{answer}"
+        );
         for place in 0..whole.as_slice().len() {
-            let cut = &whole.as_slice()[..place];
-            assert!(rt; read_request(0x58, cut).is_err(), "{cut:?}");
-            is_another_request(&rt, &message, cut)?;
-            for bits in BITS {
-                let other = changed(&rt, &whole, place, bits);
-                is_another_request(&rt, &message, other.as_slice())?;
-            }
+            is_betrayed_request(&rt, &message, &whole, place)?;
         }
     }
+    Ok(())
+}
+
+// An answer is none where it is cut at this place, or the byte there is changed in one bit.
+fn is_betrayed_answer(rt: &impl Abort, sent: &Message, whole: &Frame, place: usize) {
+    assert!(rt; place < whole.as_slice().len());
+    let cut = &whole.as_slice()[..place];
+    assert!(rt; !is_answer(sent, cut), "{cut:?}");
+    for bits in BITS {
+        let other = changed(rt, whole, place, bits);
+        assert!(rt; !is_answer(sent, other.as_slice()), "{other:?}");
+    }
+}
+
+// The converter answers a request so.
+fn is_answered(rt: &impl Abort, request: &str, whole: &Frame) -> Result<(), ConfigFault> {
+    let mut converter = mixed()?;
+    let heard = hear(
+        &mut converter,
+        frame(rt, request).as_slice(),
+        Ending::Restart,
+    );
+    let same = matches!(&heard, Heard::Answer(got) if got.as_slice() == whole.as_slice());
+    assert!(rt; same, "{heard:?} for {request}");
     Ok(())
 }
 
 #[test]
 fn a_damaged_answer_is_none(rt: HostRuntime) -> Result<(), Fail> {
     for (message, request, answer) in READS {
-        assert!(rt; message.is_read() && fits(&message));
-        let mut converter = Converter::new(MIXED)?;
-        let heard = converter.hear(frame(&rt, request).as_slice(), Ending::Restart);
         let whole = frame(&rt, answer);
-        let same = matches!(&heard, Heard::Answer(got) if got.as_slice() == whole.as_slice());
-        assert!(rt; same, "{heard:?} for {request}");
-        assert!(rt;
-            read_answer(0x58, &message, whole.as_slice()).is_ok(),
-            "{answer}"
-        );
+        is_answered(&rt, request, &whole)?;
+        assert!(rt; is_answer(&message, whole.as_slice()), "{answer}");
         for place in 0..whole.as_slice().len() {
-            let cut = &whole.as_slice()[..place];
-            assert!(rt; read_answer(0x58, &message, cut).is_err(), "{cut:?}");
-            for bits in BITS {
-                let other = changed(&rt, &whole, place, bits);
-                let got = read_answer(0x58, &message, other.as_slice());
-                assert!(rt; got.is_err(), "{other:?}");
-            }
+            is_betrayed_answer(&rt, &message, &whole, place);
         }
     }
     Ok(())
 }
 
-// PAGE_PLUS_WRITE with a count of FFh and then zeros to this length, and a million bytes for another device.
+// The frame is refused for this fault of it.
+fn is_faulty(rt: &impl Abort, bytes: &[u8], fault: FrameFault) -> Result<(), ConfigFault> {
+    let mut converter = base()?;
+    let heard = hear(&mut converter, bytes, Ending::Stop);
+    let wanted = DeviceFault::Frame(fault);
+    let is_refused = matches!(&heard, Heard::Refused(found) if *found == wanted);
+    assert!(rt; is_refused, "{heard:?} for {fault:?}");
+    assert_eq!(rt; converter.status_cml(), 0x02);
+    Ok(())
+}
+
+// PAGE_PLUS_WRITE with a count of FFh and then zeros, to 258, 259 and 260 bytes; and a million bytes for
+// another device.
 #[test]
 fn very_long_frames_are_refused_or_not_heard(rt: HostRuntime) -> Result<(), Fail> {
     let mut bytes = [0x00; 260];
@@ -172,23 +235,13 @@ fn very_long_frames_are_refused_or_not_heard(rt: HostRuntime) -> Result<(), Fail
     bytes[1] = 0x05;
     bytes[2] = 0xFF;
     bytes[4] = 0x21;
-    for (length, fault) in [
-        (258, FrameFault::Short(258)),
-        (259, FrameFault::WrongCount(2)),
-        (260, FrameFault::Long(259)),
-    ] {
-        assert!(rt; length <= bytes.len());
-        let mut converter = Converter::new(BASE)?;
-        let heard = converter.hear(&bytes[..length], Ending::Stop);
-        let wanted = DeviceFault::Frame(fault);
-        let is_refused = matches!(&heard, Heard::Refused(found) if *found == wanted);
-        assert!(rt; is_refused, "{heard:?} for {length} bytes");
-        assert_eq!(rt; converter.status_cml(), 0x02);
-    }
-    let mut converter = Converter::new(BASE)?;
+    is_faulty(&rt, &bytes[..258], FrameFault::Short(258))?;
+    is_faulty(&rt, &bytes[..259], FrameFault::WrongCount(2))?;
+    is_faulty(&rt, &bytes, FrameFault::Long(259))?;
+    let mut converter = base()?;
     let million = vec![in rt.alloc(); 0x05; 1_000_000]?;
     for ending in [Ending::Stop, Ending::Restart] {
-        let heard = converter.hear(&million, ending);
+        let heard = hear(&mut converter, &million, ending);
         assert!(rt; matches!(&heard, Heard::Silent), "{heard:?}");
     }
     assert_eq!(rt; converter.status_cml(), 0x00);

@@ -11,8 +11,8 @@ mod registers;
 mod status_bits;
 
 use crate::fixtures::{BASE, CELLS, FIRST, OUTPUT, SECOND};
-use crate::frames::{frame, word};
-use pm_device::{Config, Converter, DeviceFault, Ending, Heard, OutputStart};
+use crate::frames::{base, frame, hear, made, word};
+use pm_device::{Config, ConfigFault, Converter, DeviceFault, Ending, Heard, OutputStart};
 use pm_frame::{Frame, FrameFault};
 use pm_table::Coefficients;
 use std::process::Abort;
@@ -37,6 +37,25 @@ fn is_wanted(heard: &Heard, wanted: Wanted<'_>) -> bool {
     }
 }
 
+// A converter of the base configuration with this WRITE_PROTECT, with so many outputs, and one whose second
+// output starts with this OPERATION.
+fn with_protect(protect: u16) -> Result<Converter, ConfigFault> {
+    made(Config { protect, ..BASE })
+}
+
+fn with_count(count: u8) -> Result<Converter, ConfigFault> {
+    made(Config { count, ..BASE })
+}
+
+fn with_operation(operation: u16) -> Result<Converter, ConfigFault> {
+    let mut starts = [OUTPUT; 8];
+    starts[1] = OutputStart {
+        operation,
+        ..OUTPUT
+    };
+    made(Config { starts, ..BASE })
+}
+
 // Hears bytes, which are answered as wanted, and beforehand by `reply` too.
 fn hears(
     rt: &impl Abort,
@@ -47,7 +66,7 @@ fn hears(
 ) {
     let told = converter.reply(bytes, ending);
     assert!(rt; is_wanted(&told, wanted), "{told:?} for {bytes:?}");
-    let heard = converter.hear(bytes, ending);
+    let heard = hear(converter, bytes, ending);
     assert!(rt; is_wanted(&heard, wanted), "{heard:?} for {bytes:?}");
 }
 
@@ -105,28 +124,51 @@ const WRITES: [(&[&str], [u16; 2], u8); 5] = [
     ),
 ];
 
-// Each leaves every other cell; after a restart a plain write acts on output 0 again.
+// Each cell has its start word, and VOUT_COMMAND of both outputs these.
+fn holds(rt: &impl Abort, converter: &Converter, words: [u16; 2]) -> Result<(), ConfigFault> {
+    let started = base()?;
+    let [first, second] = words;
+    for cell in CELLS {
+        let wanted = match cell {
+            FIRST => first,
+            SECOND => second,
+            _ => word(&started, cell),
+        };
+        assert_eq!(rt; word(converter, cell), wanted, "{cell:?}");
+    }
+    Ok(())
+}
+
+// Writes leave every other cell; after a restart a plain write acts on output 0 again.
+fn act(rt: &impl Abort, rows: &[&str], words: [u16; 2], page: u8) -> Result<(), ConfigFault> {
+    let mut converter = base()?;
+    hears_rows(rt, &mut converter, rows);
+    holds(rt, &converter, words)?;
+    assert_eq!(rt; converter.page(), page, "{rows:?}");
+    converter.restart();
+    hears_rows(rt, &mut converter, &["B0 21 CD 34 38"]);
+    holds(rt, &converter, [0x34CD, 0x1000])
+}
+
 #[test]
 fn writes_act_on_the_output_that_they_name(rt: HostRuntime) -> Result<(), Fail> {
-    let started = Converter::new(BASE)?;
     for (rows, words, page) in WRITES {
-        let mut converter = Converter::new(BASE)?;
-        hears_rows(&rt, &mut converter, rows);
-        for cell in CELLS {
-            let [first, second] = words;
-            let wanted = match cell {
-                FIRST => first,
-                SECOND => second,
-                _ => word(&started, cell),
-            };
-            assert_eq!(rt; word(&converter, cell), wanted, "{cell:?} after {rows:?}");
-        }
-        assert_eq!(rt; converter.page(), page, "{rows:?}");
-        converter.restart();
-        hears_rows(&rt, &mut converter, &["B0 21 CD 34 38"]);
-        let held = [word(&converter, FIRST), word(&converter, SECOND)];
-        assert_eq!(rt; held, [0x34CD, 0x1000], "{rows:?}");
+        act(&rt, rows, words, page)?;
     }
+    Ok(())
+}
+
+// A cut write is refused where it ends; no bytes at all aren't heard.
+fn is_short(rt: &impl Abort, cut: &[u8]) -> Result<(), ConfigFault> {
+    let mut converter = base()?;
+    let short = DeviceFault::Frame(FrameFault::Short(cut.len()));
+    let (wanted, cml) = match cut.len() {
+        0 => (Wanted::Silent, 0x00),
+        _ => (Wanted::Refused(short), 0x02),
+    };
+    hears(rt, &mut converter, cut, Ending::Stop, wanted);
+    assert_eq!(rt; word(&converter, FIRST), 0x1000);
+    assert_eq!(rt; converter.status_cml(), cml, "cut to {cut:?}");
     Ok(())
 }
 
@@ -134,16 +176,7 @@ fn writes_act_on_the_output_that_they_name(rt: HostRuntime) -> Result<(), Fail> 
 fn a_cut_frame_is_refused_where_it_ends(rt: HostRuntime) -> Result<(), Fail> {
     let whole = frame(&rt, "B0 05 04 00 21 CD 34 5A");
     for end in 0..whole.as_slice().len() {
-        let mut converter = Converter::new(BASE)?;
-        let short = DeviceFault::Frame(FrameFault::Short(end));
-        let (wanted, cml) = match end {
-            0 => (Wanted::Silent, 0x00),
-            _ => (Wanted::Refused(short), 0x02),
-        };
-        let cut = &whole.as_slice()[..end];
-        hears(&rt, &mut converter, cut, Ending::Stop, wanted);
-        assert_eq!(rt; word(&converter, FIRST), 0x1000);
-        assert_eq!(rt; converter.status_cml(), cml, "cut to {end}");
+        is_short(&rt, &whole.as_slice()[..end])?;
     }
     Ok(())
 }
@@ -151,7 +184,7 @@ fn a_cut_frame_is_refused_where_it_ends(rt: HostRuntime) -> Result<(), Fail> {
 // WRITE_PROTECT is raised and lowered; what was blocked before goes through, and margins are selected.
 #[test]
 fn write_protect_is_always_written(rt: HostRuntime) -> Result<(), Fail> {
-    let mut converter = Converter::new(BASE)?;
+    let mut converter = base()?;
     let order = "B0 05 04 00 21 CD 34 5A";
     let protected = Some(DeviceFault::Protected);
     hears_rows(&rt, &mut converter, &["B0 10 80 34"]);
@@ -172,46 +205,43 @@ fn write_protect_is_always_written(rt: HostRuntime) -> Result<(), Fail> {
     Ok(())
 }
 
+// What both outputs show where the second starts with this OPERATION.
+fn shows(rt: &impl Abort, operation: u16) -> Result<[(u16, u8); 2], ConfigFault> {
+    let converter = with_operation(operation)?;
+    Ok([status(rt, &converter, 0), status(rt, &converter, 1)])
+}
+
 // An output that is off isn't power good, and its OPERATION alone says so.
 #[test]
 fn an_output_that_is_off_shows_it(rt: HostRuntime) -> Result<(), Fail> {
-    for (operation, wanted) in [
-        (0x80, 0x0000),
-        (0xA8, 0x0000),
-        (0x94, 0x0000),
-        (0x00, 0x0840),
-        (0x28, 0x0840),
-        (0x40, 0x0840),
-    ] {
-        let start = OutputStart {
-            operation,
-            ..OUTPUT
-        };
-        let mut starts = [OUTPUT; 8];
-        starts[1] = start;
-        let converter = Converter::new(Config { starts, ..BASE })?;
-        assert_eq!(rt; status(&rt, &converter, 1), (wanted, 0x00));
-        assert_eq!(rt; status(&rt, &converter, 0), (0x0000, 0x00));
+    for operation in [0x80, 0xA8, 0x94] {
+        assert_eq!(rt; shows(&rt, operation)?, [(0x0000, 0x00), (0x0000, 0x00)]);
+    }
+    for operation in [0x00, 0x28, 0x40] {
+        assert_eq!(rt; shows(&rt, operation)?, [(0x0000, 0x00), (0x0840, 0x00)]);
     }
     Ok(())
 }
 
 // DIRECT with a slope of -1, where the greater word is the lower value.
-#[test]
-fn the_voltage_is_cut_by_value(rt: HostRuntime) -> Result<(), Fail> {
+fn falling() -> Result<Converter, ConfigFault> {
     let start = OutputStart {
         mode: 0x40,
         command: 0x03E8,
         max: 0x0BB8,
         ..OUTPUT
     };
-    let falling = Config {
+    made(Config {
         count: 1,
         starts: [start; 8],
         coefficients: Coefficients { m: -1, b: 5, r: 3 },
         ..BASE
-    };
-    let mut converter = Converter::new(falling)?;
+    })
+}
+
+#[test]
+fn the_voltage_is_cut_by_value(rt: HostRuntime) -> Result<(), Fail> {
+    let mut converter = falling()?;
     assert_eq!(rt; commanded(&converter, 0), (2000, 1000));
     assert_eq!(rt; status(&rt, &converter, 0), (0x8001, 0x08));
     // m is FFFFh, b 0005h, and R 03h.

@@ -1,8 +1,12 @@
-//! Frames written as texts, and the words of a converter.
+//! Frames written as texts, converters, and their words.
+//!
+//! Configurations and the calls of the converter stand in functions with no contract of their own, so that
+//! no test's proof carries what a call promises, which no test needs.
 
 ghost use Rattle.std.specs.Prelude.{◌≡◌, ◌<◌};
 
-use pm_device::Converter;
+use crate::fixtures::BASE;
+use pm_device::{Config, ConfigFault, Converter, Ending, Heard};
 use pm_frame::Frame;
 use pm_table::Cell;
 use std::process::Abort;
@@ -19,6 +23,21 @@ pub(crate) fn frame(rt: &impl Abort, text: &str) -> Frame {
         );
     }
     frame
+}
+
+/// A converter of a configuration.
+pub(crate) fn made(config: Config) -> Result<Converter, ConfigFault> {
+    Converter::new(config)
+}
+
+/// A converter of the base configuration.
+pub(crate) fn base() -> Result<Converter, ConfigFault> {
+    made(BASE)
+}
+
+/// What a converter answers to bytes.
+pub(crate) fn hear(converter: &mut Converter, bytes: &[u8], ending: Ending) -> Heard {
+    converter.hear(bytes, ending)
 }
 
 /// The word of a cell; 0 where there is no such cell.

@@ -6,30 +6,55 @@ use crate::fixtures::START;
 use pm_model::{Formats, Plain};
 use pm_num::{AnyFormat, Direct, NumFormat, Ulinear16};
 use pm_table::{Cell, Reg};
+use std::process::Abort;
 use std::test::Fail;
+
+// A cell of two outputs, its start word and another one.
+const WORDS: [(Cell, u16, u16); 7] = [
+    (Cell::Out(0, Reg::Operation), 0x80, 0x40),
+    (Cell::Out(0, Reg::VoutCommand), 0x1000, 0xFFFF),
+    (Cell::Out(1, Reg::VoutMax), 0x4000, 0x0000),
+    (Cell::Out(1, Reg::MarginHigh), 0x1100, 0x1234),
+    (Cell::Out(0, Reg::MarginLow), 0x0F00, 0x4321),
+    (Cell::Out(1, Reg::VoutMin), 0x0000, 0x5555),
+    (Cell::Protect, 0x00, 0x80),
+];
+
+// The words at the start, and with another one of a cell.
+fn base() -> Plain {
+    Plain::new(2, [START; 8], 0x00)
+}
+
+fn with(rt: &impl Abort, cell: Cell, word: u16) -> Plain {
+    let base = base();
+    assert!(rt; base.has(cell) && cell.accepts(word));
+    base.with(cell, word)
+}
+
+fn has_word(rt: &impl Abort, plain: &Plain, cell: Cell, word: u16) {
+    assert!(rt; plain.has(cell));
+    assert_eq!(rt; plain.get(cell), word, "{cell:?}");
+}
+
+// A cell is set to a word, and each other has its start word.
+fn is_set_alone(rt: &impl Abort, cell: Cell, word: u16) {
+    let changed = with(rt, cell, word);
+    for (other, start, _) in WORDS {
+        has_word(
+            rt,
+            &changed,
+            other,
+            if other == cell { word } else { start },
+        );
+    }
+}
 
 #[test]
 fn each_cell_is_read_back_and_no_other_changes(rt: HostRuntime) {
-    let cells = [
-        (Cell::Out(0, Reg::Operation), 0x80, 0x40),
-        (Cell::Out(0, Reg::VoutCommand), 0x1000, 0xFFFF),
-        (Cell::Out(1, Reg::VoutMax), 0x4000, 0x0000),
-        (Cell::Out(1, Reg::MarginHigh), 0x1100, 0x1234),
-        (Cell::Out(0, Reg::MarginLow), 0x0F00, 0x4321),
-        (Cell::Out(1, Reg::VoutMin), 0x0000, 0x5555),
-        (Cell::Protect, 0x00, 0x80),
-    ];
-    let base = Plain::new(2, [START; 8], 0x00);
-    assert!(rt; !base.has(Cell::Out(2, Reg::Operation)));
-    for (cell, before, after) in cells {
-        assert!(rt; base.has(cell) && cell.accepts(after));
-        assert_eq!(rt; base.get(cell), before, "{cell:?}");
-        let changed = base.with(cell, after);
-        for (other, start, _) in cells {
-            assert!(rt; changed.has(other));
-            let wanted = if other == cell { after } else { start };
-            assert_eq!(rt; changed.get(other), wanted, "{other:?} after {cell:?}");
-        }
+    assert!(rt; !base().has(Cell::Out(2, Reg::Operation)));
+    for (cell, before, after) in WORDS {
+        has_word(&rt, &base(), cell, before);
+        is_set_alone(&rt, cell, after);
     }
 }
 
@@ -150,6 +175,10 @@ const FALLING: [([u16; 6], (i128, i128, bool)); 6] = [
     ),
 ];
 
+fn does_command(rt: &impl Abort, format: AnyFormat, words: [u16; 6], wanted: (i128, i128, bool)) {
+    assert_eq!(rt; commands(format, words), wanted, "{words:?}");
+}
+
 #[test]
 fn the_selected_value_is_cut_to_those_of_vout_min_and_vout_max(
     rt: HostRuntime,
@@ -160,10 +189,10 @@ fn the_selected_value_is_cut_to_those_of_vout_min_and_vout_max(
     let linear = AnyFormat::Ulinear16(linear);
     let falling = AnyFormat::Direct(Direct::new(-1, 5, 3)?);
     for (words, wanted) in LINEAR {
-        assert_eq!(rt; commands(linear, words), wanted, "{words:?}");
+        does_command(&rt, linear, words, wanted);
     }
     for (words, wanted) in FALLING {
-        assert_eq!(rt; commands(falling, words), wanted, "{words:?}");
+        does_command(&rt, falling, words, wanted);
     }
     Ok(())
 }

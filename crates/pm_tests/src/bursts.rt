@@ -1,6 +1,6 @@
 //! Each change within eight neighbouring bits of an order's frame.
 
-use crate::fixtures::{BASE, CELLS, FIRST, ORDER, word};
+use crate::fixtures::{CELLS, FIRST, ORDER, WHOLE, after, base, base_converter, step, takes, word};
 use pm_device::{ConfigFault, Converter, Ending, Heard};
 use pm_frame::Frame;
 use pm_world::{Arrival, Event, World};
@@ -12,7 +12,7 @@ const ORDER_BYTES: u64 = 0xB005_0400_21CD_345A;
 
 // Whether each cell of both outputs and of the device has its start word.
 fn is_at_start(converter: &Converter) -> Result<bool, ConfigFault> {
-    let started = Converter::new(BASE)?;
+    let started = base_converter()?;
     let mut same = true;
     for cell in CELLS {
         same = same && word(converter, cell) == word(&started, cell);
@@ -20,16 +20,25 @@ fn is_at_start(converter: &Converter) -> Result<bool, ConfigFault> {
     Ok(same)
 }
 
+// A delivery of these bytes.
+fn delivery(bytes: &[u8]) -> Result<Event, Fail> {
+    let mut frame = Frame::new();
+    frame.try_extend_from_slice(bytes)?;
+    Ok(Event::Deliver(Arrival::Bytes(frame, Ending::Stop)))
+}
+
+fn hear(converter: &mut Converter, bytes: &[u8]) -> Heard {
+    converter.hear(bytes, Ending::Stop)
+}
+
 // A world in which the order's frame is being sent hears these bytes in its place, and a converter
 // hears them too: no word changes.
 fn is_without_effect(rt: &impl Abort, world: &mut World, bytes: &[u8]) -> Result<(), Fail> {
-    let mut frame = Frame::new();
-    frame.try_extend_from_slice(bytes)?;
-    let delivered = world.step(&Event::Deliver(Arrival::Bytes(frame, Ending::Stop)));
+    let delivered = step(world, &delivery(bytes)?);
     assert!(rt; delivered.is_ok(), "{bytes:?} is a legal hearing");
     assert!(rt; is_at_start(world.device())?, "{bytes:?} in a world");
-    let mut converter = Converter::new(BASE)?;
-    let heard = converter.hear(bytes, Ending::Stop);
+    let mut converter = base_converter()?;
+    let heard = hear(&mut converter, bytes);
     let unheard = matches!(heard, Heard::Refused(_) | Heard::Silent);
     assert!(rt; unheard, "{heard:?} for {bytes:?}");
     assert!(rt; is_at_start(&converter)?, "{bytes:?} alone");
@@ -38,8 +47,7 @@ fn is_without_effect(rt: &impl Abort, world: &mut World, bytes: &[u8]) -> Result
 
 #[test]
 fn short_bursts_change_no_word(rt: HostRuntime) -> Result<(), Fail> {
-    let mut world = World::new(BASE, 2)?;
-    assert!(rt; world.step(&ORDER).is_ok());
+    let mut world = after(&rt, base(), 2, &[ORDER])?;
     let mut tried = 0u32;
     for window in 0..57u32 {
         for change in 1..=255u64 {
@@ -49,7 +57,7 @@ fn short_bursts_change_no_word(rt: HostRuntime) -> Result<(), Fail> {
         }
     }
     assert_eq!(rt; tried, 14_535);
-    assert!(rt; world.step(&Event::Deliver(Arrival::Whole)).is_ok());
+    takes(&rt, &mut world, &[WHOLE]);
     assert_eq!(rt; word(world.device(), FIRST), 0x34CD);
     Ok(())
 }

@@ -1,7 +1,8 @@
 //! Why an event isn't taken, and which bytes are a legal hearing or a legal return.
 
 use crate::fixtures::{
-    BASE, CELLS, CHECK, FIRST, ORDER, OUTPUT, after, arrival, back, sends, standing, word,
+    CELLS, CHECK, FIRST, ORDER, OUTPUT, after, arrival, back, base, begun, ran, sends, standing,
+    step, word,
 };
 use pm_device::{Config, ConfigFault, OutputStart};
 use pm_host::{HostFault, JobEnd, Standing};
@@ -68,6 +69,10 @@ const READING: [(Bus, Cause); 7] = [
     (Bus::Exchange("whole", OTHER_ANSWER), S1),
 ];
 
+fn is_not_taken(rt: &impl Abort, world: &mut World, event: &Event, cause: Cause) {
+    assert_eq!(rt; step(world, event), Err(cause), "{event:?}");
+}
+
 // No event of the bus is taken, nor a further job where one is open; nothing changes.
 fn stops(
     rt: &impl Abort,
@@ -75,12 +80,12 @@ fn stops(
     sent: &str,
     rows: &[(Bus, Cause)],
 ) -> Result<(), SetupFault> {
-    let mut world = after(rt, BASE, 2, job)?;
+    let mut world = after(rt, base(), 2, job)?;
     for (bus, cause) in rows {
-        assert_eq!(rt; world.step(&event(rt, *bus)), Err(*cause), "{bus:?}");
+        is_not_taken(rt, &mut world, &event(rt, *bus), *cause);
     }
     if !job.is_empty() {
-        assert_eq!(rt; world.step(&CHECK), Err(S4_BUSY));
+        is_not_taken(rt, &mut world, &CHECK, S4_BUSY);
     }
     assert!(rt; sends(rt, &world, sent));
     assert_eq!(rt; world.last_end(), None);
@@ -119,26 +124,39 @@ const HEARINGS: [(&str, Result<(u16, u8), Cause>); 20] = [
     ("restart: B0 06 02 00 21", Ok((0x1000, 0x00))),
 ];
 
+// VOUT_COMMAND of the first output is this word, and each other cell has its start word.
+fn holds(rt: &impl Abort, world: &World, held: u16) -> Result<(), SetupFault> {
+    let started = begun(base(), 2)?;
+    for cell in CELLS {
+        let start = word(started.device(), cell);
+        let wanted = if cell == FIRST { held } else { start };
+        assert_eq!(rt; word(world.device(), cell), wanted, "{cell:?}");
+    }
+    Ok(())
+}
+
 // The order arrives so, whoever else's frame it is: no other cell changes, and the host knows nothing.
+fn arrives(
+    rt: &impl Abort,
+    heard: &str,
+    wanted: Result<(u16, u8), Cause>,
+) -> Result<(), SetupFault> {
+    let mut world = after(rt, base(), 2, &[ORDER])?;
+    let taken = step(&mut world, &Event::Deliver(arrival(rt, heard)));
+    let (cause, held, cml) = match wanted {
+        Ok((held, cml)) => (None, held, cml),
+        Err(cause) => (Some(cause), 0x1000, 0x00),
+    };
+    assert_eq!(rt; taken.err(), cause, "{heard}");
+    assert_eq!(rt; world.device().status_cml(), cml, "{heard}");
+    assert_eq!(rt; standing(&world, FIRST), Some(Standing::Unknown));
+    holds(rt, &world, held)
+}
+
 #[test]
 fn a_write_is_heard_as_it_arrives(rt: HostRuntime) -> Result<(), SetupFault> {
     for (heard, wanted) in HEARINGS {
-        let mut world = after(&rt, BASE, 2, &[ORDER])?;
-        let taken = world.step(&Event::Deliver(arrival(&rt, heard)));
-        assert_eq!(rt; taken, wanted.map(|_| ()), "{heard}");
-        let (held, cml) = wanted.unwrap_or((0x1000, 0x00));
-        assert_eq!(rt; world.device().status_cml(), cml, "{heard}");
-        let started = World::new(BASE, 2)?;
-        for cell in CELLS {
-            let start = word(started.device(), cell);
-            let wanted = if cell == FIRST { held } else { start };
-            assert_eq!(rt;
-                word(world.device(), cell),
-                wanted,
-                "{cell:?} after {heard}"
-            );
-        }
-        assert_eq!(rt; standing(&world, FIRST), Some(Standing::Unknown));
+        arrives(&rt, heard, wanted)?;
     }
     Ok(())
 }
@@ -192,22 +210,31 @@ const RETURNS: [Return; 28] = [
     ("whole", "B0 02 00 10 57", Err(S1)),
 ];
 
+fn comes_back(rt: &impl Abort, heard: &str, came: &str, wanted: Outcome) -> Result<(), SetupFault> {
+    let mut world = after(rt, base(), 2, &[CHECK])?;
+    let exchange = Event::Exchange(arrival(rt, heard), back(rt, came));
+    let taken = step(&mut world, &exchange);
+    let (cause, end, cml) = match wanted {
+        Ok((end, cml)) => (None, end, cml),
+        Err(cause) => (Some(cause), None, 0x00),
+    };
+    assert_eq!(rt; taken.err(), cause, "{heard}, {came}");
+    assert_eq!(rt; world.last_end(), end, "{heard}, {came}");
+    assert_eq!(rt; world.device().status_cml(), cml, "{heard}, {came}");
+    let stands = match end {
+        Some(_) => Standing::Confirmed(0x1000),
+        None => Standing::Unknown,
+    };
+    assert_eq!(rt; standing(&world, FIRST), Some(stands), "{heard}, {came}");
+    Ok(())
+}
+
 #[test]
 fn a_request_is_heard_as_it_arrives_and_its_answer_as_it_comes_back(
     rt: HostRuntime,
 ) -> Result<(), SetupFault> {
     for (heard, came, wanted) in RETURNS {
-        let mut world = after(&rt, BASE, 2, &[CHECK])?;
-        let taken = world.step(&Event::Exchange(arrival(&rt, heard), back(&rt, came)));
-        assert_eq!(rt; taken, wanted.map(|_| ()), "{heard}, {came}");
-        let (end, cml) = wanted.unwrap_or((None, 0x00));
-        assert_eq!(rt; world.last_end(), end, "{heard}, {came}");
-        assert_eq!(rt; world.device().status_cml(), cml, "{heard}, {came}");
-        let stands = match end {
-            Some(_) => Standing::Confirmed(0x1000),
-            None => Standing::Unknown,
-        };
-        assert_eq!(rt; standing(&world, FIRST), Some(stands), "{heard}, {came}");
+        comes_back(&rt, heard, came, wanted)?;
     }
     Ok(())
 }
@@ -231,35 +258,43 @@ const V4: Option<ConfigFault> = Some(ConfigFault::BadMode(0, TableFault::VidMode
 
 const V5: Option<ConfigFault> = Some(ConfigFault::BadCoefficients(NumFault::ZeroSlope));
 
-// The converter's fault comes before that of the passes, and no event is looked at.
+// The configuration of a row.
+fn configured(row: Setup) -> (Config, Option<ConfigFault>) {
+    let (count, operation, protect, addr, mode, m, fault) = row;
+    let start = OutputStart {
+        mode,
+        operation,
+        ..OUTPUT
+    };
+    let config = Config {
+        addr,
+        count,
+        starts: [start; 8],
+        protect,
+        coefficients: Coefficients { m, b: 0, r: 0 },
+    };
+    (config, fault)
+}
+
+// A world and a run of it have this fault, and no event is looked at.
+fn has_fault(rt: &impl Abort, config: Config, passes: u8, wanted: Option<SetupFault>) {
+    assert_eq!(rt; begun(config, passes).err(), wanted, "{passes} {config:?}");
+    let ran = ran(config, passes, &[CHECK, CHECK]).err();
+    assert_eq!(rt; ran, wanted, "{passes} {config:?}");
+}
+
+// The converter's fault comes before that of the passes.
 #[test]
 fn a_world_has_the_converters_fault_before_the_hosts(rt: HostRuntime) {
-    for (count, operation, protect, addr, mode, m, fault) in SETUPS {
-        let start = OutputStart {
-            mode,
-            operation,
-            ..OUTPUT
-        };
-        let config = Config {
-            addr,
-            count,
-            starts: [start; 8],
-            protect,
-            coefficients: Coefficients { m, b: 0, r: 0 },
-        };
-        for (passes, is_bad) in [(0, true), (1, false), (15, false), (16, true), (255, true)] {
-            let wanted = match fault {
-                Some(fault) => Some(SetupFault::Device(fault)),
-                None if is_bad => Some(SetupFault::Host(HostFault::Passes)),
-                None => None,
-            };
-            assert_eq!(rt;
-                World::new(config, passes).err(),
-                wanted,
-                "{count} {addr:02X} {passes}"
-            );
-            let ran = World::run(config, passes, &[CHECK, CHECK]).err();
-            assert_eq!(rt; ran, wanted, "{count} {addr:02X} {passes}");
+    for row in SETUPS {
+        let (config, fault) = configured(row);
+        let fault = fault.map(SetupFault::Device);
+        let passes = Some(SetupFault::Host(HostFault::Passes));
+        for good in [1, 15] {
+            has_fault(&rt, config, good, fault);
+        }
+        for bad in [0, 16, 255] {
+            has_fault(&rt, config, bad, fault.or(passes));
         }
     }
 }

@@ -1,10 +1,11 @@
 //! What the host says of a cell after each event, and the word that the converter holds.
 
 use crate::fixtures::{
-    ACKED, BASE, CELLS, CHECK, FIRST, LOST, NOT_ACKED, ORDER, READ, READ_LOST, SECOND, WHOLE,
-    may_hold, standing, word,
+    ACKED, CELLS, CHECK, FIRST, LOST, NOT_ACKED, ORDER, READ, READ_LOST, SECOND, WHOLE, base,
+    begun, may_hold, standing, step, takes, word,
 };
 use pm_host::{JobEnd, Standing};
+use pm_table::Cell;
 use pm_world::{Event, SetupFault, World};
 use std::process::Abort;
 
@@ -18,13 +19,18 @@ const ORDERED: Standing = Standing::Confirmed(0x34CD);
 // none is given, the word that it holds, and whether the host saw a restart.
 type Row = (Event, Standing, &'static [u16], u16, bool);
 
+fn follow_one(rt: &impl Abort, world: &mut World, at: usize, row: &Row) {
+    let (event, stands, words, held, seen) = row;
+    assert_eq!(rt; step(world, event), Ok(()), "event {at}");
+    assert_eq!(rt; standing(world, FIRST), Some(*stands), "event {at}");
+    assert!(rt; may_hold(world, FIRST, words), "the words after event {at}");
+    assert_eq!(rt; word(world.device(), FIRST), *held, "event {at}");
+    assert_eq!(rt; world.host().restart_seen(), *seen, "event {at}");
+}
+
 fn follow(rt: &impl Abort, world: &mut World, rows: &[Row]) {
-    for (at, (event, stands, words, held, seen)) in rows.iter().enumerate() {
-        assert_eq!(rt; world.step(event), Ok(()), "event {at}");
-        assert_eq!(rt; standing(world, FIRST), Some(*stands), "event {at}");
-        assert!(rt; may_hold(world, FIRST, words), "the words after event {at}");
-        assert_eq!(rt; word(world.device(), FIRST), *held, "event {at}");
-        assert_eq!(rt; world.host().restart_seen(), *seen, "event {at}");
+    for (at, row) in rows.iter().enumerate() {
+        follow_one(rt, world, at, row);
     }
 }
 
@@ -71,15 +77,23 @@ const AFTERWARDS: [Row; 8] = [
     (Event::RestartHost, UNKNOWN, &[], 0x1000, false),
 ];
 
+fn is_told(rt: &impl Abort, world: &World, cell: Cell, words: &[u16]) {
+    assert!(rt; may_hold(world, cell, words), "{cell:?}");
+}
+
 #[test]
 fn the_host_says_what_it_can_know(rt: HostRuntime) -> Result<(), SetupFault> {
-    let mut lost = World::new(BASE, 2)?;
+    let mut lost = begun(base(), 2)?;
     follow(&rt, &mut lost, &ANSWERS_LOST);
-    let mut world = World::new(BASE, 2)?;
+    let mut world = begun(base(), 2)?;
     follow(&rt, &mut world, &FALSELY_ACKED);
     for cell in CELLS {
-        let words: &[u16] = if cell == FIRST { &[0x1000] } else { &[] };
-        assert!(rt; may_hold(&world, cell, words), "{cell:?}");
+        is_told(
+            &rt,
+            &world,
+            cell,
+            if cell == FIRST { &[0x1000] } else { &[] },
+        );
     }
     follow(&rt, &mut world, &AFTERWARDS);
     Ok(())
@@ -98,7 +112,7 @@ const LAST_ANSWER_LOST: [Row; 7] = [
 
 #[test]
 fn an_order_differs_by_its_last_answer_alone(rt: HostRuntime) -> Result<(), SetupFault> {
-    let mut world = World::new(BASE, 2)?;
+    let mut world = begun(base(), 2)?;
     follow(&rt, &mut world, &LAST_ANSWER_LOST);
     assert_eq!(rt; world.last_end(), Some(JobEnd::Unknown));
     Ok(())
@@ -110,10 +124,57 @@ const OTHERS: [u16; 13] = [
     0x20,
 ];
 
-fn takes(rt: &impl Abort, world: &mut World, events: &[Event]) {
-    for event in events {
-        assert_eq!(rt; world.step(event), Ok(()), "{event:?}");
+// Every cell has the word that it has now as a confirmed one, and the cell by which a restart was seen
+// may hold that word alone, each other any.
+fn are_confirmed(rt: &impl Abort, world: &World, seen_by: Cell) {
+    for cell in CELLS {
+        let start = word(world.device(), cell);
+        let confirmed = Some(Standing::Confirmed(start));
+        assert_eq!(rt; standing(world, cell), confirmed, "{cell:?} by {seen_by:?}");
+        let words = [start];
+        is_told(rt, world, cell, if cell == seen_by { &words } else { &[] });
     }
+}
+
+// Nothing is said of any cell.
+fn are_unknown(rt: &impl Abort, world: &World) {
+    for cell in CELLS {
+        assert_eq!(rt; standing(world, cell), Some(UNKNOWN), "{cell:?}");
+        is_told(rt, world, cell, &[]);
+    }
+}
+
+// A world in which each cell was confirmed, and then another word of one of them was.
+fn confirmed(rt: &impl Abort, cell: Cell, other: u16) -> Result<World, SetupFault> {
+    let mut world = begun(base(), 2)?;
+    for checked in CELLS {
+        takes(rt, &mut world, &[Event::Check(checked), READ]);
+    }
+    let order = Event::Order(cell, other);
+    takes(rt, &mut world, &[order, WHOLE, ACKED, READ]);
+    assert!(rt; !world.host().restart_seen(), "{cell:?}");
+    Ok(world)
+}
+
+// A restart is still seen after a job.
+fn is_seen_after(rt: &impl Abort, world: &mut World, events: &[Event]) {
+    takes(rt, world, events);
+    assert!(rt; world.host().restart_seen(), "{events:?}");
+}
+
+// A cell shows that the converter restarted.
+fn shows(rt: &impl Abort, cell: Cell, other: u16) -> Result<(), SetupFault> {
+    let mut world = confirmed(rt, cell, other)?;
+    let check = Event::Check(cell);
+    takes(rt, &mut world, &[Event::RestartDevice, check, READ]);
+    are_confirmed(rt, &world, cell);
+    is_seen_after(rt, &mut world, &[Event::Clear(0), ACKED]);
+    is_seen_after(rt, &mut world, &[Event::Learn(1), READ]);
+    is_seen_after(rt, &mut world, &[CHECK, READ]);
+    takes(rt, &mut world, &[Event::RestartHost]);
+    assert!(rt; !world.host().restart_seen(), "{cell:?}");
+    are_unknown(rt, &world);
+    Ok(())
 }
 
 // Each cell was confirmed; then one of them, whichever it is, shows that the converter restarted. The
@@ -122,40 +183,7 @@ fn takes(rt: &impl Abort, world: &mut World, events: &[Event]) {
 fn a_restart_that_is_seen_leaves_what_was_confirmed(rt: HostRuntime) -> Result<(), SetupFault> {
     assert_eq!(rt; CELLS.len(), OTHERS.len());
     for (cell, other) in CELLS.into_iter().zip(OTHERS) {
-        let mut world = World::new(BASE, 2)?;
-        for checked in CELLS {
-            takes(&rt, &mut world, &[Event::Check(checked), READ]);
-        }
-        let order = Event::Order(cell, other);
-        takes(&rt, &mut world, &[order, WHOLE, ACKED, READ]);
-        assert!(rt; !world.host().restart_seen(), "{cell:?}");
-        let check = Event::Check(cell);
-        takes(&rt, &mut world, &[Event::RestartDevice, check, READ]);
-        for told in CELLS {
-            let start = word(world.device(), told);
-            let confirmed = Some(Standing::Confirmed(start));
-            assert_eq!(rt; standing(&world, told), confirmed, "{told:?} by {cell:?}");
-            let is_told = if told == cell {
-                may_hold(&world, told, &[start])
-            } else {
-                may_hold(&world, told, &[])
-            };
-            assert!(rt; is_told, "{told:?} by {cell:?}");
-        }
-        for events in [
-            [Event::Clear(0), ACKED],
-            [Event::Learn(1), READ],
-            [CHECK, READ],
-        ] {
-            takes(&rt, &mut world, &events);
-            assert!(rt; world.host().restart_seen(), "{events:?} after {cell:?}");
-        }
-        takes(&rt, &mut world, &[Event::RestartHost]);
-        assert!(rt; !world.host().restart_seen(), "{cell:?}");
-        for told in CELLS {
-            assert_eq!(rt; standing(&world, told), Some(UNKNOWN), "{told:?}");
-            assert!(rt; may_hold(&world, told, &[]), "{told:?} by {cell:?}");
-        }
+        shows(&rt, cell, other)?;
     }
     Ok(())
 }

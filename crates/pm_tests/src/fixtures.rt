@@ -1,13 +1,15 @@
-//! What the tests share: events, and frames written as texts.
+//! What the tests share: events, frames written as texts, configurations, and the calls of a world and of a
+//! converter. These stand in functions with no contract of their own, so that no test's proof carries what a call
+//! promises, which no test needs.
 
 ghost use Rattle.std.specs.Prelude.{◌≡◌, ◌<◌};
 
-use pm_device::{Config, Converter, Ending};
+use pm_device::{Config, ConfigFault, Converter, Ending, Heard};
 pub(crate) use pm_device_tests::{BASE, CELLS, FIRST, OUTPUT, SECOND, START};
 use pm_frame::Frame;
 use pm_host::{Possible, Standing};
 use pm_table::Cell;
-use pm_world::{Arrival, Back, Event, SetupFault, World};
+use pm_world::{Arrival, Back, Cause, Event, SetupFault, Stop, World};
 use std::process::Abort;
 
 /// A check of the first cell, and an order of 34CDh for it.
@@ -59,14 +61,12 @@ pub(crate) fn arrival(rt: &impl Abort, text: &str) -> Arrival {
     if let Some(count) = text.strip_prefix("cut ") {
         return Arrival::Cut(number(rt, count));
     }
-    let Some((ending, bytes)) = text.split_once(": ") else {
-        panic!(rt; "{text:?} is no arrival")
-    };
-    let ending = match ending {
-        "stop" => Ending::Stop,
-        _ => Ending::Restart,
-    };
-    Arrival::Bytes(frame(rt, bytes), ending)
+    if let Some(bytes) = text.strip_prefix("stop: ") {
+        return Arrival::Bytes(frame(rt, bytes), Ending::Stop);
+    }
+    let bytes = text.strip_prefix("restart: ");
+    assert!(rt; bytes.is_some(), "{text:?} is no arrival");
+    Arrival::Bytes(frame(rt, bytes.unwrap_or("")), Ending::Restart)
 }
 
 /// What comes back: "whole", "cut 3", or other bytes.
@@ -86,6 +86,51 @@ fn number(rt: &impl Abort, text: &str) -> u8 {
     number.unwrap_or(0)
 }
 
+/// What a world's converter answers to bytes.
+pub(crate) fn replied(world: &World, bytes: &[u8], ending: Ending) -> Heard {
+    world.device().reply(bytes, ending)
+}
+
+/// A world at its start.
+pub(crate) fn begun(config: Config, passes: u8) -> Result<World, SetupFault> {
+    World::new(config, passes)
+}
+
+/// A world after events, up to the first that isn't taken.
+pub(crate) fn ran(
+    config: Config,
+    passes: u8,
+    events: &[Event],
+) -> Result<(World, Option<Stop>), SetupFault> {
+    World::run(config, passes, events)
+}
+
+/// Lets an event happen.
+pub(crate) fn step(world: &mut World, event: &Event) -> Result<(), Cause> {
+    world.step(event)
+}
+
+/// Lets events happen that are all taken.
+pub(crate) fn takes(rt: &impl Abort, world: &mut World, events: &[Event]) {
+    for event in events {
+        assert_eq!(rt; step(world, event), Ok(()), "{event:?}");
+    }
+}
+
+/// The base configuration, and the same with another WRITE_PROTECT.
+pub(crate) fn base() -> Config {
+    BASE
+}
+
+pub(crate) fn with_protect(protect: u16) -> Config {
+    Config { protect, ..BASE }
+}
+
+/// A converter of the base configuration.
+pub(crate) fn base_converter() -> Result<Converter, ConfigFault> {
+    Converter::new(BASE)
+}
+
 /// A world after events that are all taken.
 pub(crate) fn after(
     rt: &impl Abort,
@@ -93,7 +138,7 @@ pub(crate) fn after(
     passes: u8,
     events: &[Event],
 ) -> Result<World, SetupFault> {
-    let (world, stop) = World::run(config, passes, events)?;
+    let (world, stop) = ran(config, passes, events)?;
     assert_eq!(rt; stop, None);
     Ok(world)
 }

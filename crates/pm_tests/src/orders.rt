@@ -2,7 +2,9 @@
 
 ghost use Rattle.std.specs.Prelude.{◌≡◌};
 
-use crate::fixtures::{ACKED, BASE, CELLS, FIRST, NOT_ACKED, READ, SECOND, START, WHOLE, word};
+use crate::fixtures::{
+    ACKED, CELLS, FIRST, NOT_ACKED, READ, SECOND, START, WHOLE, base, begun, step, word,
+};
 use pm_model::{OrderMachine, Plain};
 use pm_table::Cell;
 use pm_world::{Arrival, Back, Event, SetupFault, World};
@@ -57,17 +59,26 @@ fn copied(machine: &OrderMachine, cell: Cell) -> u16 {
     }
 }
 
+// The order machine at its start.
+fn plain() -> OrderMachine {
+    OrderMachine::new(Plain::new(2, [START; 8], 0x00))
+}
+
+fn agrees(rt: &impl Abort, world: &World, machine: &OrderMachine, at: usize) {
+    for cell in CELLS {
+        let held = word(world.device(), cell);
+        assert_eq!(rt; held, copied(machine, cell), "{cell:?} after event {at}");
+    }
+}
+
 // A world and the order machine, one event after another: each cell has the same word in both.
 fn follow(rt: &impl Abort, rows: &[(Event, Told)]) -> Result<(), SetupFault> {
-    let mut world = World::new(BASE, 2)?;
-    let mut machine = OrderMachine::new(Plain::new(2, [START; 8], 0x00));
+    let mut world = begun(base(), 2)?;
+    let mut machine = plain();
     for (at, (event, told)) in rows.iter().enumerate() {
-        assert!(rt; world.step(event).is_ok(), "event {at} is taken");
+        assert!(rt; step(&mut world, event).is_ok(), "event {at} is taken");
         assert!(rt; tell(&mut machine, *told), "event {at} is told");
-        for cell in CELLS {
-            let held = word(world.device(), cell);
-            assert_eq!(rt; held, copied(&machine, cell), "{cell:?} after event {at}");
-        }
+        agrees(rt, &world, &machine, at);
     }
     Ok(())
 }

@@ -1,6 +1,8 @@
 //! Which of the host's refusals comes first, where a call can have two.
 
-use crate::fixtures::{ACKED, BASE, CHECK, FIRST, NOT_ACKED, READ, READ_LOST, SECOND, after};
+use crate::fixtures::{
+    ACKED, CHECK, FIRST, NOT_ACKED, READ, READ_LOST, SECOND, after, base, begun, step, takes,
+};
 use pm_host::HostFault;
 use pm_num::NumFault;
 use pm_table::{Cell, Reg};
@@ -132,13 +134,7 @@ const FULL_OPERATION: [Row; 4] = [
 fn refuses(rt: &impl Abort, world: &mut World, rows: &[Row]) {
     for (event, fault) in rows {
         let refused = Err(Cause::Host(*fault));
-        assert_eq!(rt; world.step(event), refused, "{event:?}");
-    }
-}
-
-fn takes(rt: &impl Abort, world: &mut World, events: &[Event]) {
-    for event in events {
-        assert_eq!(rt; world.step(event), Ok(()), "{event:?}");
+        assert_eq!(rt; step(world, event), refused, "{event:?}");
     }
 }
 
@@ -163,21 +159,26 @@ const SOFT_OFF: [u16; 15] = [
 
 #[test]
 fn each_refusal_comes_before_those_after_it(rt: HostRuntime) -> Result<(), SetupFault> {
-    let mut idle = World::new(BASE, 2)?;
+    let mut idle = begun(base(), 2)?;
     refuses(&rt, &mut idle, &IDLE);
     takes(&rt, &mut idle, &[CHECK]);
     refuses(&rt, &mut idle, &BUSY);
-    let mut learned = after(&rt, BASE, 2, &[Event::Learn(0), READ])?;
+    let mut learned = after(&rt, base(), 2, &[Event::Learn(0), READ])?;
     refuses(&rt, &mut learned, &LEARNED);
-    let mut full = after(&rt, BASE, 1, &[Event::Learn(0), READ])?;
+    Ok(())
+}
+
+#[test]
+fn a_full_list_is_refused_before_what_comes_after_it(rt: HostRuntime) -> Result<(), SetupFault> {
+    let mut full = after(&rt, base(), 1, &[Event::Learn(0), READ])?;
     fill(&rt, &mut full, FIRST, WORDS);
     refuses(&rt, &mut full, &FULL);
     takes(&rt, &mut full, &[CHECK]);
     refuses(&rt, &mut full, &FULL_AND_BUSY);
-    let mut unlearned = World::new(BASE, 1)?;
+    let mut unlearned = begun(base(), 1)?;
     fill(&rt, &mut unlearned, FIRST, WORDS);
     refuses(&rt, &mut unlearned, &FULL_UNLEARNED);
-    let mut operation = World::new(BASE, 1)?;
+    let mut operation = begun(base(), 1)?;
     fill(&rt, &mut operation, OPERATION, SOFT_OFF);
     refuses(&rt, &mut operation, &FULL_OPERATION);
     Ok(())
@@ -186,7 +187,7 @@ fn each_refusal_comes_before_those_after_it(rt: HostRuntime) -> Result<(), Setup
 // Any of the 16 words is accepted again, also in microvolts, and any word of another cell.
 #[test]
 fn a_word_that_is_possible_is_accepted(rt: HostRuntime) -> Result<(), SetupFault> {
-    let mut world = after(&rt, BASE, 1, &[Event::Learn(0), READ])?;
+    let mut world = after(&rt, base(), 1, &[Event::Learn(0), READ])?;
     fill(&rt, &mut world, FIRST, WORDS);
     for word in [0x1000].into_iter().chain(WORDS) {
         let order = Event::Order(FIRST, word);

@@ -4,8 +4,8 @@
 ghost use Rattle.std.specs.Prelude.{◌≡◌, ◌<◌};
 
 use crate::fixtures::{
-    ACKED, BASE, CELLS, CHECK, FIRST, LOST, NOT_ACKED, ORDER, READ, READ_LOST, SECOND, START,
-    WHOLE, arrival, may_hold, sends, standing, word,
+    ACKED, CELLS, CHECK, FIRST, LOST, NOT_ACKED, ORDER, READ, READ_LOST, SECOND, START, WHOLE,
+    arrival, base, begun, may_hold, ran, replied, sends, standing, step, with_protect, word,
 };
 use pm_device::{Config, Ending, Heard};
 use pm_host::{Possible, Standing};
@@ -72,10 +72,7 @@ impl Watch {
 // Whether the write that is sent would be taken, heard whole.
 fn would_take(world: &World) -> bool {
     match world.host().sending() {
-        Some(sent) => matches!(
-            world.device().reply(sent.as_slice(), Ending::Stop),
-            Heard::Taken
-        ),
+        Some(sent) => matches!(replied(world, sent.as_slice(), Ending::Stop), Heard::Taken),
         None => false,
     }
 }
@@ -98,7 +95,7 @@ fn happens(rt: &impl Abort, world: &mut World, watch: &mut Watch, event: &Event)
         Event::Exchange(Arrival::Whole, Back::Whole) => reads(rt, world),
         _ => None,
     };
-    if world.step(event).is_ok() {
+    if step(world, event).is_ok() {
         watch.sees(event, delivered, answered, world.last_end().is_some());
     }
 }
@@ -127,35 +124,14 @@ fn may_be(world: &World, cell: Cell, word: u16) -> bool {
 // answer, a confirmed word is held, and the word that is held is possible. A restart is seen where
 // the converter restarted since the host's start. Of cells that were never read nothing is said.
 fn agrees(rt: &impl Abort, world: &World, watch: &Watch, at: usize) {
+    are_ordered(rt, world, &watch.machine, at);
+    let [first, second] = watch.since_answer;
     for cell in CELLS {
-        let held = word(world.device(), cell);
-        assert_eq!(rt;
-            held,
-            ordered(&watch.machine, cell),
-            "{cell:?} after event {at}"
-        );
-        let [first, second] = watch.since_answer;
-        let restarted = match cell {
-            FIRST => first,
-            SECOND => second,
-            _ => {
-                assert!(rt; may_hold(world, cell, &[]), "{cell:?} after event {at}");
-                assert_eq!(rt; standing(world, cell), Some(Standing::Unknown));
-                true
-            }
-        };
-        let is_held = match standing(world, cell) {
-            Some(Standing::Confirmed(told)) => told == held,
-            _ => true,
-        };
-        assert!(rt;
-            restarted || is_held,
-            "{cell:?} is confirmed after event {at}"
-        );
-        assert!(rt;
-            restarted || may_be(world, cell, held),
-            "{cell:?} after event {at}"
-        );
+        match cell {
+            FIRST => is_known(rt, world, cell, first, at),
+            SECOND => is_known(rt, world, cell, second, at),
+            _ => is_unknown(rt, world, cell, at),
+        }
     }
     let seen = world.host().restart_seen();
     assert!(rt;
@@ -164,9 +140,31 @@ fn agrees(rt: &impl Abort, world: &World, watch: &Watch, at: usize) {
     );
 }
 
+// Where the converter didn't restart since the last good answer, what is said of a cell is true.
+fn is_known(rt: &impl Abort, world: &World, cell: Cell, restarted: bool, at: usize) {
+    let held = word(world.device(), cell);
+    let is_held = match standing(world, cell) {
+        Some(Standing::Confirmed(told)) => told == held,
+        _ => true,
+    };
+    assert!(rt;
+        restarted || is_held,
+        "{cell:?} is confirmed after event {at}"
+    );
+    assert!(rt;
+        restarted || may_be(world, cell, held),
+        "{cell:?} after event {at}"
+    );
+}
+
+fn is_unknown(rt: &impl Abort, world: &World, cell: Cell, at: usize) {
+    assert!(rt; may_hold(world, cell, &[]), "{cell:?} after event {at}");
+    assert_eq!(rt; standing(world, cell), Some(Standing::Unknown));
+}
+
 // The events with one more before the one at this place.
 fn follow(rt: &impl Abort, events: &[Event], more: &Event, place: usize) -> Result<(), SetupFault> {
-    let mut world = World::new(BASE, 2)?;
+    let mut world = begun(base(), 2)?;
     let mut watch = Watch::new(open());
     for (at, event) in events.iter().enumerate() {
         if at == place {
@@ -211,33 +209,37 @@ fn a_restart_at_any_place_leaves_true_what_the_host_says(
     follow_restarts(&rt, &restart_seen)
 }
 
-// After each number of events a run holds what the order machine does.
+fn are_ordered(rt: &impl Abort, world: &World, machine: &OrderMachine, at: usize) {
+    for cell in CELLS {
+        let held = word(world.device(), cell);
+        assert_eq!(rt; held, ordered(machine, cell), "{cell:?} after {at} events");
+    }
+}
+
+// After each number of events a run with this WRITE_PROTECT holds what the order machine does.
 fn runs(
     rt: &impl Abort,
-    config: Config,
+    protect: u16,
     machine: OrderMachine,
     events: &[Event],
 ) -> Result<(), SetupFault> {
-    let mut world = World::new(config, 2)?;
+    let mut world = begun(with_protect(protect), 2)?;
     let mut watch = Watch::new(machine);
     for (at, event) in events.iter().enumerate() {
-        let (ran, _) = World::run(config, 2, &events[..at])?;
-        for cell in CELLS {
-            let held = word(ran.device(), cell);
-            assert_eq!(rt;
-                held,
-                ordered(&watch.machine, cell),
-                "{cell:?} after {at} events"
-            );
-        }
+        let (ran, _) = ran(with_protect(protect), 2, &events[..at])?;
+        are_ordered(rt, &ran, &watch.machine, at);
         happens(rt, &mut world, &mut watch, event);
     }
     Ok(())
 }
 
-// The order machine of two outputs, while no write is blocked.
+// The order machine of two outputs, while no write is blocked, and while those of a voltage are.
 fn open() -> OrderMachine {
     OrderMachine::new(Plain::new(2, [START; 8], 0x00))
+}
+
+fn blocked() -> OrderMachine {
+    OrderMachine::new(Plain::new(2, [START; 8], 0x40))
 }
 
 #[test]
@@ -245,19 +247,20 @@ fn a_run_holds_what_orders_alone_make(rt: HostRuntime) -> Result<(), SetupFault>
     let answers_lost = [
         CHECK, READ, ORDER, WHOLE, NOT_ACKED, READ_LOST, LOST, NOT_ACKED, READ_LOST, CHECK,
     ];
-    runs(&rt, BASE, open(), &answers_lost)?;
+    runs(&rt, 0x00, open(), &answers_lost)?;
     let restarted = Event::RestartDevice;
     let falsely_acked = [
         CHECK, READ, ORDER, LOST, ACKED, READ, WHOLE, ACKED, READ, restarted, CHECK, READ, CHECK,
     ];
-    runs(&rt, BASE, open(), &falsely_acked)?;
+    runs(&rt, 0x00, open(), &falsely_acked)?;
     let other = Event::Deliver(arrival(&rt, "stop: B0 05 04 01 21 CD 34 4C"));
-    runs(&rt, BASE, open(), &[ORDER, other, ACKED, READ])?;
-    let blocked = OrderMachine::new(Plain::new(2, [START; 8], 0x40));
-    let protected = Config {
-        protect: 0x40,
-        ..BASE
-    };
+    runs(&rt, 0x00, open(), &[ORDER, other, ACKED, READ])
+}
+
+#[test]
+fn a_run_of_a_blocked_order_holds_what_orders_alone_make(
+    rt: HostRuntime,
+) -> Result<(), SetupFault> {
     let events = [ORDER, WHOLE, ACKED, READ, WHOLE, ACKED, READ, CHECK];
-    runs(&rt, protected, blocked, &events)
+    runs(&rt, 0x40, blocked(), &events)
 }

@@ -1,8 +1,8 @@
 //! The frame that the host sends at each turn of each job, and how each job ends.
 
 use crate::fixtures::{
-    ACKED, BASE, CHECK, FIRST, LOST, NOT_ACKED, ORDER, OUTPUT, READ, READ_LOST, SECOND, WHOLE,
-    after, sends, standing,
+    ACKED, CHECK, FIRST, LOST, NOT_ACKED, ORDER, OUTPUT, READ, READ_LOST, SECOND, WHOLE, after,
+    base, begun, sends, standing, step, takes,
 };
 use pm_device::{Config, OutputStart};
 use pm_host::{HostFault, JobEnd, Standing, Turn};
@@ -25,6 +25,10 @@ const MIXED: Config = Config {
     protect: 0x00,
     coefficients: Coefficients { m: 1, b: 0, r: 3 },
 };
+
+fn mixed() -> Config {
+    MIXED
+}
 
 const PASSES: u8 = 3;
 
@@ -107,62 +111,91 @@ const ORDERS: [(Cell, u16, &str, &str); 13] = [
 
 // An event is taken, and what the host sends then.
 fn goes(rt: &impl Abort, world: &mut World, event: &Event, text: &str) {
-    assert_eq!(rt; world.step(event), Ok(()), "{event:?}");
+    assert_eq!(rt; step(world, event), Ok(()), "{event:?}");
     assert!(rt; sends(rt, world, text), "{event:?} is followed by {text:?}");
+}
+
+fn is_ordered_in_vain(
+    rt: &impl Abort,
+    world: &mut World,
+    order: &Event,
+    write: &str,
+    request: &str,
+) {
+    goes(rt, world, order, write);
+    for next in [write, write, ""] {
+        goes(rt, world, &NOT_ACKED, request);
+        goes(rt, world, &READ_LOST, next);
+    }
+    assert_eq!(rt; world.last_end(), Some(JobEnd::Unknown));
+}
+
+fn is_checked_in_vain(rt: &impl Abort, world: &mut World, check: &Event, request: &str) {
+    goes(rt, world, check, request);
+    assert_eq!(rt; world.last_end(), None);
+    for next in [request, request, ""] {
+        goes(rt, world, &READ_LOST, next);
+    }
+    assert_eq!(rt; world.last_end(), Some(JobEnd::Unknown));
 }
 
 // Each pass of an order writes once and reads once, each try of a check reads once, all in vain; the host
 // has started again before.
 #[test]
 fn orders_and_checks_send_the_same_frames_in_each_pass(rt: HostRuntime) -> Result<(), SetupFault> {
-    let mut world = World::new(MIXED, PASSES)?;
+    let mut world = begun(mixed(), PASSES)?;
     goes(&rt, &mut world, &Event::RestartHost, "");
     for (cell, word, write, request) in ORDERS {
-        goes(&rt, &mut world, &Event::Order(cell, word), write);
-        for next in [write, write, ""] {
-            goes(&rt, &mut world, &NOT_ACKED, request);
-            goes(&rt, &mut world, &READ_LOST, next);
-        }
-        assert_eq!(rt; world.last_end(), Some(JobEnd::Unknown));
-        goes(&rt, &mut world, &Event::Check(cell), request);
-        assert_eq!(rt; world.last_end(), None);
-        for next in [request, request, ""] {
-            goes(&rt, &mut world, &READ_LOST, next);
-        }
-        assert_eq!(rt; world.last_end(), Some(JobEnd::Unknown));
+        is_ordered_in_vain(&rt, &mut world, &Event::Order(cell, word), write, request);
+        is_checked_in_vain(&rt, &mut world, &Event::Check(cell), request);
     }
     Ok(())
 }
 
-// Delivered and read back: what was ordered is confirmed, of each cell.
+// Delivered and read back, what was ordered is confirmed.
+fn is_confirmed(
+    rt: &impl Abort,
+    cell: Cell,
+    word: u16,
+    write: &str,
+    request: &str,
+) -> Result<(), SetupFault> {
+    let mut world = begun(mixed(), PASSES)?;
+    goes(rt, &mut world, &Event::Order(cell, word), write);
+    goes(rt, &mut world, &WHOLE, write);
+    goes(rt, &mut world, &ACKED, request);
+    goes(rt, &mut world, &READ, "");
+    assert_eq!(rt; world.last_end(), Some(JobEnd::Done));
+    assert_eq!(rt; standing(&world, cell), Some(Standing::Confirmed(word)));
+    Ok(())
+}
+
 #[test]
 fn each_cell_is_ordered_and_confirmed(rt: HostRuntime) -> Result<(), SetupFault> {
     for (cell, word, write, request) in ORDERS {
-        let mut world = World::new(MIXED, PASSES)?;
-        goes(&rt, &mut world, &Event::Order(cell, word), write);
-        goes(&rt, &mut world, &WHOLE, write);
-        goes(&rt, &mut world, &ACKED, request);
-        goes(&rt, &mut world, &READ, "");
-        assert_eq!(rt; world.last_end(), Some(JobEnd::Done));
-        assert_eq!(rt; standing(&world, cell), Some(Standing::Confirmed(word)));
+        is_confirmed(&rt, cell, word, write, request)?;
     }
     Ok(())
+}
+
+// A clear in vain, and one whose second frame is acknowledged.
+fn is_cleared(rt: &impl Abort, world: &mut World, clear: &Event, frame: &str) {
+    goes(rt, world, clear, frame);
+    for next in [frame, frame, ""] {
+        goes(rt, world, &NOT_ACKED, next);
+    }
+    assert_eq!(rt; world.last_end(), Some(JobEnd::Unknown));
+    goes(rt, world, clear, frame);
+    goes(rt, world, &NOT_ACKED, frame);
+    goes(rt, world, &ACKED, "");
+    assert_eq!(rt; world.last_end(), Some(JobEnd::Done));
 }
 
 #[test]
 fn a_clear_sends_clear_faults_until_it_is_acknowledged(rt: HostRuntime) -> Result<(), SetupFault> {
-    let mut world = World::new(MIXED, PASSES)?;
-    for (output, frame) in [(0, "B0 05 02 00 03 50"), (1, "B0 05 02 01 03 45")] {
-        goes(&rt, &mut world, &Event::Clear(output), frame);
-        for next in [frame, frame, ""] {
-            goes(&rt, &mut world, &NOT_ACKED, next);
-        }
-        assert_eq!(rt; world.last_end(), Some(JobEnd::Unknown));
-        goes(&rt, &mut world, &Event::Clear(output), frame);
-        goes(&rt, &mut world, &NOT_ACKED, frame);
-        goes(&rt, &mut world, &ACKED, "");
-        assert_eq!(rt; world.last_end(), Some(JobEnd::Done));
-    }
+    let mut world = begun(mixed(), PASSES)?;
+    is_cleared(&rt, &mut world, &Event::Clear(0), "B0 05 02 00 03 50");
+    is_cleared(&rt, &mut world, &Event::Clear(1), "B0 05 02 01 03 45");
     Ok(())
 }
 
@@ -176,7 +209,7 @@ const COEFFICIENTS: &str = "B0 30 02 21 00";
 // Each of a learn's two reads has tries of its own; a learn that fails leaves the format from before.
 #[test]
 fn a_learn_reads_the_mode_and_then_the_coefficients(rt: HostRuntime) -> Result<(), SetupFault> {
-    let mut world = World::new(MIXED, PASSES)?;
+    let mut world = begun(mixed(), PASSES)?;
     let learn = Event::Learn(1);
     goes(&rt, &mut world, &learn, MODE_1);
     for (event, next) in [
@@ -210,20 +243,18 @@ fn a_learn_reads_the_mode_and_then_the_coefficients(rt: HostRuntime) -> Result<(
 // A format is that of the output that was learned: 3.3 V as 3300 millivolts or as 13517/4096.
 #[test]
 fn each_output_is_learned_by_itself(rt: HostRuntime) -> Result<(), SetupFault> {
-    let mut world = World::new(MIXED, PASSES)?;
+    let mut world = begun(mixed(), PASSES)?;
     goes(&rt, &mut world, &Event::Learn(0), MODE_0);
     goes(&rt, &mut world, &READ, "");
     assert_eq!(rt; world.last_end(), Some(JobEnd::Learned));
     let second = Event::OrderMicro(SECOND, 3_300_000);
-    assert!(rt; world.step(&second).is_err());
+    assert!(rt; step(&mut world, &second).is_err());
     goes(&rt, &mut world, &Event::Learn(1), MODE_1);
     goes(&rt, &mut world, &READ, COEFFICIENTS);
     goes(&rt, &mut world, &READ, "");
     let first = Event::OrderMicro(FIRST, 3_300_000);
     goes(&rt, &mut world, &first, "B0 05 04 00 21 CD 34 5A");
-    for event in [WHOLE, ACKED, READ] {
-        assert_eq!(rt; world.step(&event), Ok(()));
-    }
+    takes(&rt, &mut world, &[WHOLE, ACKED, READ]);
     goes(&rt, &mut world, &second, "B0 05 04 01 21 E4 0C F7");
     Ok(())
 }
@@ -267,6 +298,10 @@ const EIGHT: Config = Config {
     coefficients: Coefficients { m: 1, b: 0, r: 0 },
 };
 
+fn eight() -> Config {
+    EIGHT
+}
+
 // The request of VOUT_MODE of each, and the write of 1 V in its format.
 const LEARNS: [(&str, &str); 8] = [
     ("B0 06 02 00 20", "B0 05 04 00 21 00 10 A2"),
@@ -281,7 +316,7 @@ const LEARNS: [(&str, &str); 8] = [
 
 #[test]
 fn each_of_eight_outputs_has_a_format_of_its_own(rt: HostRuntime) -> Result<(), SetupFault> {
-    let mut world = World::new(EIGHT, 1)?;
+    let mut world = begun(eight(), 1)?;
     for (output, (request, _)) in (0..8).zip(LEARNS) {
         goes(&rt, &mut world, &Event::Learn(output), request);
         goes(&rt, &mut world, &READ, "");
@@ -290,17 +325,24 @@ fn each_of_eight_outputs_has_a_format_of_its_own(rt: HostRuntime) -> Result<(), 
     for (output, (_, write)) in (0..8).zip(LEARNS) {
         let volt = Event::OrderMicro(Cell::Out(output, Reg::VoutCommand), 1_000_000);
         goes(&rt, &mut world, &volt, write);
-        assert_eq!(rt; world.step(&NOT_ACKED), Ok(()));
-        assert_eq!(rt; world.step(&READ_LOST), Ok(()));
+        takes(&rt, &mut world, &[NOT_ACKED, READ_LOST]);
     }
     // The host's restart forgets each of them.
     goes(&rt, &mut world, &Event::RestartHost, "");
     for output in 0..8 {
         let volt = Event::OrderMicro(Cell::Out(output, Reg::VoutCommand), 1_000_000);
         let unknown = Err(Cause::Host(HostFault::FormatUnknown));
-        assert_eq!(rt; world.step(&volt), unknown, "output {output}");
+        assert_eq!(rt; step(&mut world, &volt), unknown, "output {output}");
     }
     Ok(())
+}
+
+// How many bytes the answer has to the request that is sent.
+fn answer_length(world: &World) -> Option<usize> {
+    match world.host().turn() {
+        Turn::Request { bytes, .. } => Some(bytes),
+        _ => None,
+    }
 }
 
 #[test]
@@ -318,13 +360,22 @@ fn a_request_says_how_many_bytes_its_answer_has(rt: HostRuntime) -> Result<(), S
         (&learn, COEFFICIENTS, 8),
     ];
     for (events, request, wanted) in rows {
-        let world = after(&rt, MIXED, PASSES, events)?;
+        let world = after(&rt, mixed(), PASSES, events)?;
         assert!(rt; sends(&rt, &world, request), "{request}");
-        match world.host().turn() {
-            Turn::Request { bytes, .. } => assert_eq!(rt; bytes, wanted, "{request}"),
-            _ => assert!(rt; false, "{request} is no request"),
-        }
+        assert_eq!(rt; answer_length(&world), Some(wanted), "{request}");
     }
+    Ok(())
+}
+
+fn has_end(
+    rt: &impl Abort,
+    events: &[Event],
+    end: Option<JobEnd>,
+    stands: Standing,
+) -> Result<(), SetupFault> {
+    let world = after(rt, base(), 1, events)?;
+    assert_eq!(rt; world.last_end(), end, "{events:?}");
+    assert_eq!(rt; standing(&world, FIRST), Some(stands), "{events:?}");
     Ok(())
 }
 
@@ -349,10 +400,8 @@ fn each_job_has_its_ends(rt: HostRuntime) -> Result<(), SetupFault> {
         (&[Event::Learn(0), READ], Some(JobEnd::Learned), unknown),
         (&[Event::Clear(0), ACKED], Some(JobEnd::Done), unknown),
     ];
-    for (place, (events, end, stands)) in rows.iter().enumerate() {
-        let world = after(&rt, BASE, 1, events)?;
-        assert_eq!(rt; world.last_end(), *end, "row {place}");
-        assert_eq!(rt; standing(&world, FIRST), Some(*stands), "row {place}");
+    for (events, end, stands) in rows {
+        has_end(&rt, events, end, stands)?;
     }
     Ok(())
 }

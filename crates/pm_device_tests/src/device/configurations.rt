@@ -1,9 +1,11 @@
 //! Configurations, and the first fault of each that applies.
 
 use crate::fixtures::OUTPUT;
-use pm_device::{Config, ConfigFault, Converter, OutputStart};
+use crate::frames::made;
+use pm_device::{Config, ConfigFault, OutputStart};
 use pm_num::NumFault;
 use pm_table::{Cell, Coefficients, Reg, TableFault};
+use std::process::Abort;
 
 const V1: Option<ConfigFault> = Some(ConfigFault::OutputCount);
 
@@ -46,7 +48,7 @@ type Row = (
 );
 
 // Each fault alone, then each with each that comes after it, then what is no fault.
-const ROWS: [Row; 44] = [
+static ROWS: [Row; 44] = [
     (0, [0x80, 0x80], 0x00, 0x58, [0x14, 0x14], (1, 0), V1),
     (9, [0x80, 0x80], 0x00, 0x58, [0x14, 0x14], (1, 0), V1),
     (255, [0x80, 0x80], 0x00, 0x58, [0x14, 0x14], (1, 0), V1),
@@ -173,28 +175,35 @@ const ROWS: [Row; 44] = [
     (2, [0x80, 0x80], 0x00, 0x58, [0x14, 0x40], (-1, -12), None),
 ];
 
+// The configuration of a row.
+fn configured(row: Row) -> (Config, Option<ConfigFault>) {
+    let (count, operations, protect, addr, modes, (m, r), wanted) = row;
+    let others = OutputStart {
+        mode: modes[1],
+        operation: operations[1],
+        ..OUTPUT
+    };
+    let mut starts = [others; 8];
+    starts[0].mode = modes[0];
+    starts[0].operation = operations[0];
+    let config = Config {
+        addr,
+        count,
+        starts,
+        protect,
+        coefficients: Coefficients { m, b: 0, r },
+    };
+    (config, wanted)
+}
+
+fn has_fault(rt: &impl Abort, row: &Row) {
+    let (config, wanted) = configured(*row);
+    assert_eq!(rt; made(config).err(), wanted, "{config:?}");
+}
+
 #[test]
 fn a_configuration_has_the_first_fault_that_applies(rt: HostRuntime) {
-    for (count, operations, protect, addr, modes, (m, r), wanted) in ROWS {
-        let others = OutputStart {
-            mode: modes[1],
-            operation: operations[1],
-            ..OUTPUT
-        };
-        let mut starts = [others; 8];
-        starts[0].mode = modes[0];
-        starts[0].operation = operations[0];
-        let config = Config {
-            addr,
-            count,
-            starts,
-            protect,
-            coefficients: Coefficients { m, b: 0, r },
-        };
-        assert_eq!(rt;
-            Converter::new(config).err(),
-            wanted,
-            "{count} {protect:02X} {addr:02X} {m} {r}"
-        );
+    for row in &ROWS {
+        has_fault(&rt, row);
     }
 }

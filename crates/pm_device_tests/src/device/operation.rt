@@ -1,8 +1,8 @@
 //! All 256 bytes of OPERATION.
 
-use super::{Wanted, commanded, hears};
-use crate::fixtures::{BASE, OUTPUT};
-use pm_device::{Config, ConfigFault, Converter, DeviceFault, Ending, OutputStart};
+use super::{Wanted, commanded, hears, with_operation};
+use crate::frames::{base, word};
+use pm_device::{ConfigFault, Converter, DeviceFault, Ending};
 use pm_frame::pec;
 use pm_table::{Cell, Reg};
 use std::process::Abort;
@@ -29,13 +29,16 @@ fn meaning(byte: u8) -> Option<(bool, i128)> {
     None
 }
 
+// Whether output 1 is there and on.
+fn is_on(converter: &Converter) -> bool {
+    converter.count() > 1 && converter.is_on(1)
+}
+
 // What output 1 does with this byte as OPERATION.
 fn does(rt: &impl Abort, converter: &Converter, byte: u8, on: bool, volts: i128) {
-    if converter.count() > 1 {
-        let held = converter.word(Cell::Out(1, Reg::Operation));
-        assert_eq!(rt; held, u16::from(byte));
-        assert_eq!(rt; converter.is_on(1), on, "OPERATION {byte:02X}");
-    }
+    let held = word(converter, Cell::Out(1, Reg::Operation));
+    assert_eq!(rt; held, u16::from(byte));
+    assert_eq!(rt; is_on(converter), on, "OPERATION {byte:02X}");
     assert_eq!(rt;
         commanded(converter, 1),
         (volts, 4096),
@@ -43,34 +46,33 @@ fn does(rt: &impl Abort, converter: &Converter, byte: u8, on: bool, volts: i128)
     );
 }
 
-// Each byte as the start word of output 1, and written to it.
+// A byte as the start word of output 1, and written to it.
+fn means(rt: &impl Abort, byte: u8) -> Result<(), ConfigFault> {
+    let started = with_operation(u16::from(byte));
+    let mut converter = base()?;
+    let packet = [0xB0, 0x05, 0x03, 0x01, 0x01, byte];
+    let whole = [0xB0, 0x05, 0x03, 0x01, 0x01, byte, pec(&packet)];
+    match (meaning(byte), started) {
+        (Some((on, volts)), Ok(started)) => {
+            does(rt, &started, byte, on, volts);
+            hears(rt, &mut converter, &whole, Ending::Stop, Wanted::Taken);
+            does(rt, &converter, byte, on, volts);
+        }
+        (None, Err(fault)) => {
+            assert_eq!(rt; fault, ConfigFault::BadStart(Cell::Out(1, Reg::Operation)));
+            let refused = Wanted::Refused(DeviceFault::UnsupportedData);
+            hears(rt, &mut converter, &whole, Ending::Stop, refused);
+            does(rt, &converter, 0x80, true, 0x1000);
+        }
+        _ => assert!(rt; false, "OPERATION {byte:02X} as a start word"),
+    }
+    Ok(())
+}
+
 #[test]
 fn each_byte_of_operation_has_its_meaning_or_none(rt: HostRuntime) -> Result<(), Fail> {
     for byte in 0..=255 {
-        let start = OutputStart {
-            operation: u16::from(byte),
-            ..OUTPUT
-        };
-        let mut starts = [OUTPUT; 8];
-        starts[1] = start;
-        let made = Converter::new(Config { starts, ..BASE });
-        let mut converter = Converter::new(BASE)?;
-        let packet = [0xB0, 0x05, 0x03, 0x01, 0x01, byte];
-        let whole = [0xB0, 0x05, 0x03, 0x01, 0x01, byte, pec(&packet)];
-        match (meaning(byte), made) {
-            (Some((on, volts)), Ok(made)) => {
-                does(&rt, &made, byte, on, volts);
-                hears(&rt, &mut converter, &whole, Ending::Stop, Wanted::Taken);
-                does(&rt, &converter, byte, on, volts);
-            }
-            (None, Err(fault)) => {
-                assert_eq!(rt; fault, ConfigFault::BadStart(Cell::Out(1, Reg::Operation)));
-                let refused = Wanted::Refused(DeviceFault::UnsupportedData);
-                hears(&rt, &mut converter, &whole, Ending::Stop, refused);
-                does(&rt, &converter, 0x80, true, 0x1000);
-            }
-            _ => assert!(rt; false, "OPERATION {byte:02X} as a start word"),
-        }
+        means(&rt, byte)?;
     }
     Ok(())
 }

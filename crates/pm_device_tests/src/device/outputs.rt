@@ -1,9 +1,9 @@
 //! Each of eight outputs by itself, and the readings that each has.
 
-use super::hears_rows;
-use crate::fixtures::BASE;
-use pm_device::{Config, Converter};
+use super::{hears_rows, with_count};
+use pm_device::Converter;
 use pm_table::Code;
+use std::process::Abort;
 use std::test::Fail;
 
 // Eight outputs: VOUT_COMMAND of each is written and read, READ_VOUT and READ_IOUT of each are read.
@@ -49,7 +49,7 @@ const EIGHT: [&str; 36] = [
 
 #[test]
 fn each_of_eight_outputs_has_registers_of_its_own(rt: HostRuntime) -> Result<(), Fail> {
-    let mut converter = Converter::new(Config { count: 8, ..BASE })?;
+    let mut converter = with_count(8)?;
     for output in 0..8u8 {
         for (code, first) in [(0x8B, 0x3000u16), (0x8C, 0x4000)] {
             let reading = first + u16::from(output);
@@ -60,32 +60,33 @@ fn each_of_eight_outputs_has_registers_of_its_own(rt: HostRuntime) -> Result<(),
     Ok(())
 }
 
+// A reading of this output is set of each code of the first list, and of none of the second.
+fn takes_readings(
+    rt: &impl Abort,
+    converter: &mut Converter,
+    output: u8,
+    set: &[u8],
+    not_set: &[u8],
+) {
+    for code in set {
+        let is_set = converter.set_reading(output, Code(*code), 0x1234);
+        assert!(rt; is_set, "output {output}, code {code:02X}");
+    }
+    for code in not_set {
+        let is_set = converter.set_reading(output, Code(*code), 0x1234);
+        assert!(rt; !is_set, "output {output}, code {code:02X}");
+    }
+}
+
 // A reading of the device is set whatever output is named, one of an output where it is there.
 #[test]
 fn a_reading_is_of_an_output_that_is_there_or_of_the_device(rt: HostRuntime) -> Result<(), Fail> {
     for count in 1..=8 {
-        let mut converter = Converter::new(Config { count, ..BASE })?;
-        let rows = [
-            (count, 0x8B, false),
-            (count, 0x8C, false),
-            (255, 0x8B, false),
-            (255, 0x8C, false),
-            (count - 1, 0x8B, true),
-            (count - 1, 0x8C, true),
-            (count, 0x88, true),
-            (255, 0x8D, true),
-            (0, 0x21, false),
-            (0, 0x7A, false),
-            (0, 0x8E, false),
-        ];
-        for (output, code, wanted) in rows {
-            let is_set = converter.set_reading(output, Code(code), 0x1234);
-            assert_eq!(rt;
-                is_set,
-                wanted,
-                "output {output} of {count}, code {code:02X}"
-            );
-        }
+        let mut converter = with_count(count)?;
+        takes_readings(&rt, &mut converter, count, &[0x88], &[0x8B, 0x8C]);
+        takes_readings(&rt, &mut converter, 255, &[0x8D], &[0x8B, 0x8C]);
+        takes_readings(&rt, &mut converter, count - 1, &[0x8B, 0x8C], &[]);
+        takes_readings(&rt, &mut converter, 0, &[], &[0x21, 0x7A, 0x8E]);
     }
     Ok(())
 }

@@ -1,10 +1,11 @@
 //! What is refused, for what, and which of two refusals comes first.
 
-use super::{Wanted, hears, hears_row, status};
+use super::{Wanted, hears, hears_row, status, with_protect};
 use crate::fixtures::{BASE, CELLS, OUTPUT};
-use crate::frames::{frame, word};
-use pm_device::{Config, Converter, DeviceFault, Ending, OutputStart};
+use crate::frames::{base, frame, made, word};
+use pm_device::{Config, ConfigFault, Converter, DeviceFault, Ending, OutputStart};
 use pm_frame::FrameFault;
+use std::process::Abort;
 use std::test::Fail;
 
 const K2: DeviceFault = DeviceFault::UnsupportedCode;
@@ -118,38 +119,50 @@ const PAIRS: [Refusal; 22] = [
 ];
 
 // A refusal sets its one bit, which every output's STATUS_WORD shows, and leaves every word.
-#[test]
-fn each_refusal_sets_its_own_bit_and_changes_no_word(rt: HostRuntime) -> Result<(), Fail> {
-    for rows in [&REFUSALS[..], &PAIRS[..]] {
-        for (protect, row, fault, cml) in rows {
-            let config = Config {
-                protect: *protect,
-                ..BASE
-            };
-            let started = Converter::new(config)?;
-            let mut converter = Converter::new(config)?;
-            hears_row(&rt, &mut converter, row, Some(*fault));
-            assert_eq!(rt; converter.status_cml(), *cml, "{row}");
-            assert_eq!(rt; converter.page(), 0, "{row}");
-            for output in [0, 1] {
-                assert_eq!(rt; status(&rt, &converter, output), (0x0002, 0x00), "{row}");
-            }
-            for cell in CELLS {
-                assert_eq!(rt;
-                    word(&converter, cell),
-                    word(&started, cell),
-                    "{cell:?} after {row}"
-                );
-            }
-        }
+fn is_refused(
+    rt: &impl Abort,
+    protect: u16,
+    row: &str,
+    fault: DeviceFault,
+    cml: u8,
+) -> Result<(), ConfigFault> {
+    let started = with_protect(protect)?;
+    let mut converter = with_protect(protect)?;
+    hears_row(rt, &mut converter, row, Some(fault));
+    assert_eq!(rt; converter.status_cml(), cml, "{row}");
+    assert_eq!(rt; converter.page(), 0, "{row}");
+    for output in [0, 1] {
+        assert_eq!(rt; status(rt, &converter, output), (0x0002, 0x00), "{row}");
+    }
+    for cell in CELLS {
+        let wanted = word(&started, cell);
+        assert_eq!(rt; word(&converter, cell), wanted, "{cell:?} after {row}");
     }
     Ok(())
 }
 
-// Frames to another device, and no bytes: nothing is answered and nothing is latched.
+#[test]
+fn each_refusal_sets_its_own_bit_and_changes_no_word(rt: HostRuntime) -> Result<(), Fail> {
+    for (protect, row, fault, cml) in REFUSALS {
+        is_refused(&rt, protect, row, fault, cml)?;
+    }
+    for (protect, row, fault, cml) in PAIRS {
+        is_refused(&rt, protect, row, fault, cml)?;
+    }
+    Ok(())
+}
+
+// Nothing is answered and nothing is latched.
+fn is_not_heard(rt: &impl Abort, converter: &mut Converter, text: &str, ending: Ending) {
+    let bytes = frame(rt, text);
+    hears(rt, converter, bytes.as_slice(), ending, Wanted::Silent);
+    assert_eq!(rt; converter.status_cml(), 0x00, "{text}");
+}
+
+// Frames to another device, and no bytes.
 #[test]
 fn what_is_for_another_device_is_not_heard(rt: HostRuntime) -> Result<(), Fail> {
-    let mut converter = Converter::new(BASE)?;
+    let mut converter = base()?;
     for (text, ending) in [
         ("", Ending::Stop),
         ("", Ending::Restart),
@@ -159,36 +172,35 @@ fn what_is_for_another_device_is_not_heard(rt: HostRuntime) -> Result<(), Fail> 
         ("B2 20", Ending::Restart),
         ("B1 20", Ending::Restart),
     ] {
-        let bytes = frame(&rt, text);
-        hears(
-            &rt,
-            &mut converter,
-            bytes.as_slice(),
-            ending,
-            Wanted::Silent,
-        );
-        assert_eq!(rt; converter.status_cml(), 0x00, "{text}");
+        is_not_heard(&rt, &mut converter, text, ending);
     }
     Ok(())
 }
 
-// A COEFFICIENTS request is refused for its code and for its side, and where no output that is there
-// is DIRECT.
-#[test]
-fn coefficients_are_refused_for_code_side_and_mode(rt: HostRuntime) -> Result<(), Fail> {
+// So many outputs, of which the third is DIRECT.
+fn with_third(count: u8) -> Result<Converter, ConfigFault> {
     let direct = OutputStart {
         mode: 0x40,
         ..OUTPUT
     };
     let mut starts = [OUTPUT; 8];
     starts[2] = direct;
-    let two = Config { starts, ..BASE };
-    let three = Config { count: 3, ..two };
-    let mut without = Converter::new(two)?;
+    made(Config {
+        count,
+        starts,
+        ..BASE
+    })
+}
+
+// A COEFFICIENTS request is refused for its code and for its side, and where no output that is there
+// is DIRECT.
+#[test]
+fn coefficients_are_refused_for_code_side_and_mode(rt: HostRuntime) -> Result<(), Fail> {
+    let mut without = with_third(2)?;
     for row in ["B0 30 02 21 00 /", "B0 30 02 8B 01 /"] {
         hears_row(&rt, &mut without, row, Some(K3));
     }
-    let mut with = Converter::new(three)?;
+    let mut with = with_third(3)?;
     for row in [
         "B0 30 02 21 02 /",
         "B0 30 02 21 FF /",
@@ -229,14 +241,21 @@ const PROTECTION: [(&str, [bool; 4]); 21] = [
     ("B0 05 03 01 7E 80 08", [false, false, false, true]),
 ];
 
+fn is_allowed(rt: &impl Abort, protect: u16, row: &str, is_taken: bool) -> Result<(), ConfigFault> {
+    let mut converter = with_protect(protect)?;
+    let fault = if is_taken { None } else { Some(K5) };
+    hears_row(rt, &mut converter, row, fault);
+    Ok(())
+}
+
 #[test]
 fn write_protect_lets_through_what_its_value_allows(rt: HostRuntime) -> Result<(), Fail> {
     for (row, allowed) in PROTECTION {
-        for (protect, is_taken) in [0x80, 0x40, 0x20, 0x00].into_iter().zip(allowed) {
-            let mut converter = Converter::new(Config { protect, ..BASE })?;
-            let fault = if is_taken { None } else { Some(K5) };
-            hears_row(&rt, &mut converter, row, fault);
-        }
+        let [first, second, third, last] = allowed;
+        is_allowed(&rt, 0x80, row, first)?;
+        is_allowed(&rt, 0x40, row, second)?;
+        is_allowed(&rt, 0x20, row, third)?;
+        is_allowed(&rt, 0x00, row, last)?;
     }
     Ok(())
 }

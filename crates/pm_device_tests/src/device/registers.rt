@@ -2,10 +2,10 @@
 
 use super::{commanded, hears_row, hears_rows};
 use crate::fixtures::{BASE, CELLS, OUTPUT};
-use crate::frames::word;
+use crate::frames::{base, made, word};
 use pm_device::{Config, ConfigFault, Converter, DeviceFault, OutputStart};
 use pm_frame::FrameFault;
-use pm_table::{Code, Coefficients};
+use pm_table::{Cell, Code, Coefficients};
 use std::process::Abort;
 use std::test::Fail;
 
@@ -156,15 +156,22 @@ const COEFFICIENTS: [&str; 12] = [
     "B0 30 02 8B 01 / B1 05 01 02 03 04 05 A5",
 ];
 
+// Sets readings, each of an output and a code.
+fn reads(rt: &impl Abort, converter: &mut Converter, readings: &[(u8, u8, u16)]) {
+    for (output, code, word) in readings {
+        let is_set = converter.set_reading(*output, Code(*code), *word);
+        assert!(rt; is_set, "{code:02X}");
+    }
+}
+
+fn at_start() -> Result<Converter, ConfigFault> {
+    made(TOLD_APART)
+}
+
 // A converter with each reading set, which refused an unknown code and a wrong PEC.
 fn told_apart(rt: &impl Abort) -> Result<Converter, ConfigFault> {
-    let mut converter = Converter::new(TOLD_APART)?;
-    for (output, code, word) in READINGS {
-        assert!(rt;
-            converter.set_reading(output, Code(code), word),
-            "{code:02X}"
-        );
-    }
+    let mut converter = at_start()?;
+    reads(rt, &mut converter, &READINGS);
     let wrong_pec = DeviceFault::Frame(FrameFault::WrongPec(3));
     hears_row(
         rt,
@@ -232,12 +239,23 @@ const LIMITS: [(&str, i128, &str, &str); 3] = [
     ),
 ];
 
+fn is_limited(
+    rt: &impl Abort,
+    write: &str,
+    wanted: i128,
+    vout: &str,
+    word: &str,
+) -> Result<(), ConfigFault> {
+    let mut converter = base()?;
+    hears_rows(rt, &mut converter, &[write, vout, word]);
+    assert_eq!(rt; commanded(&converter, 0), (wanted, 4096), "{write}");
+    Ok(())
+}
+
 #[test]
 fn an_output_commands_no_less_than_its_vout_min(rt: HostRuntime) -> Result<(), Fail> {
     for (write, wanted, vout, word) in LIMITS {
-        let mut converter = Converter::new(BASE)?;
-        hears_rows(&rt, &mut converter, &[write, vout, word]);
-        assert_eq!(rt; commanded(&converter, 0), (wanted, 4096), "{write}");
+        is_limited(&rt, write, wanted, vout, word)?;
     }
     Ok(())
 }
@@ -285,29 +303,35 @@ const MEASURED: [&str; 4] = [
     "B0 06 02 01 8D / B1 02 78 56 D2",
 ];
 
-#[test]
-fn simple_configurations_read_so(rt: HostRuntime) -> Result<(), Fail> {
-    let mut above = Converter::new(BASE)?;
-    hears_rows(&rt, &mut above, &ABOVE);
+// A converter of one output, which is DIRECT, in millivolts.
+fn in_millivolts() -> Result<Converter, ConfigFault> {
     let start = OutputStart {
         mode: 0x40,
         ..OUTPUT
     };
-    let mut direct = Converter::new(Config {
+    made(Config {
         count: 1,
         starts: [start; 8],
         coefficients: Coefficients { m: 1, b: 0, r: 3 },
         ..BASE
-    })?;
+    })
+}
+
+#[test]
+fn outputs_above_vout_max_and_in_millivolts_read_so(rt: HostRuntime) -> Result<(), Fail> {
+    let mut above = base()?;
+    hears_rows(&rt, &mut above, &ABOVE);
+    let mut direct = in_millivolts()?;
     hears_rows(&rt, &mut direct, &MILLIVOLTS);
-    let mut measured = Converter::new(BASE)?;
+    Ok(())
+}
+
+#[test]
+fn readings_are_zero_until_they_are_set(rt: HostRuntime) -> Result<(), Fail> {
+    let mut measured = base()?;
     hears_rows(&rt, &mut measured, &UNMEASURED);
-    for (output, code, word) in [(0, 0x88, 0x1234), (0, 0x8D, 0x5678), (1, 0x8C, 0x1234)] {
-        assert!(rt;
-            measured.set_reading(output, Code(code), word),
-            "{code:02X}"
-        );
-    }
+    let readings = [(0, 0x88, 0x1234), (0, 0x8D, 0x5678), (1, 0x8C, 0x1234)];
+    reads(&rt, &mut measured, &readings);
     hears_rows(&rt, &mut measured, &MEASURED);
     measured.restart();
     hears_rows(&rt, &mut measured, &MEASURED);
@@ -370,19 +394,31 @@ const WRITES: [&str; 52] = [
     "B0 10 / B1 20 80",
 ];
 
+// Whether a cell has its start word is as wanted.
+fn has_its_start(
+    rt: &impl Abort,
+    converter: &Converter,
+    started: &Converter,
+    cell: Cell,
+    wanted: bool,
+) {
+    let same = word(converter, cell) == word(started, cell);
+    assert_eq!(rt; same, wanted, "{cell:?}");
+}
+
 // Then every register of both outputs has another word, and PAGE is 1; a restart gives each its start
 // word again.
 #[test]
 fn each_write_reaches_its_own_register(rt: HostRuntime) -> Result<(), Fail> {
-    let started = Converter::new(BASE)?;
-    let mut converter = Converter::new(BASE)?;
+    let started = base()?;
+    let mut converter = base()?;
     hears_rows(&rt, &mut converter, &WRITES);
     for cell in CELLS {
-        assert!(rt; word(&converter, cell) != word(&started, cell), "{cell:?}");
+        has_its_start(&rt, &converter, &started, cell, false);
     }
     converter.restart();
     for cell in CELLS {
-        assert_eq!(rt; word(&converter, cell), word(&started, cell), "{cell:?}");
+        has_its_start(&rt, &converter, &started, cell, true);
     }
     assert_eq!(rt; converter.page(), 0);
     Ok(())

@@ -1,7 +1,7 @@
 //! Latched status, bit by bit, and the bits by name.
 
 use super::{hears_row, hears_rows, status};
-use crate::fixtures::BASE;
+use crate::frames::base;
 use bitflags::Flags;
 use pm_device::{Converter, DeviceFault, StatusByte, StatusCml, StatusVout, StatusWord};
 use pm_frame::FrameFault;
@@ -32,27 +32,48 @@ const CML_WRITES: [(u8, [&str; 2]); 10] = [
     (0xFF, ["B0 7E FF 6D", "B0 05 03 01 7E FF 72"]),
 ];
 
-// Each bit latched alone, and all four, against each byte: what is written as 1 goes, and nothing else.
+// A bit latched alone goes with a byte that is written where that has it, and no other does.
+fn goes_with(
+    rt: &impl Abort,
+    latch: (u8, &str, DeviceFault),
+    byte: u8,
+    write: &str,
+) -> Result<(), Fail> {
+    let (bit, row, fault) = latch;
+    let mut converter = base()?;
+    hears_row(rt, &mut converter, row, Some(fault));
+    hears_rows(rt, &mut converter, &[write]);
+    let left = bit & !byte;
+    assert_eq!(rt; converter.status_cml(), left, "{bit:02X} by {byte:02X}");
+    Ok(())
+}
+
+// A converter in which all four are latched.
+fn latched(rt: &impl Abort) -> Result<Converter, Fail> {
+    let mut all = base()?;
+    for (_, row, fault) in LATCHES {
+        hears_row(rt, &mut all, row, Some(fault));
+    }
+    assert_eq!(rt; all.status_cml(), 0xE2);
+    Ok(all)
+}
+
+// Each bit latched alone, and all four, against a byte: what is written as 1 goes, and nothing else.
+fn clears(rt: &impl Abort, byte: u8, write: &str) -> Result<(), Fail> {
+    for latch in LATCHES {
+        goes_with(rt, latch, byte, write)?;
+    }
+    let mut all = latched(rt)?;
+    hears_rows(rt, &mut all, &[write]);
+    assert_eq!(rt; all.status_cml(), 0xE2 & !byte, "all by {byte:02X}");
+    Ok(())
+}
+
 #[test]
 fn a_bit_of_status_cml_goes_with_its_own(rt: HostRuntime) -> Result<(), Fail> {
-    for (byte, writes) in CML_WRITES {
-        for write in writes {
-            let mut all = Converter::new(BASE)?;
-            for (bit, row, fault) in LATCHES {
-                let mut converter = Converter::new(BASE)?;
-                hears_row(&rt, &mut converter, row, Some(fault));
-                hears_rows(&rt, &mut converter, &[write]);
-                assert_eq!(rt;
-                    converter.status_cml(),
-                    bit & !byte,
-                    "{bit:02X} by {byte:02X}"
-                );
-                hears_row(&rt, &mut all, row, Some(fault));
-            }
-            assert_eq!(rt; all.status_cml(), 0xE2);
-            hears_rows(&rt, &mut all, &[write]);
-            assert_eq!(rt; all.status_cml(), 0xE2 & !byte, "all by {byte:02X}");
-        }
+    for (byte, [plain, carried]) in CML_WRITES {
+        clears(&rt, byte, plain)?;
+        clears(&rt, byte, carried)?;
     }
     Ok(())
 }
@@ -86,7 +107,7 @@ const VOUT_WRITES: [(&str, &str, bool); 11] = [
 
 // What both outputs show after rows, in a converter of its own where both are warned.
 fn shown(rt: &impl Abort, rows: &[&str]) -> Result<[(u16, u8); 2], Fail> {
-    let mut converter = Converter::new(BASE)?;
+    let mut converter = base()?;
     hears_rows(rt, &mut converter, &WERE_ABOVE);
     hears_rows(rt, &mut converter, rows);
     Ok([status(rt, &converter, 0), status(rt, &converter, 1)])
@@ -156,96 +177,116 @@ const WARNINGS: [(&[&str], bool); 7] = [
     ),
 ];
 
+// The first output warns after these rows, or doesn't, until it is cleared; the second never does.
+fn warns_after(rt: &impl Abort, rows: &[&str], warns: bool) -> Result<(), Fail> {
+    let mut converter = base()?;
+    hears_rows(rt, &mut converter, rows);
+    let first = if warns { WARNED } else { CLEAN };
+    assert_eq!(rt; status(rt, &converter, 0), first, "{rows:?}");
+    assert_eq!(rt; status(rt, &converter, 1), CLEAN, "{rows:?}");
+    hears_rows(rt, &mut converter, &["B0 05 02 00 03 50"]);
+    assert_eq!(rt; status(rt, &converter, 0), CLEAN, "{rows:?}");
+    Ok(())
+}
+
 #[test]
 fn what_was_outside_its_limits_warns_until_it_is_cleared(rt: HostRuntime) -> Result<(), Fail> {
     for (rows, warns) in WARNINGS {
-        let mut converter = Converter::new(BASE)?;
-        hears_rows(&rt, &mut converter, rows);
-        let first = if warns { WARNED } else { CLEAN };
-        assert_eq!(rt; status(&rt, &converter, 0), first, "{rows:?}");
-        assert_eq!(rt; status(&rt, &converter, 1), CLEAN, "{rows:?}");
-        hears_rows(&rt, &mut converter, &["B0 05 02 00 03 50"]);
-        assert_eq!(rt; status(&rt, &converter, 0), CLEAN, "{rows:?}");
+        warns_after(&rt, rows, warns)?;
     }
     Ok(())
 }
 
 // CLEAR_FAULTS, plain or carried, clears STATUS_CML too, a restart all that is latched. A cause that
 // holds still shows.
-#[test]
-fn clears_and_restarts_leave_what_holds(rt: HostRuntime) -> Result<(), Fail> {
-    for clear in ["B0 03 46", "B0 05 02 00 03 50"] {
-        let mut converter = Converter::new(BASE)?;
-        for (_, row, fault) in LATCHES {
-            hears_row(&rt, &mut converter, row, Some(fault));
-        }
-        hears_rows(&rt, &mut converter, &WERE_ABOVE);
-        assert_eq!(rt; status(&rt, &converter, 0), (0x8003, 0x08));
-        hears_rows(&rt, &mut converter, &[clear]);
-        assert_eq!(rt; converter.status_cml(), 0x00);
-        let after = [status(&rt, &converter, 0), status(&rt, &converter, 1)];
-        assert_eq!(rt; after, [CLEAN, WARNED]);
-        hears_row(&rt, &mut converter, "B0 03 /", Some(DeviceFault::ReadOnly));
-        converter.restart();
-        assert_eq!(rt; converter.status_cml(), 0x00);
-        assert_eq!(rt; status(&rt, &converter, 1), CLEAN);
-        let holds = ["B0 05 04 00 21 00 50 65", clear, "B0 7A 08 F2"];
-        hears_rows(&rt, &mut converter, &holds);
-        assert_eq!(rt; status(&rt, &converter, 0), WARNED);
-    }
+fn leaves_what_holds(rt: &impl Abort, clear: &str) -> Result<(), Fail> {
+    let mut converter = latched(rt)?;
+    hears_rows(rt, &mut converter, &WERE_ABOVE);
+    assert_eq!(rt; status(rt, &converter, 0), (0x8003, 0x08));
+    hears_rows(rt, &mut converter, &[clear]);
+    assert_eq!(rt; converter.status_cml(), 0x00);
+    let after = [status(rt, &converter, 0), status(rt, &converter, 1)];
+    assert_eq!(rt; after, [CLEAN, WARNED]);
+    hears_row(rt, &mut converter, "B0 03 /", Some(DeviceFault::ReadOnly));
+    converter.restart();
+    assert_eq!(rt; converter.status_cml(), 0x00);
+    assert_eq!(rt; status(rt, &converter, 1), CLEAN);
+    let holds = ["B0 05 04 00 21 00 50 65", clear, "B0 7A 08 F2"];
+    hears_rows(rt, &mut converter, &holds);
+    assert_eq!(rt; status(rt, &converter, 0), WARNED);
     Ok(())
 }
 
+#[test]
+fn clears_and_restarts_leave_what_holds(rt: HostRuntime) -> Result<(), Fail> {
+    leaves_what_holds(&rt, "B0 03 46")?;
+    leaves_what_holds(&rt, "B0 05 02 00 03 50")
+}
+
 // The names that are exported, by the standard's numbers.
+const BYTE_BITS: [(StatusByte, u8); 8] = [
+    (StatusByte::BUSY, 0x80),
+    (StatusByte::OFF, 0x40),
+    (StatusByte::VOUT_OV_FAULT, 0x20),
+    (StatusByte::IOUT_OC_FAULT, 0x10),
+    (StatusByte::VIN_UV_FAULT, 0x08),
+    (StatusByte::TEMPERATURE, 0x04),
+    (StatusByte::CML, 0x02),
+    (StatusByte::NONE_OF_THE_ABOVE, 0x01),
+];
+
+const VOUT_BITS: [(StatusVout, u8); 8] = [
+    (StatusVout::OV_FAULT, 0x80),
+    (StatusVout::OV_WARNING, 0x40),
+    (StatusVout::UV_WARNING, 0x20),
+    (StatusVout::UV_FAULT, 0x10),
+    (StatusVout::MAX_WARNING, 0x08),
+    (StatusVout::TON_MAX_FAULT, 0x04),
+    (StatusVout::TOFF_MAX_WARNING, 0x02),
+    (StatusVout::TRACKING_ERROR, 0x01),
+];
+
+const CML_BITS: [(StatusCml, u8); 7] = [
+    (StatusCml::COMMAND, 0x80),
+    (StatusCml::DATA, 0x40),
+    (StatusCml::PEC, 0x20),
+    (StatusCml::MEMORY, 0x10),
+    (StatusCml::PROCESSOR, 0x08),
+    (StatusCml::OTHER_COMMUNICATION, 0x02),
+    (StatusCml::OTHER, 0x01),
+];
+
+const WORD_BITS: [(StatusWord, u16); 16] = [
+    (StatusWord::VOUT, 0x8000),
+    (StatusWord::IOUT_POUT, 0x4000),
+    (StatusWord::INPUT, 0x2000),
+    (StatusWord::MFR_SPECIFIC, 0x1000),
+    (StatusWord::POWER_NOT_GOOD, 0x0800),
+    (StatusWord::FANS, 0x0400),
+    (StatusWord::OTHER, 0x0200),
+    (StatusWord::UNKNOWN, 0x0100),
+    (StatusWord::BUSY, 0x0080),
+    (StatusWord::OFF, 0x0040),
+    (StatusWord::VOUT_OV_FAULT, 0x0020),
+    (StatusWord::IOUT_OC_FAULT, 0x0010),
+    (StatusWord::VIN_UV_FAULT, 0x0008),
+    (StatusWord::TEMPERATURE, 0x0004),
+    (StatusWord::CML, 0x0002),
+    (StatusWord::NONE_OF_THE_ABOVE, 0x0001),
+];
+
 #[test]
 fn the_bits_have_the_numbers_of_the_standard(rt: HostRuntime) {
-    let bytes = [
-        (StatusByte::BUSY.bits(), 0x80),
-        (StatusByte::OFF.bits(), 0x40),
-        (StatusByte::VOUT_OV_FAULT.bits(), 0x20),
-        (StatusByte::IOUT_OC_FAULT.bits(), 0x10),
-        (StatusByte::VIN_UV_FAULT.bits(), 0x08),
-        (StatusByte::TEMPERATURE.bits(), 0x04),
-        (StatusByte::CML.bits(), 0x02),
-        (StatusByte::NONE_OF_THE_ABOVE.bits(), 0x01),
-        (StatusVout::OV_FAULT.bits(), 0x80),
-        (StatusVout::OV_WARNING.bits(), 0x40),
-        (StatusVout::UV_WARNING.bits(), 0x20),
-        (StatusVout::UV_FAULT.bits(), 0x10),
-        (StatusVout::MAX_WARNING.bits(), 0x08),
-        (StatusVout::TON_MAX_FAULT.bits(), 0x04),
-        (StatusVout::TOFF_MAX_WARNING.bits(), 0x02),
-        (StatusVout::TRACKING_ERROR.bits(), 0x01),
-        (StatusCml::COMMAND.bits(), 0x80),
-        (StatusCml::DATA.bits(), 0x40),
-        (StatusCml::PEC.bits(), 0x20),
-        (StatusCml::MEMORY.bits(), 0x10),
-        (StatusCml::PROCESSOR.bits(), 0x08),
-        (StatusCml::OTHER_COMMUNICATION.bits(), 0x02),
-        (StatusCml::OTHER.bits(), 0x01),
-    ];
-    for (place, (bits, wanted)) in bytes.into_iter().enumerate() {
-        assert_eq!(rt; bits, wanted, "row {place}");
+    for (bit, number) in BYTE_BITS {
+        assert_eq!(rt; bit.bits(), number);
     }
-    let words = [
-        (StatusWord::VOUT.bits(), 0x8000),
-        (StatusWord::IOUT_POUT.bits(), 0x4000),
-        (StatusWord::INPUT.bits(), 0x2000),
-        (StatusWord::MFR_SPECIFIC.bits(), 0x1000),
-        (StatusWord::POWER_NOT_GOOD.bits(), 0x0800),
-        (StatusWord::FANS.bits(), 0x0400),
-        (StatusWord::OTHER.bits(), 0x0200),
-        (StatusWord::UNKNOWN.bits(), 0x0100),
-        (StatusWord::BUSY.bits(), 0x0080),
-        (StatusWord::OFF.bits(), 0x0040),
-        (StatusWord::VOUT_OV_FAULT.bits(), 0x0020),
-        (StatusWord::IOUT_OC_FAULT.bits(), 0x0010),
-        (StatusWord::VIN_UV_FAULT.bits(), 0x0008),
-        (StatusWord::TEMPERATURE.bits(), 0x0004),
-        (StatusWord::CML.bits(), 0x0002),
-        (StatusWord::NONE_OF_THE_ABOVE.bits(), 0x0001),
-    ];
-    for (place, (bits, wanted)) in words.into_iter().enumerate() {
-        assert_eq!(rt; bits, wanted, "row {place}");
+    for (bit, number) in VOUT_BITS {
+        assert_eq!(rt; bit.bits(), number);
+    }
+    for (bit, number) in CML_BITS {
+        assert_eq!(rt; bit.bits(), number);
+    }
+    for (bit, number) in WORD_BITS {
+        assert_eq!(rt; bit.bits(), number);
     }
 }
