@@ -36,6 +36,15 @@ impl Image {
     /// The number of this layout.
     pub const VERSION: u16 = 1;
 
+    /// Zeros, which are the image of no host.
+    pub fn blank() -> Image {
+        Image {
+            mark: 0,
+            version: 0,
+            state: State::blank(),
+        }
+    }
+
     /// Makes it the image of a host as `Host::new` makes one, whatever it was.
     #[tactic(auto, unfolding(crate::specs::Image::host_of))]
     pub fn start(&mut self, addr: u8, outputs: u8, passes: u8) -> Result<(), HostFault>
