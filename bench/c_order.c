@@ -5,7 +5,7 @@
 #include <string.h>
 #include <time.h>
 
-enum { ORDERS = 2000000, DEEP = 16384 };
+enum { ROUNDS = 40, ORDERS = 50000, DEEP = 16384 };
 
 static double now(void) {
     struct timespec t;
@@ -80,15 +80,20 @@ int main(void) {
         answers[i][4] = pm_pec(both, 9);
     }
     pm_host_new(&host, 0x58, 8, 3);
-    double start = now();
-    for (long i = 0; i < ORDERS; i++)
-        done += order(&host, answers[i & 1], (uint16_t)(0x34CD + (i & 1)));
-    printf("order %.3f us, %ld of %d done\n", (now() - start) / ORDERS, done, ORDERS);
-    done = 0;
-    start = now();
-    for (long i = 0; i < ORDERS; i++)
-        done += plain_order(answers[i & 1], (uint16_t)(0x34CD + (i & 1)), kept);
-    printf("plain %.3f us, %ld of %d done\n", (now() - start) / ORDERS, done, ORDERS);
+    double best = 1e9, plain = 1e9;
+    for (int round = 0; round < ROUNDS; round++) {
+        double start = now();
+        for (long i = 0; i < ORDERS; i++)
+            done += order(&host, answers[i & 1], (uint16_t)(0x34CD + (i & 1)));
+        double middle = now();
+        for (long i = 0; i < ORDERS; i++)
+            done += plain_order(answers[i & 1], (uint16_t)(0x34CD + (i & 1)), kept);
+        double end = now();
+        best = middle - start < best ? middle - start : best;
+        plain = end - middle < plain ? end - middle : plain;
+    }
+    printf("order %.3f us, plain code %.3f us: the best of %d rounds; %ld of %d done\n", best / ORDERS, plain / ORDERS,
+           ROUNDS, done, 2 * ROUNDS * ORDERS);
     DEEPEST("of nothing", (void)0);
     DEEPEST("new", pm_host_new(&host, 0x58, 8, 3));
     DEEPEST("order", pm_host_order(&host, 0, PM_VOUT_COMMAND, 0x34CD));
