@@ -1,6 +1,6 @@
 //! A model converter on a desk.
 
-ghost use Rattle.std.specs.Prelude.{◌≡◌, ◌≢◌, ◌↔◌, ◌<◌, true, map, take, None, option_map, IsSomeAnd};
+ghost use Rattle.std.specs.Prelude.{◌≡◌, ◌≢◌, ◌↔◌, ◌<◌, ◌≤◌, true, map, take, None, option_map, IfSome, IsSomeAnd};
 ghost use Rattle.pm_table.specs.Cell.{cell_at, IsCell};
 ghost use Rattle.pm_device.specs.Effect.{Hearing};
 ghost use Rattle.pm_device.specs.Reply.{reply_of};
@@ -278,6 +278,8 @@ pub extern "C" fn pm_desk_commanded(desk: &Desk, output: u8, microvolts: &mut i6
     ensures far { result ≡ 0x15 → IsSomeAnd (desk_of desk.now)
         (λ held. IsFar (commanded_now held output)) }
     ensures none { (result ≡ 0x25) ↔ (desk_of desk.now ≡ None) }
+    ensures missing { IfSome (desk_of desk.now)
+        (λ held. (result ≡ 4) ↔ (held.config.count ≤ output)) }
     ensures refused { result ≢ 0 → microvolts.new ≡ microvolts.old }
 {
     let Ok(converter) = Converter::new(desk.config()) else {
