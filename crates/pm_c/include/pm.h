@@ -9,7 +9,8 @@
  *     0 the pointer to bytes may be any that isn't null;
  *   - what a call writes overlaps nothing else that it is given;
  *   - counts are in elements, and tell the truth;
- *   - one call at a time works on a host or a desk, and each call has PM_STACK bytes of stack.
+ *   - one call at a time works on a host or a desk, and each call has PM_STACK bytes of stack, one of a
+ *     desk PM_DESK_STACK.
  *
  * The library takes no memory, keeps nothing between calls, calls nothing and never blocks.
  *
@@ -28,11 +29,13 @@
 extern "C" {
 #endif
 
-/* The version of a host's layout, its size in bytes, and the stack of the deepest call. */
+/* The version of a host's layout, sizes in bytes, and the stack that a call takes at most: measured, under
+ * 512 bytes for every call but those of a desk, which take at most 2,208. */
 #define PM_HOST_VERSION 1
 #define PM_HOST_SIZE 1926
 #define PM_DESK_SIZE 122
-#define PM_STACK 2048
+#define PM_STACK 1024
+#define PM_DESK_STACK 2560
 
 /* What a call answers: 0, or why it is refused. A refused call changes nothing. */
 enum {

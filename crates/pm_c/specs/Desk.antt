@@ -1,8 +1,10 @@
 -- A converter on a desk: its configuration and the words that its cells hold now, as plain numbers. At
 -- each call a converter starts with these words: it keeps no PAGE, no readings and no latched status.
-use Rattle.std.specs.Prelude.{◌≡◌, ℕ, if◌then◌else◌, ◌==◌, List, [], map, take, Option, Some, None, is_none}
+use Rattle.std.specs.Prelude.{◌≡◌, ℕ, if◌then◌else◌, ◌==◌, ◌<◌, slice_index_or, List, [], map, take, Option, Some, None, is_none}
 use Rattle.std.specs.Option.{option_map_or}
 use Rattle.pm_table.specs.declared.cell.Cell.{Cell}
+use Rattle.pm_table.specs.declared.cell.Cell.TheVariants.{Out, Protect}
+use Rattle.pm_table.specs.declared.cell.Reg.TheVariants.{Operation, VoutCommand, VoutMax, MarginHigh, MarginLow, VoutMin}
 use Rattle.pm_device.specs.declared.config.Config.{Config}
 use Rattle.pm_device.specs.declared.config.OutputStart.{OutputStart}
 use Rattle.pm_device.specs.declared.fault.DeviceFault.{DeviceFault}
@@ -12,12 +14,13 @@ use Rattle.pm_device.specs.declared.heard.Heard.TheVariants.{Silent, Taken, Answ
 use Rattle.pm_device.specs.declared.heard.Ending.{Ending}
 use Rattle.pm_device.specs.declared.heard.Ending.TheVariants.{Stop, Restart}
 use Rattle.pm_device.specs.Held.{Held, value_for}
-use Rattle.pm_device.specs.History.{start_of}
-use Rattle.pm_device.specs.Start.{config_fault, start_word}
+use Rattle.pm_device.specs.Effect.{Event}
+use Rattle.pm_device.specs.History.{next, start_of}
+use Rattle.pm_device.specs.Start.{config_fault}
 use Rattle.pm_host.specs.Cells.{is_cell}
 use Rattle.pm_host.specs.declared.fault.HostFault.TheVariants.{UnknownOutput}
 use Rattle.pm_model.specs.Commanded.{commanded}
-use Rattle.pm_model.specs.Settings.{word_at}
+use Rattle.pm_model.specs.Settings.{Words, word_at}
 use Rattle.pm_num.specs.Ratio.{Ratio}
 use Rattle.pm_c.specs.declared.desk.Desk.{Desk}
 use Rattle.pm_c.specs.declared.desk.OutputWords.{OutputWords}
@@ -50,10 +53,6 @@ desk_config desk = record {
 abbrev pub desk_of : Desk → Option Held
 desk_of desk =
     if is_none (config_fault (desk_config desk)) then Some (start_of (desk_config desk)) else None
-
--- the word of a cell now
-abbrev pub desk_word : Desk → Cell → ℕ
-desk_word desk cell = start_word (desk_config desk) cell
 
 -- K1 to K7 are 41h to 47h
 abbrev pub device_number : DeviceFault → ℕ
@@ -102,3 +101,41 @@ IsWord _ _ word = Unit {0}
 -- the voltage that an output commands
 abbrev pub commanded_now : Held → ℕ → Ratio
 commanded_now held output = commanded (value_for held.config output) held.words output
+
+-- nothing, where no output is
+abbrev pub no_output : OutputWords
+no_output = record { mode = 0; unused = 0; operation = 0; command = 0; max = 0; high = 0; low = 0; min = 0 }
+
+-- these are the words of an output's registers
+pub record HasWords (kept : OutputWords) (words : Words) (output : ℕ) : Type 0 where
+  pub operation : kept.operation ≡ word_at words (Out output Operation)
+  pub command : kept.command ≡ word_at words (Out output VoutCommand)
+  pub max : kept.max ≡ word_at words (Out output VoutMax)
+  pub high : kept.high ≡ word_at words (Out output MarginHigh)
+  pub low : kept.low ≡ word_at words (Out output MarginLow)
+  pub min : kept.min ≡ word_at words (Out output VoutMin)
+
+-- so are those of each output
+abbrev pub AreKept : List OutputWords → Held → Type 0
+AreKept kept held = (output : ℕ) → output < held.config.count
+    → HasWords (slice_index_or kept output no_output) held.words output
+
+-- each output's VOUT_MODE is the same in both
+abbrev pub HaveSameModes : List OutputWords → List OutputWords → Type 0
+HaveSameModes before after = (output : ℕ)
+    → (slice_index_or after output no_output).mode ≡ (slice_index_or before output no_output).mode
+
+-- the desk holds the words of the converter after it heard this
+abbrev pub IsAfter : Option Held → Event → Desk → Type 0
+IsAfter None event desk = Unit {0}
+IsAfter (Some held) event desk =
+    AreKept desk.words (next held event) × (desk.protect ≡ word_at (next held event).words Protect)
+
+-- it is the same device, with other words
+pub record IsSameDevice (before after : Desk) : Type 0 where
+  pub address : after.address ≡ before.address
+  pub outputs : after.outputs ≡ before.outputs
+  pub m : after.m ≡ before.m
+  pub b : after.b ≡ before.b
+  pub r : after.r ≡ before.r
+  pub modes : HaveSameModes before.words after.words

@@ -1,10 +1,12 @@
 //! A model converter on a desk.
 
-ghost use Rattle.std.specs.Prelude.{◌≡◌, ◌≢◌, ◌↔◌, true, map, take, Some, None, option_map, IfSome, IsSomeAnd};
+ghost use Rattle.std.specs.Prelude.{◌≡◌, ◌≢◌, ◌↔◌, ◌<◌, ◌≤◌, true, map, take, None, option_map, IfSome, IsSomeAnd};
 ghost use Rattle.pm_table.specs.Cell.{cell_at, IsCell};
+ghost use Rattle.pm_device.specs.Effect.{Hearing};
 ghost use Rattle.pm_device.specs.Reply.{reply_of};
+ghost use Rattle.pm_model.specs.Settings.{word_at};
 ghost use Rattle.pm_host.specs.Cells.{is_cell};
-ghost use Rattle.pm_c.specs.Desk.{asked_number, commanded_now, desk_config, desk_of, desk_number, device_number, ending_of, heard_bytes, heard_number, output_start, IsReply, IsWord};
+ghost use Rattle.pm_c.specs.Desk.{asked_number, commanded_now, desk_config, desk_of, desk_number, device_number, ending_of, heard_bytes, heard_number, output_start, AreKept, HasWords, HaveSameModes, IsAfter, IsReply, IsSameDevice, IsWord};
 ghost use Rattle.pm_c.specs.Voltages.{IsFar, IsFloor};
 
 use crate::numbers::{ACCEPTED, NO_CELL, NO_CONVERTER, NO_OUTPUT};
@@ -112,35 +114,43 @@ impl Desk {
         }
     }
 
-    // The converter that starts with its words now.
-    fn converter(&self) -> Option<Converter>
-        ensures made { result ≡ desk_of self.now }
-        ensures config { IfSome result (λ made. made.config ≡ desk_config self.now) }
-    {
-        match Converter::new(self.config()) {
-            Ok(converter) => Some(converter),
-            Err(_) => None,
-        }
-    }
-
     // Its cells hold the converter's words.
-    fn take(&mut self, converter: &Converter) {
+    fn take(&mut self, converter: &Converter)
+        ensures kept { AreKept self.new.words converter.now }
+        ensures protect { self.new.protect ≡ word_at converter.now.words Cell.Protect }
+        ensures same { IsSameDevice self.old self.new }
+    {
         store(&mut self.words, converter);
         self.protect = converter.word(Cell::Protect);
     }
 }
 
 // The words of the outputs that there are, as the converter has them.
-fn store(words: &mut [OutputWords; 8], converter: &Converter) {
+fn store(words: &mut [OutputWords; 8], converter: &Converter)
+    ensures kept { AreKept words.new converter.now }
+    ensures modes { HaveSameModes words.old words.new }
+{
     for output in 0..converter.count() {
-        let word = |register| converter.word(Cell::Out(output, register));
-        let kept = &mut words[usize::from(output)];
-        kept.operation = word(Reg::Operation);
-        kept.command = word(Reg::VoutCommand);
-        kept.max = word(Reg::VoutMax);
-        kept.high = word(Reg::MarginHigh);
-        kept.low = word(Reg::MarginLow);
-        kept.min = word(Reg::VoutMin);
+        let mode = words[usize::from(output)].mode;
+        words[usize::from(output)] = output_words(converter, output, mode);
+    }
+}
+
+// The words of an output.
+fn output_words(converter: &Converter, output: u8, mode: u8) -> OutputWords
+    requires { output < converter.now.config.count }
+    ensures words { HasWords result converter.now.words output }
+    ensures mode { result.mode ≡ mode }
+{
+    OutputWords {
+        mode,
+        unused: 0,
+        operation: converter.word(Cell::Out(output, Reg::Operation)),
+        command: converter.word(Cell::Out(output, Reg::VoutCommand)),
+        max: converter.word(Cell::Out(output, Reg::VoutMax)),
+        high: converter.word(Cell::Out(output, Reg::MarginHigh)),
+        low: converter.word(Cell::Out(output, Reg::MarginLow)),
+        min: converter.word(Cell::Out(output, Reg::VoutMin)),
     }
 }
 
@@ -200,15 +210,21 @@ pub extern "C" fn pm_desk_hear(
     ensures answer { let heard = option_map (λ held. reply_of held bytes.now (ending_of is_request))
         (desk_of desk.old) in
         IsReply heard reply.new }
-    ensures refused { result ≡ 0x25 → desk.new ≡ desk.old }
+    ensures after { IsAfter (desk_of desk.old) (Hearing bytes.now (ending_of is_request)) desk.new }
+    ensures same { IsSameDevice desk.old desk.new }
+    ensures refused { desk_of desk.old ≡ None → desk.new ≡ desk.old }
 {
-    let Some(mut converter) = desk.converter() else {
-        reply.length = 0;
-        return NO_CONVERTER;
-    };
-    let heard = converter.hear(bytes, ending(is_request));
-    desk.take(&converter);
-    give(heard, reply)
+    match Converter::new(desk.config()) {
+        Ok(mut converter) => {
+            let heard = converter.hear(bytes, ending(is_request));
+            desk.take(&converter);
+            give(heard, reply)
+        }
+        Err(_) => {
+            reply.length = 0;
+            NO_CONVERTER
+        }
+    }
 }
 
 // How a frame ends.
@@ -229,7 +245,7 @@ pub extern "C" fn pm_desk_word(desk: &Desk, output: u8, code: u8, word: &mut u16
     ensures word { result ≡ 0 → IsWord (desk_of desk.now) (cell_at code output) word.new }
     ensures refused { result ≢ 0 → word.new ≡ word.old }
 {
-    let Some(converter) = desk.converter() else {
+    let Ok(converter) = Converter::new(desk.config()) else {
         return NO_CONVERTER;
     };
     let Some(cell) = cell_of(Code(code), output) else {
@@ -262,9 +278,11 @@ pub extern "C" fn pm_desk_commanded(desk: &Desk, output: u8, microvolts: &mut i6
     ensures far { result ≡ 0x15 → IsSomeAnd (desk_of desk.now)
         (λ held. IsFar (commanded_now held output)) }
     ensures none { (result ≡ 0x25) ↔ (desk_of desk.now ≡ None) }
+    ensures missing { IfSome (desk_of desk.now)
+        (λ held. (result ≡ 4) ↔ (held.config.count ≤ output)) }
     ensures refused { result ≢ 0 → microvolts.new ≡ microvolts.old }
 {
-    let Some(converter) = desk.converter() else {
+    let Ok(converter) = Converter::new(desk.config()) else {
         return NO_CONVERTER;
     };
     if converter.count() <= output {

@@ -9,7 +9,7 @@ ghost use Rattle.pm_host.specs.declared.command.Command.TheVariants.{ClearFaults
 ghost use Rattle.pm_c.specs.Host.{new_number, job_number, job_begun, micro_number, micro_begun, memory_number, after};
 
 use crate::numbers::{ACCEPTED, NO_ADDRESS, NO_CELL, NO_HOST, number_of};
-use pm_host::Image;
+use pm_host::{Command, Image};
 use pm_table::{Code, address_ok, cell_of};
 use std::mem::size_of;
 
@@ -131,7 +131,7 @@ pub extern "C" fn pm_host_clear(host: &mut Image, output: u8) -> u8
     if !host.is_host() {
         return NO_HOST;
     }
-    let outcome = host.state.clear(output);
+    let outcome = host.state.send(Command::ClearFaults { output });
     host.holds_a_host();
     number_of(outcome)
 }

@@ -12,5 +12,7 @@ mod known;
 mod numbers;
 mod packet;
 mod sending;
+#[cfg(test)]
+mod tests;
 mod told;
 mod voltages;

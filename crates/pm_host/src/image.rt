@@ -36,6 +36,15 @@ impl Image {
     /// The number of this layout.
     pub const VERSION: u16 = 1;
 
+    /// Zeros, which are the image of no host.
+    pub fn blank() -> Image {
+        Image {
+            mark: 0,
+            version: 0,
+            state: State::blank(),
+        }
+    }
+
     /// Makes it the image of a host as `Host::new` makes one, whatever it was.
     #[tactic(auto, unfolding(crate::specs::Image::host_of))]
     pub fn start(&mut self, addr: u8, outputs: u8, passes: u8) -> Result<(), HostFault>
@@ -48,7 +57,7 @@ impl Image {
         self.state.start(addr, outputs, passes)?;
         self.mark = Image::MARK;
         self.version = Image::VERSION;
-        self.state.hosts_are_sound();
+        self.holds_a_host();
         Ok(())
     }
 
@@ -71,9 +80,7 @@ impl Image {
         requires current { is_current self.now ≡ true }
         requires sound { IsSound (held self.now.state) }
         ensures { host_of self.now ≡ Some (held self.now.state) }
-    {
-        self.state.hosts_are_sound();
-    }
+    {}
 }
 
 impl State {
@@ -140,12 +147,6 @@ impl State {
             Cell::Protect => true,
         }
     }
-
-    /// A state that a host holds passes `is_sound`: a law of the definitions.
-    pub fn hosts_are_sound(&self)
-        requires { IsSound (held self.now) }
-        ensures { is_sound (held self.now) ≡ true }
-    {}
 }
 
 // Hands the prover that there are eight formats.

@@ -61,14 +61,6 @@ impl Knowledge {
         self.standing[cell.place()]
     }
 
-    /// Whether a restart of the device was seen.
-    #[tactic(auto, unfolding(crate::specs::Image::known_held))]
-    pub(crate) fn restart_seen(&self) -> bool
-        ensures { result ≡ (known_held self.now).seen }
-    {
-        self.seen == 1
-    }
-
     /// A write of the cell begins to be sent.
     #[tactic(auto, unfolding(crate::specs::Image::known_held))]
     pub(crate) fn put(&mut self, cell: Cell, word: u16)
@@ -99,7 +91,10 @@ impl Knowledge {
         put_standing(
             &mut self.standing,
             cell.place(),
-            StandingImage::confirmed(word),
+            StandingImage {
+                is_confirmed: 1,
+                word,
+            },
         );
     }
 }

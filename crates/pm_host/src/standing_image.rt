@@ -20,16 +20,6 @@ impl StandingImage {
         word: 0,
     };
 
-    /// This word is confirmed.
-    pub(crate) fn confirmed(word: u16) -> StandingImage
-        ensures { standing_held result ≡ Standing.Confirmed word }
-    {
-        StandingImage {
-            is_confirmed: 1,
-            word,
-        }
-    }
-
     /// What the numbers mean.
     pub fn standing(&self) -> Standing
         ensures { result ≡ standing_held self.now }

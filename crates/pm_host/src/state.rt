@@ -201,20 +201,6 @@ impl State {
         Ok(())
     }
 
-    /// Begins a clear, as `Host::clear`.
-    #[tactic(auto, unfolding(crate::specs::Summary::next))]
-    pub fn clear(&mut self, output: u8) -> Result<(), HostFault>
-        requires sound { IsSound (held self.old) }
-        ensures sound { IsSound (held self.new) }
-        ensures fault { result_err result ≡ output_fault (held self.old) output }
-        ensures ok { OnOk result (held self.new ≡ next (held self.old) (Accepted (Send (Command.ClearFaults output)))) }
-        ensures err { OnErr result (self.new ≡ self.old) }
-        ensures kept { (held self.new).setup ≡ (held self.old).setup }
-        ensures left { OnOk result (frames_left (held self.new) ≤ 2 * (held self.new).setup.passes) }
-    {
-        self.send(Command::ClearFaults { output })
-    }
-
     /// The message whose frame is being sent, which has its layout; `None` where no job is open.
     pub fn message(&self) -> Option<Message>
         requires { IsSound (held self.now) }
@@ -317,10 +303,11 @@ impl State {
     }
 
     /// Whether a restart of the device was seen, as `Host::restart_seen` says.
+    #[tactic(auto, unfolding(crate::specs::Image::known_held))]
     pub fn restart_seen(&self) -> bool
         ensures { result ≡ (held self.now).known.seen }
     {
-        self.known.restart_seen()
+        self.known.seen == 1
     }
 }
 

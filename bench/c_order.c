@@ -1,0 +1,111 @@
+/* How long an order takes over the static library, and how much stack its calls take; beside it an order by
+ * plain code: the frame and its PEC, the answer judged, no words kept. bench/c_order.sh runs it. */
+#include "pm.h"
+#include <stdio.h>
+#include <string.h>
+#include <time.h>
+
+enum { ROUNDS = 40, ORDERS = 50000, DEEP = 16384 };
+
+static double now(void) {
+    struct timespec t;
+    clock_gettime(CLOCK_MONOTONIC, &t);
+    return (double)t.tv_sec * 1e6 + (double)t.tv_nsec / 1e3;
+}
+
+/* A whole order: accepted, sent, read back with a good answer. */
+static int order(pm_host *host, const uint8_t *answer, uint16_t word) {
+    pm_sending frame;
+    if (pm_host_order(host, 0, PM_VOUT_COMMAND, word) || pm_host_sending(host, &frame))
+        return 0;
+    pm_host_finished(host, 1);
+    pm_host_sending(host, &frame);
+    return pm_host_got(host, answer, 5).kind == PM_DONE;
+}
+
+static uint8_t plain_pec(uint8_t pec, const uint8_t *bytes, size_t count) {
+    for (size_t i = 0; i < count; i++) {
+        pec ^= bytes[i];
+        for (int bit = 0; bit < 8; bit++)
+            pec = (uint8_t)(pec << 1 ^ (pec & 0x80 ? 0x07 : 0));
+    }
+    return pec;
+}
+
+__attribute__((noinline)) static int plain_order(const uint8_t *answer, uint16_t word, uint8_t *frame) {
+    uint8_t write[8] = {0xB0, 0x05, 0x04, 0x00, 0x21, (uint8_t)word, (uint8_t)(word >> 8), 0};
+    uint8_t request[5] = {0xB0, 0x06, 0x02, 0x00, 0x21};
+    write[7] = plain_pec(0, write, 7);
+    memcpy(frame, write, 8);
+    uint8_t pec = plain_pec(plain_pec(0, request, 5), answer, 4);
+    return answer[0] == 0xB1 && answer[1] == 2 && pec == answer[4] && (answer[2] | answer[3] << 8) == word;
+}
+
+/* Paints the stack below, calls, and counts what was written. */
+static unsigned char *bottom;
+__attribute__((noinline)) static void paint(void) {
+    volatile unsigned char deep[DEEP];
+    for (int i = 0; i < DEEP; i++)
+        deep[i] = 0xA5;
+    bottom = (unsigned char *)deep;
+}
+__attribute__((noinline)) static size_t written(void) {
+    size_t clean = 0;
+    while (clean < DEEP && bottom[clean] == 0xA5)
+        clean++;
+    return DEEP - clean;
+}
+
+#define DEEPEST(name, call)                                        \
+    do {                                                           \
+        paint();                                                   \
+        call;                                                      \
+        size_t bytes = written();                                  \
+        printf("stack %-16s %5zu bytes\n", name, bytes);           \
+    } while (0)
+
+int main(void) {
+    uint8_t answers[2][5] = {{0xB1, 0x02, 0xCD, 0x34, 0}, {0xB1, 0x02, 0xCE, 0x34, 0}};
+    static const uint8_t request[5] = {0xB0, 0x06, 0x02, 0x00, 0x21};
+    uint8_t both[9], kept[8];
+    pm_host host;
+    pm_sending frame;
+    pm_words words;
+    pm_desk desk = {0x58, 2, 0, 0, 1, 0, 0, {{0x14, 0, 0x80, 0x1000, 0x4000, 0x1100, 0x0F00, 0}, {0x14, 0, 0x80, 0x1000, 0x4000, 0x1100, 0x0F00, 0}}};
+    pm_reply reply;
+    long done = 0;
+    memcpy(both, request, 5);
+    for (int i = 0; i < 2; i++) {
+        memcpy(both + 5, answers[i], 4);
+        answers[i][4] = pm_pec(both, 9);
+    }
+    pm_host_new(&host, 0x58, 8, 3);
+    double best = 1e9, plain = 1e9;
+    for (int round = 0; round < ROUNDS; round++) {
+        double start = now();
+        for (long i = 0; i < ORDERS; i++)
+            done += order(&host, answers[i & 1], (uint16_t)(0x34CD + (i & 1)));
+        double middle = now();
+        for (long i = 0; i < ORDERS; i++)
+            done += plain_order(answers[i & 1], (uint16_t)(0x34CD + (i & 1)), kept);
+        double end = now();
+        best = middle - start < best ? middle - start : best;
+        plain = end - middle < plain ? end - middle : plain;
+    }
+    printf("order %.3f us, plain code %.3f us: the best of %d rounds; %ld of %d done\n", best / ORDERS, plain / ORDERS,
+           ROUNDS, done, 2 * ROUNDS * ORDERS);
+    DEEPEST("of nothing", (void)0);
+    DEEPEST("new", pm_host_new(&host, 0x58, 8, 3));
+    DEEPEST("order", pm_host_order(&host, 0, PM_VOUT_COMMAND, 0x34CD));
+    DEEPEST("sending", pm_host_sending(&host, &frame));
+    DEEPEST("finished", pm_host_finished(&host, 1));
+    DEEPEST("got", pm_host_got(&host, answers[0], 5));
+    DEEPEST("got, a surprise", (pm_host_check(&host, 0, PM_VOUT_COMMAND), pm_host_got(&host, answers[1], 5)));
+    pm_host_learn(&host, 0);
+    DEEPEST("got, a learn", pm_host_got(&host, (const uint8_t[]){0xB1, 0x01, 0x14, 0x4E}, 4));
+    DEEPEST("order_micro", pm_host_order_micro(&host, 0, PM_VOUT_COMMAND, 3300000));
+    DEEPEST("possible", pm_host_possible(&host, 0, PM_VOUT_COMMAND, &words));
+    DEEPEST("restart", pm_host_restart(&host));
+    DEEPEST("desk_hear", pm_desk_hear(&desk, request, 5, 1, &reply));
+    return 0;
+}

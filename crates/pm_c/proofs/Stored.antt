@@ -1,0 +1,26 @@
+-- The words of one output are stored after those of the outputs before it.
+use Rattle.std.proofs.Common.{◌≡◌, ℕ, ◌+◌, ◌<◌, List, get_or, set, length, ◌∙◌, arith, inl, inr}
+use Rattle.std.proofs.lemmas.Bool.{cases_eq}
+use Rattle.std.proofs.lemmas.List.{get_or-set_same, get_or-set_other}
+use Rattle.pm_model.specs.Settings.{Words}
+use Rattle.pm_c.specs.declared.desk.OutputWords.{OutputWords}
+use Rattle.pm_c.specs.Desk.{no_output, HasWords, HaveSameModes}
+
+-- one more output has its words
+pub kept-more : (xs : List OutputWords) (n : ℕ) (x : OutputWords) (words : Words) → n < length xs
+    → ((k : ℕ) → k < n → HasWords (get_or xs k no_output) words k) → HasWords x words n
+    → (k : ℕ) → k < n + 1 → HasWords (get_or (set xs n x) k no_output) words k
+kept-more xs n x words small before here k h =
+    elim (cases_eq k n) [
+      | inl same ↦ rw same (rw (get_or-set_same xs n x no_output small) here)
+      | inr apart ↦ rw (get_or-set_other xs n k x no_output apart) (before k (omega (arith, h, apart)))
+    ]
+
+-- and each output its mode
+pub modes-more : (xs ys : List OutputWords) (n : ℕ) (x : OutputWords) → n < length ys
+    → x.mode ≡ (get_or ys n no_output).mode → HaveSameModes xs ys → HaveSameModes xs (set ys n x)
+modes-more xs ys n x small here before k =
+    elim (cases_eq k n) [
+      | inl same ↦ rw same (rw (get_or-set_same ys n x no_output small) (here ∙ before n))
+      | inr apart ↦ rw (get_or-set_other ys n k x no_output apart) (before k)
+    ]

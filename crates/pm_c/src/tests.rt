@@ -1,0 +1,274 @@
+mod calls;
+
+use self::calls::{
+    PACKET, check, clear, finished, format, got, host, learn, microvolts, nearest, new, order,
+    order_micro, possible, read_request, read_write, restart, restart_seen, sending, shown,
+    standing, written,
+};
+use crate::desk::{
+    Desk, OutputWords, Reply, pm_desk_commanded, pm_desk_hear, pm_desk_size, pm_desk_word,
+};
+use crate::host::{pm_host_size, pm_host_version};
+use crate::packet::pm_pec;
+use pm_host::{FormatImage, Image, WordsImage};
+
+const OUTPUT: OutputWords = OutputWords {
+    mode: 0x14,
+    unused: 0,
+    operation: 0x80,
+    command: 0x1000,
+    max: 0x4000,
+    high: 0x1100,
+    low: 0x0F00,
+    min: 0x0000,
+};
+
+const DESK: Desk = Desk {
+    address: 0x58,
+    outputs: 2,
+    r: 0,
+    unused: 0,
+    m: 1,
+    b: 0,
+    protect: 0x00,
+    words: [OUTPUT; 8],
+};
+
+#[test]
+fn sizes_are_those_of_the_header(rt: HostRuntime) {
+    assert_eq!(rt; (pm_host_size(), pm_desk_size()), (1926, 122));
+    assert_eq!(rt; pm_host_version(), 1);
+}
+
+#[test]
+fn an_order_is_taken_though_its_acknowledgement_was_lost(rt: HostRuntime) {
+    let mut image = host(2);
+    assert_eq!(rt; order(&mut image, 0, 0x21, 0x34CD), 0);
+    let write = [0xB0, 0x05, 0x04, 0x00, 0x21, 0xCD, 0x34, 0x5A];
+    assert_eq!(rt; shown(&image, &write), (1, 8, 0, true));
+    assert_eq!(rt; got(&mut image, &[]), (0x22, 0));
+    assert_eq!(rt; finished(&mut image, 0), (0, 0));
+    assert_eq!(rt;
+        shown(&image, &[0xB0, 0x06, 0x02, 0x00, 0x21]),
+        (2, 5, 5, true)
+    );
+    assert_eq!(rt; finished(&mut image, 1), (0x22, 0));
+    assert_eq!(rt; got(&mut image, &[0xB1, 0x02, 0xCD, 0x34, 0xB9]), (1, 0));
+    assert_eq!(rt; shown(&image, &[]), (0, 0, 0, true));
+    assert_eq!(rt; standing(&image, 0, 0x21), (0, 1, 0x34CD));
+    assert_eq!(rt; possible(&image, 0, 0x21), (0, 1, 0x34CD));
+}
+
+#[test]
+fn an_end_has_its_number(rt: HostRuntime) {
+    let mut image = host(1);
+    assert_eq!(rt; order(&mut image, 0, 0x21, 0x1234), 0);
+    assert_eq!(rt; finished(&mut image, 1), (0, 0));
+    assert_eq!(rt;
+        got(&mut image, &[0xB1, 0x02, 0xCD, 0x34, 0xB9]),
+        (2, 0x34CD)
+    );
+    assert_eq!(rt; check(&mut image, 0, 0x21), 0);
+    assert_eq!(rt; got(&mut image, &[]), (3, 0));
+    assert_eq!(rt; clear(&mut image, 1), 0);
+    assert_eq!(rt; finished(&mut image, 1), (1, 0));
+    assert_eq!(rt; learn(&mut image, 0), 0);
+    assert_eq!(rt; got(&mut image, &[0xB1, 0x01, 0x14, 0x4E]), (4, 0));
+    assert_eq!(rt; format(&image, 0), (0, 1, -12));
+    assert_eq!(rt; order_micro(&mut image, 0, 0x21, 3_300_000), 0);
+    let write = [0xB0, 0x05, 0x04, 0x00, 0x21, 0xCD, 0x34, 0x5A];
+    assert_eq!(rt; shown(&image, &write), (1, 8, 0, true));
+    assert_eq!(rt; restart(&mut image), 0);
+    assert_eq!(rt; shown(&image, &[]), (0, 0, 0, true));
+    assert_eq!(rt; order_micro(&mut image, 0, 0x21, 3_300_000), 7);
+}
+
+#[test]
+fn a_refusal_has_its_number(rt: HostRuntime) {
+    let mut image = Image::blank();
+    assert_eq!(rt; new(&mut image, 0x07, 2, 2), 0x23);
+    assert_eq!(rt; new(&mut image, 0x78, 2, 2), 0x23);
+    assert_eq!(rt; new(&mut image, 0x58, 0, 2), 1);
+    assert_eq!(rt; new(&mut image, 0x58, 9, 2), 1);
+    assert_eq!(rt; new(&mut image, 0x58, 8, 0), 2);
+    assert_eq!(rt; new(&mut image, 0x58, 8, 16), 2);
+    assert!(rt; is_refused(&mut image));
+    let mut image = host(15);
+    assert_eq!(rt; order(&mut image, 0, 0x20, 0), 0x21);
+    assert_eq!(rt; order(&mut image, 2, 0x21, 0), 4);
+    assert_eq!(rt; order(&mut image, 0, 0x01, 0xB0), 5);
+    assert_eq!(rt; order_micro(&mut image, 0, 0x01, 0), 5);
+    assert_eq!(rt; order_micro(&mut image, 0, 0x21, 0), 7);
+    assert_eq!(rt; standing(&image, 2, 0x21), (4, 7, 7));
+    assert_eq!(rt; possible(&image, 0, 0x22), (0x21, 7, 7));
+    assert_eq!(rt; format(&image, 2), (4, 7, 7));
+    assert_eq!(rt; restart_seen(&image), 0);
+    assert_eq!(rt; learn(&mut image, 1), 0);
+    assert_eq!(rt; check(&mut image, 0, 0x21), 3);
+}
+
+// Whether each call of a host says that the memory holds none.
+fn is_refused(image: &mut Image) -> bool {
+    let begun = [
+        order(image, 0, 0x21, 0x1000),
+        order_micro(image, 0, 0x21, 1),
+        check(image, 0, 0x21),
+        learn(image, 0),
+        clear(image, 0),
+        restart(image),
+        standing(image, 0, 0x21).0,
+        possible(image, 0, 0x21).0,
+        format(image, 0).0,
+        restart_seen(image),
+    ];
+    begun == [0x20; 10]
+        && shown(image, &[]) == (0, 0, 0, true)
+        && finished(image, 1) == (0x20, 0)
+        && got(image, &[]) == (0x20, 0)
+}
+
+// An image of a host with an open order, with one number changed.
+fn changed(change: u8) -> Image {
+    let mut image = host(2);
+    let _ = order(&mut image, 0, 0x21, 0x34CD);
+    let state = &mut image.state;
+    match change {
+        0 => image.version = 2,
+        1 => image.mark = 0,
+        2 => state.address = 0x78,
+        3 => state.outputs = 9,
+        4 => state.passes = 0,
+        5 => state.stage.kind = 7,
+        6 => state.stage.code = 0x20,
+        7 => state.stage.count = 2,
+        8 => state.stage.output = 2,
+        9 => state.known.possible[1] = WordsImage {
+            count: 1,
+            words: [0; 16],
+        },
+        10 => state.known.standing[1].is_confirmed = 1,
+        _ => {}
+    }
+    image
+}
+
+#[test]
+fn memory_that_holds_no_host_is_refused(rt: HostRuntime) {
+    assert!(rt; is_refused(&mut Image::blank()), "zeros");
+    for change in 0..11 {
+        assert!(rt; is_refused(&mut changed(change)), "change {change}");
+    }
+    assert!(rt; !is_refused(&mut changed(11)), "no change");
+}
+
+#[test]
+fn packets_stand_alone(rt: HostRuntime) {
+    let bytes = [0xB0, 0x05, 0x04, 0x00, 0x21, 0xCD, 0x34, 0x5A];
+    assert_eq!(rt; pm_pec(&bytes[..7]), 0x5A);
+    let (number, packet) = read_write(0x58, &bytes);
+    assert_eq!(rt;
+        (number, packet.kind, packet.page, packet.code),
+        (0, 4, 0, 0x21)
+    );
+    assert_eq!(rt; (packet.count, packet.word), (2, 0x34CD));
+    assert_eq!(rt; written(0x58, &packet, &bytes), (0, 8, true));
+    assert_eq!(rt; written(0x07, &packet, &bytes), (0x23, 9, false));
+    assert_eq!(rt; written(0x58, &PACKET, &bytes), (0x24, 9, false));
+    assert_eq!(rt; read_write(0x59, &bytes).0, 0x31);
+    assert_eq!(rt; read_write(0x58, &bytes[..7]).0, 0x32);
+    assert_eq!(rt; read_request(0x58, &bytes[..5]), 0x37);
+}
+
+#[test]
+fn numbers_stand_alone(rt: HostRuntime) {
+    let format = FormatImage {
+        kind: 1,
+        exponent: -12,
+        m: 0,
+        b: 0,
+    };
+    assert_eq!(rt; microvolts(&format, 0x34CD), (0, 3_300_048));
+    assert_eq!(rt; nearest(&format, 3_300_000), (0, 0x34CD));
+    assert_eq!(rt; nearest(&format, -1), (0x13, 7));
+    assert_eq!(rt; nearest(&format, 16_000_000), (0x14, 7));
+    assert_eq!(rt; nearest(&format, 1_000_000_000_000_001), (0x15, 7));
+    let none = FormatImage {
+        kind: 2,
+        exponent: 0,
+        m: 0,
+        b: 0,
+    };
+    assert_eq!(rt; nearest(&none, 1), (7, 7));
+    assert_eq!(rt; microvolts(&none, 1), (7, 7));
+}
+
+// What the desk says of a frame, and its answer.
+fn hear(desk: &mut Desk, bytes: &[u8], is_request: u8) -> (u8, Reply) {
+    let mut reply = Reply {
+        length: 0,
+        unused: 0,
+        bytes: [0; 16],
+    };
+    let number = pm_desk_hear(desk, bytes, is_request, &mut reply);
+    (number, reply)
+}
+
+// What becomes of one frame: the desk hears it, unless it is lost, and its answer comes back, or a damaged
+// one; the acknowledgement may be lost.
+fn exchanged(image: &mut Image, desk: &mut Desk, fate: u32) -> (u16, u16) {
+    let frame = sending(image);
+    let length = if fate == 1 {
+        0
+    } else {
+        usize::from(frame.length.min(16))
+    };
+    let is_request = u8::from(frame.kind == 2);
+    let (number, mut reply) = hear(desk, &frame.bytes[..length], is_request);
+    if frame.kind == 1 {
+        return finished(image, u8::from(number == 1 && fate != 2));
+    }
+    if fate == 3 {
+        reply.bytes[2] ^= 0x40;
+    }
+    got(image, &reply.bytes[..usize::from(reply.length.min(16))])
+}
+
+// A whole order under these fates, three bits for each frame: how it ended.
+fn lived(image: &mut Image, desk: &mut Desk, word: u16, fates: u32) -> u16 {
+    let mut end = 0x20;
+    if order(image, 1, 0x21, word) == 0 {
+        for frame in 0..6u32 {
+            if sending(image).kind != 0 {
+                end = exchanged(image, desk, fates >> (3 * frame) & 7).0;
+            }
+        }
+    }
+    end
+}
+
+// Whether the word that the host calls confirmed, if it does, is the desk's.
+fn is_right(image: &Image, desk: &Desk) -> bool {
+    let mut held = 0;
+    let number = pm_desk_word(desk, 1, 0x21, &mut held);
+    let (_, is_confirmed, word) = standing(image, 1, 0x21);
+    number == 0 && (is_confirmed != 1 || word == held)
+}
+
+#[test]
+fn no_confirmed_word_is_wrong_under_faults(rt: HostRuntime) {
+    let mut image = host(3);
+    let mut desk = DESK;
+    let mut drawn = 1u32;
+    let mut done = 0u16;
+    for job in 0..300u16 {
+        drawn = drawn.wrapping_mul(1_664_525).wrapping_add(1_013_904_223);
+        let end = lived(&mut image, &mut desk, 0x1000 + job % 7, drawn >> 14);
+        done = done.saturating_add(u16::from(end == 1));
+        assert!(rt; end != 0x20, "job {job}");
+        assert!(rt; is_right(&image, &desk), "job {job}");
+    }
+    assert!(rt; done > 200, "{done} done");
+    let mut microvolts = 0;
+    assert_eq!(rt; pm_desk_commanded(&desk, 0, &mut microvolts), 0);
+    assert_eq!(rt; microvolts, 1_000_000);
+}

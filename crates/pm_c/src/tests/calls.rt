@@ -1,0 +1,154 @@
+//! The calls, with no contract of their own: what a test says is run, and the prover needn't carry it.
+
+use crate::host::{
+    pm_host_check, pm_host_clear, pm_host_learn, pm_host_new, pm_host_order, pm_host_order_micro,
+    pm_host_restart,
+};
+use crate::known::{pm_host_possible, pm_host_restart_seen, pm_host_standing};
+use crate::packet::{Packet, pm_packet_read_request, pm_packet_read_write, pm_packet_write};
+use crate::sending::{Sending, pm_host_sending};
+use crate::told::{pm_host_finished, pm_host_got};
+use crate::voltages::{pm_host_format, pm_microvolts, pm_nearest_word};
+use pm_host::{FormatImage, Image, StandingImage, WordsImage};
+
+pub(super) const NOTHING: Sending = Sending {
+    kind: 9,
+    length: 9,
+    answer: 9,
+    unused: 9,
+    bytes: [9; 16],
+};
+
+pub(super) const PACKET: Packet = Packet {
+    kind: 9,
+    page: 9,
+    code: 9,
+    count: 9,
+    word: 9,
+};
+
+// A host with two outputs and at most this many passes.
+pub(super) fn host(passes: u8) -> Image {
+    let mut image = Image::blank();
+    let _ = pm_host_new(&mut image, 0x58, 2, passes);
+    image
+}
+
+// The frame that is being sent.
+pub(super) fn sending(image: &Image) -> Sending {
+    let mut frame = NOTHING;
+    let _ = pm_host_sending(image, &mut frame);
+    frame
+}
+
+pub(super) fn new(image: &mut Image, address: u8, outputs: u8, passes: u8) -> u8 {
+    pm_host_new(image, address, outputs, passes)
+}
+
+pub(super) fn order(image: &mut Image, output: u8, code: u8, word: u16) -> u8 {
+    pm_host_order(image, output, code, word)
+}
+
+pub(super) fn order_micro(image: &mut Image, output: u8, code: u8, microvolts: i64) -> u8 {
+    pm_host_order_micro(image, output, code, microvolts)
+}
+
+pub(super) fn check(image: &mut Image, output: u8, code: u8) -> u8 {
+    pm_host_check(image, output, code)
+}
+
+pub(super) fn learn(image: &mut Image, output: u8) -> u8 {
+    pm_host_learn(image, output)
+}
+
+pub(super) fn clear(image: &mut Image, output: u8) -> u8 {
+    pm_host_clear(image, output)
+}
+
+pub(super) fn restart(image: &mut Image) -> u8 {
+    pm_host_restart(image)
+}
+
+pub(super) fn finished(image: &mut Image, acked: u8) -> (u16, u16) {
+    let step = pm_host_finished(image, acked);
+    (step.kind, step.word)
+}
+
+pub(super) fn got(image: &mut Image, bytes: &[u8]) -> (u16, u16) {
+    let step = pm_host_got(image, bytes);
+    (step.kind, step.word)
+}
+
+// The number, and what was said: 7 where nothing was.
+pub(super) fn standing(image: &Image, output: u8, code: u8) -> (u8, u16, u16) {
+    let mut said = StandingImage {
+        is_confirmed: 7,
+        word: 7,
+    };
+    let number = pm_host_standing(image, output, code, &mut said);
+    (number, said.is_confirmed, said.word)
+}
+
+pub(super) fn possible(image: &Image, output: u8, code: u8) -> (u8, u16, u16) {
+    let mut words = WordsImage {
+        count: 7,
+        words: [7; 16],
+    };
+    let number = pm_host_possible(image, output, code, &mut words);
+    (number, words.count, words.words[0])
+}
+
+pub(super) fn format(image: &Image, output: u8) -> (u8, u8, i8) {
+    let mut format = FormatImage {
+        kind: 7,
+        exponent: 7,
+        m: 7,
+        b: 7,
+    };
+    let number = pm_host_format(image, output, &mut format);
+    (number, format.kind, format.exponent)
+}
+
+pub(super) fn restart_seen(image: &Image) -> u8 {
+    pm_host_restart_seen(image)
+}
+
+// Kind, length and bytes to be read of what is being sent, and whether its bytes begin so.
+pub(super) fn shown(image: &Image, bytes: &[u8]) -> (u8, u8, u8, bool) {
+    let frame = sending(image);
+    (
+        frame.kind,
+        frame.length,
+        frame.answer,
+        frame.bytes.starts_with(bytes),
+    )
+}
+
+pub(super) fn read_write(address: u8, bytes: &[u8]) -> (u8, Packet) {
+    let mut packet = PACKET;
+    let number = pm_packet_read_write(address, bytes, &mut packet);
+    (number, packet)
+}
+
+pub(super) fn read_request(address: u8, bytes: &[u8]) -> u8 {
+    let mut packet = PACKET;
+    pm_packet_read_request(address, bytes, &mut packet)
+}
+
+pub(super) fn written(address: u8, packet: &Packet, bytes: &[u8]) -> (u8, u8, bool) {
+    let mut frame = NOTHING;
+    let number = pm_packet_write(address, packet, &mut frame);
+    (number, frame.length, frame.bytes.starts_with(bytes))
+}
+
+pub(super) fn microvolts(format: &FormatImage, word: u16) -> (u8, i64) {
+    let mut microvolts = 7;
+    let number = pm_microvolts(format, word, &mut microvolts);
+    (number, microvolts)
+}
+
+pub(super) fn nearest(format: &FormatImage, microvolts: i64) -> (u8, u16) {
+    let mut word = 7;
+    let number = pm_nearest_word(format, microvolts, &mut word);
+    (number, word)
+}

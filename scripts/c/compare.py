@@ -1,0 +1,229 @@
+#!/usr/bin/env python3
+"""Compares the static library of crates/pm_c with the plain slow host of scripts/plain, event by event.
+
+    scripts/c/compare.py [--archive FILE] [SEED [EVENTS]]
+
+Lives of random jobs, refusals, lost, cut and damaged answers and restarts of either end: after each event the two
+say the same of the frame that is sent, the end of a job, each refusal, the restart that was seen, and of a cell what
+is said of it and which words it may hold; after a life so for every cell, with each format. A plain converter answers.
+Writes a line for the first difference, and the status is then 1. Without --archive it takes the archive that
+`rt lib` left in crates/pm_c/out. EVENTS is 100000 if left out.
+"""
+import ctypes
+import os
+import random
+import subprocess
+import sys
+import tempfile
+from collections import Counter
+
+sys.dont_write_bytecode = True
+HOME = os.path.dirname(os.path.dirname(os.path.abspath(__file__)))
+sys.path.insert(0, HOME)
+
+from plain.converter import PROTECT, REGISTERS, Converter  # noqa: E402
+from plain.host import ANY, Host  # noqa: E402
+
+ADDRESS = 0x58
+KINDS = {"next": 0, "done": 1, "differs": 2, "unknown": 3, "learned": 4}
+NUMBERS = {"H": 0, "N": 0x10}
+
+
+class Sending(ctypes.Structure):
+    _fields_ = [(name, ctypes.c_uint8) for name in ("kind", "length", "answer", "unused")] + [
+        ("bytes", ctypes.c_uint8 * 16)]
+
+
+class Step(ctypes.Structure):
+    _fields_ = [("kind", ctypes.c_uint16), ("word", ctypes.c_uint16)]
+
+
+class Words(ctypes.Structure):
+    _fields_ = [("count", ctypes.c_uint16), ("words", ctypes.c_uint16 * 16)]
+
+
+class Format(ctypes.Structure):
+    _fields_ = [("kind", ctypes.c_uint8), ("exponent", ctypes.c_int8), ("m", ctypes.c_int16), ("b", ctypes.c_int16)]
+
+
+def library(archive, folder):
+    """The archive as a library that is loaded here."""
+    shared = os.path.join(folder, "pm_c.so")
+    subprocess.run(["cc", "-shared", "-Wl,--whole-archive", archive, "-Wl,--no-whole-archive", "-o", shared], check=True)
+    loaded = ctypes.CDLL(shared)
+    for name in ("pm_host_new", "pm_host_order", "pm_host_order_micro", "pm_host_check", "pm_host_learn", "pm_host_clear",
+                 "pm_host_sending", "pm_host_restart", "pm_host_standing", "pm_host_possible", "pm_host_format",
+                 "pm_host_restart_seen"):
+        getattr(loaded, name).restype = ctypes.c_uint8
+    loaded.pm_host_finished.restype = loaded.pm_host_got.restype = Step
+    loaded.pm_host_size.restype = ctypes.c_size_t
+    return loaded
+
+
+def number_of(fault):
+    """The number of a refusal that is told as `H3 Busy`."""
+    return 0 if fault is None else NUMBERS[fault[0]] + int(fault[1])
+
+
+def code_of(cell):
+    return (0, cell[1]) if cell[0] is None else cell
+
+
+class Different(Exception):
+    pass
+
+
+class Life:
+    """One host of each kind, and a plain converter."""
+
+    def __init__(self, loaded, draw, seen):
+        self.loaded, self.draw, self.seen = loaded, draw, seen
+        self.count, self.passes = draw.randint(1, 3), draw.randint(1, 3)
+        self.setup = {
+            "address": ADDRESS, "count": self.count, "protect": 0, "coefficients": (draw.choice((1, -3, 250)), 5, draw.choice((-2, 0, 3))),
+            "outputs": [(draw.choice((0x14, 0x17, 0x40)), dict(zip(REGISTERS, (0x80, 0x1000, 0x4000, 0x1100, 0x0F00, 0))))
+                        for _ in range(self.count)],
+        }
+        self.plain = Host(ADDRESS, self.count, self.passes)
+        self.device = Converter(self.setup)
+        self.image = (ctypes.c_uint16 * (loaded.pm_host_size() // 2))()
+        self.same("new", loaded.pm_host_new(self.image, ADDRESS, self.count, self.passes), 0)
+
+    def same(self, what, found, wanted):
+        if found != wanted:
+            raise Different(f"{what}: the library says {found}, the plain host {wanted}")
+
+    def cell(self):
+        if self.draw.random() < 0.1:
+            return PROTECT
+        return self.draw.randint(0, self.count - 1 + (self.draw.random() < 0.05)), self.draw.choice(REGISTERS)
+
+    def begin(self):
+        """A job, and what both say of it."""
+        cell, draw = self.cell(), self.draw.random()
+        output, code = code_of(cell)
+        if draw < 0.6:
+            word = self.draw.choice((0x00, 0x20, 0x80, 0x94, 0xB0)) if code in (0x01, 0x10) else self.draw.choice(
+                (self.draw.randint(0, 0xFFFF), 0x1000 + self.draw.randint(0, 19)))
+            name, fault = "order", self.plain.order(cell, word)
+            number = self.loaded.pm_host_order(self.image, output, code, word)
+        elif draw < 0.7:
+            micro = self.draw.choice((self.draw.randint(-10**6, 5 * 10**6), 10**15 + 1, -10**14))
+            name, fault = "order_micro", self.plain.order_micro(cell, micro)
+            number = self.loaded.pm_host_order_micro(self.image, output, code, ctypes.c_int64(micro))
+        elif draw < 0.82:
+            name, fault, number = "check", self.plain.check(cell), self.loaded.pm_host_check(self.image, output, code)
+        elif draw < 0.92:
+            name, fault, number = "learn", self.plain.learn(output), self.loaded.pm_host_learn(self.image, output)
+        else:
+            name, fault, number = "clear", self.plain.clear(output), self.loaded.pm_host_clear(self.image, output)
+        self.same(name, number, number_of(fault))
+        self.seen[f"{name} {fault or 'accepted'}"] += 1
+        return cell
+
+    def damaged(self, frame):
+        """A frame that was cut, or has another byte."""
+        if self.draw.random() < 0.4:
+            return frame[:self.draw.randint(0, max(len(frame) - 1, 0))]
+        at = self.draw.randrange(len(frame)) if frame else 0
+        return frame and [*frame[:at], frame[at] ^ self.draw.randint(1, 255), *frame[at + 1:]]
+
+    def told(self):
+        """What became of the frame that is sent."""
+        frame, reads, fate = list(self.plain.sending_frame()), self.plain.sending_reads(), self.draw.random()
+        job = self.plain.last_job()[0]
+        sent = self.damaged(frame) if fate < 0.1 else frame
+        answer = self.device.hear(sent, "restart" if reads else "stop") if fate > 0.05 else None
+        if reads:
+            got = list(answer) if isinstance(answer, (list, tuple, bytes)) and answer and answer[0] == 2 * ADDRESS + 1 else []
+            if self.draw.random() < 0.1:
+                got = self.damaged(got)
+            self.plain.told(("got", got))
+            step = self.loaded.pm_host_got(self.image, (ctypes.c_uint8 * max(len(got), 1))(*got), ctypes.c_size_t(len(got)))
+        else:
+            acked = self.draw.random() < 0.7
+            self.plain.told(("finished", acked))
+            step = self.loaded.pm_host_finished(self.image, int(acked))
+        end = "next" if self.plain.sending() is not None else self.plain.job()
+        word = int(end.split(" ")[1], 16) if end.startswith("differs") else 0
+        self.same(f"told, {job[0]}", (step.kind, step.word), (KINDS[end.split(" ")[0]], word))
+        self.seen[f"{job[0]} {end.split(' ')[0]}"] += 1
+
+    def same_frame(self):
+        sending = Sending()
+        self.same("sending", self.loaded.pm_host_sending(self.image, ctypes.byref(sending)), 0)
+        found = sending.kind, list(sending.bytes[:sending.length])
+        if self.plain.sending() is None:
+            self.same("frame", found, (0, []))
+        else:
+            self.same("frame", found, (2 if self.plain.sending_reads() else 1, list(self.plain.sending_frame())))
+
+    def same_cell(self, cell):
+        (output, code), words, said = code_of(cell), Words(), Step()
+        if output < self.count:
+            self.loaded.pm_host_possible(self.image, output, code, ctypes.byref(words))
+            self.loaded.pm_host_standing(self.image, output, code, ctypes.byref(said))
+            possible = self.plain.possible(cell)
+            self.same(f"possible of {cell}", list(words.words[:words.count]), [] if possible is ANY else possible)
+            standing = self.plain.standing(cell)
+            self.same(f"standing of {cell}", said.word if said.kind == 1 else None, standing)
+
+    def same_formats(self):
+        for output in range(self.count):
+            form, wanted = Format(), self.plain.format(output)
+            self.loaded.pm_host_format(self.image, output, ctypes.byref(form))
+            found = {1: ("ulinear16", form.exponent), 2: ("direct", form.m, form.b, form.exponent)}.get(form.kind)
+            self.same(f"format of {output}", found, wanted)
+
+    def event(self):
+        draw, cell = self.draw.random(), PROTECT
+        if draw < 0.004:
+            self.plain.restart()
+            self.same("restart", self.loaded.pm_host_restart(self.image), 0)
+            self.seen["restart of the host"] += 1
+        elif draw < 0.02:
+            self.device = Converter(self.setup)
+            self.seen["restart of the converter"] += 1
+        elif self.plain.sending() is None or draw < 0.05:
+            cell = self.begin()
+        else:
+            self.told()
+        self.same_frame()
+        self.same_cell(cell)
+        self.same("restart seen", self.loaded.pm_host_restart_seen(self.image), int(self.plain.restart_seen()))
+
+    def live(self, events):
+        for _ in range(events):
+            self.event()
+        for cell in [(output, register) for output in range(self.count) for register in REGISTERS] + [PROTECT]:
+            self.same_cell(cell)
+        self.same_formats()
+
+
+def main(arguments):
+    if {"--help", "-h"} & set(arguments):
+        print(__doc__)
+        return 0
+    archive = os.path.join(os.path.dirname(HOME), "crates/pm_c/out/libpm_c.a")
+    if arguments[:1] == ["--archive"]:
+        archive, arguments = arguments[1], arguments[2:]
+    seed, events = [int(it) for it in arguments] + [1, 100000][len(arguments):]
+    draw, seen, lived = random.Random(seed), Counter(), 0
+    with tempfile.TemporaryDirectory() as folder:
+        loaded = library(archive, folder)
+        while lived < events:
+            length = draw.choice((40, 80, 160))
+            try:
+                Life(loaded, draw, seen).live(length)
+            except Different as it:
+                print(f"after {lived} events, seed {seed}: {it}")
+                return 1
+            lived += length
+    for name, count in sorted(seen.items()):
+        print(f"{count:8} {name}")
+    print(f"{lived} events, no difference")
+    return 0
+
+
+if __name__ == "__main__":
+    sys.exit(main(sys.argv[1:]))
