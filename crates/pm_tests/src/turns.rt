@@ -33,7 +33,7 @@ fn mixed() -> Config {
 const PASSES: u8 = 3;
 
 // The word of each cell that is ordered, the write and the request.
-const ORDERS: [(Cell, u16, &str, &str); 13] = [
+static ORDERS: [(Cell, u16, &str, &str); 13] = [
     (
         Cell::Out(0, Reg::Operation),
         0x94,
@@ -145,9 +145,9 @@ fn is_checked_in_vain(rt: &impl Abort, world: &mut World, check: &Event, request
 fn orders_and_checks_send_the_same_frames_in_each_pass(rt: HostRuntime) -> Result<(), SetupFault> {
     let mut world = begun(mixed(), PASSES)?;
     goes(&rt, &mut world, &Event::RestartHost, "");
-    for (cell, word, write, request) in ORDERS {
-        is_ordered_in_vain(&rt, &mut world, &Event::Order(cell, word), write, request);
-        is_checked_in_vain(&rt, &mut world, &Event::Check(cell), request);
+    for (cell, word, write, request) in &ORDERS {
+        is_ordered_in_vain(&rt, &mut world, &Event::Order(*cell, *word), write, request);
+        is_checked_in_vain(&rt, &mut world, &Event::Check(*cell), request);
     }
     Ok(())
 }
@@ -172,8 +172,8 @@ fn is_confirmed(
 
 #[test]
 fn each_cell_is_ordered_and_confirmed(rt: HostRuntime) -> Result<(), SetupFault> {
-    for (cell, word, write, request) in ORDERS {
-        is_confirmed(&rt, cell, word, write, request)?;
+    for (cell, word, write, request) in &ORDERS {
+        is_confirmed(&rt, *cell, *word, write, request)?;
     }
     Ok(())
 }
