@@ -77,7 +77,7 @@ fn commands(format: AnyFormat, words: [u16; 6]) -> (i128, i128, bool) {
 
 // The words of an output, in that order, with the value that it commands and whether that is cut: in
 // ULINEAR16 with N = -12, and in DIRECT where a greater word is a lower voltage.
-const LINEAR: [([u16; 6], (i128, i128, bool)); 17] = [
+static LINEAR: [([u16; 6], (i128, i128, bool)); 17] = [
     (
         [0x80, 0x34CD, 0x4000, 0x1100, 0x0F00, 0x0000],
         (13517, 4096, false),
@@ -148,7 +148,7 @@ const LINEAR: [([u16; 6], (i128, i128, bool)); 17] = [
     ),
 ];
 
-const FALLING: [([u16; 6], (i128, i128, bool)); 6] = [
+static FALLING: [([u16; 6], (i128, i128, bool)); 6] = [
     (
         [0x80, 0x03E8, 0x0BB8, 0x0000, 0x0000, 0x7FFF],
         (2000, 1000, true),
@@ -188,11 +188,11 @@ fn the_selected_value_is_cut_to_those_of_vout_min_and_vout_max(
     };
     let linear = AnyFormat::Ulinear16(linear);
     let falling = AnyFormat::Direct(Direct::new(-1, 5, 3)?);
-    for (words, wanted) in LINEAR {
-        does_command(&rt, linear, words, wanted);
+    for (words, wanted) in &LINEAR {
+        does_command(&rt, linear, *words, *wanted);
     }
-    for (words, wanted) in FALLING {
-        does_command(&rt, falling, words, wanted);
+    for (words, wanted) in &FALLING {
+        does_command(&rt, falling, *words, *wanted);
     }
     Ok(())
 }

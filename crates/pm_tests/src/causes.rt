@@ -42,7 +42,7 @@ const OTHER: &str = "stop: B0 21 CD 34 38";
 const OTHER_ANSWER: &str = "B1 02 CD 34 B9";
 
 // While nothing is sent, while a write is, and while a read is.
-const IDLE: [(Bus, Cause); 6] = [
+static IDLE: [(Bus, Cause); 6] = [
     (Bus::Deliver("whole"), S2),
     (Bus::Deliver(OTHER), S2),
     (Bus::Finish(true), S2),
@@ -51,7 +51,7 @@ const IDLE: [(Bus, Cause); 6] = [
     (Bus::Exchange(OTHER, OTHER_ANSWER), S2),
 ];
 
-const WRITING: [(Bus, Cause); 5] = [
+static WRITING: [(Bus, Cause); 5] = [
     (Bus::Exchange("whole", "whole"), S3),
     (Bus::Exchange("cut 3", "cut 0"), S3),
     (Bus::Exchange(OTHER, "whole"), S3),
@@ -59,7 +59,7 @@ const WRITING: [(Bus, Cause); 5] = [
     (Bus::Deliver(OTHER), S1),
 ];
 
-const READING: [(Bus, Cause); 7] = [
+static READING: [(Bus, Cause); 7] = [
     (Bus::Deliver("whole"), S3),
     (Bus::Deliver("cut 0"), S3),
     (Bus::Deliver(OTHER), S3),
@@ -101,7 +101,7 @@ fn an_event_that_is_not_taken_has_its_first_cause(rt: HostRuntime) -> Result<(),
 }
 
 // What arrives of the order of 34CDh: the cause against it, or the word and STATUS_CML afterwards.
-const HEARINGS: [(&str, Result<(u16, u8), Cause>); 20] = [
+static HEARINGS: [(&str, Result<(u16, u8), Cause>); 20] = [
     ("whole", Ok((0x34CD, 0x00))),
     ("cut 8", Ok((0x34CD, 0x00))),
     ("cut 255", Ok((0x34CD, 0x00))),
@@ -155,8 +155,8 @@ fn arrives(
 
 #[test]
 fn a_write_is_heard_as_it_arrives(rt: HostRuntime) -> Result<(), SetupFault> {
-    for (heard, wanted) in HEARINGS {
-        arrives(&rt, heard, wanted)?;
+    for (heard, wanted) in &HEARINGS {
+        arrives(&rt, heard, *wanted)?;
     }
     Ok(())
 }
@@ -179,7 +179,7 @@ type Return = (&'static str, &'static str, Outcome);
 
 // What arrives of a check's request, and what comes back: the cause against it, or the job's end, if
 // it has one, and STATUS_CML afterwards.
-const RETURNS: [Return; 28] = [
+static RETURNS: [Return; 28] = [
     ("whole", "whole", DONE),
     ("whole", "cut 5", DONE),
     ("whole", "cut 255", DONE),
@@ -233,8 +233,8 @@ fn comes_back(rt: &impl Abort, heard: &str, came: &str, wanted: Outcome) -> Resu
 fn a_request_is_heard_as_it_arrives_and_its_answer_as_it_comes_back(
     rt: HostRuntime,
 ) -> Result<(), SetupFault> {
-    for (heard, came, wanted) in RETURNS {
-        comes_back(&rt, heard, came, wanted)?;
+    for (heard, came, wanted) in &RETURNS {
+        comes_back(&rt, heard, came, *wanted)?;
     }
     Ok(())
 }
@@ -242,7 +242,7 @@ fn a_request_is_heard_as_it_arrives_and_its_answer_as_it_comes_back(
 // A count, OPERATION, WRITE_PROTECT, the address, VOUT_MODE and m, and the fault of the converter.
 type Setup = (u8, u16, u16, u8, u8, i16, Option<ConfigFault>);
 
-const SETUPS: [Setup; 7] = [
+static SETUPS: [Setup; 7] = [
     (0, 0xB0, 0x01, 0x00, 0x20, 0, Some(ConfigFault::OutputCount)),
     (9, 0xB0, 0x01, 0x00, 0x20, 0, Some(ConfigFault::OutputCount)),
     (2, 0xB0, 0x01, 0x00, 0x20, 0, V2),
@@ -286,8 +286,8 @@ fn has_fault(rt: &impl Abort, config: Config, passes: u8, wanted: Option<SetupFa
 // The converter's fault comes before that of the passes.
 #[test]
 fn a_world_has_the_converters_fault_before_the_hosts(rt: HostRuntime) {
-    for row in SETUPS {
-        let (config, fault) = configured(row);
+    for row in &SETUPS {
+        let (config, fault) = configured(*row);
         let fault = fault.map(SetupFault::Device);
         let passes = Some(SetupFault::Host(HostFault::Passes));
         for good in [1, 15] {

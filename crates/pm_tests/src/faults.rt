@@ -8,7 +8,7 @@ use pm_table::{Cell, Reg, TableFault};
 use pm_world::{Cause, SetupFault};
 use std::test::Fail;
 
-const DEVICE: [(DeviceFault, &str); 10] = [
+static DEVICE: [(DeviceFault, &str); 10] = [
     (
         DeviceFault::Frame(FrameFault::Short(7)),
         "a faulty frame: a frame cut short after 7 bytes",
@@ -33,7 +33,7 @@ const DEVICE: [(DeviceFault, &str); 10] = [
     (DeviceFault::ReadOnly, "a code of the other direction"),
 ];
 
-const CONFIG: [(ConfigFault, &str); 9] = [
+static CONFIG: [(ConfigFault, &str); 9] = [
     (
         ConfigFault::OutputCount,
         "a number of outputs outside 1 to 8",
@@ -69,7 +69,7 @@ const CONFIG: [(ConfigFault, &str); 9] = [
     ),
 ];
 
-const HOST: [(HostFault, &str); 10] = [
+static HOST: [(HostFault, &str); 10] = [
     (
         HostFault::OutputCount,
         "a number of outputs other than 1 to 8",
@@ -94,7 +94,7 @@ const HOST: [(HostFault, &str); 10] = [
     (HostFault::Num(NumFault::TooLarge), "number too large"),
 ];
 
-const CAUSES: [(Cause, &str); 6] = [
+static CAUSES: [(Cause, &str); 6] = [
     (
         Cause::NotBetrayed,
         "damage that the packet error code doesn't betray",
@@ -112,7 +112,7 @@ const CAUSES: [(Cause, &str); 6] = [
     (Cause::Full, "a full world"),
 ];
 
-const SETUP: [(SetupFault, &str); 3] = [
+static SETUP: [(SetupFault, &str); 3] = [
     (
         SetupFault::Device(ConfigFault::Address),
         "the device: a reserved address",
@@ -129,22 +129,22 @@ const SETUP: [(SetupFault, &str); 3] = [
 
 #[test]
 fn each_fault_has_its_text(rt: HostRuntime) -> Result<(), Fail> {
-    for (fault, text) in DEVICE {
-        assert_eq!(rt; fault.to_string(rt.alloc())?.as_str(), text);
+    for (fault, text) in &DEVICE {
+        assert_eq!(rt; fault.to_string(rt.alloc())?.as_str(), *text);
     }
-    for (fault, text) in CONFIG {
-        assert_eq!(rt; fault.to_string(rt.alloc())?.as_str(), text);
+    for (fault, text) in &CONFIG {
+        assert_eq!(rt; fault.to_string(rt.alloc())?.as_str(), *text);
     }
-    for (fault, text) in HOST {
-        assert_eq!(rt; fault.to_string(rt.alloc())?.as_str(), text);
+    for (fault, text) in &HOST {
+        assert_eq!(rt; fault.to_string(rt.alloc())?.as_str(), *text);
     }
     // The one letter that no text shows: of a world the converter's fault comes first.
     assert_eq!(rt; HostFault::OutputCount.words(), "H1 OutputCount");
-    for (cause, text) in CAUSES {
-        assert_eq!(rt; cause.to_string(rt.alloc())?.as_str(), text);
+    for (cause, text) in &CAUSES {
+        assert_eq!(rt; cause.to_string(rt.alloc())?.as_str(), *text);
     }
-    for (fault, text) in SETUP {
-        assert_eq!(rt; fault.to_string(rt.alloc())?.as_str(), text);
+    for (fault, text) in &SETUP {
+        assert_eq!(rt; fault.to_string(rt.alloc())?.as_str(), *text);
     }
     Ok(())
 }

@@ -1,13 +1,15 @@
 //! The frame that the host sends at each turn of each job, and how each job ends.
 
+mod eight;
+
 use crate::fixtures::{
     ACKED, CHECK, FIRST, LOST, NOT_ACKED, ORDER, OUTPUT, READ, READ_LOST, SECOND, WHOLE, after,
     base, begun, sends, standing, step, takes,
 };
 use pm_device::{Config, OutputStart};
-use pm_host::{HostFault, JobEnd, Standing, Turn};
+use pm_host::{JobEnd, Standing, Turn};
 use pm_table::{Cell, Coefficients, Reg};
-use pm_world::{Cause, Event, SetupFault, World};
+use pm_world::{Event, SetupFault, World};
 use std::process::Abort;
 
 const DIRECT: OutputStart = OutputStart {
@@ -33,7 +35,7 @@ fn mixed() -> Config {
 const PASSES: u8 = 3;
 
 // The word of each cell that is ordered, the write and the request.
-const ORDERS: [(Cell, u16, &str, &str); 13] = [
+static ORDERS: [(Cell, u16, &str, &str); 13] = [
     (
         Cell::Out(0, Reg::Operation),
         0x94,
@@ -145,9 +147,9 @@ fn is_checked_in_vain(rt: &impl Abort, world: &mut World, check: &Event, request
 fn orders_and_checks_send_the_same_frames_in_each_pass(rt: HostRuntime) -> Result<(), SetupFault> {
     let mut world = begun(mixed(), PASSES)?;
     goes(&rt, &mut world, &Event::RestartHost, "");
-    for (cell, word, write, request) in ORDERS {
-        is_ordered_in_vain(&rt, &mut world, &Event::Order(cell, word), write, request);
-        is_checked_in_vain(&rt, &mut world, &Event::Check(cell), request);
+    for (cell, word, write, request) in &ORDERS {
+        is_ordered_in_vain(&rt, &mut world, &Event::Order(*cell, *word), write, request);
+        is_checked_in_vain(&rt, &mut world, &Event::Check(*cell), request);
     }
     Ok(())
 }
@@ -172,8 +174,8 @@ fn is_confirmed(
 
 #[test]
 fn each_cell_is_ordered_and_confirmed(rt: HostRuntime) -> Result<(), SetupFault> {
-    for (cell, word, write, request) in ORDERS {
-        is_confirmed(&rt, cell, word, write, request)?;
+    for (cell, word, write, request) in &ORDERS {
+        is_confirmed(&rt, *cell, *word, write, request)?;
     }
     Ok(())
 }
@@ -256,84 +258,6 @@ fn each_output_is_learned_by_itself(rt: HostRuntime) -> Result<(), SetupFault> {
     goes(&rt, &mut world, &first, "B0 05 04 00 21 CD 34 5A");
     takes(&rt, &mut world, &[WHOLE, ACKED, READ]);
     goes(&rt, &mut world, &second, "B0 05 04 01 21 E4 0C F7");
-    Ok(())
-}
-
-// Eight outputs in ULINEAR16, with N from -12 to -5.
-const EIGHT: Config = Config {
-    addr: 0x58,
-    count: 8,
-    starts: [
-        OUTPUT,
-        OutputStart {
-            mode: 0x15,
-            ..OUTPUT
-        },
-        OutputStart {
-            mode: 0x16,
-            ..OUTPUT
-        },
-        OutputStart {
-            mode: 0x17,
-            ..OUTPUT
-        },
-        OutputStart {
-            mode: 0x18,
-            ..OUTPUT
-        },
-        OutputStart {
-            mode: 0x19,
-            ..OUTPUT
-        },
-        OutputStart {
-            mode: 0x1A,
-            ..OUTPUT
-        },
-        OutputStart {
-            mode: 0x1B,
-            ..OUTPUT
-        },
-    ],
-    protect: 0x00,
-    coefficients: Coefficients { m: 1, b: 0, r: 0 },
-};
-
-fn eight() -> Config {
-    EIGHT
-}
-
-// The request of VOUT_MODE of each, and the write of 1 V in its format.
-const LEARNS: [(&str, &str); 8] = [
-    ("B0 06 02 00 20", "B0 05 04 00 21 00 10 A2"),
-    ("B0 06 02 01 20", "B0 05 04 01 21 00 08 FC"),
-    ("B0 06 02 02 20", "B0 05 04 02 21 00 04 E2"),
-    ("B0 06 02 03 20", "B0 05 04 03 21 00 02 E6"),
-    ("B0 06 02 04 20", "B0 05 04 04 21 00 01 8D"),
-    ("B0 06 02 05 20", "B0 05 04 05 21 80 00 2A"),
-    ("B0 06 02 06 20", "B0 05 04 06 21 40 00 FD"),
-    ("B0 06 02 07 20", "B0 05 04 07 21 20 00 1E"),
-];
-
-#[test]
-fn each_of_eight_outputs_has_a_format_of_its_own(rt: HostRuntime) -> Result<(), SetupFault> {
-    let mut world = begun(eight(), 1)?;
-    for (output, (request, _)) in (0..8).zip(LEARNS) {
-        goes(&rt, &mut world, &Event::Learn(output), request);
-        goes(&rt, &mut world, &READ, "");
-        assert_eq!(rt; world.last_end(), Some(JobEnd::Learned));
-    }
-    for (output, (_, write)) in (0..8).zip(LEARNS) {
-        let volt = Event::OrderMicro(Cell::Out(output, Reg::VoutCommand), 1_000_000);
-        goes(&rt, &mut world, &volt, write);
-        takes(&rt, &mut world, &[NOT_ACKED, READ_LOST]);
-    }
-    // The host's restart forgets each of them.
-    goes(&rt, &mut world, &Event::RestartHost, "");
-    for output in 0..8 {
-        let volt = Event::OrderMicro(Cell::Out(output, Reg::VoutCommand), 1_000_000);
-        let unknown = Err(Cause::Host(HostFault::FormatUnknown));
-        assert_eq!(rt; step(&mut world, &volt), unknown, "output {output}");
-    }
     Ok(())
 }
 

@@ -43,7 +43,7 @@ const K1_F5_7: DeviceFault = DeviceFault::Frame(FrameFault::WrongPec(7));
 // Each refusal of a converter of its own that starts with this WRITE_PROTECT, and what STATUS_CML then is.
 type Refusal = (u16, &'static str, DeviceFault, u8);
 
-const REFUSALS: [Refusal; 46] = [
+static REFUSALS: [Refusal; 46] = [
     (0x00, "B0", K1_F2_1, 0x02),
     (0x00, "B0 06 02 00 /", K1_F2_4, 0x02),
     (0x00, "B0 21 CD 34 38 00", K1_F3_5, 0x02),
@@ -93,7 +93,7 @@ const REFUSALS: [Refusal; 46] = [
 ];
 
 // Bytes that can be refused for more than one thing, in the same form.
-const PAIRS: [Refusal; 22] = [
+static PAIRS: [Refusal; 22] = [
     (0x80, "B0 00 02 E4", K4, 0x40),
     (0x80, "B0 05 04 02 21 00 10 8E", K4, 0x40),
     (0x80, "B0 05 03 02 7A 08 50", K4, 0x40),
@@ -143,11 +143,11 @@ fn is_refused(
 
 #[test]
 fn each_refusal_sets_its_own_bit_and_changes_no_word(rt: HostRuntime) -> Result<(), Fail> {
-    for (protect, row, fault, cml) in REFUSALS {
-        is_refused(&rt, protect, row, fault, cml)?;
+    for (protect, row, fault, cml) in &REFUSALS {
+        is_refused(&rt, *protect, row, *fault, *cml)?;
     }
-    for (protect, row, fault, cml) in PAIRS {
-        is_refused(&rt, protect, row, fault, cml)?;
+    for (protect, row, fault, cml) in &PAIRS {
+        is_refused(&rt, *protect, row, *fault, *cml)?;
     }
     Ok(())
 }

@@ -224,7 +224,7 @@ fn clears_and_restarts_leave_what_holds(rt: HostRuntime) -> Result<(), Fail> {
 }
 
 // The names that are exported, by the standard's numbers.
-const BYTE_BITS: [(StatusByte, u8); 8] = [
+static BYTE_BITS: [(StatusByte, u8); 8] = [
     (StatusByte::BUSY, 0x80),
     (StatusByte::OFF, 0x40),
     (StatusByte::VOUT_OV_FAULT, 0x20),
@@ -235,7 +235,7 @@ const BYTE_BITS: [(StatusByte, u8); 8] = [
     (StatusByte::NONE_OF_THE_ABOVE, 0x01),
 ];
 
-const VOUT_BITS: [(StatusVout, u8); 8] = [
+static VOUT_BITS: [(StatusVout, u8); 8] = [
     (StatusVout::OV_FAULT, 0x80),
     (StatusVout::OV_WARNING, 0x40),
     (StatusVout::UV_WARNING, 0x20),
@@ -246,7 +246,7 @@ const VOUT_BITS: [(StatusVout, u8); 8] = [
     (StatusVout::TRACKING_ERROR, 0x01),
 ];
 
-const CML_BITS: [(StatusCml, u8); 7] = [
+static CML_BITS: [(StatusCml, u8); 7] = [
     (StatusCml::COMMAND, 0x80),
     (StatusCml::DATA, 0x40),
     (StatusCml::PEC, 0x20),
@@ -256,7 +256,7 @@ const CML_BITS: [(StatusCml, u8); 7] = [
     (StatusCml::OTHER, 0x01),
 ];
 
-const WORD_BITS: [(StatusWord, u16); 16] = [
+static WORD_BITS: [(StatusWord, u16); 16] = [
     (StatusWord::VOUT, 0x8000),
     (StatusWord::IOUT_POUT, 0x4000),
     (StatusWord::INPUT, 0x2000),
@@ -277,16 +277,16 @@ const WORD_BITS: [(StatusWord, u16); 16] = [
 
 #[test]
 fn the_bits_have_the_numbers_of_the_standard(rt: HostRuntime) {
-    for (bit, number) in BYTE_BITS {
-        assert_eq!(rt; bit.bits(), number);
+    for (bit, number) in &BYTE_BITS {
+        assert_eq!(rt; bit.bits(), *number);
     }
-    for (bit, number) in VOUT_BITS {
-        assert_eq!(rt; bit.bits(), number);
+    for (bit, number) in &VOUT_BITS {
+        assert_eq!(rt; bit.bits(), *number);
     }
-    for (bit, number) in CML_BITS {
-        assert_eq!(rt; bit.bits(), number);
+    for (bit, number) in &CML_BITS {
+        assert_eq!(rt; bit.bits(), *number);
     }
-    for (bit, number) in WORD_BITS {
-        assert_eq!(rt; bit.bits(), number);
+    for (bit, number) in &WORD_BITS {
+        assert_eq!(rt; bit.bits(), *number);
     }
 }

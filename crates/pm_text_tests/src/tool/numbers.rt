@@ -252,8 +252,8 @@ fn numbers_without_a_word_are_refused(rt: HostRuntime) {
 }
 
 // What a writer with such room has of the line of 87FF, and whether it failed.
-fn written(alloc: Global, room: usize) -> (Result<(), NumberFault>, bool, Sheet) {
-    let mut sink = Sink::new(Sheet::new(room));
+fn written(alloc: Global, room: u8) -> (Result<(), NumberFault>, bool, Sheet) {
+    let mut sink = Sink::new(Sheet::new(usize::from(room)));
     let result = number(alloc, &mut sink, "linear11", Some("87FF"), None);
     let failed = sink.failed();
     (result, failed, sink.into_inner())
@@ -264,6 +264,7 @@ fn a_full_writer_has_a_front_of_the_line(rt: HostRuntime) {
     let line = "word 87FF value -1/65536 micro -16\n".as_bytes();
     for room in 0..50 {
         let (result, failed, sheet) = written(rt.alloc(), room);
+        let room = usize::from(room);
         let fits = line.len() <= room;
         assert_eq!(rt; failed, !fits, "room {room}");
         let wanted = if fits {
