@@ -6,9 +6,8 @@ use Rattle.std.specs.Borrow.{Bor}
 use Rattle.std.specs.Io.KnownBytes.{Appends, Consumes}
 use Rattle.std.specs.declared.io.ErrorKind.{ErrorKind as IoKind}
 use Rattle.std.specs.declared.io.ErrorKind.TheVariants.{OutOfMemory as IoMemory}
-use Rattle.clap.specs.Kinds.{IsAmong}
 use Rattle.clap.specs.Walk.{texts}
-use Rattle.clap.specs.Words.{Text, fault_of, matches_of}
+use Rattle.clap.specs.Words.{Text, matches_of}
 use Rattle.clap.specs.declared.error.kind.ErrorKind.{ErrorKind}
 use Rattle.pm_host.specs.Summary.{Summary}
 use Rattle.pm_lines.specs.Faults.{fault_words}

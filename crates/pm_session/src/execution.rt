@@ -68,10 +68,16 @@ pub fn run<R: Read, W: Write, E: Write>(
 ) -> u8
     requires { IsFalse errors.old.failed }
     ensures { let run : Run _ _ _ = record {
-        remaining = R.remaining; contents = W.contents; told = E.contents;
-        source = streams.old.source; source' = streams.new.source;
-        sink = streams.old.sink; sink' = streams.new.sink;
-        errors = errors.old; errors' = errors.new } in RunEnds run result words.entry }
+      remaining = R.remaining;
+      contents = W.contents;
+      told = E.contents;
+      source = streams.old.source;
+      source' = streams.new.source;
+      sink = streams.old.sink;
+      sink' = streams.new.sink;
+      errors = errors.old;
+      errors' = errors.new;
+    } in RunEnds run result words.entry }
 {
     let words = match words {
         Ok(words) => words,
@@ -95,10 +101,16 @@ fn serve<R: Read, W: Write, E: Write>(
 ) -> u8
     requires { IsFalse errors.old.failed }
     ensures { let run : Run _ _ _ = record {
-        remaining = R.remaining; contents = W.contents; told = E.contents;
-        source = streams.old.source; source' = streams.new.source;
-        sink = streams.old.sink; sink' = streams.new.sink;
-        errors = errors.old; errors' = errors.new } in ServeEnds run result (start_of options.now) }
+      remaining = R.remaining;
+      contents = W.contents;
+      told = E.contents;
+      source = streams.old.source;
+      source' = streams.new.source;
+      sink = streams.old.sink;
+      sink' = streams.new.sink;
+      errors = errors.old;
+      errors' = errors.new;
+    } in ServeEnds run result (start_of options.now) }
 {
     let mut host = match options.start() {
         Ok(host) => host,
