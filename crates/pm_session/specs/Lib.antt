@@ -1,5 +1,6 @@
 -- What the crate promises.
 pub mod AskLines
+pub mod Execution
 pub mod Options
 pub mod PortLaws
 pub mod Ports

@@ -1,6 +1,8 @@
 //! The program: its options make a host, which is then spoken to over its streams.
-ghost use Rattle.std.specs.Prelude.{◌≡◌, ◌++◌, IsFalse, IfErr, IfOk, codes};
+ghost use Rattle.std.specs.Prelude.{◌≡◌, ◌⊎◌, IsFalse};
 ghost use Rattle.clap.specs.Words.{kind_of};
+ghost use Rattle.pm_session.specs.Execution.{Run, RunEnds, Says, ServeEnds, refusal_line};
+ghost use Rattle.pm_session.specs.Options.{start_of, usage_status};
 
 use crate::options::Options;
 use crate::streams::Streams;
@@ -65,6 +67,17 @@ pub fn run<R: Read, W: Write, E: Write>(
     errors: &mut Sink<E>,
 ) -> u8
     requires { IsFalse errors.old.failed }
+    ensures { let run : Run _ _ _ = record {
+      remaining = R.remaining;
+      contents = W.contents;
+      told = E.contents;
+      source = streams.old.source;
+      source' = streams.new.source;
+      sink = streams.old.sink;
+      sink' = streams.new.sink;
+      errors = errors.old;
+      errors' = errors.new;
+    } in RunEnds run result words.entry }
 {
     let words = match words {
         Ok(words) => words,
@@ -87,6 +100,17 @@ fn serve<R: Read, W: Write, E: Write>(
     errors: &mut Sink<E>,
 ) -> u8
     requires { IsFalse errors.old.failed }
+    ensures { let run : Run _ _ _ = record {
+      remaining = R.remaining;
+      contents = W.contents;
+      told = E.contents;
+      source = streams.old.source;
+      source' = streams.new.source;
+      sink = streams.old.sink;
+      sink' = streams.new.sink;
+      errors = errors.old;
+      errors' = errors.new;
+    } in ServeEnds run result (start_of options.now) }
 {
     let mut host = match options.start() {
         Ok(host) => host,
@@ -112,6 +136,7 @@ fn show_usage<W: Write, E: Write>(
     errors: &mut Sink<E>,
 ) -> u8
     requires { IsFalse errors.old.failed }
+    ensures { (result ≡ usage_status (kind_of error.now)) ⊎ (result ≡ 1) }
 {
     let Ok(text) = format!(in alloc; "{error}") else {
         return refuse_memory(errors);
@@ -133,6 +158,7 @@ fn show_usage<W: Write, E: Write>(
 // Prints a whole text.
 fn print_whole<W: Write, E: Write>(text: &[u8], output: &mut Sink<W>, errors: &mut Sink<E>) -> u8
     requires { IsFalse errors.old.failed }
+    ensures { (result ≡ 0) ⊎ (result ≡ 1) }
 {
     let is_printed = !output.failed() && output.put(text).is_ok() && output.flush().is_ok();
     if is_printed {
@@ -154,6 +180,7 @@ fn refuse_memory<E: Write>(errors: &mut Sink<E>) -> u8
 // Says a refusal as the one line `pmbhost: WORDS`. Where that fails too, the status alone tells.
 fn say<E: Write>(errors: &mut Sink<E>, words: &str)
     requires { IsFalse errors.old.failed }
+    ensures { Says E.contents errors.old errors.new (refusal_line words.now) }
 {
     let _ = errors.put_all(&[b"pmbhost: ", words.as_bytes(), b"\n"]);
 }

@@ -1,0 +1,102 @@
+"""The answers of a host that is spoken to in lines, by the plain host."""
+import re
+
+from .host import ANY, Host
+from .lines import TextFault, words_of
+from .packets import answer_shape, length_of
+from .scenario import Words, read_event
+
+MOST_BYTES = 256
+MOST_BACK = 16
+JOBS = (b"order", b"volts", b"check", b"learn", b"clear")
+
+
+class Refused(Exception):
+    """The words of a refusal."""
+
+
+def in_hex(frame):
+    return " ".join(f"{byte:02X}" for byte in frame)
+
+
+class PlainSession:
+    def __init__(self, address, outputs, passes):
+        self.host = Host(address, outputs, passes)
+
+    def answer(self, line):
+        """The answer to a line, of bytes without the line feed."""
+        try:
+            return self.answered(line)
+        except (Refused, TextFault) as fault:
+            return f"refused {fault}"
+
+    def answered(self, line):
+        if len(line) > MOST_BYTES:
+            raise Refused("X3 TooLong")
+        line = line[:-1] if line.endswith(b"\r") else line
+        first, *rest = words_of(line) or [b""]
+        if first in JOBS:
+            words = Words(line)
+            kind, *what = read_event(words, 2)
+            words.end()
+            return self.begun(kind, what)
+        if first == b"finished" and rest in ([b"ack"], [b"nack"]):
+            return self.told(("finished", rest == [b"ack"]))
+        if first == b"got":
+            return self.told(("got", self.bytes_back(rest)))
+        if first == b"state":
+            words = Words(b" ".join(rest))
+            cell = words.cell(2)
+            words.end()
+            return self.state(cell)
+        plain = {b"sending": self.sending, b"restart": self.restart, b"seen": self.seen}
+        if rest or first not in plain:
+            raise Refused("X1 Syntax")
+        return plain[first]()
+
+    def bytes_back(self, words):
+        if any(not re.fullmatch(rb"([0-9A-Fa-f]{2})+", word) for word in words):
+            raise Refused("X2 BadHex")
+        found = list(bytes.fromhex(b"".join(words).decode()))
+        if len(found) > MOST_BACK:
+            raise Refused("X2 BadHex")
+        return found
+
+    def begun(self, kind, what):
+        call = {"order": self.host.order, "volts": self.host.order_micro, "check": self.host.check,
+                "learn": self.host.learn, "clear": self.host.clear}[kind]
+        fault = call(*what)
+        if fault:
+            raise Refused(fault)
+        return self.sending()
+
+    def told(self, entry):
+        if self.host.sending() is None:
+            raise Refused("S2 NothingSent")
+        if self.host.sending_reads() != (entry[0] == "got"):
+            raise Refused("S3 WrongKind")
+        self.host.told(entry)
+        return f"ended {self.host.job()}" if self.host.sending() is None else self.sending()
+
+    def sending(self):
+        message = self.host.sending()
+        if message is None:
+            return "idle"
+        reads = f" read {answer_shape(message)[0] - 1}" if self.host.sending_reads() else ""
+        return f"send {in_hex(self.host.sending_frame())}{reads}"
+
+    def restart(self):
+        self.host.restart()
+        return "restarted"
+
+    def seen(self):
+        return "seen yes" if self.host.restart_seen() else "seen no"
+
+    def state(self, cell):
+        if cell[0] is not None and cell[0] >= self.host.outputs:
+            raise Refused("H4 UnknownOutput")
+        digits = 2 * length_of(cell[1])
+        word, possible = self.host.standing(cell), self.host.possible(cell)
+        standing = "unknown" if word is None else f"confirmed {word:0{digits}X}"
+        listed = "any" if possible is ANY else " ".join(f"{word:0{digits}X}" for word in possible)
+        return f"state {standing} possible {listed}"
