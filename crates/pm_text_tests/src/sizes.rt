@@ -5,7 +5,7 @@ use crate::engine::Engine;
 use crate::fakes::in_pieces;
 use crate::worked::{CODES, CODES_SAID, FRAME, REPORT, SCENARIO, TAKEN};
 use clap::error::ErrorKind;
-use pm_text::{TextFault, TraceLine, read_scenario, read_trace_line, render_line};
+use pm_text::{TextFault, read_scenario, read_trace_line, render_line};
 use pm_tool::{Chosen, chosen};
 use std::alloc::{AllocError, Global};
 use std::process::Abort;
@@ -44,31 +44,20 @@ fn text_of(alloc: Global, long: Long) -> Result<Vec<u8>, AllocError> {
 /// How many lines are written, and how they begin and end.
 type Written = (usize, &'static str, &'static str);
 
-// An engine takes a text, and writes these lines.
-fn is_written(
-    rt: &(impl Abort + AllocGlobal),
-    engine: Engine,
-    long: Long,
-    written: Written,
-) -> Result<(), AllocError> {
-    let (lines, first, last) = written;
-    let text = text_of(rt.alloc(), long)?;
-    let (end, written) = engine.text_of(rt.alloc(), in_pieces(&text, 4096));
-    assert!(rt; end.is_ok(), "{last}");
-    let feeds = written.iter().filter(|byte| **byte == b'\n').count();
-    assert_eq!(rt; feeds, lines, "{last}");
-    assert!(rt; written.starts_with(first.as_bytes()), "{first}");
-    assert!(rt; written.ends_with(last.as_bytes()), "{last}");
-    Ok(())
-}
-
+// An engine takes each text, and writes these lines.
 fn expect_lines(
     rt: &(impl Abort + AllocGlobal),
     engine: Engine,
     rows: &[(Long, Written)],
 ) -> Result<(), AllocError> {
-    for (long, written) in rows {
-        is_written(rt, engine, *long, *written)?;
+    for (long, (lines, first, last)) in rows {
+        let text = text_of(rt.alloc(), *long)?;
+        let (end, written) = engine.text_of(rt.alloc(), in_pieces(&text, 4096));
+        assert!(rt; end.is_ok(), "{last}");
+        let feeds = written.iter().filter(|byte| **byte == b'\n').count();
+        assert_eq!(rt; feeds, *lines, "{last}");
+        assert!(rt; written.starts_with(first.as_bytes()), "{first}");
+        assert!(rt; written.ends_with(last.as_bytes()), "{last}");
     }
     Ok(())
 }
@@ -106,15 +95,6 @@ fn long_traces_are_decoded(rt: HostRuntime) -> Result<(), Fail> {
     Ok(())
 }
 
-// How many events a scenario has, and why a text is none.
-fn count_events(alloc: Global, text: &[u8]) -> Result<usize, TextFault> {
-    Ok(read_scenario(alloc, text)?.events.as_slice().len())
-}
-
-fn fault_of(alloc: Global, text: &[u8]) -> Option<TextFault> {
-    read_scenario(alloc, text).err()
-}
-
 #[test]
 fn long_scenarios_are_replayed(rt: HostRuntime) -> Result<(), Fail> {
     let rows: [(Long, Written); 5] = [
@@ -142,7 +122,8 @@ fn long_scenarios_are_replayed(rt: HostRuntime) -> Result<(), Fail> {
     ];
     expect_lines(&rt, Engine::Replay, &rows)?;
     let text = text_of(rt.alloc(), ([ONE, ""], "learn 0\n", 100_000, ""))?;
-    assert_eq!(rt; count_events(rt.alloc(), &text)?, 100_000);
+    let scenario = read_scenario(rt.alloc(), &text)?;
+    assert_eq!(rt; scenario.events.as_slice().len(), 100_000);
     Ok(())
 }
 
@@ -187,18 +168,6 @@ fn long_texts_are_heard(rt: HostRuntime) -> Result<(), Fail> {
         ),
     ];
     expect_lines(&rt, Engine::Hear, &rows)?;
-    Ok(())
-}
-
-// `hear` refuses a text for this, and writes nothing.
-fn is_not_heard(rt: &(impl Abort + AllocGlobal), text: &[u8], fault: TextFault) {
-    let (end, written) = Engine::Hear.text_of(rt.alloc(), in_pieces(text, 4096));
-    assert_eq!(rt; end, Err(fault));
-    assert!(rt; written.is_empty());
-}
-
-#[test]
-fn a_faulty_line_at_the_end_of_a_long_text_is_told(rt: HostRuntime) -> Result<(), Fail> {
     let faults: [(Long, TextFault); 3] = [
         (
             (["", ""], "\n", 1_048_575, "Z"),
@@ -214,28 +183,17 @@ fn a_faulty_line_at_the_end_of_a_long_text_is_told(rt: HostRuntime) -> Result<()
         ),
     ];
     for (long, fault) in faults {
-        is_not_heard(&rt, &text_of(rt.alloc(), long)?, fault);
+        let text = text_of(rt.alloc(), long)?;
+        let (end, written) = Engine::Hear.text_of(rt.alloc(), in_pieces(&text, 4096));
+        assert_eq!(rt; end, Err(fault));
+        assert!(rt; written.is_empty());
     }
     Ok(())
 }
 
-// An engine ends so and writes this; as a scenario the text is too long where it is for the engine.
-fn is_taken(
-    rt: &(impl Abort + AllocGlobal),
-    engine: Engine,
-    input: &[u8],
-    wanted: Result<bool, TextFault>,
-    text: &str,
-) {
-    let (end, written) = engine.text_of(rt.alloc(), in_pieces(input, 4096));
-    assert_eq!(rt; end, wanted, "{engine:?}");
-    assert_eq!(rt; written.as_slice(), text.as_bytes(), "{engine:?}");
-    let is_too_long = fault_of(rt.alloc(), input) == Some(TextFault::TooLong);
-    assert_eq!(rt; is_too_long, wanted.is_err(), "{engine:?}");
-}
-
 #[test]
 fn a_text_has_at_most_1048576_bytes(rt: HostRuntime) -> Result<(), Fail> {
+    let alloc = rt.alloc();
     // What stands before the spaces, what is written of it, and of that where there is a byte too many.
     let rows = [
         (Engine::Replay, SCENARIO, REPORT, ""),
@@ -248,36 +206,24 @@ fn a_text_has_at_most_1048576_bytes(rt: HostRuntime) -> Result<(), Fail> {
         (Engine::Hear, FRAME, TAKEN, ""),
     ];
     for (engine, head, text, front) in rows {
-        let mut input = Vec::from_slice(rt.alloc(), head.as_bytes())?;
+        let mut input = Vec::from_slice(alloc, head.as_bytes())?;
         input.resize(1_048_576, b' ')?;
-        is_taken(&rt, engine, &input, Ok(true), text);
-        input.push(b' ')?;
-        is_taken(&rt, engine, &input, Err(TextFault::TooLong), front);
-        input.truncate(1_048_576);
-        input.push(b'\n')?;
-        is_taken(&rt, engine, &input, Err(TextFault::TooLong), front);
+        let (end, written) = engine.text_of(alloc, in_pieces(&input, 4096));
+        assert_eq!(rt; end, Ok(true), "{engine:?}");
+        assert_eq!(rt; written.as_slice(), text.as_bytes(), "{engine:?}");
+        let fault = read_scenario(alloc, &input).err();
+        assert!(rt; fault != Some(TextFault::TooLong), "{engine:?}");
+        for last in [b' ', b'\n'] {
+            input.truncate(1_048_576);
+            input.push(last)?;
+            let (end, written) = engine.text_of(alloc, in_pieces(&input, 4096));
+            assert_eq!(rt; end, Err(TextFault::TooLong), "{engine:?}");
+            assert_eq!(rt; written.as_slice(), front.as_bytes(), "{engine:?}");
+            let fault = read_scenario(alloc, &input).err();
+            assert_eq!(rt; fault, Some(TextFault::TooLong), "{engine:?}");
+        }
     }
     Ok(())
-}
-
-// How many bytes the parts of a line have.
-fn sizes_of(parts: &TraceLine) -> (usize, Option<usize>) {
-    let read = match &parts.read {
-        Some(read) => Some(read.as_slice().len()),
-        None => None,
-    };
-    (parts.write.as_slice().len(), read)
-}
-
-// These, and what the line says with this number.
-fn rendered(
-    alloc: Global,
-    line: &[u8],
-    number: u64,
-) -> Result<((usize, Option<usize>), String), TextFault> {
-    let parts = read_trace_line(alloc, line)?;
-    let text = render_line(alloc, number, &parts)?;
-    Ok((sizes_of(&parts), text))
 }
 
 // A line has parts of so many bytes, and says this with that number.
@@ -288,8 +234,15 @@ fn is_rendered(
     number: u64,
     wanted: &str,
 ) -> Result<(), Fail> {
-    let (found, text) = rendered(rt.alloc(), line, number)?;
-    assert_eq!(rt; found, sizes, "{wanted}");
+    let (writes, reads) = sizes;
+    let parts = read_trace_line(rt.alloc(), line)?;
+    assert_eq!(rt; parts.write.as_slice().len(), writes, "{wanted}");
+    let read = match &parts.read {
+        Some(read) => Some(read.as_slice().len()),
+        None => None,
+    };
+    assert_eq!(rt; read, reads, "{wanted}");
+    let text = render_line(rt.alloc(), number, &parts)?;
     assert_eq!(rt; text.as_str(), wanted);
     Ok(())
 }
@@ -330,30 +283,8 @@ fn long_parts_are_rendered_with_great_numbers(rt: HostRuntime) -> Result<(), Fai
     Ok(())
 }
 
-// These words choose a `number` of this format and this word, with a micro of so many bytes.
-fn is_number(
-    rt: &(impl Abort + AllocGlobal),
-    words: &[&str],
-    wanted: (&str, &str, usize),
-) -> Result<(), Fail> {
-    let (wanted_format, wanted_word, bytes) = wanted;
-    match chosen(rt.alloc(), words)? {
-        Chosen::Number {
-            format,
-            word,
-            micro,
-        } => {
-            assert_eq!(rt; format, wanted_format);
-            assert_eq!(rt; word, Some(wanted_word));
-            assert_eq!(rt; micro.map(|text| text.len()), Some(bytes));
-        }
-        _ => panic!(rt; "not number"),
-    }
-    Ok(())
-}
-
 #[test]
-fn a_long_word_is_chosen(rt: HostRuntime) -> Result<(), Fail> {
+fn many_words_and_long_words_are_chosen(rt: HostRuntime) -> Result<(), Fail> {
     let alloc = rt.alloc();
     let digits = text_of(alloc, (["--micro=", ""], "0", 1_000_000, "1"))?;
     let micro = String::from_utf8(digits)?;
@@ -366,29 +297,31 @@ fn a_long_word_is_chosen(rt: HostRuntime) -> Result<(), Fail> {
         "7FFF",
         micro.as_str(),
     ];
-    is_number(&rt, &words, ("direct:-32768:-32768:-12", "7FFF", 1_000_001))
-}
-
-// A command and ten thousand words more are refused so.
-fn is_no_command(
-    rt: &(impl Abort + AllocGlobal),
-    command: &str,
-    kind: ErrorKind,
-) -> Result<(), Fail> {
-    let mut words = vec![in rt.alloc(); "more"; 10_000]?;
-    words.insert(0, command)?;
-    words.insert(0, "pmb")?;
-    let found = chosen(rt.alloc(), words.as_slice())
-        .err()
-        .map(|error| error.kind());
-    assert_eq!(rt; found, Some(kind), "{command}");
+    match chosen(alloc, &words)? {
+        Chosen::Number {
+            format,
+            word,
+            micro,
+        } => {
+            assert_eq!(rt; format, "direct:-32768:-32768:-12");
+            assert_eq!(rt; word, Some("7FFF"));
+            assert_eq!(rt; micro.map(|text| text.len()), Some(1_000_001));
+        }
+        _ => panic!(rt; "not number"),
+    }
+    for (command, kind) in [
+        ("hear", ErrorKind::UnknownArgument),
+        ("number", ErrorKind::UnknownArgument),
+        ("listen", ErrorKind::InvalidSubcommand),
+        ("--help", ErrorKind::DisplayHelp),
+    ] {
+        let mut words = vec![in alloc; "more"; 10_000]?;
+        words.insert(0, command)?;
+        words.insert(0, "pmb")?;
+        let found = chosen(alloc, words.as_slice())
+            .err()
+            .map(|error| error.kind());
+        assert_eq!(rt; found, Some(kind), "{command}");
+    }
     Ok(())
-}
-
-#[test]
-fn many_words_are_no_command(rt: HostRuntime) -> Result<(), Fail> {
-    is_no_command(&rt, "hear", ErrorKind::UnknownArgument)?;
-    is_no_command(&rt, "number", ErrorKind::UnknownArgument)?;
-    is_no_command(&rt, "listen", ErrorKind::InvalidSubcommand)?;
-    is_no_command(&rt, "--help", ErrorKind::DisplayHelp)
 }

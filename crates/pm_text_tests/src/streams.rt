@@ -1,140 +1,94 @@
 //! Tests of `pm_lines`: its readers and writers, whole texts, lines, words and bytes.
-use crate::fakes::{FAILURES, Failure, Paper, Pieces, blank_paper, in_pieces};
+use crate::fakes::{FAILURES, Paper, Pieces, blank_paper, in_pieces};
 use pm_lines::{Line, Lines, Sink, Source, TextFault, Words, cut_at, push_bytes, read_text};
-use std::alloc::Global;
 use std::io::ErrorKind;
-use std::process::Abort;
 use std::test::Fail;
-
-// A source over a reader that fails at this call, which is called once.
-fn is_called_once(
-    rt: &impl Abort,
-    fails_at: usize,
-    kind: ErrorKind,
-    wanted: Result<usize, TextFault>,
-) {
-    let mut source = Source::new(Pieces {
-        fails_at,
-        kind,
-        ..in_pieces(b"abcdef", 3)
-    });
-    let result = source.read(&mut [0; 4]);
-    assert_eq!(rt; result, wanted, "with a failure at {fails_at}");
-    assert_eq!(rt;
-        source.failed(),
-        wanted.is_err(),
-        "with a failure at {fails_at}"
-    );
-    let calls = source.into_inner().calls;
-    assert_eq!(rt; calls, 1, "with a failure at {fails_at}");
-}
 
 #[test]
 fn a_source_calls_its_reader_once_and_tells_its_failure(rt: HostRuntime) {
-    for kind in [ErrorKind::Other, ErrorKind::Interrupted] {
-        is_called_once(&rt, 1, kind, Err(TextFault::Read));
-        is_called_once(&rt, 2, kind, Ok(3));
-        is_called_once(&rt, 0, kind, Ok(3));
+    // The call that fails, and what the first call answers.
+    for (fails_at, wanted) in [(1, Err(TextFault::Read)), (2, Ok(3)), (0, Ok(3))] {
+        for kind in [ErrorKind::Other, ErrorKind::Interrupted] {
+            let mut source = Source::new(Pieces {
+                fails_at,
+                kind,
+                ..in_pieces(b"abcdef", 3)
+            });
+            let result = source.read(&mut [0; 4]);
+            assert_eq!(rt; result, wanted, "with a failure at {fails_at}");
+            assert_eq!(rt;
+                source.failed(),
+                wanted.is_err(),
+                "with a failure at {fails_at}"
+            );
+            assert_eq!(rt;
+                source.into_inner().calls,
+                1,
+                "with a failure at {fails_at}"
+            );
+        }
     }
-}
-
-const TEXT: &[u8] = b"a text of some bytes";
-
-// What is read of a text, by how many calls, and whether the source failed.
-fn read(alloc: Global, reader: Pieces<'_>) -> (Result<Vec<u8>, TextFault>, usize, bool) {
-    let mut source = Source::new(reader);
-    let result = read_text(alloc, &mut source);
-    let failed = source.failed();
-    (result, source.into_inner().calls, failed)
-}
-
-// A whole text is read by so many calls.
-fn is_read(rt: &(impl Abort + AllocGlobal), piece: usize) -> usize {
-    let (whole, made, _) = read(rt.alloc(), in_pieces(TEXT, piece));
-    assert!(rt; whole.is_ok_and(|found| found.as_slice() == TEXT));
-    made
-}
-
-fn is_read_to(rt: &(impl Abort + AllocGlobal), piece: usize, fails_at: usize) {
-    let reader = Pieces {
-        fails_at,
-        ..in_pieces(TEXT, piece)
-    };
-    let (result, calls, failed) = read(rt.alloc(), reader);
-    assert!(rt; matches!(result, Err(TextFault::Read)) && failed);
-    assert_eq!(rt; calls, fails_at, "by {piece}");
 }
 
 #[test]
 fn a_whole_text_is_read_to_the_first_failure(rt: HostRuntime) {
+    let text = b"a text of some bytes";
     for piece in [1, 7, 4096] {
-        for fails_at in 1..=is_read(&rt, piece) {
-            is_read_to(&rt, piece, fails_at);
+        let mut source = Source::new(in_pieces(text, piece));
+        let whole = read_text(rt.alloc(), &mut source);
+        assert!(rt; whole.is_ok_and(|found| found.as_slice() == text.as_slice()));
+        let made = source.into_inner().calls;
+        for fails_at in 1..=made {
+            let mut source = Source::new(Pieces {
+                fails_at,
+                ..in_pieces(text, piece)
+            });
+            let result = read_text(rt.alloc(), &mut source);
+            assert!(rt; matches!(result, Err(TextFault::Read)) && source.failed());
+            assert_eq!(rt; source.into_inner().calls, fails_at, "by {piece}");
         }
     }
 }
 
-// What a sink answers to the text, whether it failed, and what was written.
-fn put(writer: Paper) -> (Result<(), TextFault>, bool, Paper) {
-    let mut sink = Sink::new(writer);
-    let result = sink.put(TEXT);
-    let failed = sink.failed();
-    (result, failed, sink.into_inner())
-}
-
-fn is_put(rt: &(impl Abort + AllocGlobal), piece: usize, calls: usize) {
-    let (result, failed, written) = put(blank_paper(rt.alloc(), piece));
-    assert!(rt; result.is_ok() && !failed);
-    assert_eq!(rt; (written.calls, written.flushes), (calls, 0), "by {piece}");
-    assert_eq!(rt; written.taken.as_slice(), TEXT, "by {piece}");
-}
-
-fn is_put_to(rt: &(impl Abort + AllocGlobal), piece: usize, fails_at: usize, failure: Failure) {
-    let (result, failed, written) = put(Paper {
-        fails_at,
-        failure,
-        ..blank_paper(rt.alloc(), piece)
-    });
-    assert!(rt; result == Err(TextFault::Write) && failed);
-    assert_eq!(rt;
-        (written.calls, written.flushes),
-        (fails_at, 0),
-        "by {piece}"
-    );
-    let front = fails_at
-        .saturating_sub(1)
-        .saturating_mul(piece)
-        .min(TEXT.len());
-    assert_eq!(rt; written.taken.as_slice(), &TEXT[..front], "by {piece}");
-}
-
 #[test]
-fn a_sink_writes_to_the_first_failure(rt: HostRuntime) {
+fn a_sink_writes_to_the_first_failure_and_flushes_when_asked(rt: HostRuntime) {
+    let text = b"a text of some bytes";
     for (piece, calls) in [(1, 20), (7, 3), (20, 1), (4096, 1)] {
-        is_put(&rt, piece, calls);
+        let mut sink = Sink::new(blank_paper(rt.alloc(), piece));
+        assert!(rt; sink.put(text).is_ok() && !sink.failed());
+        let written = sink.into_inner();
+        assert_eq!(rt; (written.calls, written.flushes), (calls, 0), "by {piece}");
+        assert_eq!(rt; written.taken.as_slice(), text.as_slice(), "by {piece}");
         for fails_at in 1..=calls {
             for failure in FAILURES {
-                is_put_to(&rt, piece, fails_at, failure);
+                let mut sink = Sink::new(Paper {
+                    fails_at,
+                    failure,
+                    ..blank_paper(rt.alloc(), piece)
+                });
+                let result = sink.put(text);
+                assert!(rt; result == Err(TextFault::Write) && sink.failed());
+                let written = sink.into_inner();
+                assert_eq!(rt;
+                    (written.calls, written.flushes),
+                    (fails_at, 0),
+                    "by {piece}"
+                );
+                let front = (fails_at - 1).saturating_mul(piece).min(20);
+                assert_eq!(rt; written.taken.as_slice(), &text[..front], "by {piece}");
             }
         }
     }
-}
-
-fn is_flushed(rt: &(impl Abort + AllocGlobal), flush_fails: bool) {
-    let mut sink = Sink::new(Paper {
-        flush_fails,
-        ..blank_paper(rt.alloc(), 1)
-    });
-    assert_eq!(rt; sink.flush().is_err(), flush_fails);
-    assert_eq!(rt; sink.failed(), flush_fails);
-    let written = sink.into_inner();
-    assert_eq!(rt; (written.calls, written.flushes), (0, 1));
-}
-
-#[test]
-fn a_sink_flushes_when_it_is_asked(rt: HostRuntime) {
-    is_flushed(&rt, false);
-    is_flushed(&rt, true);
+    for flush_fails in [false, true] {
+        let mut sink = Sink::new(Paper {
+            flush_fails,
+            ..blank_paper(rt.alloc(), 1)
+        });
+        assert_eq!(rt; sink.flush().is_err(), flush_fails);
+        assert_eq!(rt; sink.failed(), flush_fails);
+        let written = sink.into_inner();
+        assert_eq!(rt; (written.calls, written.flushes), (0, 1));
+    }
 }
 
 #[test]

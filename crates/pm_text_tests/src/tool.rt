@@ -3,5 +3,4 @@ mod commandline;
 mod hear;
 mod numbers;
 mod run;
-mod setups;
 mod usage;

@@ -7,19 +7,11 @@ use crate::fakes::in_pieces;
 use crate::worked::TRACE;
 use pm_text::{Decoder, Shown, TextFault, read_trace_line, render_line};
 use std::alloc::{AllocError, Global};
-use std::process::Abort;
 use std::test::Fail;
 
 // Whether a trace has no bad line, and what `decode` writes of it.
 fn decoded(alloc: Global, trace: &str) -> (Result<bool, TextFault>, Vec<u8>) {
     Engine::Decode.text_of(alloc, in_pieces(trace.as_bytes(), 4096))
-}
-
-// What `decode` writes of a trace, and whether it has no bad line.
-fn is_decoded(rt: &(impl Abort + AllocGlobal), trace: &str, text: &str, is_clean: bool) {
-    let (end, written) = decoded(rt.alloc(), trace);
-    assert_eq!(rt; end, Ok(is_clean), "{trace}");
-    assert_eq!(rt; written.as_slice(), text.as_bytes(), "{trace}");
 }
 
 #[test]
@@ -48,23 +40,20 @@ fn a_trace_is_written_line_by_line(rt: HostRuntime) {
         ),
     ];
     for (trace, text, is_clean) in rows {
-        is_decoded(&rt, trace, text, is_clean);
+        let (end, written) = decoded(rt.alloc(), trace);
+        assert_eq!(rt; end, Ok(is_clean), "{trace}");
+        assert_eq!(rt; written.as_slice(), text.as_bytes(), "{trace}");
     }
-}
-
-// What a line says by itself, with this number.
-fn rendered(alloc: Global, line: &str, number: u64) -> Result<String, TextFault> {
-    let parts = read_trace_line(alloc, line.as_bytes())?;
-    render_line(alloc, number, &parts)
 }
 
 #[test]
 fn a_line_by_itself_is_never_skipped(rt: HostRuntime) -> Result<(), Fail> {
     for line in ["", "  "] {
-        let text = rendered(rt.alloc(), line, 300)?;
+        let parts = read_trace_line(rt.alloc(), line.as_bytes())?;
+        let text = render_line(rt.alloc(), 300, &parts)?;
         assert_eq!(rt; text.as_str(), "300 -- write F1 NotOurs");
     }
-    let comment = rendered(rt.alloc(), "# x", 300).err();
+    let comment = read_trace_line(rt.alloc(), b"# x").err();
     assert_eq!(rt; comment, Some(TextFault::BadHex(1)));
     Ok(())
 }
@@ -83,38 +72,22 @@ fn feed_whole(
 ) -> Result<(), Fail> {
     let mut rest = piece;
     for _ in 0..piece.len() {
-        let taken = decoder.feed(rest)?.taken;
+        let fed = decoder.feed(rest)?;
         if let Some((number, shown)) = decoder.line() {
-            text.push_str(line_shown(alloc, number, shown)?.as_str())?;
+            let line = match shown {
+                Shown::Accepted { addr, view, answer } => {
+                    format!(in alloc; "{number} {addr:02X} {:?} {answer:?}\n", view.message())?
+                }
+                Shown::Faulty { addr, read, fault } => {
+                    format!(in alloc; "{number} {addr:?} {read} {fault:?}\n")?
+                }
+                Shown::BadSyntax => format!(in alloc; "{number} BadSyntax\n")?,
+                Shown::BadHex => format!(in alloc; "{number} BadHex\n")?,
+            };
+            text.push_str(line.as_str())?;
         }
-        rest = &rest[taken..];
+        rest = &rest[fed.taken..];
     }
-    Ok(())
-}
-
-// What a decoder shows of a line, in a line.
-fn line_shown(alloc: Global, number: u64, shown: Shown<'_>) -> Result<String, Fail> {
-    Ok(match shown {
-        Shown::Accepted { addr, view, answer } => {
-            format!(in alloc; "{number} {addr:02X} {:?} {answer:?}\n", view.message())?
-        }
-        Shown::Faulty { addr, read, fault } => {
-            format!(in alloc; "{number} {addr:?} {read} {fault:?}\n")?
-        }
-        Shown::BadSyntax => format!(in alloc; "{number} BadSyntax\n")?,
-        Shown::BadHex => format!(in alloc; "{number} BadHex\n")?,
-    })
-}
-
-// The worked trace in these two pieces.
-fn is_shown(rt: &(impl Abort + AllocGlobal), first: &[u8], second: &[u8]) -> Result<(), Fail> {
-    let mut decoder = Decoder::new(rt.alloc());
-    let mut text = String::new(rt.alloc());
-    feed_whole(rt.alloc(), &mut decoder, first, &mut text)?;
-    feed_whole(rt.alloc(), &mut decoder, second, &mut text)?;
-    assert_eq!(rt; decoder.finish(), Ok(false), "cut at {}", first.len());
-    assert_eq!(rt; text.as_str(), SHOWN, "cut at {}", first.len());
-    assert_eq!(rt; decoder.counts(), (5, 3, 1, 1), "cut at {}", first.len());
     Ok(())
 }
 
@@ -122,7 +95,13 @@ fn is_shown(rt: &(impl Abort + AllocGlobal), first: &[u8], second: &[u8]) -> Res
 fn a_cut_shows_the_same_lines_wherever_it_is(rt: HostRuntime) -> Result<(), Fail> {
     let trace = TRACE.as_bytes();
     for cut in 0..=trace.len() {
-        is_shown(&rt, &trace[..cut], &trace[cut..])?;
+        let mut decoder = Decoder::new(rt.alloc());
+        let mut text = String::new(rt.alloc());
+        feed_whole(rt.alloc(), &mut decoder, &trace[..cut], &mut text)?;
+        feed_whole(rt.alloc(), &mut decoder, &trace[cut..], &mut text)?;
+        assert_eq!(rt; decoder.finish(), Ok(false), "cut {cut}");
+        assert_eq!(rt; text.as_str(), SHOWN, "cut {cut}");
+        assert_eq!(rt; decoder.counts(), (5, 3, 1, 1), "cut {cut}");
     }
     Ok(())
 }
@@ -136,30 +115,9 @@ fn part(alloc: Global, first: &str, bytes: usize) -> Result<String, AllocError> 
     Ok(part)
 }
 
-// A line of parts of so many bytes.
-fn line_of(
-    alloc: Global,
-    writes: usize,
-    middle: &str,
-    reads: usize,
-    end: &str,
-) -> Result<String, Fail> {
-    let write = part(alloc, "B0", writes)?;
-    let read = if reads == 0 {
-        String::new(alloc)
-    } else {
-        part(alloc, "B1", reads)?
-    };
-    Ok(format!(in alloc; "{write}{middle}{read}{end}")?)
-}
-
-fn begins_with(rt: &(impl Abort + AllocGlobal), line: &str, wanted: &str) {
-    let (_, written) = decoded(rt.alloc(), line);
-    assert!(rt; written.starts_with(wanted.as_bytes()), "{wanted}");
-}
-
 #[test]
 fn a_part_has_at_most_300_bytes(rt: HostRuntime) -> Result<(), Fail> {
+    let alloc = rt.alloc();
     // How many bytes the write part has and what follows it, the read part's bytes and what follows.
     let rows = [
         (300, "", 0, "", "1 58 write F3 Long 9\n"),
@@ -173,8 +131,18 @@ fn a_part_has_at_most_300_bytes(rt: HostRuntime) -> Result<(), Fail> {
         (1, "20 /", 301, "Z", "1 X2 BadHex\n"),
     ];
     for (writes, middle, reads, end, wanted) in rows {
-        let line = line_of(rt.alloc(), writes, middle, reads, end)?;
-        begins_with(&rt, &line, wanted);
+        let write = part(alloc, "B0", writes)?;
+        let read = if reads == 0 {
+            String::new(alloc)
+        } else {
+            part(alloc, "B1", reads)?
+        };
+        let line = format!(in alloc; "{write}{middle}{read}{end}")?;
+        let (_, written) = decoded(alloc, line.as_str());
+        assert!(rt;
+            written.starts_with(wanted.as_bytes()),
+            "{writes} {middle} {reads} {end}"
+        );
     }
     Ok(())
 }

@@ -3,9 +3,8 @@
 use crate::engine::Engine;
 use crate::fakes::in_pieces;
 use crate::worked::{REPORT, SCENARIO};
-use pm_text::{Scenario, TextFault, read_scenario};
+use pm_text::{TextFault, read_scenario};
 use std::alloc::Global;
-use std::process::Abort;
 use std::test::Fail;
 
 // The lines before the events, of version 2.
@@ -100,30 +99,19 @@ const ORDERED: [(&str, &str, &str, &str); 4] = [
     ),
 ];
 
-// The report after an event of version 2, which is carried out.
-fn report_after(rt: &(impl Abort + AllocGlobal), event: &str) -> Result<Vec<u8>, Fail> {
-    let events = format!(in rt.alloc();
-        "{event}\ndeliver whole\nfinish ack\nexchange whole whole\n"
-    )?;
-    let text = text_with(rt.alloc(), 8, "", &events)?;
-    let (end, written) = replayed(rt.alloc(), &text);
-    assert_eq!(rt; end, Ok(true), "{event}");
-    Ok(written)
-}
-
-// A text has each of these lines.
-fn tells(rt: &impl Abort, written: &[u8], lines: &[&str]) -> Result<(), Fail> {
-    let told = std::str::from_utf8(written)?;
-    for line in lines {
-        assert!(rt; told.contains(*line), "{line}");
-    }
-    Ok(())
-}
-
 #[test]
 fn version_2_orders_vout_min(rt: HostRuntime) -> Result<(), Fail> {
     for (event, first, second, third) in ORDERED {
-        tells(&rt, &report_after(&rt, event)?, &[first, second, third])?;
+        let events = format!(in rt.alloc();
+            "{event}\ndeliver whole\nfinish ack\nexchange whole whole\n"
+        )?;
+        let text = text_with(rt.alloc(), 8, "", &events)?;
+        let (end, written) = replayed(rt.alloc(), &text);
+        assert_eq!(rt; end, Ok(true), "{event}");
+        let told = std::str::from_utf8(&written)?;
+        for line in [first, second, third] {
+            assert!(rt; told.contains(line), "{event} {line}");
+        }
     }
     Ok(())
 }
@@ -145,18 +133,14 @@ const HEARD: [(&str, &str); 3] = [
     ),
 ];
 
-fn is_heard(rt: &(impl Abort + AllocGlobal), text: &str, wanted: &str) {
-    let (end, written) = Engine::Hear.text_of(rt.alloc(), in_pieces(text.as_bytes(), 4096));
-    assert_eq!(rt; end, Ok(true), "{text}");
-    assert_eq!(rt; written.as_slice(), wanted.as_bytes(), "{text}");
-}
-
 #[test]
 fn hear_takes_vout_min_and_shows_what_it_cuts(rt: HostRuntime) -> Result<(), Fail> {
     let outputs = "output 0 VOUT_COMMAND 1000\noutput 1 VOUT_COMMAND 1000\n";
     for (text, answers) in HEARD {
+        let (end, written) = Engine::Hear.text_of(rt.alloc(), in_pieces(text.as_bytes(), 4096));
+        assert_eq!(rt; end, Ok(true), "{text}");
         let wanted = format!(in rt.alloc(); "{answers}{outputs}")?;
-        is_heard(&rt, text, &wanted);
+        assert_eq!(rt; written.as_slice(), wanted.as_bytes(), "{text}");
     }
     Ok(())
 }
@@ -192,22 +176,12 @@ const FAULTY: [(usize, &str, TextFault); 10] = [
     (0, "scenario", TextFault::Syntax(1)),
 ];
 
-// A scenario, or why it is none: a function of its own, so that no test's proof carries what the call
-// promises.
-fn scenario_of(alloc: Global, text: &str) -> Result<Scenario, TextFault> {
-    read_scenario(alloc, text.as_bytes())
-}
-
-fn is_refused(rt: &(impl Abort + AllocGlobal), text: &str, fault: TextFault) {
-    let found = scenario_of(rt.alloc(), text).err();
-    assert_eq!(rt; found, Some(fault), "{text}");
-}
-
 #[test]
 fn a_line_of_version_2_is_faulty_so(rt: HostRuntime) -> Result<(), Fail> {
     for (place, line, fault) in FAULTY {
         let text = text_with(rt.alloc(), place, line, "")?;
-        is_refused(&rt, &text, fault);
+        let found = read_scenario(rt.alloc(), text.as_bytes()).err();
+        assert_eq!(rt; found, Some(fault), "{line}");
     }
     Ok(())
 }
@@ -222,7 +196,8 @@ fn no_event_of_version_1_names_vout_min(rt: HostRuntime) -> Result<(), Fail> {
     ];
     for event in events {
         let text = format!(in rt.alloc(); "{SCENARIO}{event}\n")?;
-        is_refused(&rt, &text, TextFault::Syntax(13));
+        let found = read_scenario(rt.alloc(), text.as_bytes()).err();
+        assert_eq!(rt; found, Some(TextFault::Syntax(13)), "{event}");
     }
     Ok(())
 }
@@ -239,41 +214,25 @@ const LEAST: [(&str, &str, u16); 8] = [
     ("80", "-1", 0x0000),
 ];
 
-// The version of a scenario, and VOUT_MIN of its first and its second output.
-fn least(alloc: Global, text: &str) -> Result<(u8, u16, u16), TextFault> {
-    let scenario = scenario_of(alloc, text)?;
-    let [first, second, ..] = scenario.config.starts;
-    Ok((scenario.version, first.min, second.min))
-}
-
-fn has_least(
-    rt: &(impl Abort + AllocGlobal),
-    mode: &str,
-    m: &str,
-    wanted: u16,
-) -> Result<(), Fail> {
-    let text = format!(in rt.alloc();
-        "scenario 1\naddress 58\npasses 2\nprotect 00\ncoefficients {m} 5 3\noutput {mode} 80 1000 4000 1100 0F00\nbegin\n"
-    )?;
-    let (version, found, _) = least(rt.alloc(), &text)?;
-    assert_eq!(rt; (version, found), (1, wanted), "{mode} {m}");
-    Ok(())
-}
-
 #[test]
 fn version_1_has_the_least_vout_min(rt: HostRuntime) -> Result<(), Fail> {
-    for (mode, m, wanted) in LEAST {
-        has_least(&rt, mode, m, wanted)?;
-    }
-    Ok(())
-}
-
-#[test]
-fn version_2_has_vout_min_of_each_output(rt: HostRuntime) -> Result<(), Fail> {
     let alloc = rt.alloc();
+    for (mode, m, wanted) in LEAST {
+        let text = format!(in alloc;
+            "scenario 1\naddress 58\npasses 2\nprotect 00\ncoefficients {m} 5 3\noutput {mode} 80 1000 4000 1100 0F00\nbegin\n"
+        )?;
+        let scenario = read_scenario(alloc, text.as_bytes())?;
+        let [start, ..] = scenario.config.starts;
+        assert_eq!(rt; start.min, wanted, "{mode} {m}");
+        assert_eq!(rt; scenario.version, 1);
+    }
     let text = text_with(alloc, 8, "", "check 1 VOUT_MIN\n")?;
-    assert_eq!(rt; least(alloc, &text)?, (2, 0x0800, 0x07D0));
-    let scenario = scenario_of(alloc, &text)?;
+    let scenario = read_scenario(alloc, text.as_bytes())?;
+    let [first, second, ..] = scenario.config.starts;
+    assert_eq!(rt;
+        (first.min, second.min, scenario.version),
+        (0x0800, 0x07D0, 2)
+    );
     let events = format!(in alloc; "{:?}", scenario.events.as_slice())?;
     assert_eq!(rt; events.as_str(), "[Check(Out(1, VoutMin))]");
     Ok(())

@@ -1,36 +1,9 @@
 //! The faults of scenarios, and the numbers of their lines.
 
-use super::{head_with, is_refused, with_event};
+use super::{fault_of, head_with, with_event};
 use crate::worked::SCENARIO;
 use pm_text::TextFault;
-use std::alloc::{AllocError, Global};
-use std::process::Abort;
 use std::test::Fail;
-
-// The worked scenario with another line of this number.
-fn worked_with(alloc: Global, number: usize, line: &str) -> Result<String, AllocError> {
-    let mut text = String::new(alloc);
-    for (at, usual) in SCENARIO.split('\n').enumerate() {
-        text.push_str(if at.saturating_add(1) == number {
-            line
-        } else {
-            usual
-        })?;
-        text.push('\n')?;
-    }
-    Ok(text)
-}
-
-// An event line is refused for this.
-fn is_refused_event(
-    rt: &(impl Abort + AllocGlobal),
-    line: &str,
-    fault: TextFault,
-) -> Result<(), AllocError> {
-    let text = with_event(rt.alloc(), line)?;
-    is_refused(rt, &text, fault);
-    Ok(())
-}
 
 #[test]
 fn a_faulty_line_of_the_worked_scenario_is_told(rt: HostRuntime) -> Result<(), Fail> {
@@ -58,8 +31,16 @@ fn a_faulty_line_of_the_worked_scenario_is_told(rt: HostRuntime) -> Result<(), F
         (11, "finish", TextFault::Syntax(11)),
     ];
     for (number, line, fault) in rows {
-        let text = worked_with(rt.alloc(), number, line)?;
-        is_refused(&rt, &text, fault);
+        let mut text = String::new(rt.alloc());
+        for (at, usual) in SCENARIO.split('\n').enumerate() {
+            text.push_str(if at.saturating_add(1) == number {
+                line
+            } else {
+                usual
+            })?;
+            text.push('\n')?;
+        }
+        assert_eq!(rt; fault_of(rt.alloc(), &text), Some(fault), "{line}");
     }
     Ok(())
 }
@@ -135,7 +116,12 @@ fn a_word_that_is_not_what_stands_at_its_place_is_a_fault(rt: HostRuntime) -> Re
         "reading - READ_VIN 0000 0",
     ];
     for line in rows {
-        is_refused_event(&rt, line, TextFault::Syntax(8))?;
+        let text = with_event(rt.alloc(), line)?;
+        assert_eq!(rt;
+            fault_of(rt.alloc(), &text),
+            Some(TextFault::Syntax(8)),
+            "{line}"
+        );
     }
     Ok(())
 }
@@ -161,7 +147,12 @@ fn a_word_that_should_be_hexadecimal_and_is_not_is_a_fault(rt: HostRuntime) -> R
         "reading - READ_VIN 0x00 0",
     ];
     for line in rows {
-        is_refused_event(&rt, line, TextFault::BadHex(8))?;
+        let text = with_event(rt.alloc(), line)?;
+        assert_eq!(rt;
+            fault_of(rt.alloc(), &text),
+            Some(TextFault::BadHex(8)),
+            "{line}"
+        );
     }
     Ok(())
 }
@@ -209,7 +200,7 @@ fn a_faulty_line_before_the_events_is_told(rt: HostRuntime) -> Result<(), Fail> 
     ];
     for (place, line, fault) in rows {
         let text = head_with(rt.alloc(), place, line)?;
-        is_refused(&rt, &text, fault);
+        assert_eq!(rt; fault_of(rt.alloc(), &text), Some(fault), "{line}");
     }
     Ok(())
 }
@@ -234,7 +225,7 @@ fn the_first_faulty_line_counts(rt: HostRuntime) -> Result<(), Fail> {
         ),
     ];
     for (text, fault) in rows {
-        is_refused(&rt, text, fault);
+        assert_eq!(rt; fault_of(rt.alloc(), text), Some(fault), "{text}");
     }
     let events = [
         ("learn x\norder 0 OPERATION Z", TextFault::Syntax(8)),
@@ -242,7 +233,8 @@ fn the_first_faulty_line_counts(rt: HostRuntime) -> Result<(), Fail> {
         ("learn 1\r\n\n# x\nlearn x\nlearn y", TextFault::Syntax(11)),
     ];
     for (lines, fault) in events {
-        is_refused_event(&rt, lines, fault)?;
+        let text = with_event(rt.alloc(), lines)?;
+        assert_eq!(rt; fault_of(rt.alloc(), &text), Some(fault), "{lines}");
     }
     Ok(())
 }

@@ -2,7 +2,6 @@ use crate::fakes::{blank_paper, in_pieces};
 use crate::worked::TAKEN;
 use pm_tool::{Sink, Source, TextFault, hear};
 use std::alloc::Global;
-use std::process::Abort;
 
 const PIECES: [usize; 4] = [1, 2, 7, 4096];
 
@@ -12,19 +11,6 @@ fn heard(alloc: Global, text: &[u8], piece: usize) -> (Result<(), TextFault>, Ve
     let mut writer = Sink::new(blank_paper(alloc, piece));
     let result = hear(alloc, &mut reader, &mut writer);
     (result, writer.into_inner().taken)
-}
-
-// Of a text that comes in such pieces these are the answers, and these the lines of the outputs.
-fn is_heard(rt: &(impl Abort + AllocGlobal), text: &str, piece: usize, answers: &str, words: &str) {
-    let (result, written) = heard(rt.alloc(), text.as_bytes(), piece);
-    assert_eq!(rt; result, Ok(()), "of {text:?} by {piece}");
-    let cut = answers.len().min(written.len());
-    assert_eq!(rt;
-        &written[..cut],
-        answers.as_bytes(),
-        "of {text:?} by {piece}"
-    );
-    assert_eq!(rt; &written[cut..], words.as_bytes(), "of {text:?} by {piece}");
 }
 
 #[test]
@@ -106,7 +92,11 @@ fn each_line_is_answered_and_the_outputs_follow(rt: HostRuntime) {
     ];
     for (text, answers, words) in rows {
         for piece in PIECES {
-            is_heard(&rt, text, piece, answers, words);
+            let (result, written) = heard(rt.alloc(), text.as_bytes(), piece);
+            assert_eq!(rt; result, Ok(()), "of {text} by {piece}");
+            let cut = answers.len().min(written.len());
+            assert_eq!(rt; &written[..cut], answers.as_bytes(), "of {text} by {piece}");
+            assert_eq!(rt; &written[cut..], words.as_bytes(), "of {text} by {piece}");
         }
     }
 }
@@ -126,16 +116,15 @@ fn a_frame_line_is_heard_however_it_is_written(rt: HostRuntime) {
     ];
     for text in texts {
         for piece in PIECES {
-            is_heard(&rt, text, piece, "", TAKEN);
+            let (result, written) = heard(rt.alloc(), text.as_bytes(), piece);
+            assert_eq!(rt; result, Ok(()), "of {text:?} by {piece}");
+            assert_eq!(rt;
+                written.as_slice(),
+                TAKEN.as_bytes(),
+                "of {text:?} by {piece}"
+            );
         }
     }
-}
-
-// Such a text is refused for this, and nothing is written.
-fn is_refused(rt: &(impl Abort + AllocGlobal), text: &str, piece: usize, fault: TextFault) {
-    let (result, written) = heard(rt.alloc(), text.as_bytes(), piece);
-    assert_eq!(rt; result, Err(fault), "of {text:?} by {piece}");
-    assert!(rt; written.is_empty(), "of {text:?} by {piece}");
 }
 
 #[test]
@@ -175,7 +164,9 @@ fn the_first_faulty_line_is_named(rt: HostRuntime) {
     ];
     for (text, fault) in rows {
         for piece in PIECES {
-            is_refused(&rt, text, piece, fault);
+            let (result, written) = heard(rt.alloc(), text.as_bytes(), piece);
+            assert_eq!(rt; result, Err(fault), "of {text:?} by {piece}");
+            assert!(rt; written.is_empty(), "of {text:?} by {piece}");
         }
     }
 }

@@ -251,28 +251,21 @@ fn numbers_without_a_word_are_refused(rt: HostRuntime) {
     );
 }
 
-// What a writer with such room has of the line of 87FF, and whether it failed.
-fn written(alloc: Global, room: u8) -> (Result<(), NumberFault>, bool, Sheet) {
-    let mut sink = Sink::new(Sheet::new(usize::from(room)));
-    let result = number(alloc, &mut sink, "linear11", Some("87FF"), None);
-    let failed = sink.failed();
-    (result, failed, sink.into_inner())
-}
-
 #[test]
 fn a_full_writer_has_a_front_of_the_line(rt: HostRuntime) {
     let line = "word 87FF value -1/65536 micro -16\n".as_bytes();
     for room in 0..50 {
-        let (result, failed, sheet) = written(rt.alloc(), room);
-        let room = usize::from(room);
+        let mut sink = Sink::new(Sheet::new(room));
+        let result = number(rt.alloc(), &mut sink, "linear11", Some("87FF"), None);
         let fits = line.len() <= room;
-        assert_eq!(rt; failed, !fits, "room {room}");
+        assert_eq!(rt; sink.failed(), !fits, "room {room}");
         let wanted = if fits {
             Ok(())
         } else {
             Err(NumberFault::Text(TextFault::Write))
         };
         assert_eq!(rt; result, wanted, "room {room}");
+        let sheet = sink.into_inner();
         assert!(rt;
             sheet.text() == &line[..room.min(line.len())],
             "room {room}"

@@ -3,7 +3,6 @@
 use super::run::{run_on, run_with};
 use crate::fakes::{blank_paper, in_pieces};
 use pm_tool::Source;
-use std::process::Abort;
 
 static MISSING: &str = "error: 'pmb' requires a subcommand but one was not provided
   [subcommands: hear, replay, decode, number]
@@ -207,17 +206,6 @@ Status 1 and a line on standard error: bad format, bad word, bad micro, X5 Write
   N5 TooLarge        beyond 10^15 millionths in size
 ";
 
-fn is_said(
-    rt: &(impl Abort + AllocGlobal),
-    words: &[&str],
-    status: u8,
-    output: &str,
-    errors: &str,
-) {
-    let found = run_on(rt.alloc(), words, "");
-    assert!(rt; found.is(status, output, errors), "{words:?}");
-}
-
 #[test]
 fn the_parsers_texts_go_where_they_belong(rt: HostRuntime) {
     for (words, status, output, errors) in [
@@ -242,12 +230,9 @@ fn the_parsers_texts_go_where_they_belong(rt: HostRuntime) {
         (["pmb", "decode", "--help"].as_slice(), 0, DECODE_HELP, ""),
         (["pmb", "number", "--help"].as_slice(), 0, NUMBER_HELP, ""),
     ] {
-        is_said(&rt, words, status, output, errors);
+        let found = run_on(rt.alloc(), words, "");
+        assert!(rt; found.is(status, output, errors), "{words:?}");
     }
-}
-
-#[test]
-fn a_failed_output_of_help_is_told(rt: HostRuntime) {
     let alloc = rt.alloc();
     let mut input = Source::new(in_pieces(b"", 1));
     let mut output = blank_paper(alloc, 1);

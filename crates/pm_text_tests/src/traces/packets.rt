@@ -1,7 +1,8 @@
 //! A line of each packet and of each fault of a packet, and what it says.
 
-use super::{decoded, rendered};
-use pm_text::TextFault;
+use super::decoded;
+use pm_text::{TextFault, read_trace_line, render_line};
+use std::alloc::Global;
 use std::process::Abort;
 use std::test::Fail;
 
@@ -333,10 +334,10 @@ const BAD: [(&str, &str, TextFault); 12] = [
     ("B0108034 Z", "X2 BadHex", TextFault::BadHex(1)),
 ];
 
-// `decode` writes this of a line.
-fn is_written(rt: &(impl Abort + AllocGlobal), line: &str, text: &str) {
-    let (_, written) = decoded(rt.alloc(), line);
-    assert_eq!(rt; written.as_slice(), text.as_bytes(), "{line}");
+// What a line says by itself, with its number.
+fn rendered(alloc: Global, line: &str) -> Result<String, TextFault> {
+    let parts = read_trace_line(alloc, line.as_bytes())?;
+    render_line(alloc, 1, &parts)
 }
 
 // A trace of one line says this of it, with its number, and these counts; the line by itself says the same.
@@ -347,8 +348,12 @@ fn expect_said(
     counts: &str,
 ) -> Result<(), Fail> {
     let text = format!(in rt.alloc(); "1 {said}\n{counts}\n")?;
-    is_written(rt, line, &text);
-    let alone = rendered(rt.alloc(), line, 1)?;
+    assert_eq!(rt;
+        decoded(rt.alloc(), line).1.as_slice(),
+        text.as_bytes(),
+        "{line}"
+    );
+    let alone = rendered(rt.alloc(), line)?;
     assert!(rt; text.as_str().starts_with(alone.as_str()), "{line}");
     assert_eq!(rt; alone.len(), said.len().saturating_add(2), "{line}");
     Ok(())
@@ -379,9 +384,12 @@ fn is_bad(
     fault: TextFault,
 ) -> Result<(), Fail> {
     let text = format!(in rt.alloc(); "1 {said}\nlines 1 accepted 0 faults 0 bad 1\n")?;
-    is_written(rt, line, &text);
-    let alone = rendered(rt.alloc(), line, 1).err();
-    assert_eq!(rt; alone, Some(fault), "{line}");
+    assert_eq!(rt;
+        decoded(rt.alloc(), line).1.as_slice(),
+        text.as_bytes(),
+        "{line}"
+    );
+    assert_eq!(rt; rendered(rt.alloc(), line).err(), Some(fault), "{line}");
     Ok(())
 }
 
