@@ -81,6 +81,8 @@ int main(int count, char **words) {
     pm_host host;
     pm_desk desk = start_desk();
     int restarted = 0;
+    if (pm_desk_size() != sizeof desk || PM_DESK_SIZE != sizeof desk)
+        return 1;
     pm_host_new(&host, 0x58, OUTPUTS, 3);
     for (long job = 0; job < jobs; job++) {
         pm_sending frame;

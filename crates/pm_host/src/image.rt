@@ -37,7 +37,10 @@ impl Image {
     pub const VERSION: u16 = 1;
 
     /// Zeros, which are the image of no host.
-    pub fn blank() -> Image {
+    #[tactic(auto, unfolding(crate::specs::Image::host_of))]
+    pub fn blank() -> Image
+        ensures { host_of result ≡ None }
+    {
         Image {
             mark: 0,
             version: 0,
