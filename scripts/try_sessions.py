@@ -6,8 +6,8 @@ is wrong is printed, and the status is then 1.
 
     scripts/try_sessions.py [SEED [LINES]]
 
-It runs the built program, or the one that the environment variable PMBHOST names. SEED is 1 and LINES 10000 where they
-aren't given.
+It runs the built program, or the one that PMBHOST names in the environment. SEED is 1 and LINES 10000 where they aren't
+given.
 """
 import random
 import subprocess

@@ -33,7 +33,8 @@ too_long bytes long = grind (arith, nat_tests)
 short : (bytes : List ℕ) → length bytes ≤ 16 → as_answer bytes ≡ Some bytes
 short bytes few = grind (arith, nat_tests)
 
-module _ (all words : List (List ℕ)) (got : List ℕ) (so_far : option_map (λ more. got ++ more) (joined_bytes words) ≡ joined_bytes all) where
+module _ (all words : List (List ℕ)) (got : List ℕ)
+    (so_far : option_map (λ more. got ++ more) (joined_bytes words) ≡ joined_bytes all) where
   -- the next word has more bytes than there is room for
   pub too_many : (word : List ℕ) (rest : List (List ℕ)) (piece : List ℕ) → words ≡ word ∷ rest → frame_bytes word ≡ Some piece
       → 16 < length got + length piece → got_bytes all ≡ None

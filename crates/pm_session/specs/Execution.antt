@@ -7,7 +7,7 @@ use Rattle.std.specs.Io.KnownBytes.{Appends, Consumes}
 use Rattle.std.specs.declared.io.ErrorKind.{ErrorKind as IoKind}
 use Rattle.std.specs.declared.io.ErrorKind.TheVariants.{OutOfMemory as IoMemory}
 use Rattle.clap.specs.Walk.{texts}
-use Rattle.clap.specs.Words.{Text, matches_of}
+use Rattle.clap.specs.Words.{IsAmong, Text, fault_of, matches_of}
 use Rattle.clap.specs.declared.error.kind.ErrorKind.{ErrorKind}
 use Rattle.pm_host.specs.Summary.{Summary}
 use Rattle.pm_lines.specs.Faults.{fault_words}
@@ -86,10 +86,12 @@ abbrev pub no_words_status : IoKind → ℕ
 no_words_status IoMemory = 1
 no_words_status _ = 2
 
--- how a run ends, by its words or why there are none
+-- how a run ends, by its words or why there are none: where the parser finds no fault, by the options; where
+-- it does, by that fault; and for want of memory, with nothing read
 abbrev pub RunEnds : {R W E : Type 0} → Run R W E → ℕ → Result (Bor (List (Bor Text))) IoKind → Type 0
 RunEnds run status (Err kind) = (status ≡ no_words_status kind) × IsQuiet run
 RunEnds run status (Ok words) =
     ((options : Options) × HasTexts options (matches_of pmbhost (texts words.now))
     × ServeEnds run status (start_of options))
-    ⊎ ((kind : ErrorKind) × UsageEnds run status kind)
+    ⊎ ((kind : ErrorKind) × IsAmong kind (fault_of pmbhost (texts words.now)) × UsageEnds run status kind)
+    ⊎ ((run.source' ≡ run.source) × (status ≡ 1))

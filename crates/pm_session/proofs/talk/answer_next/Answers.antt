@@ -46,7 +46,8 @@ returns-else-is_empty-clause-ok g c =
     let s = c.args.host.now in
     let after = c.answer_kept-in-Ok-false.new.host in
     let kept = c.as_slice-in-Ok-false.result.now in
-    let heard = subst (λ (k : List ℕ). IsHeard g.P.Port.goes c.args.port.now c.read_line.new.port false k) (sym c.as_slice-in-Ok-false.ensures.value)
+    let heard = subst (λ (k : List ℕ). IsHeard g.P.Port.goes c.args.port.now c.read_line.new.port false k)
+    (sym c.as_slice-in-Ok-false.ensures.value)
     (subst (λ (more : Bool). IsHeard g.P.Port.goes c.args.port.now c.read_line.new.port more c.read_line.new.line.items)
     c.in-Ok-false.field-0-test c.in-Ok-false.ensures.ok) in
     let some : 0 < length kept = search rules in
@@ -61,7 +62,8 @@ returns-else-is_empty-clause-err g c =
     let s = c.args.host.now in
     let after = c.answer_kept-in-Ok-false.new.host in
     let kept = c.as_slice-in-Ok-false.result.now in
-    let heard = subst (λ (k : List ℕ). IsHeard g.P.Port.goes c.args.port.now c.read_line.new.port false k) (sym c.as_slice-in-Ok-false.ensures.value)
+    let heard = subst (λ (k : List ℕ). IsHeard g.P.Port.goes c.args.port.now c.read_line.new.port false k)
+    (sym c.as_slice-in-Ok-false.ensures.value)
     (subst (λ (more : Bool). IsHeard g.P.Port.goes c.args.port.now c.read_line.new.port more c.read_line.new.line.items)
     c.in-Ok-false.field-0-test c.in-Ok-false.ensures.ok) in
     IfErr-weaker c.answer_kept-in-Ok-false.result _ _ (λ fault fact. subst (λ (f : TextFault). (things : List Happening)
