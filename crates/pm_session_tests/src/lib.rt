@@ -1,0 +1,12 @@
+//! Tests over the public calls of `pm_session`: each form of line, each refusal, streams and ports that fail,
+//! and in which order a port is used. There is nothing here to use.
+#![tactic(auto)]
+
+#[cfg(test)]
+mod fakes;
+#[cfg(test)]
+mod lines;
+#[cfg(test)]
+mod ports;
+#[cfg(test)]
+mod runs;

@@ -1,0 +1,133 @@
+//! Lines and their answers, one after another at one host.
+use pm_host::Host;
+use pm_session::{answer_line, text_of};
+use std::process::Abort;
+
+fn expect(rt: &impl Abort, host: &mut Host, line: &[u8], wanted: &str) {
+    let reply = answer_line(host, line);
+    assert!(rt; text_of(&reply).as_slice() == wanted.as_bytes(), "{wanted}");
+}
+
+// An order whose first acknowledgement is lost and whose first answer doesn't come, beside what isn't
+// allowed on the way.
+const ORDER: [(&[u8], &str); 13] = [
+    (b"sending", "idle\n"),
+    (b"finished ack", "refused S2 NothingSent\n"),
+    (b"got", "refused S2 NothingSent\n"),
+    (
+        b"order 0 VOUT_COMMAND 34CD",
+        "send B0 05 04 00 21 CD 34 5A\n",
+    ),
+    (b"order 0 VOUT_COMMAND 34CD", "refused H3 Busy\n"),
+    (b"got", "refused S3 WrongKind\n"),
+    (b"sending\r", "send B0 05 04 00 21 CD 34 5A\n"),
+    (b"  finished   nack ", "send B0 06 02 00 21 read 4\n"),
+    (b"finished ack", "refused S3 WrongKind\n"),
+    (b"got", "send B0 05 04 00 21 CD 34 5A\n"),
+    (b"finished ack", "send B0 06 02 00 21 read 4\n"),
+    (b"got b102 CD34 B9", "ended done\n"),
+    (
+        b"state 0 VOUT_COMMAND",
+        "state confirmed 34CD possible 34CD\n",
+    ),
+];
+
+// A format is learned, and a voltage ordered that the device doesn't take: it had restarted.
+const VOLTS: [(&[u8], &str); 15] = [
+    (
+        b"volts 0 VOUT_COMMAND 3300000",
+        "refused H7 FormatUnknown\n",
+    ),
+    (b"learn 0", "send B0 06 02 00 20 read 3\n"),
+    (b"got B1 01 14 4E", "ended learned\n"),
+    (b"volts 0 VOUT_COMMAND -1", "refused N3 BelowLeast\n"),
+    (
+        b"volts 0 VOUT_COMMAND 16000000",
+        "refused N4 AboveGreatest\n",
+    ),
+    (
+        b"volts 0 VOUT_COMMAND 9223372036854775807",
+        "refused N5 TooLarge\n",
+    ),
+    (b"volts 0 OPERATION 1", "refused H5 BadWord\n"),
+    (b"seen", "seen no\n"),
+    (
+        b"volts 0 VOUT_COMMAND 3300000",
+        "send B0 05 04 00 21 CD 34 5A\n",
+    ),
+    (b"finished ack", "send B0 06 02 00 21 read 4\n"),
+    (b"got B1 02 00 10 41", "send B0 05 04 00 21 CD 34 5A\n"),
+    (
+        b"state 0 VOUT_COMMAND",
+        "state unknown possible 1000 34CD\n",
+    ),
+    (b"finished ack", "send B0 06 02 00 21 read 4\n"),
+    (b"got B1 02 00 10 41", "ended differs 1000\n"),
+    (b"state 0 VOUT_MAX", "state unknown possible any\n"),
+];
+
+// WRITE_PROTECT, a check, a clear, and a restart.
+const OTHERS: [(&[u8], &str); 14] = [
+    (b"order - WRITE_PROTECT 40", "send B0 10 40 7A\n"),
+    (b"finished ack", "send B0 10 read 2\n"),
+    (b"got", "send B0 10 40 7A\n"),
+    (b"finished ack", "send B0 10 read 2\n"),
+    (b"got B1", "ended unknown\n"),
+    (b"state - WRITE_PROTECT", "state unknown possible any\n"),
+    (b"clear 1", "send B0 05 02 01 03 45\n"),
+    (b"finished nack", "send B0 05 02 01 03 45\n"),
+    (b"finished ack", "ended done\n"),
+    (b"check 0 VOUT_COMMAND", "send B0 06 02 00 21 read 4\n"),
+    (b"restart", "restarted\n"),
+    (b"sending", "idle\n"),
+    (b"seen", "seen no\n"),
+    (b"state 0 VOUT_COMMAND", "state unknown possible any\n"),
+];
+
+// Lines that ask nothing.
+const REFUSED: [(&[u8], &str); 17] = [
+    (b"", "refused X1 Syntax\n"),
+    (b"   ", "refused X1 Syntax\n"),
+    (b"# seen", "refused X1 Syntax\n"),
+    (b"Seen", "refused X1 Syntax\n"),
+    (b"seen it", "refused X1 Syntax\n"),
+    (b"finished", "refused X1 Syntax\n"),
+    (b"finished yes", "refused X1 Syntax\n"),
+    (b"deliver whole", "refused X1 Syntax\n"),
+    (b"restart host", "refused X1 Syntax\n"),
+    (b"order 0 VOUT_COMMAND", "refused X1 Syntax\n"),
+    (b"order 0 VOUT_MODE 14", "refused X1 Syntax\n"),
+    (b"order 0 VOUT_COMMAND 34C", "refused X2 BadHex\n"),
+    (b"got B", "refused X2 BadHex\n"),
+    (
+        b"got 00112233445566778899AABBCCDDEEFF 00",
+        "refused X2 BadHex\n",
+    ),
+    (
+        b"got 00112233445566778899AABBCCDDEEFF",
+        "refused S2 NothingSent\n",
+    ),
+    (b"state 2 VOUT_COMMAND", "refused H4 UnknownOutput\n"),
+    (b"order 0 OPERATION B0", "refused H5 BadWord\n"),
+];
+
+#[test]
+fn each_line_has_its_answer(rt: HostRuntime) {
+    let Ok(mut host) = Host::new(0x58, 2, 2) else {
+        panic!(rt; "a host");
+    };
+    for (line, wanted) in ORDER {
+        expect(&rt, &mut host, line, wanted);
+    }
+    for (line, wanted) in VOLTS {
+        expect(&rt, &mut host, line, wanted);
+    }
+    for (line, wanted) in OTHERS {
+        expect(&rt, &mut host, line, wanted);
+    }
+    for (line, wanted) in REFUSED {
+        expect(&rt, &mut host, line, wanted);
+    }
+    expect(&rt, &mut host, &[b' '; 256], "refused X1 Syntax\n");
+    expect(&rt, &mut host, &[b' '; 257], "refused X3 TooLong\n");
+}

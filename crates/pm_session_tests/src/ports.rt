@@ -1,0 +1,102 @@
+//! In which order a port is used, and what is left where it fails.
+use crate::fakes::{Drops, Log, Slip};
+use pm_host::Host;
+use pm_lines::{Sink, Source, TextFault};
+use pm_session::{Happening, Streams, converse};
+use std::alloc::Global;
+use std::process::Abort;
+
+// What happens over a line, a line that the end of input ends, and their answers.
+const LINES: &[u8] = b"seen\nsending";
+
+const ANSWERS: &[u8] = b"seen no\nidle\n";
+
+fn host(rt: &impl Abort) -> Host {
+    match Host::new(0x58, 2, 2) {
+        Ok(host) => host,
+        Err(_) => panic!(rt; "a host"),
+    }
+}
+
+// The happenings of these bytes, each with its first letter: `c` came, `e` the end, `w` went, `f` flushed.
+fn letter_of(happening: Happening) -> (char, u8) {
+    match happening {
+        Happening::Came(byte) => ('c', byte),
+        Happening::Ended => ('e', 0),
+        Happening::ReadFailed => ('r', 0),
+        Happening::Went(byte) => ('w', byte),
+        Happening::Flushed => ('f', 0),
+        Happening::WriteFailed => ('x', 0),
+    }
+}
+
+fn expect_letter(rt: &impl Abort, happening: Happening, wanted: char, at: usize) {
+    assert_eq!(rt; letter_of(happening).0, wanted, "at {at}");
+}
+
+#[test]
+fn an_answer_is_flushed_before_another_byte_is_read(rt: HostRuntime) {
+    let mut port = Log {
+        rest: LINES,
+        kept: Vec::new(rt.alloc()),
+        whole: true,
+    };
+    let result = converse(&mut host(&rt), &mut port);
+    assert_eq!(rt; result, Ok(()));
+    assert!(rt; port.whole);
+    let wanted = "cccccwwwwwwwwfccccccce".chars().chain("wwwwwf".chars());
+    assert_eq!(rt; port.kept.len(), 28);
+    for ((at, happening), letter) in port.kept.iter().enumerate().zip(wanted) {
+        expect_letter(&rt, *happening, letter, at);
+    }
+}
+
+// A talk over streams that fail at these calls, 0 for none: how it ends, and what was written.
+fn talked(
+    rt: &impl Abort,
+    alloc: Global,
+    read_fails: usize,
+    write_fails: usize,
+) -> (Result<(), TextFault>, Vec<u8>) {
+    let mut streams = Streams {
+        source: Source::new(Drops {
+            rest: LINES,
+            fails_at: read_fails,
+            calls: 0,
+        }),
+        sink: Sink::new(Slip {
+            taken: Vec::new(alloc),
+            fails_at: write_fails,
+            calls: 0,
+        }),
+    };
+    let result = converse(&mut host(rt), &mut streams);
+    (result, streams.sink.into_inner().taken)
+}
+
+fn expect_talk(
+    rt: &(impl Abort + AllocGlobal),
+    fails: (usize, usize),
+    wanted: Result<(), TextFault>,
+    written: usize,
+) {
+    let (result, taken) = talked(rt, rt.alloc(), fails.0, fails.1);
+    assert_eq!(rt; result, wanted, "{} {}", fails.0, fails.1);
+    assert!(rt;
+        ANSWERS.get(..written) == Some(taken.as_slice()),
+        "{written}"
+    );
+}
+
+#[test]
+fn a_failed_stream_ends_the_talk_at_once(rt: HostRuntime) {
+    expect_talk(&rt, (0, 0), Ok(()), 13);
+    // the reads are one for each byte, and one for the end
+    for (fails_at, written) in [(1, 0), (4, 0), (5, 0), (6, 8), (12, 8), (13, 8)] {
+        expect_talk(&rt, (fails_at, 0), Err(TextFault::Read), written);
+    }
+    // the first answer is two writes and a flush, the second one write and a flush
+    for (fails_at, written) in [(1, 0), (2, 7), (3, 8), (4, 8), (5, 13)] {
+        expect_talk(&rt, (0, fails_at), Err(TextFault::Write), written);
+    }
+}
