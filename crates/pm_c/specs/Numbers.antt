@@ -12,27 +12,27 @@ accepted = 0
 
 -- the memory holds no host
 abbrev pub no_host : ℕ
-no_host = 0x20
+no_host = 0xE0
 
 -- the command code is no cell's
 abbrev pub no_cell : ℕ
-no_cell = 0x21
+no_cell = 0xE1
 
 -- a frame of the other kind is being sent, or none
 abbrev pub other_frame : ℕ
-other_frame = 0x22
+other_frame = 0xE2
 
 -- no device has this address
 abbrev pub no_address : ℕ
-no_address = 0x23
+no_address = 0xE3
 
 -- the numbers mean no packet that there is
 abbrev pub no_packet : ℕ
-no_packet = 0x24
+no_packet = 0xE4
 
 -- the memory holds no converter
 abbrev pub no_converter : ℕ
-no_converter = 0x25
+no_converter = 0xE5
 
 abbrev pub num_number : NumFault → ℕ
 num_number ZeroSlope = 0x11

@@ -196,7 +196,7 @@ pub extern "C" fn pm_desk_size() -> usize
 
 /// The converter hears the bytes of one frame, which a repeated start ends where `is_request` isn't 0,
 /// otherwise a stop. 0 where it is silent, 1 where it took a write, 2 where it answers a read, K1 to
-/// K7 as 41h to 47h, 25h where the memory holds no converter.
+/// K7 as 41h to 47h, E5h where the memory holds no converter.
 #[unsafe(no_mangle)]
 pub extern "C" fn pm_desk_hear(
     desk: &mut Desk,
@@ -238,7 +238,7 @@ fn ending(is_request: u8) -> Ending
     }
 }
 
-/// The word of a cell. 25h, 21h, 4 where the output isn't there.
+/// The word of a cell. E5h, E1h, 4 where the output isn't there.
 #[unsafe(no_mangle)]
 pub extern "C" fn pm_desk_word(desk: &Desk, output: u8, code: u8, word: &mut u16) -> u8
     ensures number { result ≡ asked_number (desk_of desk.now) (cell_at code output) }
@@ -269,7 +269,7 @@ fn has_cell(outputs: u8, cell: Cell) -> bool
     }
 }
 
-/// The whole microvolts that an output commands, rounded down. 25h, 4 where the output isn't there, N5
+/// The whole microvolts that an output commands, rounded down. E5h, 4 where the output isn't there, N5
 /// beyond 10^15 in size.
 #[unsafe(no_mangle)]
 pub extern "C" fn pm_desk_commanded(desk: &Desk, output: u8, microvolts: &mut i64) -> u8
@@ -277,7 +277,7 @@ pub extern "C" fn pm_desk_commanded(desk: &Desk, output: u8, microvolts: &mut i6
         (λ held. IsFloor (commanded_now held output) microvolts.new) }
     ensures far { result ≡ 0x15 → IsSomeAnd (desk_of desk.now)
         (λ held. IsFar (commanded_now held output)) }
-    ensures none { (result ≡ 0x25) ↔ (desk_of desk.now ≡ None) }
+    ensures none { (result ≡ 0xE5) ↔ (desk_of desk.now ≡ None) }
     ensures missing { IfSome (desk_of desk.now)
         (λ held. (result ≡ 4) ↔ (held.config.count ≤ output)) }
     ensures refused { result ≢ 0 → microvolts.new ≡ microvolts.old }

@@ -30,7 +30,7 @@ pub extern "C" fn pm_host_version() -> u16
 }
 
 /// Makes a host for the device at this address, which has this many outputs; a job has at most this
-/// many passes or tries. 23h, H1, H2.
+/// many passes or tries. E3h, H1, H2.
 #[unsafe(no_mangle)]
 pub extern "C" fn pm_host_new(host: &mut Image, address: u8, outputs: u8, passes: u8) -> u8
     ensures number { result ≡ new_number address outputs passes }
@@ -44,7 +44,7 @@ pub extern "C" fn pm_host_new(host: &mut Image, address: u8, outputs: u8, passes
     number_of(host.start(address, outputs, passes))
 }
 
-/// Begins an order. 20h, 21h, H3, H4, H5, H6.
+/// Begins an order. E0h, E1h, H3, H4, H5, H6.
 #[unsafe(no_mangle)]
 pub extern "C" fn pm_host_order(host: &mut Image, output: u8, code: u8, word: u16) -> u8
     ensures number { let job = option_map (λ cell. Order cell word) (cell_at code output) in
@@ -65,7 +65,7 @@ pub extern "C" fn pm_host_order(host: &mut Image, output: u8, code: u8, word: u1
 }
 
 /// Begins an order of the word nearest to a number of microvolts, in the format that was learned for
-/// the output. 20h, 21h, H3, H4, H5, H7, N5, N3 or N4, H6.
+/// the output. E0h, E1h, H3, H4, H5, H7, N5, N3 or N4, H6.
 #[unsafe(no_mangle)]
 pub extern "C" fn pm_host_order_micro(host: &mut Image, output: u8, code: u8, microvolts: i64) -> u8
     ensures number { result ≡ micro_number (host_of host.old) (cell_at code output) microvolts }
@@ -84,7 +84,7 @@ pub extern "C" fn pm_host_order_micro(host: &mut Image, output: u8, code: u8, mi
     number_of(outcome)
 }
 
-/// Begins a check of a cell. 20h, 21h, H3, H4.
+/// Begins a check of a cell. E0h, E1h, H3, H4.
 #[unsafe(no_mangle)]
 pub extern "C" fn pm_host_check(host: &mut Image, output: u8, code: u8) -> u8
     ensures number { let job = option_map (λ cell. Check cell) (cell_at code output) in
@@ -104,7 +104,7 @@ pub extern "C" fn pm_host_check(host: &mut Image, output: u8, code: u8) -> u8
     number_of(outcome)
 }
 
-/// Begins a learn of the format of an output's voltages. 20h, H3, H4.
+/// Begins a learn of the format of an output's voltages. E0h, H3, H4.
 #[unsafe(no_mangle)]
 pub extern "C" fn pm_host_learn(host: &mut Image, output: u8) -> u8
     ensures number { result ≡ job_number (host_of host.old) (Some (Learn output)) }
@@ -120,7 +120,7 @@ pub extern "C" fn pm_host_learn(host: &mut Image, output: u8) -> u8
     number_of(outcome)
 }
 
-/// Begins to clear the latched faults of an output. 20h, H3, H4.
+/// Begins to clear the latched faults of an output. E0h, H3, H4.
 #[unsafe(no_mangle)]
 pub extern "C" fn pm_host_clear(host: &mut Image, output: u8) -> u8
     ensures number { result ≡ job_number (host_of host.old) (Some (Send (ClearFaults output))) }
@@ -136,7 +136,7 @@ pub extern "C" fn pm_host_clear(host: &mut Image, output: u8) -> u8
     number_of(outcome)
 }
 
-/// Drops the open job and all that is known of cells and formats. 20h.
+/// Drops the open job and all that is known of cells and formats. E0h.
 #[unsafe(no_mangle)]
 pub extern "C" fn pm_host_restart(host: &mut Image) -> u8
     ensures number { result ≡ memory_number (host_of host.old) }

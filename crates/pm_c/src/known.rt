@@ -9,7 +9,7 @@ use crate::numbers::{ACCEPTED, NO_CELL, NO_HOST, of_host};
 use pm_host::{HostFault, Image, StandingImage, WordsImage};
 use pm_table::{Code, cell_of};
 
-/// What is known of a cell's word. 20h, 21h, H4.
+/// What is known of a cell's word. E0h, E1h, H4.
 #[unsafe(no_mangle)]
 pub extern "C" fn pm_host_standing(
     host: &Image,
@@ -34,7 +34,7 @@ pub extern "C" fn pm_host_standing(
     ACCEPTED
 }
 
-/// The words that a cell may hold. 20h, 21h, H4.
+/// The words that a cell may hold. E0h, E1h, H4.
 #[unsafe(no_mangle)]
 pub extern "C" fn pm_host_possible(host: &Image, output: u8, code: u8, words: &mut WordsImage) -> u8
     ensures number { result ≡ cell_number (host_of host.now) (cell_at code output) }
@@ -54,7 +54,7 @@ pub extern "C" fn pm_host_possible(host: &Image, output: u8, code: u8, words: &m
     ACCEPTED
 }
 
-/// 1 where a restart of the device was seen since the host started, 0 where none was. 20h.
+/// 1 where a restart of the device was seen since the host started, 0 where none was. E0h.
 #[unsafe(no_mangle)]
 pub extern "C" fn pm_host_restart_seen(host: &Image) -> u8
     ensures { result ≡ seen_number (host_of host.now) }

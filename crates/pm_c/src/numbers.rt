@@ -14,22 +14,22 @@ use pm_num::NumFault;
 pub const ACCEPTED: u8 = 0;
 
 /// The memory holds no host.
-pub const NO_HOST: u8 = 0x20;
+pub const NO_HOST: u8 = 0xE0;
 
 /// The command code is no cell's.
-pub const NO_CELL: u8 = 0x21;
+pub const NO_CELL: u8 = 0xE1;
 
 /// A frame of the other kind is being sent, or none.
-pub const OTHER_FRAME: u8 = 0x22;
+pub const OTHER_FRAME: u8 = 0xE2;
 
 /// No device has this address.
-pub const NO_ADDRESS: u8 = 0x23;
+pub const NO_ADDRESS: u8 = 0xE3;
 
 /// The numbers mean no packet that there is.
-pub const NO_PACKET: u8 = 0x24;
+pub const NO_PACKET: u8 = 0xE4;
 
 /// The memory holds no converter.
-pub const NO_CONVERTER: u8 = 0x25;
+pub const NO_CONVERTER: u8 = 0xE5;
 
 /// H4, the output isn't there.
 pub const NO_OUTPUT: u8 = 4;

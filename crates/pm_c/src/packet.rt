@@ -120,7 +120,7 @@ pub extern "C" fn pm_pec(bytes: &[u8]) -> u8
     pec(bytes)
 }
 
-/// The bytes of a packet before its stop or its repeated start. 23h, 24h where the numbers mean no
+/// The bytes of a packet before its stop or its repeated start. E3h, E4h where the numbers mean no
 /// packet, or its code doesn't have this layout.
 #[unsafe(no_mangle)]
 pub extern "C" fn pm_packet_write(address: u8, packet: &Packet, frame: &mut Sending) -> u8
@@ -141,7 +141,7 @@ pub extern "C" fn pm_packet_write(address: u8, packet: &Packet, frame: &mut Send
     }
 }
 
-/// What the bytes of a write before its stop say. 23h, F1 to F8.
+/// What the bytes of a write before its stop say. E3h, F1 to F8.
 #[unsafe(no_mangle)]
 pub extern "C" fn pm_packet_read_write(address: u8, bytes: &[u8], packet: &mut Packet) -> u8
     ensures number { result ≡ read_number address (write_fault address bytes.now) }
@@ -161,7 +161,7 @@ pub extern "C" fn pm_packet_read_write(address: u8, bytes: &[u8], packet: &mut P
     }
 }
 
-/// What the bytes of a request before its repeated start say. 23h, F1 to F8.
+/// What the bytes of a request before its repeated start say. E3h, F1 to F8.
 #[unsafe(no_mangle)]
 pub extern "C" fn pm_packet_read_request(address: u8, bytes: &[u8], packet: &mut Packet) -> u8
     ensures number { result ≡ read_number address (request_fault address bytes.now) }

@@ -56,7 +56,7 @@ impl Sending {
     }
 }
 
-/// The frame that is to be sent now. 20h where the memory holds no host; then, and where no job is
+/// The frame that is to be sent now. E0h where the memory holds no host; then, and where no job is
 /// open, it is nothing.
 #[unsafe(no_mangle)]
 pub extern "C" fn pm_host_sending(host: &Image, sending: &mut Sending) -> u8

@@ -46,13 +46,13 @@ fn an_order_is_taken_though_its_acknowledgement_was_lost(rt: HostRuntime) {
     assert_eq!(rt; order(&mut image, 0, 0x21, 0x34CD), 0);
     let write = [0xB0, 0x05, 0x04, 0x00, 0x21, 0xCD, 0x34, 0x5A];
     assert_eq!(rt; shown(&image, &write), (1, 8, 0, true));
-    assert_eq!(rt; got(&mut image, &[]), (0x22, 0));
+    assert_eq!(rt; got(&mut image, &[]), (0xE2, 0));
     assert_eq!(rt; finished(&mut image, 0), (0, 0));
     assert_eq!(rt;
         shown(&image, &[0xB0, 0x06, 0x02, 0x00, 0x21]),
         (2, 5, 5, true)
     );
-    assert_eq!(rt; finished(&mut image, 1), (0x22, 0));
+    assert_eq!(rt; finished(&mut image, 1), (0xE2, 0));
     assert_eq!(rt; got(&mut image, &[0xB1, 0x02, 0xCD, 0x34, 0xB9]), (1, 0));
     assert_eq!(rt; shown(&image, &[]), (0, 0, 0, true));
     assert_eq!(rt; standing(&image, 0, 0x21), (0, 1, 0x34CD));
@@ -86,21 +86,21 @@ fn an_end_has_its_number(rt: HostRuntime) {
 #[test]
 fn a_refusal_has_its_number(rt: HostRuntime) {
     let mut image = Image::blank();
-    assert_eq!(rt; new(&mut image, 0x07, 2, 2), 0x23);
-    assert_eq!(rt; new(&mut image, 0x78, 2, 2), 0x23);
+    assert_eq!(rt; new(&mut image, 0x07, 2, 2), 0xE3);
+    assert_eq!(rt; new(&mut image, 0x78, 2, 2), 0xE3);
     assert_eq!(rt; new(&mut image, 0x58, 0, 2), 1);
     assert_eq!(rt; new(&mut image, 0x58, 9, 2), 1);
     assert_eq!(rt; new(&mut image, 0x58, 8, 0), 2);
     assert_eq!(rt; new(&mut image, 0x58, 8, 16), 2);
     assert!(rt; is_refused(&mut image));
     let mut image = host(15);
-    assert_eq!(rt; order(&mut image, 0, 0x20, 0), 0x21);
+    assert_eq!(rt; order(&mut image, 0, 0x20, 0), 0xE1);
     assert_eq!(rt; order(&mut image, 2, 0x21, 0), 4);
     assert_eq!(rt; order(&mut image, 0, 0x01, 0xB0), 5);
     assert_eq!(rt; order_micro(&mut image, 0, 0x01, 0), 5);
     assert_eq!(rt; order_micro(&mut image, 0, 0x21, 0), 7);
     assert_eq!(rt; standing(&image, 2, 0x21), (4, 7, 7));
-    assert_eq!(rt; possible(&image, 0, 0x22), (0x21, 7, 7));
+    assert_eq!(rt; possible(&image, 0, 0x22), (0xE1, 7, 7));
     assert_eq!(rt; format(&image, 2), (4, 7, 7));
     assert_eq!(rt; restart_seen(&image), 0);
     assert_eq!(rt; learn(&mut image, 1), 0);
@@ -121,10 +121,10 @@ fn is_refused(image: &mut Image) -> bool {
         format(image, 0).0,
         restart_seen(image),
     ];
-    begun == [0x20; 10]
+    begun == [0xE0; 10]
         && shown(image, &[]) == (0, 0, 0, true)
-        && finished(image, 1) == (0x20, 0)
-        && got(image, &[]) == (0x20, 0)
+        && finished(image, 1) == (0xE0, 0)
+        && got(image, &[]) == (0xE0, 0)
 }
 
 // An image of a host with an open order, with one number changed.
@@ -172,8 +172,8 @@ fn packets_stand_alone(rt: HostRuntime) {
     );
     assert_eq!(rt; (packet.count, packet.word), (2, 0x34CD));
     assert_eq!(rt; written(0x58, &packet, &bytes), (0, 8, true));
-    assert_eq!(rt; written(0x07, &packet, &bytes), (0x23, 9, false));
-    assert_eq!(rt; written(0x58, &PACKET, &bytes), (0x24, 9, false));
+    assert_eq!(rt; written(0x07, &packet, &bytes), (0xE3, 9, false));
+    assert_eq!(rt; written(0x58, &PACKET, &bytes), (0xE4, 9, false));
     assert_eq!(rt; read_write(0x59, &bytes).0, 0x31);
     assert_eq!(rt; read_write(0x58, &bytes[..7]).0, 0x32);
     assert_eq!(rt; read_request(0x58, &bytes[..5]), 0x37);
@@ -235,7 +235,7 @@ fn exchanged(image: &mut Image, desk: &mut Desk, fate: u32) -> (u16, u16) {
 
 // A whole order under these fates, three bits for each frame: how it ended.
 fn lived(image: &mut Image, desk: &mut Desk, word: u16, fates: u32) -> u16 {
-    let mut end = 0x20;
+    let mut end = 0xE0;
     if order(image, 1, 0x21, word) == 0 {
         for frame in 0..6u32 {
             if sending(image).kind != 0 {
@@ -264,7 +264,7 @@ fn no_confirmed_word_is_wrong_under_faults(rt: HostRuntime) {
         drawn = drawn.wrapping_mul(1_664_525).wrapping_add(1_013_904_223);
         let end = lived(&mut image, &mut desk, 0x1000 + job % 7, drawn >> 14);
         done = done.saturating_add(u16::from(end == 1));
-        assert!(rt; end != 0x20, "job {job}");
+        assert!(rt; end != 0xE0, "job {job}");
         assert!(rt; is_right(&image, &desk), "job {job}");
     }
     assert!(rt; done > 200, "{done} done");

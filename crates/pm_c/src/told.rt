@@ -8,7 +8,7 @@ ghost use Rattle.pm_c.specs.Host.{is_told, told_answer, after};
 use crate::numbers::{HostStep, NO_HOST, OTHER_FRAME, no_step, step_after};
 use pm_host::{Image, Told};
 
-/// A write was sent, and acknowledged or not (0). 20h, 22h where no write is being sent.
+/// A write was sent, and acknowledged or not (0). E0h, E2h where no write is being sent.
 #[unsafe(no_mangle)]
 pub extern "C" fn pm_host_finished(host: &mut Image, acked: u8) -> HostStep
     ensures answer { result ≡ told_answer (host_of host.old) (Finished (not (acked == 0))) }
@@ -31,7 +31,7 @@ pub extern "C" fn pm_host_finished(host: &mut Image, acked: u8) -> HostStep
 }
 
 /// A request was sent, and these bytes came back, the read address first; none where there was no
-/// answer. 20h, 22h where no request is being sent.
+/// answer. E0h, E2h where no request is being sent.
 #[unsafe(no_mangle)]
 pub extern "C" fn pm_host_got(host: &mut Image, bytes: &[u8]) -> HostStep
     ensures answer { result ≡ told_answer (host_of host.old) (Got bytes.now) }

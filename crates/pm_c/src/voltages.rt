@@ -15,7 +15,7 @@ use pm_num::{Frac, NumFault, NumFormat};
 /// The greatest number of microvolts that there is a word for, in size.
 const LIMIT: i128 = 1_000_000_000_000_000;
 
-/// The format of an output's voltages, as far as the host learned it. 20h, H4.
+/// The format of an output's voltages, as far as the host learned it. E0h, H4.
 #[unsafe(no_mangle)]
 pub extern "C" fn pm_host_format(host: &Image, output: u8, format: &mut FormatImage) -> u8
     ensures number { result ≡ output_number (host_of host.now) output }
