@@ -104,11 +104,14 @@ def codes(path, lines, known):
             yield path, number, "code", line.strip()
 
 
+FIELD = re.compile(r"=>? (self|start)\.\w+,?$|^\s*(pub )?(operation|command|max|high|low|min) ?[:=] ")
+
+
 def registers(path, lines):
-    """Four registers near one another, where no line imports them, or gives the field of a start for one."""
+    """Four registers near one another, where no line imports them, or has the field of an output's words for one."""
     seen, told = [], -NEAR
     for number, line in enumerate(lines, 1):
-        if line.lstrip().startswith(("use ", "ghost use ")) or re.search(r"=>? (self|start)\.\w+,?$", line):
+        if line.lstrip().startswith(("use ", "ghost use ")) or FIELD.search(line):
             continue
         seen = [(at, name) for at, name in seen if number - at < NEAR]
         seen += [(number, name) for name in REGISTERS if re.search(r"\b%s\b" % name, line)]
