@@ -338,7 +338,7 @@ def scenarios():
     dice = random.Random(1)
     for number in range(12):
         setup, passes = search_promises.sound_setup(dice)
-        events = search_promises.draw_list(dice, setup, passes)[:25]
+        events = search_promises.draw_list(dice, setup, passes, False)[:25]
         yield f"drawn {number}", search_promises.text_of(dice, setup, passes, events)
 
 
