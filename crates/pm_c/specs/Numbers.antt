@@ -1,5 +1,5 @@
 -- The numbers that calls answer in the place of a refusal: H1 to H7 are 1 to 7, N1 to N5 are 11h to
--- 15h, and what only a caller in C can ask wrongly comes behind them. This project's own choice.
+-- 15h, and what only a caller in C can ask wrongly comes after them. This project's own choice.
 use Rattle.std.specs.Prelude.{ℕ, Option, Some, None}
 use Rattle.pm_num.specs.declared.fault.NumFault.{NumFault}
 use Rattle.pm_num.specs.declared.fault.NumFault.TheVariants.{ZeroSlope, ExponentRange, BelowLeast, AboveGreatest, TooLarge}

@@ -68,7 +68,7 @@ pub struct Reply {
     pub length: u8,
     /// No meaning.
     pub unused: u8,
-    /// The bytes; behind them anything.
+    /// The bytes; after them anything.
     pub bytes: [u8; 16],
 }
 

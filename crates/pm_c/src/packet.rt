@@ -61,7 +61,7 @@ impl Packet {
     }
 }
 
-// What a write of so many bytes carries.
+// What a write of this many bytes carries.
 fn payload(count: u8, word: u16) -> Option<Payload>
     ensures { result ≡ payload_in count word }
 {

@@ -22,7 +22,7 @@ pub struct Sending {
     pub answer: u8,
     /// No meaning.
     pub unused: u8,
-    /// The bytes, the address first; behind them anything.
+    /// The bytes, the address first; after them anything.
     pub bytes: [u8; 16],
 }
 

@@ -117,14 +117,14 @@ plain-alike config words page other message device =
     (of-device (message_code message) device))
 
 module _ (config : Config) (words : Words) (page : ℕ) where
-  -- what the act of a carried write comes to whose page is there
+  -- what the act of a carried write results in, where its page is there
   come : ℕ → Act → Verdict
   come code act =
       cond (selects_no_output config.count act) (Refuses BadPage)
       (cond (not (is_allowed (word_at words Protect) code)) (Refuses Protected)
       (cond (not (is_accepted act)) (Refuses UnsupportedData) (Takes act)))
 
-  -- so a carried write whose page is there comes to that
+  -- so a carried write whose page is there results in that
   carried-there : (output code : ℕ) (payload : Payload) → output < config.count →
       write_verdict config words page (PagePlusWrite output code payload)
       ≡ option_map_or (come code) (act_in code output (payload_word payload)) (Refuses UnsupportedCode)

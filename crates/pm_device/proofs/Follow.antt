@@ -50,7 +50,7 @@ pub record IsCount (config : Config) : Type 0 where
   pub some : 1 ≤ config.count
   pub few : config.count ≤ 8
 
--- what one more event comes to
+-- what one more event results in
 came : Config → List Event → Event → Outcome
 came config past event = outcome_of config (kept config past) event
 

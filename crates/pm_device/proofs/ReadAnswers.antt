@@ -62,7 +62,7 @@ answer-fits short held request bytes h = record {
   spelled = refl;
 }
 
--- a request comes to what its message comes to
+-- a request results in what its message results in
 heard-request : RequestsAreExact → (held : Held) (request : Message) (bytes : List ℕ) →
     IsRequest held.config.addr request bytes →
     verdict_of held.config held.words held.page bytes Restart ≡ read_verdict held.config request
@@ -103,7 +103,7 @@ answer-one : (items others : List ℕ) → Answer (record { items = items }) ≡
 unfolding bytes_in
 answer-one items others e = sym (ap bytes_in e)
 
--- what a request comes to that is answered
+-- what a request that is answered results in
 verdict-answer : (held : Held) (request : Message) (items : List ℕ) →
     reply_to held (read_verdict held.config request) ≡ Answer (record { items = items }) → items ≡ answer_bytes held request
 verdict-answer held (ReadCommand code) items e = answer-one (answer_bytes held (ReadCommand code)) items e

@@ -113,7 +113,7 @@ write-code (ReadCommand code) writes fits = cc
 write-code (PagePlusRead page code) writes fits = cc
 write-code (ReadCoefficients code side) writes fits = cc
 
--- the reply to what an act comes to: a refusal that isn't K2, or that it is taken
+-- the reply to what an act results in: a refusal that isn't K2, or that it is taken
 act-reply : (held : Held) (away allowed accepted : Bool) (act : Act) → Heard
 act-reply held away allowed accepted act =
     reply_to held (cond away (Refuses BadPage) (cond (not allowed) (Refuses Protected)
@@ -226,7 +226,7 @@ write-unknown exact held bytes are e = go (write_fault held.config.addr bytes) r
       absurd (known some.0 some.1
       (subst (λ m. reply_to held (write_verdict held.config held.words held.page m) ≡ Refused UnsupportedCode) places h))
 
--- what a request comes to is never K2
+-- what a request results in is never K2
 request-known : (held : Held) (request : Message) → is_read_message request ≡ true →
     reply_to held (read_verdict held.config request) ≡ Refused UnsupportedCode → ⊥
 request-known held (ReadCommand code) reads e = cc

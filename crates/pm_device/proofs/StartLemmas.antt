@@ -145,7 +145,7 @@ made-shape (Ok Direct) c e direct = go (shape_in Direct c) (direct refl) where
   go (Ok shape) h = (shape, refl)
   go (Err fault) h = cc
 
--- a value that is there is the one that is taken
+-- a value that exists is the one that is taken
 unwrapped : {X : Type 0} (made : Option X) (x d : X) → made ≡ Some x → made ≡ Some (unwrap_or made d)
 unwrapped None x d e = cc
 unwrapped (Some s) x d e = refl

@@ -36,7 +36,7 @@ pub record IsTaken (config : Config) (words : Words) (page : ℕ) (message : Mes
   pub allowed : is_allowed (word_at words Protect) (message_code message) ≡ true
   pub accepted : is_accepted act ≡ true
 
--- what an act comes to is taken only where nothing refuses it
+-- what an act results in is taken only where nothing refuses it
 chosen : (a b c : Bool) (found act : Act)
     → cond a (Refuses BadPage) (cond (not b) (Refuses Protected) (cond (not c) (Refuses UnsupportedData) (Takes found))) ≡ Takes act
     → (a ≡ false) × (b ≡ true) × (c ≡ true) × (found ≡ act)
@@ -88,7 +88,7 @@ cond-not_taken : (b : Bool) (x y : Verdict) (act : Act) → (x ≡ Takes act →
 cond-not_taken true x y act nx ny e = nx e
 cond-not_taken false x y act nx ny e = ny e
 
--- and so isn't what it comes to
+-- and so isn't what it results in
 read-not_taken : (config : Config) (message : Message) (act : Act) → read_verdict config message ≡ Takes act → ⊥
 read-not_taken config (ReadCoefficients code side) act e =
     cond-not_taken (answers_coefficients config code side) (Answers (ReadCoefficients code side)) (Refuses UnsupportedData) act (λ x. cc)
@@ -175,7 +175,7 @@ output-there count page message e here = go (message_page message) e where
   go None h = here
   go (Some named) h = within named (ltb named count) refl h
 
--- an act that is taken names an output that is there, and a word that its cell accepts
+-- an act that is taken names an output that exists, and a word that its cell accepts
 can-act : (count output : ℕ) (act : Act) → output < count → ActsOn output act → selects_no_output count act ≡ false → is_accepted act ≡ true
     → CanAct count act
 can-act count output (Put (Out named register) word) here on selected accepted = (subst (λ n. n < count) (sym on) here, accepted)

@@ -79,7 +79,7 @@ faulty held bytes some =
     go None e = absurd (some e)
     go (Some fault) e = faulty-stays held fault
 
--- a write comes to what its message comes to
+-- a write results in what its message results in
 pub heard-write : WritesAreExact → (held : Held) (message : Message) (bytes : List ℕ) →
     IsWrite held.config.addr message bytes →
     verdict_of held.config held.words held.page bytes Stop ≡ write_verdict held.config held.words held.page message

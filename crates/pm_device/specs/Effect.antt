@@ -26,7 +26,7 @@ pub record Kept : Type 0 where
 abbrev pub kept_in : Held → Kept
 kept_in held = record { words = held.words; page = held.page }
 
--- what an event comes to, by what is kept at that moment
+-- what an event results in, by what is kept at that moment
 pub data Outcome : Type 0 where
   Heard : (verdict : Verdict) → Outcome
   Restarts : Outcome
@@ -62,7 +62,7 @@ kept_by config kept (Heard (Answers request)) = kept
 kept_by config kept Restarts = restarted config
 kept_by config kept (Measures output code word) = kept
 
--- what an event comes to at a converter that holds this, and what it keeps after it
+-- what an event results in at a converter that holds this, and what it keeps after it
 abbrev pub outcome_in : Held → Event → Outcome
 outcome_in held event = outcome_of held.config (kept_in held) event
 

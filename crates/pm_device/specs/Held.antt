@@ -30,7 +30,7 @@ is_device_reading code = code == command.read_vin || code == command.read_temper
 abbrev pub is_output_reading : ℕ → Bool
 is_output_reading code = code == command.read_vout || code == command.read_iout
 
--- there is such a reading at a converter with so many outputs
+-- there is such a reading at a converter with this many outputs
 abbrev pub is_reading : ℕ → ℕ → ℕ → Bool
 is_reading count output code =
     is_device_reading code || is_output_reading code && nat_lt output count

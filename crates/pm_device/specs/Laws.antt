@@ -35,7 +35,7 @@ use Rattle.pm_device.specs.History.{AreHeard, WasCarried, next, now, start_of}
 -- What a converter with 1 to 8 outputs holds after any past is what one event after another makes of
 -- its start (`none`, `more`), so the status bits that are latched are those that are found by looking
 -- back (`vout`, `cml`). A cause that holds now shows at once (`shows`). PAGE always names an output
--- that is there (`page`), and there is always a word for each cell (`words`).
+-- that exists (`page`), and there is always a word for each cell (`words`).
 pub record PastsAreFollowed : Type 0 where
   pub none : (config : Config) → now config [] ≡ start_of config
   pub more : (config : Config) (past : List Event) (event : Event) →
@@ -85,11 +85,11 @@ pub record RefusalsSetOneBit : Type 0 where
       cml_at held.faults bit ≡ true
 
 -- What the words of the cells and PAGE are after one frame. A request and a faulty write leave both
--- (`request`, `faulty`); a write comes to what its message comes to (`write`). A write of a cell's
+-- (`request`, `faulty`); a write results in what its message results in (`write`). A write of a cell's
 -- code, plain by PAGE or carried, gives that cell the word where the output is there, WRITE_PROTECT
 -- allows the code and the cell accepts the word, otherwise all stays (`cell`); so does a
 -- PAGE_PLUS_WRITE (`carried`), and a plain write of WRITE_PROTECT (`plain`). A write of PAGE selects
--- an output that is there, where WRITE_PROTECT allows it (`selects`). CLEAR_FAULTS leaves both
+-- an output that exists, where WRITE_PROTECT allows it (`selects`). CLEAR_FAULTS leaves both
 -- (`clears`).
 pub record WritesReachOneCell : Type 0 where
   pub request : (held : Held) (bytes : List ℕ) →
@@ -147,7 +147,7 @@ AnswersWith held bytes request payload =
 
 -- What is answered after a repeated start is an answer, of the length that its layout has, to a
 -- request that was heard (`answer`), and a whole request whose page is there, or whose coefficients
--- are, is answered (`answered`). So a PAGE_PLUS_READ of a cell's code at an output that is there
+-- are, is answered (`answered`). So a PAGE_PLUS_READ of a cell's code at an output that exists
 -- is answered with that cell's word (`cell`), a plain read of WRITE_PROTECT with its word
 -- (`protect`), VOUT_MODE with the output's byte (`mode`), and COEFFICIENTS of VOUT_COMMAND with the
 -- coefficients where some output is DIRECT (`coefficients`). A word that its cell accepts is the number of the bytes
@@ -218,7 +218,7 @@ pub record UnknownCodesAreRefused : Type 0 where
 abbrev pub is_device_code : ℕ → Bool
 is_device_code code = option_map_or (λ line. not line.paged) (line_of code) false
 
--- A code of the device acts and answers alike on every page that is there, and whatever PAGE is.
+-- A code of the device acts and answers alike on every page that exists, and whatever PAGE is.
 pub record DeviceCodesIgnorePages : Type 0 where
   pub carried : (config : Config) (words : Words) (page output other code : ℕ) (payload : Payload) →
       is_device_code code ≡ true → output < config.count → other < config.count →

@@ -137,7 +137,7 @@ AreFormats config formats = (output : ℕ) → output < 8 →
     shape_of (slice_index_or formats output Linear11) ≡ shape_for config output
 
 -- What a converter keeps true of what it keeps: its formats are those of its configuration, which is
--- sound, PAGE names an output that is there, and there is a latch for each place for an output.
+-- sound, PAGE names an output that exists, and there is a latch for each place for an output.
 pub record IsKept (config : Config) (formats : List AnyFormat) (count page : ℕ) (cut : List Bool) : Type 0 where
   pub sound : IsSound config
   pub shapes : AreFormats config formats

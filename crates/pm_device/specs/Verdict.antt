@@ -1,4 +1,4 @@
--- What a hearing comes to, from the words of the cells and PAGE: silence, the first refusal that
+-- What a hearing results in, from the words of the cells and PAGE: silence, the first refusal that
 -- applies, an act that is taken, or a read that is answered. Which refusal stands for which fault,
 -- and their order, are this project's own choice; the acts are those of PMBus 1.3 Part II.
 use Rattle.std.specs.Prelude.{◌≡◌, ℕ, ◌<◌, Bool, true, false, not, ◌&&◌, ◌||◌, ◌==◌, nat_lt, if◌then◌else◌, List, Option, Some, None, unwrap_or}
@@ -78,7 +78,7 @@ is_accepted (ClearFaults output) = true
 is_accepted (ClearVout output byte) = true
 is_accepted (ClearCml byte) = true
 
--- what an act comes to with so many outputs, while WRITE_PROTECT has this value: K4 where there is no
+-- what an act results in with this many outputs, while WRITE_PROTECT has this value: K4 where there is no
 -- such output, K5 where WRITE_PROTECT blocks the code, K3 where the cell doesn't accept the word
 abbrev pub act_verdict : ℕ → ℕ → Message → Act → Verdict
 act_verdict count protect message act =
@@ -87,7 +87,7 @@ act_verdict count protect message act =
     else (if not (is_accepted act) then Refuses UnsupportedData
     else Takes act))
 
--- what a write without a fault comes to; K2 for a code that this converter has no act for
+-- what a write without a fault results in; K2 for a code that this converter has no act for
 abbrev pub write_verdict : Config → Words → ℕ → Message → Verdict
 write_verdict config words page message =
     option_map_or (λ act. act_verdict config.count (word_at words Protect) message act)
@@ -113,7 +113,7 @@ is_answered config (WriteByte code byte) = false
 is_answered config (WriteWord code word) = false
 is_answered config (PagePlusWrite page code payload) = false
 
--- what a request without a fault comes to: K4 where there is no such output, K3 where there are no
+-- what a request without a fault results in: K4 where there is no such output, K3 where there are no
 -- coefficients to answer
 abbrev pub read_verdict : Config → Message → Verdict
 read_verdict config (ReadCoefficients code side) =
@@ -152,7 +152,7 @@ verdict_of config words page bytes Stop = unless_faulty (write_fault config.addr
 verdict_of config words page bytes Restart = unless_faulty (request_fault config.addr bytes)
     (read_verdict config (message_in bytes))
 
--- what an act may name at a converter with so many outputs: an output that is there, and a word that
+-- what an act may name at a converter with this many outputs: an output that exists, and a word that
 -- its cell accepts
 abbrev pub CanAct : ℕ → Act → Type 0
 CanAct count (Put cell word) = IsCell count cell × (cell_accepts cell word ≡ true)

@@ -10,7 +10,7 @@ use pm_table::{cells_are_told_apart, payloads_are_short, registers_are_in_the_ta
 
 /// What a converter with 1 to 8 outputs holds after any list of hearings, restarts and readings is
 /// what one event after another makes of its start. So the status bits that are latched are those
-/// that are found by looking back, and PAGE always names an output that is there.
+/// that are found by looking back, and PAGE always names an output that exists.
 pub fn pasts_are_followed()
     ensures { PastsAreFollowed }
 {
@@ -78,7 +78,7 @@ pub fn unknown_codes_are_refused()
     requests_are_exact();
 }
 
-/// A code of the device, as STATUS_CML, acts and answers alike on every page that is there, and
+/// A code of the device, as STATUS_CML, acts and answers alike on every page that exists, and
 /// whatever PAGE is.
 pub fn device_codes_ignore_pages()
     ensures { DeviceCodesIgnorePages }

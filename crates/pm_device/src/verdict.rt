@@ -13,7 +13,7 @@ use pm_frame::{FrameFault, FrameView, Message, Payload, read_request, read_write
 use pm_model::Plain;
 use pm_table::{Cell, Code, is_allowed};
 
-/// What a hearing comes to.
+/// What a hearing results in.
 #[derive(Clone, Copy, Debug)]
 pub(crate) enum Verdict {
     /// The frame is for another device.
@@ -72,7 +72,7 @@ impl Verdict {
         }
     }
 
-    // A write without a fault: K2 where there is no act for its code, otherwise what its act comes to.
+    // A write without a fault: K2 where there is no act for its code, otherwise what its act results in.
     fn of_write(config: &Config, settings: &Plain, page: u8, view: &FrameView<'_>) -> Verdict
         requires fits { fits_layout view.now ≡ true }
         requires count { settings.now.count ≡ config.now.count }
@@ -89,7 +89,7 @@ impl Verdict {
         }
     }
 
-    // What an act comes to: K4, K5 or K3, otherwise it is taken.
+    // What an act results in: K4, K5 or K3, otherwise it is taken.
     fn of_act(count: u8, protect: u16, view: &FrameView<'_>, act: Act) -> Verdict
         requires output { (page : ℕ) × (page < count) × spec.ActsOn (spec.output_in page view.now) act }
         ensures value { result ≡ spec.act_verdict count protect view.now act }

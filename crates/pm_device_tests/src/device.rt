@@ -38,7 +38,7 @@ fn is_wanted(heard: &Heard, wanted: Wanted<'_>) -> bool {
     }
 }
 
-// A converter of the base configuration with this WRITE_PROTECT, with so many outputs, and one whose second
+// A converter of the base configuration with this WRITE_PROTECT, with this many outputs, and one whose second
 // output starts with this OPERATION.
 fn with_protect(protect: u16) -> Result<Converter, ConfigFault> {
     made(Config { protect, ..BASE })

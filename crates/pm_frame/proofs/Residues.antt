@@ -171,7 +171,7 @@ pec_of-next front byte h =
     pec_of-append_byte front byte h
     ∙ sym (pec_of-byte (bit_xor (pec_of front) byte) (xor_lt 8 (pec_of front) byte (pec_of-lt front) h))
 
--- a list read further by one byte, behind what came before it
+-- a list read further by one byte, after what came before it
 pub pec_of-further : (front bytes : List ℕ) (index : ℕ) → index < length bytes → get_or bytes index 0 < 2 ^ 8
     → pec_of (front ++ take (index + 1) bytes) ≡ pec_of (bit_xor (pec_of (front ++ take index bytes)) (get_or bytes index 0) ∷ [])
 pec_of-further front bytes index within fits =

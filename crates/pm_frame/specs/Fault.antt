@@ -18,7 +18,7 @@ use Rattle.pm_frame.specs.Pec.{pec_of}
 abbrev pub rule : Bool → FrameFault → Option FrameFault
 rule applies fault = if applies then Some fault else None
 
--- the first of several that is there
+-- the first of several that exists
 abbrev pub first : List (Option FrameFault) → Option FrameFault
 first [] = None
 first (fault ∷ faults) = option_or fault (first faults)

@@ -26,11 +26,11 @@ frame_fault_place (UnknownCode place) = Some place
 frame_fault_place (WrongDirection place) = Some place
 frame_fault_place (Nested place) = Some place
 
--- a place as it is printed behind the words
+-- a place as it is printed after the words
 abbrev pub place_text : Option ℕ → List ℕ
 place_text None = []
 place_text (Some place) = codes " " ++ decimal place
 
--- the words, and the place behind them
+-- the words, and the place after them
 abbrev pub frame_fault_text : FrameFault → List ℕ
 frame_fault_text fault = frame_fault_words fault ++ place_text (frame_fault_place fault)

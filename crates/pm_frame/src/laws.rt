@@ -31,7 +31,7 @@ pub fn answers_are_exact()
     ensures { AnswersAreExact }
 {}
 
-/// What is cut short has a fault, and so has what its last byte betrays, alone or behind the bytes
+/// What is cut short has a fault, and so has what its last byte betrays, alone or after the bytes
 /// of a request; so what has no fault ends in its PEC.
 pub fn damage_is_refused()
     ensures { DamageIsRefused }

@@ -1,4 +1,4 @@
--- What a device with so many outputs has, and lists with something for each cell.
+-- What a device with this many outputs has, and lists with something for each cell.
 use Rattle.std.specs.Prelude.{ℕ, Bool, true, nat_lt, List, map}
 use Rattle.std.specs.List.{range_with_len}
 use Rattle.pm_table.specs.declared.cell.Cell.{Cell}

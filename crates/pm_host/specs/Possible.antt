@@ -58,7 +58,7 @@ restart_seen_of (Good read word ∷ before) =
 abbrev pub only : ℕ → Possible
 only word = Words (record { items = word ∷ [] })
 
--- the words, and this one behind them where it isn't listed
+-- the words, and this one after them where it isn't listed
 abbrev pub joined : Possible → ℕ → Possible
 joined Any word = Any
 joined (Words words) word =

@@ -16,7 +16,7 @@ use crate::standing::Standing;
 use crate::state::{OUTPUTS, State};
 use pm_table::{Cell, address_ok};
 
-/// A host in memory that a caller keeps who isn't Rattle: a state behind the mark and the number of its
+/// A host in memory that a caller keeps who isn't Rattle: a state after the mark and the number of its
 /// layout. It has no padding, holds no address of memory, and may be copied.
 #[repr(C)]
 #[derive(Drop)]

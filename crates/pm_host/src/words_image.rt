@@ -12,7 +12,7 @@ use arrayvec::ArrayVec;
 pub struct WordsImage {
     /// How many words are listed.
     pub count: u16,
-    /// The words, in the order in which they first came; behind them anything.
+    /// The words, in the order in which they first came; after them anything.
     pub words: [u16; 16],
 }
 

@@ -39,7 +39,7 @@ shorter p xs rest after some =
     let more : 0 < length xs = grind (arith, nat_tests) in
     rw after (omega (arith, length-drop {A = ℕ} (position_or_len p xs + 1) xs))
 
--- a piece with others behind it stays
+-- a piece with others after it stays
 keeps : (piece : List ℕ) (pieces : List (List ℕ)) → 0 < length pieces
     → without_empty_last (piece ∷ pieces) ≡ piece ∷ without_empty_last pieces
 keeps piece [] some = absurd (omega arith)

@@ -58,7 +58,7 @@ own = numerals_by_weight _ decimal_test (place_sum 10) decimal_weights
 
 -- ---- a result that is as a test says
 
--- a result that is there exactly where a test holds
+-- a result that exists exactly where a test holds
 as_tested : {T E : Type 0} (r : Result T E) (test : Bool) (P : Type 0) (x : T) → OkIff r P x → (test ≡ true → P) → (P → test ≡ true)
     → result_ok r ≡ cond test (Some x) None
 as_tested (Ok y) true P x h to from = ap Some h.1

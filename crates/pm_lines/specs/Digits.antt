@@ -34,17 +34,17 @@ decimal_of [] = None
 decimal_of (c ∷ cs) = if c == 45 then option_map (λ n. neg_ℤ (pos n)) (natural_of 10 cs)
     else option_map (λ n. pos n) (natural_of 10 (c ∷ cs))
 
--- z has so many bits in two's complement
+-- z has this many bits in two's complement
 abbrev pub fits : ℕ → ℤ → Bool
 fits bits (pos n) = nat_lt n (2 ^ (bits - 1))
 fits bits (negsuc n) = nat_lt n (2 ^ (bits - 1))
 
--- the decimal number of a text, where it has so many bits
+-- the decimal number of a text, where it has this many bits
 abbrev pub signed_of : ℕ → List ℕ → Option ℤ
 signed_of bits text =
     option_and_then (λ z. if fits bits z then Some z else None) (decimal_of text)
 
--- the number of exactly so many hexadecimal digits
+-- the number of exactly this many hexadecimal digits
 abbrev pub hex_of : ℕ → List ℕ → Option ℕ
 hex_of count text = if length text == count then natural_of 16 text else None
 

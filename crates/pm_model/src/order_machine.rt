@@ -48,7 +48,7 @@ impl OrderMachine {
         }
     }
 
-    /// A word is ordered for a cell that is there. Asks that no order is pending and that the cell
+    /// A word is ordered for a cell that exists. Asks that no order is pending and that the cell
     /// accepts the word.
     pub fn accept(&mut self, cell: Cell, word: u16)
         requires free { self.old.pending ≡ None }
@@ -89,7 +89,7 @@ impl OrderMachine {
         self.start.has(cell)
     }
 
-    /// The word of a cell that is there, one that the cell accepts.
+    /// The word of a cell that exists, one that the cell accepts.
     pub fn word(&self, cell: Cell) -> u16
         requires { IsCell self.now.start.count cell }
         ensures word { result ≡ word_at self.now.words cell }

@@ -81,7 +81,7 @@ abbrev pub IsHeard : {P : Type 0} → (P → List Happening → P → Type 0) �
 IsHeard goes a b more kept =
     (bytes : List ℕ) × (is_line bytes ≡ true) × (kept ≡ take 257 bytes) × goes a (heard more bytes) b
 
--- a front of its answer went, and a write failed
+-- a prefix of its answer went, and a write failed
 abbrev pub IsCutShort : {P : Type 0} → (P → List Happening → P → Type 0) → P → P → List ℕ → Type 0
 IsCutShort goes b d text =
     (front : List ℕ) × (rest : List ℕ) × (text ≡ front ++ rest) × goes b (went front ++ WriteFailed ∷ []) d

@@ -55,7 +55,7 @@ unfolding went
 cut_out [] = refl
 cut_out (byte ∷ bytes) = ap (λ rest. byte ∷ rest) (cut_out bytes)
 
--- all of the bytes were written, or a front of them
+-- all of the bytes were written, or a prefix of them
 pub put_whole : (a c d : Option (List ℕ)) (bytes : List ℕ) → Appends c d bytes
     → Consumes a a (bytes_in (went bytes)) × Appends c d (bytes_out (went bytes))
 put_whole a c d bytes appended =

@@ -35,7 +35,7 @@ stays s reply = record { reply = reply; after = s }
 abbrev pub refuses : Summary → Refusal → Answered
 refuses s refusal = stays s (Refused refusal)
 
--- what to send of a message: the frame, and of a read how many bytes to read behind the read address
+-- what to send of a message: the frame, and of a read how many bytes to read after the read address
 abbrev pub send_of : ℕ → Message → Reply
 send_of addr message = if is_read_message message
     then Request (record { items = frame_of addr message }) (whole_answer message - 1)

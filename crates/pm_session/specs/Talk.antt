@@ -72,7 +72,7 @@ abbrev pub most : ℕ
 most = 2 ^ 64 - 1
 
 -- What comes of a turn that breaks off: a read failed before a line had come whole, and the host is as
--- it was; a line came whole, and a front of its answer went before a write or its flush failed; or a line
+-- it was; a line came whole, and a prefix of its answer went before a write or its flush failed; or a line
 -- had more bytes than can be counted.
 abbrev pub IsCut : Summary → Summary → TextFault → List Happening → Type 0
 IsCut s after Read things = (bytes : List ℕ) × (is_line bytes ≡ true)

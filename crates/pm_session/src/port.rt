@@ -18,7 +18,7 @@ pub trait Port {
         ensures err { IfErr result (λ fault. (fault ≡ TextFault.Read)
             × goes self.old (ReadFailed ∷ []) self.new) };
 
-    /// Writes all of the bytes. X5 where a write failed; then a front of them was written.
+    /// Writes all of the bytes. X5 where a write failed; then a prefix of them was written.
     fn put(&mut self, bytes: &[u8]) -> Result<(), TextFault>
         ensures ok { OnOk result (goes self.old (went bytes.now) self.new) }
         ensures err { IfErr result (λ fault. (fault ≡ TextFault.Write)

@@ -8,7 +8,7 @@ use pm_table::Cell;
 pub enum Reply {
     /// `send B0 05 04 00 21 CD 34 5A`: to send this write, and then to say `finished`.
     Write(Frame),
-    /// `send B0 06 02 00 21 read 4`: to send this request, to read so many bytes behind the read
+    /// `send B0 06 02 00 21 read 4`: to send this request, to read this many bytes after the read
     /// address, and then to say `got`.
     Request(Frame, usize),
     /// `idle`: nothing is to be sent.

@@ -5,7 +5,7 @@ use crate::port::Port;
 use pm_lines::{Sink, Source, TextFault};
 use std::io::{Read, Write};
 
-/// A reader and a writer as a port. It reads one byte a call, so that no byte behind a line is asked for
+/// A reader and a writer as a port. It reads one byte a call, so that no byte after a line is asked for
 /// before the line's answer is flushed. Once a read failed nothing more is read, and once a write or a
 /// flush failed nothing more is written.
 #[derive(Debug, Drop)]

@@ -23,7 +23,7 @@ type KeptLine = ArrayVec<u8, 257>;
 /// # Errors
 ///
 /// X4 where a read failed: no answer was begun that isn't whole. X5 where a write or a flush failed: the
-/// last line came whole, and a front of its answer was written. X3 after 2^64 - 1 bytes of a line or as
+/// last line came whole, and a prefix of its answer was written. X3 after 2^64 - 1 bytes of a line or as
 /// many lines.
 pub fn converse<P: Port>(host: &mut Host, port: &mut P) -> Result<(), TextFault>
     ensures ok { OnOk result ((lines : List (List ℕ)) × (last : List ℕ)

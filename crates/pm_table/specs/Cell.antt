@@ -108,7 +108,7 @@ same_cell (Out output register) Protect = false
 same_cell Protect (Out output register) = false
 same_cell Protect Protect = true
 
--- a cell of a device with so many outputs
+-- a cell of a device with this many outputs
 abbrev pub IsCell : ℕ → Cell → Type 0
 IsCell count (Out output register) = output < count
 IsCell count Protect = Unit {0}

@@ -1,4 +1,4 @@
--- What the replay of an input comes to, by what its reader gave.
+-- What the replay of an input results in, by what its reader gave.
 use Rattle.std.proofs.Common.{◌≡◌, ℕ, ◌<◌, ◌≤◌, true, false, List, ◌++◌, length, length-append, append-nil, Option, Some, None, IfSome}
 use Rattle.std.proofs.Common.{Result, Ok, Err, refl, sym, ap, ◌∙◌, arith, ltb, subst, IfErr, ◌⊎◌, inl, inr}
 use Rattle.std.proofs.lemmas.Bool.Decides.{nat_tests}
@@ -49,7 +49,7 @@ unsettled : (old : Option (List ℕ)) (r : Result ReplayEnd TextFault) → (IsSe
 unsettled None r open' = tt
 unsettled (Some input) r open' = λ settled. absurd (open' settled)
 
--- what a refused reading comes to
+-- what a refused reading results in
 pub same-read : (old new : Option (List ℕ)) (fault : TextFault) → IsOfReading fault
     → (fault ≡ TooLong → (front : List ℕ) × (max_text < length front) × Consumes old new front)
     → IfSome old (λ input. IsSettled (Err fault) → Err fault ≡ outcome_of input)
@@ -63,7 +63,7 @@ same-read old new Write of long = absurd of
 same-read old new Memory of long = unsettled old (Err Memory) (λ settled. settled)
 same-read old new (Setup reason) of long = absurd of
 
--- what a text that was read whole, as it was handed on, and then refused comes to
+-- what a text that was read whole, as it was handed on, and then refused results in
 pub same-refused : (old new : Option (List ℕ)) (text handed : List ℕ) (fault : TextFault) → IsWholeText old new text
     → handed ≡ text → (fault ≡ Memory) ⊎ (replay_of handed ≡ Err fault)
     → IfSome old (λ input. IsSettled (Err fault) → Err fault ≡ outcome_of input)
@@ -74,14 +74,14 @@ same-refused old new text handed fault whole same (inr wrong) =
     let right : replay_of text ≡ Err fault = ap replay_of (sym same) ∙ wrong in
     same-by old (Err fault) (end_alone (replay_of text)) (λ settled. sym (ap end_alone right)) (same-whole old new text whole)
 
--- what a text that was read whole, and then reported, comes to
+-- what a text that was read whole, and then reported, results in
 pub same-reported : (old new : Option (List ℕ)) (text out : List ℕ) (end : ReplayEnd) → IsWholeText old new text
     → replay_of text ≡ Ok (out, end)
     → IfSome old (λ input. IsSettled (Ok end) → Ok end ≡ outcome_of input)
 same-reported old new text out end whole told =
     same-by old (Ok end) (end_alone (replay_of text)) (λ settled. sym (ap end_alone told)) (same-whole old new text whole)
 
--- what a failed write comes to
+-- what a failed write results in
 pub same-failed : (old : Option (List ℕ)) (fault : TextFault) → fault ≡ Write
     → IfSome old (λ input. IsSettled (Err fault) → Err fault ≡ outcome_of input)
 same-failed old fault failed =

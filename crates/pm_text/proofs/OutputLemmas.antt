@@ -12,7 +12,7 @@ use Rattle.pm_text.specs.declared.scenario.fault.ScenarioFault.{ScenarioFault}
 use Rattle.pm_text.specs.declared.scenario.fault.ScenarioFault.TheVariants.{Syntax}
 use Rattle.pm_text.specs.declared.scenario.starts.Starts.{Starts}
 
--- one more of a list that is kept up to a length, with others behind it
+-- one more of a list that is kept up to a length, with others after it
 kept-push : {A : Type 0} (k m : ℕ) (xs : List A) (x y : A) → k ≤ length xs + m
     → slice_set (take k (xs ++ replicate m y)) (length xs) x ≡ take k ((xs ++ x ∷ []) ++ replicate m y)
 kept-push zero m xs x y room = refl
@@ -35,7 +35,7 @@ pub starts-made : (count : ℕ) (starts given : List OutputStart) → count ≡ 
     → (let made : Starts = record { count = count; starts = starts } in made ≡ starts_of given)
 starts-made count starts given counts firsts = rw (counts, firsts) refl
 
--- the outputs that were read, and those of the lines behind them
+-- the outputs that were read, and those of the lines after them
 abbrev pub behind : List OutputStart → Result (List OutputStart × Rest) ScenarioFault → Result (List OutputStart × Rest) ScenarioFault
 behind given (Err first) = Err first
 behind given (Ok got) = Ok (given ++ got.0, got.1)

@@ -1,4 +1,4 @@
--- What a replay comes to: the report of the run of a text's scenario. This project's own choice.
+-- What a replay results in: the report of the run of a text's scenario. This project's own choice.
 use Rattle.std.specs.Prelude.{⊤, ◌≡◌, ℕ, List, [], ◌∷◌, length, nat_lt, if◌then◌else◌, Option, Some, None, Result, Ok, Err}
 use Rattle.pm_device.specs.declared.config.Config.{Config}
 use Rattle.pm_world.specs.Life.{now, taken_events}
@@ -74,7 +74,7 @@ abbrev pub replay_by : Result Scenario TextFault → Result (List ℕ × ReplayE
 replay_by (Err fault) = Err fault
 replay_by (Ok scenario) = told_or (setup_fault scenario.config scenario.passes) scenario
 
--- the report of what the input's scenario comes to, or the first fault
+-- the report of what the input's scenario results in, or the first fault
 unfoldable pub replay_of : List ℕ → Result (List ℕ × ReplayEnd) TextFault
 replay_of input = replay_by (scenario_of input)
 

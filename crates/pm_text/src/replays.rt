@@ -88,7 +88,7 @@ pub fn replay<R: Read, W: Write>(
     Ok(end)
 }
 
-// The report on what a text's scenario comes to, and how that ended.
+// The report on what a text's scenario results in, and how that ended.
 fn report_on(alloc: Global, input: &[u8]) -> Result<(String, ReplayEnd), TextFault>
     requires { length input.now ≤ max_text }
     ensures replayed { IfOk result (λ told. IsReplay input.now (string_bytes told.0) told.1) }

@@ -16,7 +16,7 @@ fn feeds_in(bytes: &[u8]) -> usize {
     bytes.iter().filter(|byte| **byte == b'\n').count()
 }
 
-// Whether these are so many whole lines, which a text begins with.
+// Whether these are this many whole lines, which a text begins with.
 fn are_first_lines(written: &[u8], text: &str, count: usize) -> bool {
     let is_whole = match written.last() {
         Some(last) => *last == b'\n',

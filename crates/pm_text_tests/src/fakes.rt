@@ -4,7 +4,7 @@ ghost use Rattle.std.specs.Prelude.{Some, ◌≤◌};
 use std::alloc::Global;
 use std::io::{self, ErrorKind, Read, Write};
 
-/// A reader of these bytes, so many at a time. The call with this number fails, and the others
+/// A reader of these bytes, this many at a time. The call with this number fails, and the others
 /// don't; 0 for none.
 #[derive(Drop)]
 pub(crate) struct Pieces<'a> {
@@ -33,7 +33,7 @@ impl Read for Pieces<'_> {
     }
 }
 
-/// A reader of these bytes, so many at a time.
+/// A reader of these bytes, this many at a time.
 pub(crate) fn in_pieces(rest: &[u8], piece: usize) -> Pieces<'_> {
     Pieces {
         rest,
@@ -100,7 +100,7 @@ pub(crate) enum Failure {
 /// Each way in which a writer fails.
 pub(crate) const FAILURES: [Failure; 3] = [Failure::Error, Failure::Interrupted, Failure::Nothing];
 
-/// A writer that takes so many bytes at a time. The call with this number fails, and the others
+/// A writer that takes this many bytes at a time. The call with this number fails, and the others
 /// don't; 0 for none. A flush is counted apart, and fails where it is said to.
 #[derive(Drop)]
 pub(crate) struct Paper {
@@ -139,7 +139,7 @@ impl Write for Paper {
     }
 }
 
-/// A writer that takes so many bytes at a time.
+/// A writer that takes this many bytes at a time.
 pub(crate) fn blank_paper(alloc: Global, piece: usize) -> Paper {
     Paper {
         taken: Vec::new(alloc),

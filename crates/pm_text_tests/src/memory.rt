@@ -15,7 +15,7 @@ use std::alloc::Global;
 use std::process::Abort;
 use std::test::Fail;
 
-// An engine writes this text, or wants memory: then nothing of it, or by `decode` a front.
+// An engine writes this text, or wants memory: then nothing of it, or by `decode` a prefix.
 fn expect_text(rt: &(impl Abort + AllocGlobal), engine: Engine, input: &str, text: &str) {
     let (end, sheet) = engine.sheet_of(rt.alloc(), in_pieces(input.as_bytes(), 512));
     let written = sheet.text();

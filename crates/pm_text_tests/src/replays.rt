@@ -53,7 +53,7 @@ fn report(alloc: Global, said: Said) -> Result<String, Fail> {
     Ok(text)
 }
 
-// What a replay of a scenario with these events comes to.
+// What a replay of a scenario with these events results in.
 fn replayed(alloc: Global, events: &str) -> Result<(Result<bool, TextFault>, Vec<u8>), Fail> {
     let text = format!(in alloc; "{HEAD}{events}")?;
     Ok(Engine::Replay.text_of(alloc, in_pieces(text.as_bytes(), 4096)))

@@ -226,7 +226,7 @@ fn a_text_has_at_most_1048576_bytes(rt: HostRuntime) -> Result<(), Fail> {
     Ok(())
 }
 
-// A line has parts of so many bytes, and says this with that number.
+// A line has parts of this many bytes, and says this with that number.
 fn is_rendered(
     rt: &(impl Abort + AllocGlobal),
     line: &[u8],

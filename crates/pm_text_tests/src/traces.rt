@@ -106,7 +106,7 @@ fn a_cut_shows_the_same_lines_wherever_it_is(rt: HostRuntime) -> Result<(), Fail
     Ok(())
 }
 
-// A part of so many bytes.
+// A part of this many bytes.
 fn part(alloc: Global, first: &str, bytes: usize) -> Result<String, AllocError> {
     let mut part = String::from_str(alloc, first)?;
     for _ in 1..bytes {

@@ -1,4 +1,4 @@
--- What the hearing of an input comes to, by what its reader gave.
+-- What the hearing of an input results in, by what its reader gave.
 use Rattle.std.proofs.Common.{◌≡◌, ℕ, ◌<◌, ◌≤◌, true, false, List, ◌++◌, length, length-append, append-nil, Option, Some, None, IfSome}
 use Rattle.std.proofs.Common.{Result, Ok, Err, refl, sym, ap, ◌∙◌, arith, ltb, subst, IfErr, ◌⊎◌, inl, inr}
 use Rattle.std.proofs.lemmas.Bool.Decides.{nat_tests}
@@ -49,7 +49,7 @@ unsettled : (old : Option (List ℕ)) (r : Result (Unit {0}) TextFault) → (IsS
 unsettled None r open' = tt
 unsettled (Some input) r open' = λ settled. absurd (open' settled)
 
--- what a refused reading comes to
+-- what a refused reading results in
 pub same-read : (old new : Option (List ℕ)) (fault : TextFault) → IsOfReading fault
     → (fault ≡ TooLong → (front : List ℕ) × (max_text < length front) × Consumes old new front)
     → IfSome old (λ input. IsSettled (Err fault) → Err fault ≡ outcome_of input)
@@ -63,7 +63,7 @@ same-read old new Write of long = absurd of
 same-read old new Memory of long = unsettled old (Err Memory) (λ settled. settled)
 same-read old new (Setup reason) of long = absurd of
 
--- what a text that was read whole, as it was handed on, and then refused comes to
+-- what a text that was read whole, as it was handed on, and then refused results in
 pub same-refused : (old new : Option (List ℕ)) (text handed : List ℕ) (fault : TextFault) → IsWholeText old new text
     → handed ≡ text → (fault ≡ Memory) ⊎ (printed_text handed ≡ Err fault)
     → IfSome old (λ input. IsSettled (Err fault) → Err fault ≡ outcome_of input)
@@ -75,7 +75,7 @@ same-refused old new text handed fault whole same (inr wrong) =
     same-by old (Err fault) (outcome_of_text (printed_text text)) (λ settled. sym (ap outcome_of_text right))
     (same-whole old new text whole)
 
--- what a text that was read whole, as it was handed on, and then written comes to
+-- what a text that was read whole, as it was handed on, and then written results in
 pub same-written : {text handed out : List ℕ} (old new : Option (List ℕ)) (r : Result (Unit {0}) TextFault) → IsWholeText old new text
     → handed ≡ text → printed_text handed ≡ Ok out → IfErr r (λ fault. fault ≡ Write)
     → IfSome old (λ input. IsSettled r → r ≡ outcome_of input)

@@ -85,7 +85,7 @@ no_decimal (c ∷ cs) e = go (eqb c 45) refl
         ap (option_map (λ n. neg_ℤ (pos n))) (no_natural cs some)
     go false is = ap (option_map (λ n. pos n)) (no_natural (c ∷ cs) e)
 
--- nor an integer of so many bits
+-- nor an integer of this many bits
 no_signed : (bits : ℕ) (text : Text) → has_colon text ≡ true → signed_of bits text ≡ None
 no_signed bits text e = ap (option_and_then (λ z. cond (fits bits z) (Some z) None)) (no_decimal text e)
 

@@ -32,7 +32,7 @@ one_side x low high dx range below above =
 not_below : (x low : Ratio) → AtMost low x → LessThan x low → ⊥
 not_below x low h l = omega (arith, ints)
 
--- what `nearest` refuses of so many millionths
+-- what `nearest` refuses of this many millionths
 module _ (least greatest : Ratio) (range : IsRange least greatest) (k : ℤ) (small : unsigned_abs k ≤ 10 ^ 15) where
   -- a value outside is refused
   refuses : (fault : NumFault) → IsOutside least greatest (micros k) fault → RefusesValue least greatest (Nearest k) fault

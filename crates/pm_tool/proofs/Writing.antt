@@ -9,7 +9,7 @@ use Rattle.std.proofs.lemmas.List.FromFn.{get_or-range_with_len, length-range_wi
 use Rattle.std.proofs.lemmas.List.Concat.{flat_map-append}
 use Rattle.pm_lines.specs.Streams.{AppendsFront}
 
--- a front of a later part, behind what was written before
+-- a prefix of a later part, after what was written before
 pub AppendsFront-later : {all : List ℕ} (a b c : Option (List ℕ)) (before part later : List ℕ)
     → Appends a b before × AppendsFront b c part → all ≡ before ++ (part ++ later) → AppendsFront a c all
 AppendsFront-later {all = all} a b c before part later (written, short) is =
@@ -19,14 +19,14 @@ AppendsFront-later {all = all} a b c before part later (written, short) is =
     ∙ sym (append_assoc before front (rest ++ later)) in
     (before ++ front, rest ++ later, whole, omega (arith, length-append rest later), Appends-trans a b c before front written appended)
 
--- pieces one behind another, at one of them
+-- pieces one after another, at one of them
 pub flat_map-at : {X : Type 0} (f : X → List ℕ) (xs : List X) (i : ℕ) (d : X) → i < length xs
     → flat_map f xs ≡ flat_map f (take i xs) ++ (f (get_or xs i d) ++ flat_map f (drop (i + 1) xs))
 flat_map-at f xs i d within =
     ap (flat_map f) (sym (take-append-drop i xs)) ∙ flat_map-append f (take i xs) (drop i xs)
     ∙ ap (λ ys. flat_map f (take i xs) ++ flat_map f ys) (drop_more xs i d within)
 
--- numbered lines one behind another, at one of them
+-- numbered lines one after another, at one of them
 pub numbered-at : (f : ℕ → List ℕ) (n i : ℕ) → i < n
     → flat_map f (range_with_len 0 n) ≡ flat_map f (take i (range_with_len 0 n)) ++ (f i ++ flat_map f (drop (i + 1) (range_with_len 0 n)))
 numbered-at f n i within =
@@ -50,7 +50,7 @@ numbered-more f n i within =
 pub numbered-all : (f : ℕ → List ℕ) (n i : ℕ) → n ≤ i → flat_map f (take i (range_with_len 0 n)) ≡ flat_map f (range_with_len 0 n)
 numbered-all f n i past = ap (flat_map f) (take_all i (range_with_len 0 n) (omega (arith, length-range_with_len 0 n)))
 
--- a front of the first of two parts
+-- a prefix of the first of two parts
 pub AppendsFront-first : (old new : Option (List ℕ)) (part later : List ℕ) → AppendsFront old new part
     → AppendsFront old new (part ++ later)
 AppendsFront-first old new part later short =

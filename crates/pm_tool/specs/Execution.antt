@@ -42,7 +42,7 @@ use Rattle.pm_tool.specs.declared.numbers.question.Question.{Question}
 pub data End : Type 0 where
   -- standard output got the whole of a text
   Printed : (status : ℕ) (text : List ℕ) → End
-  -- standard output failed: it got a front of a text
+  -- standard output failed: it got a prefix of a text
   CutShort : (text : List ℕ) → End
   -- standard output got nothing, and standard error says why
   Refused : (status : ℕ) (words : List ℕ) → End
@@ -70,7 +70,7 @@ said_by (Refused status words) = Some (refusal_line words)
 said_by (Broken text words) = Some (refusal_line words)
 said_by (Misused text) = Some text
 
--- a front of the text was written, or all of it
+-- a prefix of the text was written, or all of it
 abbrev pub AppendsSome : Option (List ℕ) → Option (List ℕ) → List ℕ → Type 0
 AppendsSome old new text =
     (front : List ℕ) × (rest : List ℕ) × (text ≡ front ++ rest) × Appends old new front
@@ -152,7 +152,7 @@ HearEnds remaining old new end = TextEnds new
 
 -- ---- `replay`
 
--- the reader gave a text, and this is the report of what its scenario comes to
+-- the reader gave a text, and this is the report of what its scenario results in
 abbrev pub GaveScenario : Option (List ℕ) → Option (List ℕ) → List ℕ → ReplayEnd → Type 0
 GaveScenario old new text end =
     (input : List ℕ) × IsWholeText old new input × IsReplay input text end
@@ -198,7 +198,7 @@ GaveTrace old new text end = (input : List ℕ) × IsWholeText old new input
     × (text ≡ trace_text input) × (end ≡ end_of (counts_of (trace_of input)))
 
 -- why `decode` breaks off, and what it has told until then: more bytes than a trace may have, or a
--- failed read, and the lines that ended before; want of memory, and a front of these
+-- failed read, and the lines that ended before; want of memory, and a prefix of these
 abbrev pub DecodeBreaks : Option (List ℕ) → Option (List ℕ) → List ℕ → TextFault → Type 0
 DecodeBreaks old new text TooLong = (front : List ℕ) × (more : List ℕ) × (length front ≡ max_text)
     × (0 < length more) × Consumes old new (front ++ more) × (text ≡ told_lines (said front))

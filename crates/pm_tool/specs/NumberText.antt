@@ -81,7 +81,7 @@ RefusesNumber (Ok asked) fault = Refuses asked fault
 
 -- ---- the answer
 
--- the word itself, or the one for so many millionths
+-- the word itself, or the one for this many millionths
 abbrev pub IsWordFor : (ℕ → Ratio) → (ℕ → ℕ) → Asked → ℕ → Type 0
 IsWordFor value rank (Word given) word = word ≡ given
 IsWordFor value rank (Nearest k) word = IsNearest value rank (micros k) word

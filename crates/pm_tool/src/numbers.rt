@@ -34,7 +34,7 @@ use std::io::Write;
 ///
 /// In this order: not exactly one of word and micro, a bad format, a bad word or micro, N1 or N2
 /// for the parameters of DIRECT, N5, N3 or N4 for the millionths, and X6 or X5. Nothing is written
-/// but at X5, where it is a front of the line and not all of it.
+/// but at X5, where it is a prefix of the line and not all of it.
 pub fn number<W: Write>(
     alloc: Global,
     writer: &mut Sink<W>,

@@ -37,7 +37,7 @@ use std::io::{Read, Write};
 /// # Errors
 ///
 /// X3 where the text has more than 1,048,576 bytes; X4 where the reader failed; X1 or X2 for the
-/// text's first faulty line; X5 where the writer failed, and then only a front of the text is
+/// text's first faulty line; X5 where the writer failed, and then only a prefix of the text is
 /// written; X6 where memory was refused. On any other refusal than X5 nothing was written.
 pub fn hear<R: Read, W: Write>(
     alloc: Global,
@@ -71,7 +71,7 @@ pub fn hear<R: Read, W: Write>(
         × (0 < length front) × (length front ≤ max_text)
         × Consumes (R.remaining reader.old.inner) (R.remaining reader.new.inner) front }
 
-    // A failed write leaves a front of the text, and not all of it.
+    // A failed write leaves a prefix of the text, and not all of it.
     ensures cut_short { IsErrOf result TextFault.Write → (input : List ℕ) × (text : List ℕ)
         × IsWholeText (R.remaining reader.old.inner) (R.remaining reader.new.inner) input
         × (printed_text input ≡ Ok text)
@@ -184,7 +184,7 @@ fn put_text<W: Write>(
     Ok(())
 }
 
-// The line of an output that is there.
+// The line of an output that exists.
 fn line_at(converter: &Converter, output: u8) -> [u8; 27]
     requires { output < converter.now.config.count }
     ensures { result ≡ output_at converter.now output }

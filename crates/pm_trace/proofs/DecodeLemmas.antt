@@ -74,7 +74,7 @@ some_taken old piece open' some none =
     let first = some_first front many in
     omega (arith, ap length taken)
 
--- X3 comes where so many bytes were taken as a text may have
+-- X3 comes where as many bytes were taken as a text may have
 pub room_none : (old : Holding) (piece : List ℕ) → old.standing ≡ Open → refusal_of old piece ≡ Some TooLong → max_text ≤ old.kept.taken
 room_none old piece open' refused = by (has_bytes piece) (leb max_text old.kept.taken) refl (ap (λ s. refusal_by s old.kept piece)
     (sym open') ∙ refused)
@@ -151,7 +151,7 @@ pushed_front {old = old} {mid = mid} front rest split some pushes refused same =
 
 -- ---- what was read and written
 
--- a front of what is written behind what was written
+-- a prefix of what is written after what was written
 AppendsFront-behind : (a b c : Option (List ℕ)) (before part later all : List ℕ) → Appends a b before → AppendsFront b c part
     → all ≡ before ++ (part ++ later) → AppendsFront a c all
 AppendsFront-behind a b c before part later all written (front, rest, split, some, appended) is = (
@@ -312,7 +312,7 @@ as_all a b one two is all = let P : List ℕ → Type 0 = λ l. Appends a b l in
 
 -- ---- the end of all bytes
 
--- what is written at the end, behind what was written
+-- what is written at the end, after what was written
 pub trace_text-end : (text : List ℕ) → trace_text text
     ≡ told_lines (said text) ++ (told_lines (some_told (told_at_end (now text))) ++ counts_text (kept_at_end (now text)).counts)
 unfolding trace_text

@@ -119,7 +119,7 @@ split-ended mark (x ∷ xs) = by (mark x) refl (split-ended mark xs)
     by true marked rest = rw (marked, rest) refl
     by false other rest = rw (other, rest) (first_next (ended mark xs) (since mark xs) ∙ onto_last mark x xs other)
 
--- ---- before and behind the first mark
+-- ---- before and after the first mark
 
 -- a mark in the front comes first
 pub before-marked : (mark : ℕ → Bool) (xs ys : List ℕ) → list_any mark xs ≡ true → before mark (xs ++ ys) ≡ before mark xs

@@ -16,7 +16,7 @@ use Rattle.pm_trace.specs.Decoding.{line_told, line_ended, first_line, taken_by,
 use Rattle.pm_trace.specs.Pieces.{Call, Calls, Decodes, TakesWhole, taken_in, Stops, TakesFront}
 use Rattle.pm_trace.proofs.SaidLemmas.{now-append, said-append, trace_of-end, counts-at_end}
 
--- the first line is a front
+-- the first line is a prefix
 first_front : (bytes : List ℕ) → (rest : List ℕ) × (bytes ≡ first_line bytes ++ rest)
 first_front [] = ([], refl)
 first_front (x ∷ xs) = by (is_line_feed x) (first_front xs)
@@ -26,7 +26,7 @@ first_front (x ∷ xs) = by (is_line_feed x) (first_front xs)
     by true tail = (xs, refl)
     by false tail = (tail.0, ap (λ l. x ∷ l) tail.1)
 
--- what a call takes is a front of its piece
+-- what a call takes is a prefix of its piece
 pub taken_front : (old : Holding) (piece : List ℕ) → old.standing ≡ Open → (rest : List ℕ) × (piece ≡ taken_of old piece ++ rest)
 taken_front old piece open' =
     let room = take (max_text - old.kept.taken) piece in
@@ -38,7 +38,7 @@ taken_front old piece open' =
           ∙ append_assoc (first_line room) front.0 left ∙ ap (λ l. l ++ (front.0 ++ left)) (sym taken),
     )
 
--- a front is what stands before its length
+-- a prefix is what stands before its length
 pub front_taken : (front all rest : List ℕ) (n : ℕ) → all ≡ front ++ rest → n ≡ length front → take n all ≡ front
 front_taken front all rest n whole count = ap (λ k. take k all) count ∙ ap (take (length front)) whole ∙ take-append_seam front rest
 

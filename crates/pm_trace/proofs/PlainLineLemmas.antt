@@ -137,7 +137,7 @@ slash_separates (x ∷ xs) some = by (eqb x 47) refl (slash_separates xs)
     by true is rest = rw (is, or-true (eqb x 32)) refl
     by false is rest = rw (rest (rw is at some), or-true (eqb x 32 || eqb x 47)) refl
 
--- behind a slash the word that goes on stands in the read part
+-- after a slash the word that goes on stands in the read part
 since_after : (xs : List ℕ) → list_any is_slash xs ≡ true → since is_separator xs ≡ since is_separator (after is_slash xs)
 since_after [] some = refl
 since_after (x ∷ xs) some = by (eqb x 47) refl (since_after xs)

@@ -15,7 +15,7 @@ kept_with kept bytes = record kept {
   line = fold line_takes kept.line bytes;
 }
 
--- at so many bytes taken
+-- at this many bytes taken
 kept_at : Kept → ℕ → OpenLine → Kept
 kept_at kept taken line = record kept { taken = taken; line = line }
 

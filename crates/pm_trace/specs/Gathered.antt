@@ -27,7 +27,7 @@ shown_in g = if g.has_ended
     then (if is_skipped_kind g.line.kind then None else Some (g.ended, open_judged g.line))
     else None
 
--- no more lines are counted than ended, and no more end than bytes were taken, and so many more
+-- no more lines are counted than ended, and no more end than bytes were taken, and this many more
 pub record IsBounded (more : ℕ) (g : Gathered) : Type 0 where
   pub counted : lines_in g.tally ≤ g.ended
   pub ended : g.ended ≤ g.taken + more

@@ -13,7 +13,7 @@ pub record Pushes (text new_text : List ℕ) (old new : Holding) (bytes : List �
   pub standing : new.standing ≡ Open
   pub room : new.kept.taken ≤ max_text
 
--- a front of a piece was taken, and what its lines say was written after a text: the whole piece, or
+-- a prefix of a piece was taken, and what its lines say was written after a text: the whole piece, or
 -- all that a text may have
 pub record PushesFront (text new_text : List ℕ) (old new : Holding) (piece : List ℕ)
     (is_whole : Bool) : Type 0 where

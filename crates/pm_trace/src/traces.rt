@@ -36,7 +36,7 @@ const PIECE: usize = 512;
 ///
 /// X3 where the trace has more than 1,048,576 bytes, and X4 where the reader failed: the lines that
 /// ended before were written, and no counts. X5 where the writer failed, and X6 where memory was
-/// refused: a front of the text was written.
+/// refused: a prefix of the text was written.
 pub fn decode<R: Read, W: Write>(
     alloc: Global,
     reader: &mut Source<R>,
@@ -60,7 +60,7 @@ pub fn decode<R: Read, W: Write>(
         × Consumes (R.remaining reader.old.inner) (R.remaining reader.new.inner) front
         × Appends (W.contents writer.old.inner) (W.contents writer.new.inner) (told_lines (said front)) }
 
-    // A front of what the lines that were read say was written.
+    // A prefix of what the lines that were read say was written.
     ensures write { IsErrOf result TextFault.Write → (front : List ℕ)
         × Consumes (R.remaining reader.old.inner) (R.remaining reader.new.inner) front
         × (AppendsFront (W.contents writer.old.inner) (W.contents writer.new.inner) (told_lines (said front))

@@ -24,12 +24,12 @@ use Rattle.pm_world.specs.Below.{Below}
 use Rattle.pm_world.specs.Damage.{AreOthers}
 use Rattle.pm_world.specs.Legal.{answer_in, is_legal_return}
 
--- a byte of a list with others behind it
+-- a byte of a list with others after it
 behind : (bytes rest : List ℕ) (place : ℕ) → length bytes ≤ place →
     slice_index (bytes ++ rest) place ≡ slice_index rest (place - length bytes)
 behind bytes rest place past = get_or-append_right bytes rest (length bytes) place 0 refl past
 
--- bytes with bytes behind them, and bytes without the last of them
+-- bytes with bytes after them, and bytes without the last of them
 bytes-append : (bytes rest : List ℕ) → AreBytes bytes → AreBytes rest → AreBytes (bytes ++ rest)
 bytes-append bytes rest first later place = elim (cases_lt place (length bytes)) [
   | inl inside ↦ subst (λ n. n < 2 ^ 8) (sym (get_or_append_left bytes rest 0 place inside)) (first place)
@@ -43,7 +43,7 @@ bytes-front bytes rest are place = elim (cases_lt place (length bytes)) [
   | inr past ↦ subst (λ n. n < 2 ^ 8) (sym (get_or_past bytes place 0 past)) (omega arith)
 ]
 
--- bits that are the same stay so with the same bytes behind them
+-- bits that are the same stay so with the same bytes after them
 bit-behind : (bytes others rest : List ℕ) (place : ℕ) → length bytes ≡ length others → message_bit bytes place ≡ message_bit others place →
     message_bit (bytes ++ rest) place ≡ message_bit (others ++ rest) place
 bit-behind bytes others rest place long same = elim (cases_lt (place / 8) (length bytes)) [

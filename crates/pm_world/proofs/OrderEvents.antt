@@ -41,7 +41,7 @@ host_rule-none : (b : Bool) (fault : HostFault) → host_rule b fault ≡ None �
 host_rule-none false fault h = refl
 host_rule-none true fault h = cc
 
--- the message that is there
+-- the message that exists
 some-is : (a b : Message) → Some a ≡ Some b → a ≡ b
 some-is a b e = ap (λ o. unwrap_or o a) e
 

@@ -148,7 +148,7 @@ coefficients_answered-true config s output tries (Some k) agree (inside, made) (
     (λ found h. mode-shape config output Direct found made direct
     (ap (λ (c : Coefficients). result_ok (shape_in Direct c)) (sym (is k refl)) ∙ h))
 
--- a learn asks for an output that is there
+-- a learn asks for an output that exists
 abbrev Inside : ℕ → Option Stage → Type 0
 Inside count (Some (AsksMode output tries)) = output < count
 Inside count (Some (AsksCoefficients output tries)) = output < count

@@ -65,7 +65,7 @@ unfolding now state_of host_now known_now table
 now-standings config passes events = length-map-range_with_len {X = Standing}
     (λ place. standing_of (marks (setup_of config passes) (life config passes events).entries) (cell_in place)) 0 places
 
--- what an undisturbed read of an order comes to
+-- what an undisturbed read of an order results in
 pub record Ended (s : State) (cell : Cell) (word : ℕ) (event : Event) : Type 0 where
   pub answer : List ℕ
   pub good : good_word s.device.config.addr cell answer ≡ Some word

@@ -17,7 +17,7 @@ const CAPABILITY: u16 = 0x80;
 const REVISION: u16 = 0x33;
 
 impl Converter {
-    // What a hearing comes to.
+    // What a hearing results in.
     pub(super) fn verdict(&self, bytes: &[u8], ending: Ending) -> Verdict
         ensures value { result
             ≡ verdict_of self.now.config self.now.words self.now.page bytes.now ending }

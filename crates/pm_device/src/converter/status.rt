@@ -6,7 +6,7 @@ use crate::status_bits::{StatusByte, StatusVout, StatusWord};
 use bitflags::Flags;
 
 impl Converter {
-    /// STATUS_BYTE of an output that is there: the bits of [`StatusByte`].
+    /// STATUS_BYTE of an output that exists: the bits of [`StatusByte`].
     pub fn status_byte(&self, output: u8) -> u8
         requires { output < self.now.config.count }
         ensures { result ≡ spec.status_byte self.now output }
@@ -15,7 +15,7 @@ impl Converter {
         StatusByte::new(off, self.status_cml() != 0, self.is_latched(output)).bits()
     }
 
-    /// STATUS_WORD of an output that is there: the bits of [`StatusWord`].
+    /// STATUS_WORD of an output that exists: the bits of [`StatusWord`].
     pub fn status_word(&self, output: u8) -> u16
         requires { output < self.now.config.count }
         ensures { result ≡ spec.status_word self.now output }
@@ -24,7 +24,7 @@ impl Converter {
         StatusWord::new(off, self.status_cml() != 0, self.is_latched(output)).bits()
     }
 
-    /// STATUS_VOUT of an output that is there: the bits of [`StatusVout`].
+    /// STATUS_VOUT of an output that exists: the bits of [`StatusVout`].
     pub fn status_vout(&self, output: u8) -> u8
         requires { output < self.now.config.count }
         ensures { result ≡ spec.status_vout self.now output }

@@ -192,7 +192,7 @@ fn with_third(count: u8) -> Result<Converter, ConfigFault> {
     })
 }
 
-// A COEFFICIENTS request is refused for its code and for its side, and where no output that is there
+// A COEFFICIENTS request is refused for its code and for its side, and where no output that exists
 // is DIRECT.
 #[test]
 fn coefficients_are_refused_for_code_side_and_mode(rt: HostRuntime) -> Result<(), Fail> {

@@ -13,7 +13,7 @@ pub enum StartFault {
     /// `--passes` isn't a number of 0 to 255.
     #[error("a bad number of passes")]
     Passes,
-    /// H1 or H2: the host can't have so many.
+    /// H1 or H2: the host can't have this many.
     #[error("{0}")]
     Host(HostFault),
 }

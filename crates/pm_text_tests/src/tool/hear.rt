@@ -144,7 +144,7 @@ fn the_first_faulty_line_is_named(rt: HostRuntime) {
         ("restarts", TextFault::BadHex(1)),
         ("RESTART", TextFault::BadHex(1)),
         ("restart/", TextFault::BadHex(1)),
-        // A frame that isn't hexadecimal comes before what stands behind its `/`.
+        // A frame that isn't hexadecimal comes before what stands after its `/`.
         ("B0 2 /", TextFault::BadHex(1)),
         ("B0 2 / ZZ", TextFault::BadHex(1)),
         ("B0 2/", TextFault::BadHex(1)),

@@ -8,7 +8,7 @@ use std::io::{ErrorKind, Read};
 use std::process::Abort;
 use std::test::Fail;
 
-/// What a run over memory comes to: the status, and what was written on both streams.
+/// What a run over memory results in: the status, and what was written on both streams.
 #[derive(Drop)]
 pub(super) struct Ran {
     pub(super) status: u8,

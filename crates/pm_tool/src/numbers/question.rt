@@ -24,7 +24,7 @@ pub(crate) enum FormatText {
 pub(crate) enum Asked {
     /// This one.
     Word(u16),
-    /// The one whose value is nearest to so many millionths.
+    /// The one whose value is nearest to this many millionths.
     Nearest(i64),
 }
 

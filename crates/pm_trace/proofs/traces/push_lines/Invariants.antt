@@ -2,7 +2,7 @@ use Rattle.std.proofs.Common.{◌≡◌, ℕ, List, ◌++◌, length, string_byt
 use Rattle.pm_trace.specs.Written.{Pushes}
 use Rattle.pm_trace.proofs.traces.push_lines.Given as goal
 
--- a front of the piece was taken, and the rest is left
+-- a prefix of the piece was taken, and the rest is left
 abbrev pub invariant-pieces : goal.invariant-pieces
 invariant-pieces l =
     (front : List ℕ) × (l.piece ≡ front ++ l.rest)

@@ -2,7 +2,7 @@ use Rattle.std.proofs.Common.{◌≡◌, ℕ, List, ◌++◌, length}
 use Rattle.std.specs.Io.KnownBytes.{Appends}
 use Rattle.pm_lines.proofs.sink.Sink.put.Given as goal
 
--- a front of the bytes was written, the rest is left, and no call failed
+-- a prefix of the bytes was written, the rest is left, and no call failed
 abbrev pub invariant-writes : goal.invariant-writes
 invariant-writes g l =
     (front : List ℕ) × (l.bytes ≡ front ++ l.rest)
