@@ -8,8 +8,9 @@
     scripts/bus.py 1 58 --trace=order.trace order 0 VOUT_COMMAND 34CD
 
 BUS is the number of /dev/i2c-BUS, ADDRESS two hexadecimal digits. A JOB is what is said to pmbhost: `order O NAME HEX`,
-`volts O NAME MICROVOLTS`, `check O NAME`, `learn O`, `clear O`; `state O NAME` and `seen` tell what is known. One host
-carries all of them out, up to the first that doesn't end as `done` or `learned`, and the last answer to each is printed.
+`volts O NAME MICROVOLTS`, `check O NAME`, `learn O`, `clear O`, `store`, `restore`; `state O NAME` and `seen` tell what is
+known. One host carries all of them out, up to the first that doesn't end as `done` or `learned`, and the last answer to
+each is printed.
 
     --outputs=N     how many outputs the device has, 8 where it isn't given
     --passes=N      how often a job is tried at most, 3 where it isn't given

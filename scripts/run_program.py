@@ -83,6 +83,7 @@ CODES = [
     ("B0 00 01 ED", "PAGE", "write 01"), ("B0 01 00 FF", "OPERATION", "write 00"),
     ("B0 10 00 BD", "WRITE_PROTECT", "write 00"), ("B0 7A 00 CA", "STATUS_VOUT", "write 00"),
     ("B0 7E 00 9E", "STATUS_CML", "write 00"), ("B0 03 46", "CLEAR_FAULTS", "send"),
+    ("B0 15 24", "STORE_USER_ALL", "send"), ("B0 16 2D", "RESTORE_USER_ALL", "send"),
     ("B0 21 00 10 C0", "VOUT_COMMAND", "write 1000"), ("B0 24 00 10 00", "VOUT_MAX", "write 1000"),
     ("B0 25 00 10 6B", "VOUT_MARGIN_HIGH", "write 1000"),
     ("B0 26 00 20 46", "VOUT_MARGIN_LOW", "write 2000"), ("B0 2B 00 10 47", "VOUT_MIN", "write 1000"),

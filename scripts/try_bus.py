@@ -64,6 +64,10 @@ ROWS = [
     ("check 0 VOUT_COMMAND + state 0 VOUT_COMMAND", "", "ended done\nstate confirmed 1000 possible 1000", 0, "1000"),
     ("order - WRITE_PROTECT 40 + state - WRITE_PROTECT", "", "ended done\nstate confirmed 40 possible 40", 0, "1000"),
     ("clear 0 + seen", "", "ended done\nseen no", 0, "1000"),
+    # a stored word comes back by a restart; a restore leaves nothing known
+    (f"{ORDER} + store + check 0 VOUT_COMMAND + state 0 VOUT_COMMAND", "ok ok ok restart",
+     "ended done\nended done\nended done\nstate confirmed 34CD possible 34CD", 0, "34CD"),
+    (f"{ORDER} + restore + state 0 VOUT_COMMAND", "", "ended done\nended done\nstate unknown possible any", 0, "1000"),
     # the acknowledgement is lost, and the read shows the word
     (ORDER, "lost", "ended done", 0, "34CD"),
     # the acknowledgement is false: the read shows the old word, and the second pass writes

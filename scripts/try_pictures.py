@@ -45,6 +45,9 @@ MARKS = {
     "restart-noticed": ["", "reads 1000: done", *CONFIRMS, "the converter restarts", "",
                         "reads 1000: done, restart seen"],
     "floor": [*CONFIRMS[:3], "reads 0400: done", *CONFIRMS[:3], "reads 5000: done"],
+    "store": [*CONFIRMS, "", "the write is taken", "acknowledged: done", "the converter restarts", *CONFIRMS[:3],
+              "reads 2000: done", "", "the write is cut", "not acknowledged", "the write is taken",
+              "taken, not acknowledged: unknown", "", "reads 34CD: done"],
     "direct-negative-slope": ["", "reads 40", "reads coefficients: learned", "", "the write is taken", "acknowledged",
                               "reads 06A4: done", "", "the write is taken", "acknowledged", "reads 01F4: done"],
 }

@@ -1,8 +1,8 @@
 #!/usr/bin/env python3
-"""Tries `pmbhost` as a coprocess: an order, a lost answer, a false acknowledgement, a restart of either end, and LINES
-lines of random sessions against the plain host of scripts/plain. Each answer must come before the next line is said, and in
-10 seconds. How the program ends is tried too: its status and what it says, for faulty options and failed streams. What
-is wrong is printed, and the status is then 1.
+"""Tries `pmbhost` as a coprocess: an order, a lost answer, a false acknowledgement, a restart of either end, a restore,
+and LINES lines of random sessions against the plain host of scripts/plain. Each answer must come before the next line is
+said, and in 10 seconds. How the program ends is tried too: its status and what it says, for faulty options and failed
+streams. What is wrong is printed, and the status is then 1.
 
     scripts/try_sessions.py [SEED [LINES]]
 
@@ -24,6 +24,7 @@ from program import answer_help  # noqa: E402
 WRITE, REQUEST = "send B0 05 04 00 21 CD 34 5A", "send B0 06 02 00 21 read 4"
 NEW, OLD = "got B1 02 CD 34 B9", "got B1 02 00 10 41"
 ORDER = ("order 0 VOUT_COMMAND 34CD", WRITE)
+STORE, RESTORE = "send B0 15 24", "send B0 16 2D"
 # Told stories, as lines and their answers.
 STORIES = {
     "an order": [ORDER, ("finished ack", REQUEST), (NEW, "ended done")],
@@ -39,6 +40,11 @@ STORIES = {
     "a restart of the host": [
         ORDER, ("finished ack", REQUEST), ("restart", "restarted"), (NEW, "refused S2 NothingSent"), ("sending", "idle"),
         ("state 0 VOUT_COMMAND", "state unknown possible any"), ORDER],
+    "a store and a restore": [
+        ("check 0 VOUT_COMMAND", REQUEST), (NEW, "ended done"), ("store", STORE), ("restore", "refused H3 Busy"),
+        ("finished ack", "ended done"), ("state 0 VOUT_COMMAND", "state confirmed 34CD possible 34CD"), ("restore", RESTORE),
+        ("state 0 VOUT_COMMAND", "state unknown possible any"), ("finished nack", RESTORE), ("finished nack", "ended unknown"),
+        ("seen", "seen no")],
 }
 # How many words may be possible of a cell before an order is refused.
 MOST_WORDS = 16
@@ -63,7 +69,7 @@ NOISE = ["", "#", "# order 0 VOUT_COMMAND 34CD", "hello", "order", "order 0", "o
          "order 0 VOUT_COMMAND 34CD 1", "order - VOUT_COMMAND 34CD", "order 256 OPERATION 80", "finished", "finished yes",
          "finish ack", "got B", "got GG", "got B1 " + "00" * 16, "state", "state 0", "state 0 VOUT_MODE", "seen yes",
          "restart host", "Sending", "volts - WRITE_PROTECT 1", "volts 0 VOUT_COMMAND +1", "check 0 READ_VOUT",
-         "deliver whole", "learn -1", "got " + "B1 " * 5, "x" * 256, "x" * 257, "seen" + " " * 252, "seen" + " " * 253]
+         "deliver whole", "learn -1", "store 0", "restore all", "got " + "B1 " * 5, "x" * 256, "x" * 257, "seen" + " " * 252, "seen" + " " * 253]
 
 
 def uncertain_story():
@@ -124,7 +130,7 @@ def job_line(dice, outputs):
     cell, digits = cell_words(dice, outputs)
     return dice.choice([
         f"order {cell} {word_of(dice, digits)}", f"order {cell} {word_of(dice, digits)}", f"check {cell}",
-        f"learn {dice.randrange(outputs)}", f"clear {dice.randrange(outputs)}",
+        f"learn {dice.randrange(outputs)}", f"clear {dice.randrange(outputs)}", "store", "restore",
         f"volts {dice.randrange(outputs)} VOUT_COMMAND {dice.choice([3300000, 1000000, -1, 10**16, dice.randrange(20000000)])}"])
 
 
@@ -178,7 +184,7 @@ def random_faults(dice, wanted):
         device, plain, host = Converter(setup), PlainSession(0x58, outputs, passes), session.Session("58", outputs, passes)
         for _ in range(min(200, wanted - said)):
             if dice.random() < 0.01:
-                device = Converter(setup)
+                device.restart()
             line = any_line(dice, plain, device, outputs)
             answer, right = host.ask(line + dice.choice(["", "", "", "\r"]) * (len(line) < 256)), plain.answer(line.encode())
             said += 1

@@ -65,11 +65,13 @@ static pm_step exchange(pm_host *host, pm_desk *desk) {
 
 static void begin(pm_host *host) {
     uint8_t output = (uint8_t)draw(OUTPUTS), code = codes[draw(CODES)];
-    switch (draw(8)) {
+    switch (draw(10)) {
     case 0: pm_host_check(host, output, code); break;
     case 1: pm_host_learn(host, output); break;
     case 2: pm_host_clear(host, output); break;
-    case 3: pm_host_order_micro(host, output, code, (int64_t)draw(4000000)); break;
+    case 3: pm_host_store(host); break;
+    case 4: pm_host_restore(host); break;
+    case 5: pm_host_order_micro(host, output, code, (int64_t)draw(4000000)); break;
     default:
         pm_host_order(host, output, code, code == PM_OPERATION ? 0x80 : (uint16_t)(0x1000 + draw(0x400)));
     }

@@ -52,8 +52,8 @@ def library(archive, folder):
     subprocess.run(["cc", "-shared", "-Wl,--whole-archive", archive, "-Wl,--no-whole-archive", "-o", shared], check=True)
     loaded = ctypes.CDLL(shared)
     for name in ("pm_host_new", "pm_host_order", "pm_host_order_micro", "pm_host_check", "pm_host_learn", "pm_host_clear",
-                 "pm_host_sending", "pm_host_restart", "pm_host_standing", "pm_host_possible", "pm_host_format",
-                 "pm_host_restart_seen"):
+                 "pm_host_store", "pm_host_restore", "pm_host_sending", "pm_host_restart", "pm_host_standing",
+                 "pm_host_possible", "pm_host_format", "pm_host_restart_seen"):
         getattr(loaded, name).restype = ctypes.c_uint8
     loaded.pm_host_finished.restype = loaded.pm_host_got.restype = Step
     loaded.pm_host_size.restype = ctypes.c_size_t
@@ -115,8 +115,12 @@ class Life:
             name, fault, number = "check", self.plain.check(cell), self.loaded.pm_host_check(self.image, output, code)
         elif draw < 0.92:
             name, fault, number = "learn", self.plain.learn(output), self.loaded.pm_host_learn(self.image, output)
-        else:
+        elif draw < 0.96:
             name, fault, number = "clear", self.plain.clear(output), self.loaded.pm_host_clear(self.image, output)
+        elif draw < 0.98:
+            name, fault, number = "store", self.plain.store(), self.loaded.pm_host_store(self.image)
+        else:
+            name, fault, number = "restore", self.plain.restore(), self.loaded.pm_host_restore(self.image)
         self.same(name, number, number_of(fault))
         self.seen[f"{name} {fault or 'accepted'}"] += 1
         return cell
@@ -182,7 +186,7 @@ class Life:
             self.same("restart", self.loaded.pm_host_restart(self.image), 0)
             self.seen["restart of the host"] += 1
         elif draw < 0.02:
-            self.device = Converter(self.setup)
+            self.device.restart()
             self.seen["restart of the converter"] += 1
         elif self.plain.sending() is None or draw < 0.05:
             cell = self.begin()

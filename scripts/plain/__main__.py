@@ -5,7 +5,7 @@ import sys
 
 from .commands import hear, number
 from .converter import COMMAND, OPERATION, PROTECT
-from .host import Host
+from .host import ANY, Host
 from .packets import answer_fault, answer_of, fault_words, request_fault, request_message, write_fault
 from .promises import try_promises
 from .report import replay
@@ -69,15 +69,16 @@ FAULTY = [
     (9, "deliver bytes B0050 stop", "X2"), (9, "deliver bytes stop", "X2"),
     (9, "deliver bytes " + 17 * "B0" + " stop", "X2"), (9, "deliver cut 256", "X1"), (10, "finish", "X1"),
 ]
-# The same of version 2, and of an event that names VOUT_MIN in version 1.
+# The same of version 2, and in version 1 of an event that names VOUT_MIN, a store and a restore.
 FAULTY_SECOND = [
     (5, "output 14 80 1000 4000 1100 0F00", "X1"), (6, "output 14 80 1000 4000 1100 0F00 0000 0000", "X1"),
     (6, "output 14 80 1000 4000 1100 0F00 00Z0", "X2"), (6, "output 14 80 1000 4000 1100 0F00 begin", "X2"),
-    (8, "order 0 VOUT_MIN 0A", "X2"), (8, "order - VOUT_MIN 0A00", "X1"),
+    (8, "order 0 VOUT_MIN 0A", "X2"), (8, "order - VOUT_MIN 0A00", "X1"), (8, "store 0", "X1"),
+    (8, "restore x", "X1"), (8, "Store", "X1"),
 ]
 FAULTY_FIRST = [
     (8, "order 0 VOUT_MIN 0A00", "X1"), (8, "check 1 VOUT_MIN", "X1"), (8, "volts 0 VOUT_MIN 5", "X1"),
-    (6, "output 14 80 1000 4000 1100 0F00 0000", "X1"),
+    (6, "output 14 80 1000 4000 1100 0F00 0000", "X1"), (8, "store", "X1"), (8, "restore", "X1"),
 ]
 SECOND = {0: "scenario 2", 5: OUTPUT + " 0000", 6: OUTPUT + " 0000"}
 # What output 0 commands and shows after a write of VOUT_MIN over the base configuration.
@@ -85,6 +86,33 @@ LIMITED = [
     ("B00504002B0020B5", "8192/4096 2000000 uV", "01 8001 08"),
     ("B00504002B0050E2", "16384/4096 4000000 uV", "01 8001 08"),
     ("B00504002B001025", "4096/4096 1000000 uV", "00 0000 00"),
+]
+SENT = ["deliver whole", "finish ack"]
+LOST = ["deliver cut 2", "finish nack"]
+OTHER = ["order 0 VOUT_COMMAND 2000", *PASS]
+# Events that follow an order in version 2, and lines of the report: its first, output 0's VOUT_COMMAND and
+# status, the job.
+STORED = [
+    (["store", *SENT, "restart device"], "ran 8", "34CD host confirmed 34CD", "00 0000 00", "done"),
+    (["store", "finish ack", "restart device"], "ran 7", "1000 host confirmed 34CD", "00 0000 00", "done"),
+    (["restore", *SENT], "ran 7", "1000 host unknown possible any", "00 0000 00", "done"),
+    (["store", *SENT, *OTHER, "restore", *SENT], "ran 14", "34CD host unknown possible any", "00 0000 00", "done"),
+    (["store", *SENT, *OTHER, "restore", *SENT, *CHECK], "ran 16", "34CD host confirmed 34CD", "00 0000 00",
+     "done"),
+    # A store that is heard twice, one that is cut short, one that isn't allowed.
+    (["store", "deliver whole", *SENT, *OTHER, "restart device"], "ran 13", "34CD host confirmed 2000",
+     "00 0000 00", "done"),
+    (["store", *LOST, "restart device"], "ran 8", "1000 host confirmed 34CD", "00 0000 00", "pending"),
+    (["order - WRITE_PROTECT 20", *PASS, "store", *SENT, "restart device"], "ran 12",
+     "1000 host confirmed 34CD", "00 0000 00", "done"),
+    # A restore that is cut short each time, and one that isn't allowed.
+    (["restore", *LOST, *LOST], "ran 9", "34CD host unknown possible any", "02 0002 00", "unknown"),
+    (["order - WRITE_PROTECT 20", *PASS, "restore", *SENT], "ran 11", "34CD host unknown possible any", "02 0002 00", "done"),
+    # A restored word is above VOUT_MAX: bit 3 is set. One that was above it isn't any more: bit 3 stays.
+    (["order 0 VOUT_COMMAND 5000", *PASS, "store", *SENT, *OTHER, "clear 0", *SENT, "restore", *SENT],
+     "ran 21", "5000 host unknown possible any", "01 8001 08", "done"),
+    (["order 0 VOUT_COMMAND 5000", *PASS, "restore", *SENT], "ran 11", "1000 host unknown possible any", "01 8001 08",
+     "done"),
 ]
 SETUPS = [
     ({5: None, 6: None}, "V1 OutputCount"), ({6: "\n".join([OUTPUT] * 8)}, "V1 OutputCount"),
@@ -116,6 +144,10 @@ HEARD = [
     ("B0 30 02 21 00 /", "refused K3 UnsupportedData"), ("B0 05 03 00 00 01 99", "refused K6 Nested"),
     ("/", "silent"), ("B0 00 02 E4", "refused K4 BadPage"),
     ("B0 05 03 00 01 B0 92", "refused K3 UnsupportedData"),
+    ("B0 10 20 5D,B0 16 2D", "taken,refused K5 Protected"),
+    ("B0 05 04 00 21 CD 34 5A,B0 15 24,restart,B0 21/", "taken,taken,restarted,answer B1 CD 34 10"),
+    ("B0 05 04 00 21 CD 34 5A,B0 05 02 01 16 2E,B0 21/", "taken,taken,answer B1 00 10 E8"),
+    ("B0 05 02 02 15 18", "refused K4 BadPage"), ("B0 15/", "refused K7 ReadOnly"),
 ]
 TRACE = """B0 05 04 00 21 CD 34 5A
 B0 06 02 00 21 / B1 02 CD 34 B9
@@ -192,6 +224,43 @@ def host_cases():
     yield host.order(cell, 7), None
 
 
+def store_cases():
+    """The user store, in version 2."""
+    for events, first, command, status, job in STORED:
+        lines = replay(text_of([ORDER, *PASS, *events], SECOND))[1].splitlines()
+        found = [lines[0], lines[4].removeprefix("VOUT_COMMAND "), lines[9], lines[-1]]
+        yield (events, found), (events, [first, command, f"status {status}", f"job {job}"])
+    opened, protected = ["order - WRITE_PROTECT 00", *PASS], {**SECOND, 3: "protect 40"}
+    for events, protect in (
+            (["restore", *SENT], "00 host confirmed 00"), (["store", *SENT, "restart device"], "40 host confirmed 00")):
+        yield replay(text_of([*opened, *events], protected))[1].splitlines()[1], f"protect {protect}"
+    host, cell = Host(0x58, 2, 2), (0, COMMAND)
+    for each, word in ((cell, 0x1000), (PROTECT, 0x00)):
+        host.check(each)
+        host.told(("got", answer_of(0x58, host.sending(), [*word.to_bytes(2 if each == cell else 1, "little")])))
+    yield (host.store(), bytes(host.sending_frame()).hex(), host.restore()), (None, "b01524", "H3 Busy")
+    host.told(("finished", True))
+    yield (host.job(), host.standing(cell)), ("done", 0x1000)
+    yield (host.restore(), bytes(host.sending_frame()).hex(), host.store()), (None, "b0162d", "H3 Busy")
+    known = host.standing(cell), host.possible(cell), host.standing(PROTECT), host.possible(PROTECT)
+    yield known, (None, ANY, 0x00, [0x00])
+    host.told(("finished", False))
+    host.told(("finished", False))
+    yield (host.job(), host.marks.count(("restored", None)), host.restart_seen()), ("unknown", 2, False)
+
+
+def possible_cases():
+    """What version 2 tells of a cell that isn't confirmed."""
+    events = CHECK + LOST_BOTH_TIMES
+    lines = replay(text_of(events, SECOND))[1].splitlines()
+    yield [lines[place] for place in (0, 4, 12, -1)], [
+        "ran 9", "VOUT_COMMAND 34CD host unknown possible 1000 34CD",
+        "VOUT_COMMAND 1000 host unknown possible any", "job unknown"]
+    events = ["check - WRITE_PROTECT", "exchange whole whole", "order - WRITE_PROTECT 40", "deliver cut 0", "finish ack"]
+    line = replay(text_of(events, SECOND))[1].splitlines()[1]
+    yield line, "protect 00 host unknown possible 00 40"
+
+
 def limit_cases():
     """VOUT_MIN beside VOUT_MAX, in both versions."""
     for frame, commanded, status in LIMITED:
@@ -235,6 +304,8 @@ def cases():
             told = replay(text_of([ORDER, *PASS], {**changed, place: line}))
             yield told, (1, "", f"pmb: {words} line {place + 1}\n")
     yield from limit_cases()
+    yield from store_cases()
+    yield from possible_cases()
     for changed, fault in SETUPS:
         yield replay(text_of([], changed)), (1, "", f"pmb: X7 Setup {fault}\n")
     yield replay(b""), (1, "", "pmb: X1 Syntax line 1\n")

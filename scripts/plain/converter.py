@@ -1,7 +1,7 @@
 """The converter: one to eight outputs, ULINEAR16 or DIRECT.
 
-It keeps its settings, PAGE and readings, and a list of all that happened: STATUS_VOUT and STATUS_CML are
-found by looking back over that list.
+It keeps its settings, the store of the outputs' words, PAGE and readings, and a list of all that happened:
+STATUS_VOUT and STATUS_CML are found by looking back over that list.
 """
 from fractions import Fraction
 
@@ -77,14 +77,12 @@ class Converter:
         self.setup, self.address = setup, setup["address"]
         self.outputs = range(setup["count"])
         self.readings, self.past = {}, []
+        self.store = {(number, register): word for number in self.outputs
+                      for register, word in setup["outputs"][number][1].items()}
         self.restart()
 
     def restart(self):
-        self.cells = {PROTECT: self.setup["protect"]}
-        for number in self.outputs:
-            for register, word in self.setup["outputs"][number][1].items():
-                self.cells[number, register] = word
-        self.page = 0
+        self.cells, self.page = {PROTECT: self.setup["protect"], **self.store}, 0
         self.note(cleared=set(self.outputs), cleared_bits=0xFF)
 
     def note(self, cleared=(), cleared_bits=0, refused=0):
@@ -216,6 +214,10 @@ class Converter:
                 cleared = {page} if word & 0x08 else ()
             elif code == 0x7E:
                 cleared_bits = word
+            elif code == 0x15:
+                self.store = {cell: held for cell, held in self.cells.items() if cell != PROTECT}
+            elif code == 0x16:
+                self.cells.update(self.store)
             else:
                 self.cells[PROTECT if code == 0x10 else (page, code)] = word
         self.note(cleared, cleared_bits, refused)

@@ -16,7 +16,7 @@ FIRST += [[*frame, pec(frame)] for frame in ([0xB0, 5, 4, 0, 0x21, 0, 0x50], [0x
 
 def write_frame(dice, address=0x58):
     """A write that is good, or nearly."""
-    code = dice.choice([*TABLE, 0x99, *[0x21] * 6, 0x24, 0x24, 0x00, 0x00, 0x10, 0x01])
+    code = dice.choice([*TABLE, 0x99, *[0x21] * 6, 0x24, 0x24, 0x00, 0x00, 0x10, 0x01, 0x15, 0x16])
     payload = [dice.randrange(256) for _ in range(TABLE[code][1] if code in TABLE else 2)]
     if code in (0x00, 0x10, 0x01, 0x7A, 0x7E) and dice.random() < 0.8:
         payload = [dice.choice({0x00: [0, 1], 0x10: [0, 0, 0, 0x20, 0x40, 0x80]}.get(
@@ -112,6 +112,23 @@ def latched_lines(dice):
         yield spelled(dice, [0xB0, 0x06, 2, page, 0x7A]) + b"/"
 
 
+def stored_lines(dice):
+    """Words are stored, others written, and the stored ones come back by RESTORE_USER_ALL or a restart,
+    where WRITE_PROTECT allows it; then all is read."""
+    page, code = dice.randrange(2), dice.choice([0x21, 0x24, 0x26, 0x2B])
+    ordered = lambda: [5, 4, page, code, dice.randrange(256), dice.randrange(256)]
+    sent = lambda number: dice.choice([[number], [number], [5, 2, dice.choice([0, 1, 1, 2]), number]])
+    protect = [0x10, dice.choice([0x00, 0x00, 0x20, 0x40, 0x80])]
+    writes = [ordered(), sent(0x15), ordered(), protect, sent(0x16), ordered()]
+    for write in writes[: dice.choice([5, 5, 6])]:
+        yield spelled(dice, [0xB0, *write, pec([0xB0, *write])])
+    if dice.random() < 0.5:
+        yield b"restart"
+    for read in (code, 0x7A, 0x79):
+        yield spelled(dice, [0xB0, 0x06, 2, page, read]) + b"/"
+    yield b"B010/"
+
+
 def hear_text(dice):
     lines = skipped_lines(dice)
     strange = dice.choice([0, 0, 0, 0.15])
@@ -121,6 +138,8 @@ def hear_text(dice):
         lines.insert(0, spelled(dice, dice.choice(FIRST)))
     elif dice.random() < 0.05:
         lines = [*latched_lines(dice), *lines]
+    elif dice.random() < 0.1:
+        lines = [*stored_lines(dice), *lines]
     text = text_of_lines(dice, lines)
     return lengthened(dice, text, b"#" + b" " * 9000 + b"\n") if dice.random() < 0.003 else text
 

@@ -6,7 +6,7 @@ WORDS = [
     b"-", b"0", b"00", b"1", b"256", b"255", b"-1", b"+1", b"-0", b"007", b"18446744073709551616",
     b"ZZ", b"0G", b"FFF", b"FFFF", b"12345", b"x", b"begin", b"output", b"OPERATION", b"VOUT_COMMAND",
     b"VOUT_MIN", b"WRITE_PROTECT", b"READ_VOUT", b"READ_VIN", b"STATUS_CML", b"vout_command", b"whole",
-    b"cut", b"bytes", b"stop", b"restart", b"ack", b"device", b"\t", b"#", b"\r", b"/", b"\x00",
+    b"cut", b"bytes", b"stop", b"restart", b"ack", b"device", b"store", b"\t", b"#", b"\r", b"/", b"\x00",
     b"\xff", b"B0" * 16, b"B0" * 17, b"B0005", b"32768", b"-32769", b"-129", b"9223372036854775808",
     b"-9223372036854775808", b"0" * 30 + b"1",
 ]
@@ -26,7 +26,8 @@ LINES = [
     b"exchange cut 1", b"exchange whole cut 256", b"restart", b"restart both",
     b"reading 0 READ_VIN 0000", b"reading - READ_VOUT 0000", b"reading 0 READ_VOUT 00",
     b"reading 0 READ_VOUT", b"reading - READ_TEMPERATURE_1 12345", b" # comment", b"\t", b"\r\r",
-    b"store", b"restore", b"scenario 1", b"scenario 2", b"scenario 02", b"scenario 3", b"begin", b"output 14 80 1000 4000 1100 0F00",
+    b"store", b"store", b"restore", b"restore", b"store 0", b"restore user", b"Store", b"scenario 1",
+    b"scenario 2", b"scenario 02", b"scenario 3", b"begin", b"output 14 80 1000 4000 1100 0F00",
     b"output 14 80 begin", b"output 14 8Z 1000", b"output 14 80 1000 4000 1100",
     b"output 14 80 1000 4000 1100 0F00 0000", b"output 14 80 1000 4000 1100 0F00 00ZZ",
     b"output 14 80 1000 4000 1100 0F00 0000 0000", b"passes 1", b"B0 05 04 00 21 CD 34 5A",

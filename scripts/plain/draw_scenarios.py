@@ -69,6 +69,8 @@ def draw_micro(dice, world, output):
 
 def draw_job(dice, world, setup, likely):
     cell = likely if chance(dice, 0.7) else draw_cell(dice, setup)
+    if setup["version"] > 1 and chance(dice, 0.15):
+        return (dice.choice(["store", "restore"]),)
     kind = dice.choice(["order"] * 5 + ["check"] * 5 + ["volts"] * 3 + ["learn"] * 2 + ["clear"])
     output = cell[0] if cell != PROTECT else 0
     if kind in ("learn", "clear"):
@@ -191,6 +193,20 @@ def draw_surprise(dice, setup):
                 ("check", cell), read]
 
 
+def draw_stored(dice, setup):
+    """Words that are stored, or not, and come back by a restart or a restore; then one is read, now and
+    then under another WRITE_PROTECT. A store and a restore are heard, now and then again, or not at all."""
+    cell, sent = draw_cell(dice, setup), lambda kind: [
+        (kind,), *[("deliver", ("whole",))] * dice.choice([0, 1, 1, 1, 2]), ("finish", True)]
+    for other in (PROTECT, cell) if setup["protect"] else (cell,):
+        yield from whole_order(other, 0x00 if other == PROTECT else draw_word(dice, other))
+    yield from sent("store")
+    for other in (cell, draw_cell(dice, setup), PROTECT if chance(dice, 0.2) else cell):
+        yield from whole_order(other, draw_word(dice, other))
+    yield from dice.choice([[("restart", "device")], sent("restore"), sent("restore")])
+    yield from [("check", cell), ("exchange", ("whole",), ("whole",))]
+
+
 def draw_latched(dice, setup):
     """Outputs that were cut and aren't any more; then the status of one is cleared."""
     outputs = range(min(setup["count"], 2))
@@ -206,7 +222,9 @@ def draw_events(dice, world, setup):
     if chance(dice, 0.04):
         yield from draw_uncertain(dice, world, setup)
         return
-    if chance(dice, 0.1):
+    if setup["version"] > 1 and chance(dice, 0.1):
+        yield from draw_stored(dice, setup)
+    elif chance(dice, 0.1):
         yield from draw_surprise(dice, setup)
     elif chance(dice, 0.03):
         yield from draw_latched(dice, setup)

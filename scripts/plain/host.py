@@ -1,9 +1,9 @@
 """The host core. It keeps the transcript of its jobs and of what it was told, and answers every question
 by looking back over it.
 
-Entries of the transcript: a job ("order", cell, word), ("check", cell), ("learn", output) or
-("clear", output); ("finished", acked); ("got", bytes); ("restart",).
-Marks, in time: ("put", cell, word), ("good", cell, word, surprising), ("restart",).
+Entries of the transcript: a job ("order", cell, word), ("check", cell), ("learn", output),
+("clear", output), ("store",) or ("restore",); ("finished", acked); ("got", bytes); ("restart",).
+Marks, in time: ("put", cell, word), ("good", cell, word, surprising), ("restored", None), ("restart", None).
 """
 from .converter import OPERATION, PROTECT, accepts, format_of, mode_fault
 from .numbers import coefficients_fault, nearest, signed
@@ -11,6 +11,7 @@ from .packets import answer_fault, answer_payload, length_of, write_part
 
 ANY = None
 MOST_WORDS = 16
+JOBS = ("order", "check", "learn", "clear", "store", "restore")
 
 
 def write_of(cell, word):
@@ -19,6 +20,12 @@ def write_of(cell, word):
 
 def read_of(cell):
     return "read", cell[0], cell[1]
+
+
+def is_forgotten(cell, mark):
+    """The mark takes away what was known of the cell: a restart of the host's, and for an output's cell a
+    restore."""
+    return mark[0] == "restart" or mark[0] == "restored" and cell != PROTECT
 
 
 class Host:
@@ -34,7 +41,7 @@ class Host:
         for place in range(len(entries) - 1, -1, -1):
             if entries[place][0] == "restart":
                 return None, []
-            if entries[place][0] in ("order", "check", "learn", "clear"):
+            if entries[place][0] in JOBS:
                 return entries[place], entries[place + 1:]
         return None, []
 
@@ -68,12 +75,20 @@ class Host:
             return "ended", "done"
         return ("ended", "unknown") if len(told) == self.passes else ("sending", message)
 
-    def progress_of_clear(self, job, told):
+    def progress_of_sent(self, message, told):
+        """Of a write that is sent until it is acknowledged."""
         if told and told[-1] == ("finished", True):
             return "ended", "done"
-        if len(told) == self.passes:
-            return "ended", "unknown"
-        return "sending", ("write", job[1], 0x03, [])
+        return ("ended", "unknown") if len(told) == self.passes else ("sending", message)
+
+    def progress_of_clear(self, job, told):
+        return self.progress_of_sent(("write", job[1], 0x03, []), told)
+
+    def progress_of_store(self, _, told):
+        return self.progress_of_sent(("write", None, 0x15, []), told)
+
+    def progress_of_restore(self, _, told):
+        return self.progress_of_sent(("write", None, 0x16, []), told)
 
     def progress_of_learn(self, job, told):
         form, end = self.learned_format(job, told)
@@ -144,7 +159,7 @@ class Host:
         """The words that the cell may hold, in order, or ANY."""
         words = []
         for mark in reversed(self.marks):
-            if mark[0] == "restart" or mark[0] == "good" and mark[3] and mark[1] != cell:
+            if is_forgotten(cell, mark) or mark[0] == "good" and mark[3] and mark[1] != cell:
                 return ANY
             if mark[1] == cell:
                 words.append(mark[2])
@@ -155,7 +170,7 @@ class Host:
     def standing(self, cell):
         """The confirmed word, or None."""
         for mark in reversed(self.marks):
-            if mark[0] == "restart" or mark[1] == cell:
+            if is_forgotten(cell, mark) or mark[1] == cell:
                 return mark[2] if mark[0] == "good" else None
         return None
 
@@ -181,7 +196,7 @@ class Host:
         before = self.sending()
         self.transcript.append(entry)
         if entry[0] == "restart":
-            self.marks.append(("restart",))
+            self.marks.append(("restart", None))
         job, _ = self.last_job()
         is_about_cell = job and job[0] in ("order", "check")
         if entry[0] == "got" and is_about_cell:
@@ -193,6 +208,9 @@ class Host:
         # A write begins to be sent: at its acceptance, or in a later pass.
         if job and job[0] == "order" and entry[0] != "finished" and self.sending() == write_of(*job[1:]):
             self.marks.append(("put", *job[1:]))
+        # A restore begins to be sent: at its acceptance, and at each later attempt.
+        if job == ("restore",) and self.sending() is not None:
+            self.marks.append(("restored", None))
 
     def order(self, cell, word):
         fault = self.refusal(cell[0])
@@ -225,6 +243,12 @@ class Host:
 
     def clear(self, output):
         return self.refusal(output) or self.add(("clear", output))
+
+    def store(self):
+        return self.refusal(None) or self.add(("store",))
+
+    def restore(self):
+        return self.refusal(None) or self.add(("restore",))
 
     def told(self, entry):
         assert self.sending() is not None and self.sending_reads() == (entry[0] == "got")

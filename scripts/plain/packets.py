@@ -10,6 +10,7 @@ TABLE = {
     0x00: ("PAGE", 1, True, True, "device"), 0x01: ("OPERATION", 1, True, True, "output"),
     0x03: ("CLEAR_FAULTS", 0, False, True, "output"), 0x05: ("PAGE_PLUS_WRITE", 0, False, True, "wrapper"),
     0x06: ("PAGE_PLUS_READ", 0, True, False, "wrapper"), 0x10: ("WRITE_PROTECT", 1, True, True, "device"),
+    0x15: ("STORE_USER_ALL", 0, False, True, "device"), 0x16: ("RESTORE_USER_ALL", 0, False, True, "device"),
     0x19: ("CAPABILITY", 1, True, False, "device"), 0x20: ("VOUT_MODE", 1, True, False, "output"),
     0x21: ("VOUT_COMMAND", 2, True, True, "output"), 0x24: ("VOUT_MAX", 2, True, True, "output"),
     0x25: ("VOUT_MARGIN_HIGH", 2, True, True, "output"),

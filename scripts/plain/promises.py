@@ -1,11 +1,11 @@
 """What is promised of both ends together, tried on lists of events: so that the plain model, too, is held
 to something that it wasn't written from. Nothing here asks a converter or a host what it promises: it
-looks at the events, at the words of the cells, and at what the host says."""
+looks at the events, at the words of the cells and of the store, and at what the host says."""
 from fractions import Fraction
 
 from .converter import ALLOWED, HIGH, LOW, COMMAND, MAX, MIN, OPERATION, PROTECT, REGISTERS
 from .draw_scenarios import scenario_text
-from .host import ANY, write_of
+from .host import ANY, JOBS, write_of
 from .numbers import value_of
 from .packets import write_part
 from .scenario import read_scenario
@@ -21,7 +21,7 @@ class Watch:
         self.passes, self.start = passes, dict(self.world.device.cells)
         self.cells = [PROTECT, *((it, register) for it in self.world.device.outputs for register in REGISTERS)]
         self.own = {cell: {word} for cell, word in self.start.items()}
-        self.settings, self.pending = dict(self.start), None
+        self.settings, self.store, self.pending = dict(self.start), outputs_of(self.start), None
         self.events, self.at, self.last_restart, self.host_start = [], [], -1, -1
         self.frames, self.job_at, self.was_allowed, self.reached = 0, None, False, set()
 
@@ -47,23 +47,22 @@ class Watch:
     def of_jobs(self, event, added, protect):
         """A job's frames, formats and orders in microvolts, and undisturbed orders."""
         host, place = self.world.host, len(self.events) - 1
-        if added and added[0][0] in ("order", "check", "learn", "clear"):
-            self.frames, self.job_at = 0, place
+        if added and added[0][0] in JOBS:
+            self.frames, self.job_at, self.pending = 0, place, added[0]
             if added[0][0] == "order":
                 self.own[added[0][1]].add(added[0][2])
-                self.pending, code = added[0][1:], added[0][1][1]
-                self.was_allowed = protect == 0 or code in ALLOWED[protect]
+                self.was_allowed = protect == 0 or added[0][1][1] in ALLOWED[protect]
         elif event[0] in ("finish", "exchange"):
             self.frames += 1
         if self.frames + (host.sending() is not None) > 2 * self.passes:
             yield "a job sends no more than twice as many frames as passes"
-        if host.job() == "done" and self.frames > 2 and self.pending:
+        if host.job() == "done" and self.frames > 2 and self.pending and self.pending[0] == "order":
             self.reached.add("an order done in a later pass")
         if host.job().startswith("differs"):
             self.reached.add("differs")
         if self.is_undisturbed() and self.was_allowed:
             self.reached.add("an undisturbed order")
-            cell, word = self.pending
+            _, cell, word = self.pending
             if (host.job(), self.frames, host.standing(cell), self.world.device.cells[cell]) != ("done", 2, word, word):
                 yield "an undisturbed allowed order ends confirmed and held after one write and one read"
         for output in self.world.device.outputs:
@@ -73,30 +72,44 @@ class Watch:
 
     def is_undisturbed(self):
         """The last job is an order, heard whole at least once, and now read back with nothing lost."""
-        if not self.pending or self.job_at is None:
+        if not self.pending or self.pending[0] != "order":
             return False
         events = self.events[self.job_at:]
         if len(events) < 4 or events[-1] != ("exchange", ("whole",), ("whole",)) or events[-2][0] != "finish":
             return False
-        host, cell, word = self.world.host, *self.pending
+        host, (_, cell, word) = self.world.host, self.pending
         frame = write_part(host.address, write_of(cell, word))
         heard = [event[1] for event in events[1:-2] if event[0] == "deliver"]
         return len(heard) == len(events) - 3 and any(is_whole(frame, arrival) for arrival in heard)
 
     def of_settings(self, event, sent):
-        """The settings are those of plain orders: one takes only at a delivery, while its job is open."""
-        cells = self.world.device.cells
+        """The settings and the store are those of plain jobs: an order, a store or a restore takes only at
+        a delivery, while its job is open."""
+        found = self.world.device.cells, self.world.device.store
         if event == ("restart", "device"):
-            self.settings = dict(self.start)
-        elif event[0] == "deliver" and self.pending and cells[self.pending[0]] == self.pending[1]:
-            self.settings[self.pending[0]] = self.pending[1]
-        if self.settings != cells:
-            yield "the settings are those of a run of plain orders"
+            self.settings = {PROTECT: self.start[PROTECT], **self.store}
+            if self.store != outputs_of(self.start):
+                self.reached.add("a restart that loads other words than the start words")
+        elif event[0] == "deliver" and found == self.taken():
+            if self.pending[0] == "restore" and self.settings != found[0]:
+                self.reached.add("a restore that changes words")
+            self.settings, self.store = self.taken()
+        if (self.settings, self.store) != found:
+            yield "the settings and the store are those of a run of plain orders, stores and restores"
         for cell in self.cells:
-            if cells[cell] not in self.own[cell]:
+            if any(words.get(cell, self.start[cell]) not in self.own[cell] for words in found):
                 yield "a word is a start word or one ordered for that very cell"
         if self.world.host.sending() is None:
             self.pending = None
+
+    def taken(self):
+        """The settings and the store after the pending job took."""
+        kind, *what = self.pending
+        if kind == "order":
+            return {**self.settings, what[0]: what[1]}, self.store
+        if kind == "store":
+            return self.settings, outputs_of(self.settings)
+        return {**self.settings, **self.store} if kind == "restore" else self.settings, self.store
 
     def of_voltages(self):
         for output in self.world.device.outputs:
@@ -113,6 +126,8 @@ class Watch:
         host = self.world.host
         for cell in self.cells:
             yield from self.of_cell(cell, self.world.device.cells[cell], known[cell])
+            if self.pending == ("restore",) and cell != PROTECT and host.possible(cell) is not ANY:
+                yield "while a restore is open, an output's cell may hold any word"
         if host.restart_seen():
             self.reached.add("a restart that is seen")
             if self.last_restart < self.host_start or self.last_restart == -1:
@@ -134,6 +149,10 @@ class Watch:
         if good and self.at[good[-1]] == place and known is not ANY and marks[good[-1]][2] not in known:
             if len(good) < 2 or not self.at[good[-2]] < self.last_restart < place:
                 yield "an answer surprises only where the converter restarted since the one before"
+
+
+def outputs_of(cells):
+    return {cell: word for cell, word in cells.items() if cell != PROTECT}
 
 
 def is_whole(frame, arrival):

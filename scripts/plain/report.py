@@ -1,5 +1,6 @@
 """The report of a scenario."""
 from .converter import PROTECT
+from .host import ANY
 from .lines import hex_word
 from .numbers import millionths
 from .packets import length_of, name_of
@@ -7,9 +8,21 @@ from .scenario import read_scenario, registers_of
 from .world import World, world_fault
 
 
+def possible_of(world, cell):
+    """What is told after `host unknown`: the words that the cell may hold, in version 2 alone."""
+    if world.device.setup["version"] == 1:
+        return ""
+    words = world.host.possible(cell)
+    if words is ANY:
+        return " possible any"
+    return " possible" + "".join(f" {hex_word(word, length_of(cell[1]))}" for word in words)
+
+
 def standing_of(world, cell):
     word = world.host.standing(cell)
-    return "host unknown" if word is None else f"host confirmed {hex_word(word, length_of(cell[1]))}"
+    if word is None:
+        return "host unknown" + possible_of(world, cell)
+    return f"host confirmed {hex_word(word, length_of(cell[1]))}"
 
 
 def cell_line(world, name, cell):

@@ -82,9 +82,11 @@ def read_reading(words):
 
 
 def read_event(words, version):
-    kind = words.one_of(
-        [b"order", b"volts", b"check", b"learn", b"clear", b"deliver", b"finish", b"exchange", b"restart",
-         b"reading"])
+    kinds = [b"order", b"volts", b"check", b"learn", b"clear", b"deliver", b"finish", b"exchange",
+             b"restart", b"reading"]
+    kind = words.one_of(kinds if version == 1 else [*kinds, b"store", b"restore"])
+    if kind in ("store", "restore"):
+        return (kind,)
     if kind == "order":
         cell = words.cell(version)
         return kind, cell, words.word(length_of(cell[1]))

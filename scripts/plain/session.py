@@ -8,7 +8,7 @@ from .scenario import Words, read_event
 
 MOST_BYTES = 256
 MOST_BACK = 16
-JOBS = (b"order", b"volts", b"check", b"learn", b"clear")
+JOBS = (b"order", b"volts", b"check", b"learn", b"clear", b"store", b"restore")
 
 
 class Refused(Exception):
@@ -63,8 +63,7 @@ class PlainSession:
         return found
 
     def begun(self, kind, what):
-        call = {"order": self.host.order, "volts": self.host.order_micro, "check": self.host.check,
-                "learn": self.host.learn, "clear": self.host.clear}[kind]
+        call = {"volts": self.host.order_micro}.get(kind) or getattr(self.host, kind)
         fault = call(*what)
         if fault:
             raise Refused(fault)

@@ -2,7 +2,7 @@
 
 Arrivals: ("whole",), ("cut", n), ("bytes", frame, ending). What comes back: ("whole",), ("cut", n),
 ("bytes", frame). Events: ("order", cell, word), ("volts", cell, micro), ("check", cell),
-("learn", output), ("clear", output), ("deliver", arrival), ("finish", acked),
+("learn", output), ("clear", output), ("store",), ("restore",), ("deliver", arrival), ("finish", acked),
 ("exchange", arrival, back), ("restart", "device" or "host"), ("reading", output, code, word).
 """
 from .converter import Converter, setup_fault

@@ -30,7 +30,7 @@ extern "C" {
 #endif
 
 /* The version of a host's layout, sizes in bytes, and the stack that a call takes at most: measured, under
- * 512 bytes for every call but those of a desk, which take at most 2,208. */
+ * 512 bytes for every call but those of a desk, which took 2,016; the compiler's own bound is 2,096. */
 #define PM_HOST_VERSION 1
 #define PM_HOST_SIZE 1926
 #define PM_DESK_SIZE 122
@@ -152,6 +152,13 @@ uint8_t pm_host_learn(pm_host *host, uint8_t output);
  * no more than that; or PM_UNKNOWN. PM_NO_HOST, H3, H4. */
 uint8_t pm_host_clear(pm_host *host, uint8_t output);
 
+/* Begins to send STORE_USER_ALL, which stores the outputs' settings for a restart of the device to load, or
+ * RESTORE_USER_ALL, which brings them back, until it is acknowledged, at most `passes` times. PM_DONE says
+ * no more than that; or PM_UNKNOWN. From the start of a restore on no word of an output is confirmed and any
+ * is possible, until its cell is read. PM_NO_HOST, H3. */
+uint8_t pm_host_store(pm_host *host);
+uint8_t pm_host_restore(pm_host *host);
+
 /* What is to be sent now. It stays the same until a call below. PM_NO_HOST, and then PM_NOTHING. */
 uint8_t pm_host_sending(const pm_host *host, pm_sending *sending);
 
@@ -214,8 +221,9 @@ typedef struct {
 } pm_output;
 
 /* A model converter: fill it in, and it is made. Its words change as it hears writes; nothing else is
- * kept between calls: PAGE is 0, each reading is 0 and no status is latched. For a restart put back the
- * words that it began with. */
+ * kept between calls: PAGE is 0, each reading is 0 and no status is latched. It has no user store:
+ * STORE_USER_ALL and RESTORE_USER_ALL are taken, and change no word. For a restart put back the words that
+ * it began with. */
 typedef struct {
     uint8_t address; /* 08h to 77h */
     uint8_t outputs; /* 1 to 8 */

@@ -1,5 +1,6 @@
 -- A converter on a desk: its configuration and the words that its cells hold now, as plain numbers. At
--- each call a converter starts with these words: it keeps no PAGE, no readings and no latched status.
+-- each call a converter starts with these words, which its store then has too: it keeps no PAGE, no
+-- readings, no latched status and no store of other words.
 use Rattle.std.specs.Prelude.{◌≡◌, ℕ, if◌then◌else◌, ◌==◌, ◌<◌, slice_index_or, List, [], map, take, Option, Some, None, is_none}
 use Rattle.std.specs.Option.{option_map_or}
 use Rattle.pm_table.specs.declared.cell.Cell.{Cell}

@@ -214,10 +214,10 @@ pub extern "C" fn pm_desk_hear(
     ensures same { IsSameDevice desk.old desk.new }
     ensures refused { desk_of desk.old ≡ None → desk.new ≡ desk.old }
 {
-    match Converter::new(desk.config()) {
-        Ok(mut converter) => {
+    match &mut Converter::new(desk.config()) {
+        Ok(converter) => {
             let heard = converter.hear(bytes, ending(is_request));
-            desk.take(&converter);
+            desk.take(converter);
             give(heard, reply)
         }
         Err(_) => {
@@ -245,7 +245,7 @@ pub extern "C" fn pm_desk_word(desk: &Desk, output: u8, code: u8, word: &mut u16
     ensures word { result ≡ 0 → IsWord (desk_of desk.now) (cell_at code output) word.new }
     ensures refused { result ≢ 0 → word.new ≡ word.old }
 {
-    let Ok(converter) = Converter::new(desk.config()) else {
+    let Ok(converter) = &Converter::new(desk.config()) else {
         return NO_CONVERTER;
     };
     let Some(cell) = cell_of(Code(code), output) else {
@@ -282,7 +282,7 @@ pub extern "C" fn pm_desk_commanded(desk: &Desk, output: u8, microvolts: &mut i6
         (λ held. (result ≡ 4) ↔ (held.config.count ≤ output)) }
     ensures refused { result ≢ 0 → microvolts.new ≡ microvolts.old }
 {
-    let Ok(converter) = Converter::new(desk.config()) else {
+    let Ok(converter) = &Converter::new(desk.config()) else {
         return NO_CONVERTER;
     };
     if converter.count() <= output {

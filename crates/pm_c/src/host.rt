@@ -5,7 +5,7 @@ ghost use Rattle.pm_table.specs.Cell.{cell_at};
 ghost use Rattle.pm_host.specs.Image.{host_of, image_version};
 ghost use Rattle.pm_host.specs.Summary.{start};
 ghost use Rattle.pm_host.specs.Transcript.{Setup, Order, Check, Learn, Send, Restarted};
-ghost use Rattle.pm_host.specs.declared.command.Command.TheVariants.{ClearFaults};
+ghost use Rattle.pm_host.specs.declared.command.Command.TheVariants.{ClearFaults, StoreUserAll, RestoreUserAll};
 ghost use Rattle.pm_c.specs.Host.{new_number, job_number, job_begun, micro_number, micro_begun, memory_number, after};
 
 use crate::numbers::{ACCEPTED, NO_ADDRESS, NO_CELL, NO_HOST, number_of};
@@ -120,6 +120,21 @@ pub extern "C" fn pm_host_learn(host: &mut Image, output: u8) -> u8
     number_of(outcome)
 }
 
+// Begins to send a command.
+fn send(host: &mut Image, command: Command) -> u8
+    ensures number { result ≡ job_number (host_of host.old) (Some (Send command)) }
+    ensures begun { result ≡ 0 →
+        host_of host.new ≡ job_begun (host_of host.old) (Some (Send command)) }
+    ensures refused { result ≢ 0 → host.new ≡ host.old }
+{
+    if !host.is_host() {
+        return NO_HOST;
+    }
+    let outcome = host.state.send(command);
+    host.holds_a_host();
+    number_of(outcome)
+}
+
 /// Begins to clear the latched faults of an output. E0h, H3, H4.
 #[unsafe(no_mangle)]
 pub extern "C" fn pm_host_clear(host: &mut Image, output: u8) -> u8
@@ -128,12 +143,29 @@ pub extern "C" fn pm_host_clear(host: &mut Image, output: u8) -> u8
         host_of host.new ≡ job_begun (host_of host.old) (Some (Send (ClearFaults output))) }
     ensures refused { result ≢ 0 → host.new ≡ host.old }
 {
-    if !host.is_host() {
-        return NO_HOST;
-    }
-    let outcome = host.state.send(Command::ClearFaults { output });
-    host.holds_a_host();
-    number_of(outcome)
+    send(host, Command::ClearFaults { output })
+}
+
+/// Begins to store the outputs' settings. E0h, H3.
+#[unsafe(no_mangle)]
+pub extern "C" fn pm_host_store(host: &mut Image) -> u8
+    ensures number { result ≡ job_number (host_of host.old) (Some (Send StoreUserAll)) }
+    ensures begun { result ≡ 0 →
+        host_of host.new ≡ job_begun (host_of host.old) (Some (Send StoreUserAll)) }
+    ensures refused { result ≢ 0 → host.new ≡ host.old }
+{
+    send(host, Command::StoreUserAll)
+}
+
+/// Begins to bring the outputs' stored settings back. E0h, H3.
+#[unsafe(no_mangle)]
+pub extern "C" fn pm_host_restore(host: &mut Image) -> u8
+    ensures number { result ≡ job_number (host_of host.old) (Some (Send RestoreUserAll)) }
+    ensures begun { result ≡ 0 →
+        host_of host.new ≡ job_begun (host_of host.old) (Some (Send RestoreUserAll)) }
+    ensures refused { result ≢ 0 → host.new ≡ host.old }
+{
+    send(host, Command::RestoreUserAll)
 }
 
 /// Drops the open job and all that is known of cells and formats. E0h.

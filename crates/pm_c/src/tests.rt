@@ -2,8 +2,8 @@ mod calls;
 
 use self::calls::{
     PACKET, check, clear, finished, format, got, host, learn, microvolts, nearest, new, order,
-    order_micro, possible, read_request, read_write, restart, restart_seen, sending, shown,
-    standing, written,
+    order_micro, possible, read_request, read_write, restart, restart_seen, restore, sending,
+    shown, standing, store, written,
 };
 use crate::desk::{
     Desk, OutputWords, Reply, pm_desk_commanded, pm_desk_hear, pm_desk_size, pm_desk_word,
@@ -84,6 +84,27 @@ fn an_end_has_its_number(rt: HostRuntime) {
 }
 
 #[test]
+fn a_restore_leaves_no_word_of_an_output_confirmed(rt: HostRuntime) {
+    let mut image = host(2);
+    assert_eq!(rt; check(&mut image, 0, 0x21), 0);
+    assert_eq!(rt; got(&mut image, &[0xB1, 0x02, 0xCD, 0x34, 0xB9]), (1, 0));
+    assert_eq!(rt; check(&mut image, 0, 0x10), 0);
+    assert_eq!(rt; got(&mut image, &[0xB1, 0x40, 0xA7]), (1, 0));
+    assert_eq!(rt; store(&mut image), 0);
+    assert_eq!(rt; shown(&image, &[0xB0, 0x15, 0x24]), (1, 3, 0, true));
+    assert_eq!(rt; finished(&mut image, 1), (1, 0));
+    assert_eq!(rt; standing(&image, 0, 0x21), (0, 1, 0x34CD));
+    assert_eq!(rt; restore(&mut image), 0);
+    assert_eq!(rt; store(&mut image), 3);
+    assert_eq!(rt; shown(&image, &[0xB0, 0x16, 0x2D]), (1, 3, 0, true));
+    assert_eq!(rt; standing(&image, 0, 0x21).1, 0);
+    assert_eq!(rt; possible(&image, 0, 0x21).1, 0);
+    assert_eq!(rt; standing(&image, 0, 0x10), (0, 1, 0x40));
+    assert_eq!(rt; finished(&mut image, 0), (0, 0));
+    assert_eq!(rt; finished(&mut image, 0), (3, 0));
+}
+
+#[test]
 fn a_refusal_has_its_number(rt: HostRuntime) {
     let mut image = Image::blank();
     assert_eq!(rt; new(&mut image, 0x07, 2, 2), 0xE3);
@@ -115,13 +136,15 @@ fn is_refused(image: &mut Image) -> bool {
         check(image, 0, 0x21),
         learn(image, 0),
         clear(image, 0),
+        store(image),
+        restore(image),
         restart(image),
         standing(image, 0, 0x21).0,
         possible(image, 0, 0x21).0,
         format(image, 0).0,
         restart_seen(image),
     ];
-    begun == [0xE0; 10]
+    begun == [0xE0; 12]
         && shown(image, &[]) == (0, 0, 0, true)
         && finished(image, 1) == (0xE0, 0)
         && got(image, &[]) == (0xE0, 0)
@@ -138,7 +161,7 @@ fn changed(change: u8) -> Image {
         2 => state.address = 0x78,
         3 => state.outputs = 9,
         4 => state.passes = 0,
-        5 => state.stage.kind = 7,
+        5 => state.stage.kind = 9,
         6 => state.stage.code = 0x20,
         7 => state.stage.count = 2,
         8 => state.stage.output = 2,

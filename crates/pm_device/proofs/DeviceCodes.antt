@@ -1,10 +1,10 @@
 -- The codes of the device, which act and answer alike whatever output a page names.
-use Rattle.std.proofs.Common.{◌≡◌, ℕ, ◌<◌, Bool, true, false, cond, eqb, ltb, not, ◌||◌, is_some, Option, Some, None, refl, sym, ◌∙◌, ap}
+use Rattle.std.proofs.Common.{◌≡◌, ℕ, ◌<◌, Bool, true, false, cond, eqb, not, ◌||◌, is_some, Option, Some, None, refl, sym, ◌∙◌, ap}
 use Rattle.std.proofs.lemmas.Bool.{lt-ltb}
 use Rattle.std.specs.Option.{option_map, option_map_or}
 use Rattle.pm_table.specs.declared.cell.Cell.TheVariants.{Out, Protect}
 use Rattle.pm_table.specs.declared.cell.Reg.{Reg}
-use Rattle.pm_table.specs.Cell.{cell_at, register_of}
+use Rattle.pm_table.specs.Cell.{register_of}
 use Rattle.pm_table.specs.Codes as command
 use Rattle.pm_table.specs.Commands.{Line, rows, line_of}
 use Rattle.pm_table.specs.Protection.{is_allowed}
@@ -14,7 +14,7 @@ use Rattle.pm_frame.specs.declared.message.Payload.{Payload}
 use Rattle.pm_frame.specs.View.{message_code}
 use Rattle.pm_model.specs.Settings.{Words, word_at}
 use Rattle.pm_device.specs.declared.act.Act.{Act}
-use Rattle.pm_device.specs.declared.act.Act.TheVariants.{Put, Select, ClearFaults, ClearVout, ClearCml}
+use Rattle.pm_device.specs.declared.act.Act.TheVariants.{Put, Select, ClearFaults, ClearVout, ClearCml, Store, Restore}
 use Rattle.pm_device.specs.declared.config.Config.{Config}
 use Rattle.pm_device.specs.declared.fault.DeviceFault.TheVariants.{UnsupportedCode, UnsupportedData, BadPage, Protected}
 use Rattle.pm_device.specs.declared.verdict.Verdict.{Verdict}
@@ -23,7 +23,7 @@ use Rattle.pm_device.specs.Held.{Held}
 use Rattle.pm_device.specs.Laws.{is_device_code}
 use Rattle.pm_device.specs.Verdict.{act_in, act_verdict, is_accepted, output_in, payload_word, selects_no_output, write_verdict}
 use Rattle.pm_device.specs.Verdict.{written_word}
-use Rattle.pm_device.specs.Reply.{plain_register, register_word}
+use Rattle.pm_device.specs.Reply.{register_word}
 use Rattle.pm_device.proofs.Replies.{line-passes}
 use Rattle.pm_device.proofs.TakenActs.{or-false}
 
@@ -92,20 +92,25 @@ of-device code e = parts (go (line_of code) refl e) where
 -- the act of such a code
 act-alike : (code output other word : ℕ) → IsOfDevice code → act_in code output word ≡ act_in code other word
 act-alike code output other word h =
-    go (eqb code command.page) (eqb code command.clear_faults) (eqb code command.status_vout)
-    (eqb code command.status_cml) (eqb code command.write_protect) (register_of code) (h.clears, h.vout, h.register)
+    go (eqb code command.page) (eqb code command.clear_faults) (eqb code command.status_vout) (rest output (register_of code))
+    (rest other (register_of code)) (h.clears, h.vout)
+    (ap (λ found. rest output found) h.register ∙ sym (ap (λ found. rest other found) h.register))
   where
-    go : (a b c d e : Bool) (found : Option Reg) → (b ≡ false) × (c ≡ false) × (found ≡ None) →
-        cond a (Some (Select word)) (cond b (Some (ClearFaults output)) (cond c (Some (ClearVout output word))
-        (cond d (Some (ClearCml word)) (option_map (λ cell. Put cell word)
-        (cond e (Some Protect) (option_map (λ register. Out output register) found))))))
-        ≡ cond a (Some (Select word)) (cond b (Some (ClearFaults other)) (cond c (Some (ClearVout other word))
-        (cond d (Some (ClearCml word)) (option_map (λ cell. Put cell word)
-        (cond e (Some Protect) (option_map (λ register. Out other register) found))))))
-    go a false false d e None facts = refl
-    go a true c d e found facts = let wrong : true ≡ false = facts.0 in cc
-    go a false true d e found facts = let wrong : true ≡ false = facts.1 in cc
-    go a false false d e (Some register) facts = let wrong : Some register ≡ None = facts.2 in cc
+    -- the act of the other codes, where this register's cell is meant
+    rest : ℕ → Option Reg → Option Act
+    rest named found =
+        cond (eqb code command.status_cml) (Some (ClearCml word))
+        (cond (eqb code command.store_user_all) (Some Store)
+        (cond (eqb code command.restore_user_all) (Some Restore) (option_map (λ cell. Put cell word)
+        (cond (eqb code command.write_protect) (Some Protect) (option_map (λ register. Out named register) found)))))
+
+    go : (a b c : Bool) (one two : Option Act) → (b ≡ false) × (c ≡ false) → one ≡ two →
+        cond a (Some (Select word)) (cond b (Some (ClearFaults output)) (cond c (Some (ClearVout output word)) one))
+        ≡ cond a (Some (Select word)) (cond b (Some (ClearFaults other)) (cond c (Some (ClearVout other word)) two))
+    go true b c one two facts e = refl
+    go false false false one two facts e = e
+    go false true c one two facts e = let wrong : true ≡ false = facts.0 in cc
+    go false false true one two facts e = let wrong : true ≡ false = facts.1 in cc
 
 -- a plain write of such a code, and a carried one
 pub plain-alike : (config : Config) (words : Words) (page other : ℕ) (message : Message) →

@@ -10,29 +10,28 @@ use Rattle.pm_table.specs.declared.cell.Cell.{Cell}
 use Rattle.pm_table.specs.declared.cell.Cell.TheVariants.{Out, Protect}
 use Rattle.pm_table.specs.Cell.{same_cell, same_register, IsCell}
 use Rattle.pm_model.specs.Laws.{SettingsAreAMap, OutputsStandAlone}
-use Rattle.pm_model.specs.Settings.{Words, AreWords, with_word}
+use Rattle.pm_model.specs.Settings.{Words, AreWords, with_word, with_outputs}
 use Rattle.pm_device.specs.declared.act.Act.{Act}
-use Rattle.pm_device.specs.declared.act.Act.TheVariants.{Put, Select, ClearFaults, ClearVout, ClearCml}
+use Rattle.pm_device.specs.declared.act.Act.TheVariants.{Put, Select, ClearFaults, ClearVout, ClearCml, Store, Restore}
 use Rattle.pm_device.specs.declared.config.Config.{Config}
-use Rattle.pm_device.specs.declared.verdict.Verdict.{Verdict}
 use Rattle.pm_device.specs.declared.verdict.Verdict.TheVariants.{Ignores, Refuses, Takes, Answers}
 use Rattle.pm_device.specs.Held.{Held, Measured, CmlFaults, value_for}
-use Rattle.pm_device.specs.Start.{start_word, start_words}
-use Rattle.pm_device.specs.Verdict.{verdict_of, CanAct}
+use Rattle.pm_device.specs.Verdict.{CanAct}
 use Rattle.pm_device.specs.Effect.{Event, Hearing, Restarted, Reading, Kept, Outcome, Heard, Restarts, Measures, outcome_of, kept_by}
-use Rattle.pm_device.specs.Effect.{kept_by_act, restart_words}
+use Rattle.pm_device.specs.Effect.{started}
 use Rattle.pm_device.specs.Status.{CmlBit, Command, Data, Pec, Other, Moment, has_bit, kept, moments, from_last, act_clears_vout}
 use Rattle.pm_device.specs.Status.{act_clears_cml, clears, sets_cml, is_output_cut, cut_at, vout_in, cml_in}
-use Rattle.pm_device.specs.History.{each_output, readings_in, readings_by, now, start_of, cleared, cut_by_act, cut_by, fault_by, faults_by}
+use Rattle.pm_device.specs.History.{each_output, readings_in, readings_by, now, start_of, cleared, cut_by, fault_by, faults_by}
 use Rattle.pm_device.specs.History.{after, next}
 use Rattle.pm_device.proofs.CutLemmas.{each_output-by, length-each_output, cut_at-each_output}
-use Rattle.pm_device.proofs.TakenActs.{verdict-can}
+use Rattle.pm_device.proofs.KeptLemmas.{kept-full, kept-page, outcome-can}
 
 -- what is held, by its parts
 held-of : Config → Kept → Measured → List Bool → CmlFaults → Held
 held-of config after readings cut faults = record {
   config = config;
   words = after.words;
+  store = after.store;
   page = after.page;
   readings = readings;
   cut = cut;
@@ -141,65 +140,6 @@ each_output-set f g place bit here others =
     at : (output : ℕ) → output < 8 → cut_at (set (each_output f) place bit) output ≡ g output
     at output there = elim (cases_eq output place) [ inl e ↦ same output there e | inr ne ↦ other output there ne ]
 
--- there is a word for each cell at the start, and after each event
-start-words : SettingsAreAMap → (config : Config) → AreWords (start_words config)
-unfolding start_words
-start-words map config = (map.made (start_word config)).0
-
--- and after what an event came to
-words-kept : SettingsAreAMap → (config : Config) (before : Kept) (outcome : Outcome) →
-    AreWords before.words → AreWords (kept_by config before outcome).words
-words-kept map config before (Heard (Takes (Put cell word))) are = map.kept before.words cell word are
-words-kept map config before (Heard (Takes (Select page))) are = are
-words-kept map config before (Heard (Takes (ClearFaults output))) are = are
-words-kept map config before (Heard (Takes (ClearVout output byte))) are = are
-words-kept map config before (Heard (Takes (ClearCml byte))) are = are
-words-kept map config before (Heard Ignores) are = are
-words-kept map config before (Heard (Refuses fault)) are = are
-words-kept map config before (Heard (Answers request)) are = are
-words-kept map config before Restarts are = start-words map config
-words-kept map config before (Measures output code word) are = are
-
--- so there is one for each after any past
-pub kept-words : SettingsAreAMap → (config : Config) (past : List Event) → AreWords (kept config past).words
-unfolding kept came
-kept-words map config [] = start-words map config
-kept-words map config (event ∷ past) =
-    words-kept map config (kept config past) (came config past event) (kept-words map config past)
-
--- what an event that is taken asks for can be done
-outcome-can : (config : Config) (before : Kept) (event : Event) (act : Act) →
-    outcome_of config before event ≡ Heard (Takes act) → before.page < config.count → CanAct config.count act
-outcome-can config before (Hearing bytes ending) act e there =
-    let same : verdict_of config before.words before.page bytes ending ≡ Takes act = cc in
-    verdict-can config before.words before.page bytes ending act same there
-outcome-can config before Restarted act e there = cc
-outcome-can config before (Reading output code word) act e there = cc
-
--- PAGE names an output after each event
-page-kept : (config : Config) (before : Kept) (outcome : Outcome) →
-    ((act : Act) → outcome ≡ Heard (Takes act) → CanAct config.count act) →
-    1 ≤ config.count → before.page < config.count → (kept_by config before outcome).page < config.count
-page-kept config before (Heard (Takes (Put cell word))) can some there = there
-page-kept config before (Heard (Takes (Select page))) can some there = can (Select page) refl
-page-kept config before (Heard (Takes (ClearFaults output))) can some there = there
-page-kept config before (Heard (Takes (ClearVout output byte))) can some there = there
-page-kept config before (Heard (Takes (ClearCml byte))) can some there = there
-page-kept config before (Heard Ignores) can some there = there
-page-kept config before (Heard (Refuses fault)) can some there = there
-page-kept config before (Heard (Answers request)) can some there = there
-page-kept config before Restarts can some there = omega arith
-page-kept config before (Measures output code word) can some there = there
-
--- so it does after any past
-pub kept-page : (config : Config) (past : List Event) → 1 ≤ config.count → (kept config past).page < config.count
-unfolding kept came
-kept-page config [] some = omega arith
-kept-page config (event ∷ past) some =
-    let there = kept-page config past some in
-    page-kept config (kept config past) (came config past event)
-    (λ act e. outcome-can config (kept config past) event act e there) some there
-
 -- a write for another cell changes nothing of whether an output is cut
 is_output_cut-kept : SettingsAreAMap → OutputsStandAlone → (config : Config) (words : Words) (cell : Cell) (word output : ℕ) →
     AreWords words × IsCell 8 cell × (output < 8) × ((register : Reg) → same_cell cell (Out output register) ≡ false) →
@@ -224,7 +164,7 @@ module _ (map : SettingsAreAMap) (alone : OutputsStandAlone) (config : Config) (
   before = vout_in config past
 
   found : Outcome → ℕ → Bool
-  found outcome = vout_by config (kept_by config (kept config past) outcome) outcome before
+  found outcome = vout_by config (kept_by (kept config past) outcome) outcome before
 
   -- a bit that isn't cleared, of an output whose settings stay
   stays : (output : ℕ) → before output ≡ (is_output_cut config (kept config past).words output || before output)
@@ -284,7 +224,7 @@ module _ (map : SettingsAreAMap) (alone : OutputsStandAlone) (config : Config) (
       stays output
       ∙ ap (λ b. b || before output)
       (sym (is_output_cut-kept map alone config (kept config past).words (Out place register) word output
-      (kept-words map config past, omega (arith, here, count.few), there, λ second. other-output place output register second ne))))
+      ((kept-full map config past).words, omega (arith, here, count.few), there, λ second. other-output place output register second ne))))
 
   -- WRITE_PROTECT cuts no output
   protect-put : (word : ℕ) → each_output before
@@ -296,11 +236,24 @@ module _ (map : SettingsAreAMap) (alone : OutputsStandAlone) (config : Config) (
       stays output
       ∙ ap (λ b. b || before output)
       (sym (is_output_cut-kept map alone config (kept config past).words Protect word output
-      (kept-words map config past, tt, there, λ second. refl))))
+      ((kept-full map config past).words, tt, there, λ second. refl))))
+
+  -- words from the store latch the bit of each output
+  all-restored :
+      let words = with_outputs (kept config past).words (kept config past).store in
+      each_output (λ output. cut_at (each_output before) output || is_output_cut config words output)
+      ≡ each_output (λ output. is_output_cut config words output || before output)
+  all-restored =
+      let words = with_outputs (kept config past).words (kept config past).store in
+      each_output-same (λ output. cut_at (each_output before) output || is_output_cut config words output)
+      (λ output. is_output_cut config words output || before output)
+      (λ output there.
+      ap (λ b. b || is_output_cut config words output) (cut_at-each_output before output there)
+      ∙ or_comm (before output) (is_output_cut config words output))
 
   -- the latches after what an event came to are those that looking back finds
   cut-step : (outcome : Outcome) → ((act : Act) → outcome ≡ Heard (Takes act) → CanAct config.count act) →
-      cut_by config (kept_by config (kept config past) outcome).words (each_output before) outcome
+      cut_by config (kept_by (kept config past) outcome).words (each_output before) outcome
       ≡ each_output (found outcome)
   unfolding found vout_by
   cut-step (Heard (Takes (Put (Out place register) word))) can =
@@ -308,6 +261,8 @@ module _ (map : SettingsAreAMap) (alone : OutputsStandAlone) (config : Config) (
   cut-step (Heard (Takes (Put Protect word))) can = protect-put word
   cut-step (Heard (Takes (Select page))) can = all-stay
   cut-step (Heard (Takes (ClearCml byte))) can = all-stay
+  cut-step (Heard (Takes Store)) can = all-stay
+  cut-step (Heard (Takes Restore)) can = all-restored
   cut-step (Heard (Takes (ClearFaults place))) can =
       one-cleared place true
       ∙ each_output-same
@@ -321,13 +276,14 @@ module _ (map : SettingsAreAMap) (alone : OutputsStandAlone) (config : Config) (
   cut-step (Heard (Refuses fault)) can = all-stay
   cut-step (Heard (Answers request)) can = all-stay
   cut-step Restarts can =
-      each_output-same (is_output_cut config (restart_words config)) (λ output. is_output_cut config (restart_words config) output || false)
-      (λ output there. sym (or-fails (is_output_cut config (restart_words config) output)))
+      let store = (kept config past).store in
+      each_output-same (is_output_cut config store) (λ output. is_output_cut config store output || false)
+      (λ output there. sym (or-fails (is_output_cut config store output)))
   cut-step (Measures output code word) can = all-stay
 
   -- the latches after one more event
   vout-table : (event : Event) → each_output (vout_in config (event ∷ past))
-      ≡ cut_by config (kept_by config (kept config past) (came config past event)).words (each_output (vout_in config past))
+      ≡ cut_by config (kept_by (kept config past) (came config past event)).words (each_output (vout_in config past))
       (came config past event)
   unfolding found before kept came
   vout-table event =
@@ -359,7 +315,7 @@ module _ (map : SettingsAreAMap) (alone : OutputsStandAlone) (config : Config) (
   pub now-next : (event : Event) → now config (event ∷ past) ≡ next (now config past) event
   unfolding now next after kept came held-of
   now-next event =
-      held-same config (kept_by config (kept config past) (came config past event))
+      held-same config (kept_by (kept config past) (came config past event))
       (readings-step event) (vout-table event) (faults-step event)
 
 -- what is held at the start
@@ -367,9 +323,9 @@ pub now-nil : (config : Config) → now config [] ≡ start_of config
 unfolding now start_of kept vout_in cml_in moments
 now-nil config =
     let cut =
-    each_output-same (λ output. is_output_cut config (restart_words config) output || false)
-    (is_output_cut config (restart_words config))
-    (λ output there. or-fails (is_output_cut config (restart_words config) output)) in
+    each_output-same (λ output. is_output_cut config (started config).words output || false)
+    (is_output_cut config (started config).words)
+    (λ output there. or-fails (is_output_cut config (started config).words output)) in
     cc
 
 -- PAGE names an output
@@ -380,4 +336,9 @@ now-page config past some = kept-page config past some
 -- there is a word for each cell
 pub now-words : SettingsAreAMap → (config : Config) (past : List Event) → AreWords (now config past).words
 unfolding now
-now-words map config past = kept-words map config past
+now-words map config past = (kept-full map config past).words
+
+-- and one in the store
+pub now-store : SettingsAreAMap → (config : Config) (past : List Event) → AreWords (now config past).store
+unfolding now
+now-store map config past = (kept-full map config past).store

@@ -1,11 +1,11 @@
 -- Where the words of the cells come from, over a converter's whole past.
-use Rattle.std.proofs.Common.{◌≡◌, ◌⊎◌, inl, inr, ℕ, ◌≤◌, Bool, true, false, cond, eqb, Option, Some, None, List, [], ◌∷◌, refl, sym, ◌∙◌}
-use Rattle.std.proofs.Common.{ap, subst, arith}
+use Rattle.std.proofs.Common.{◌≡◌, ◌⊎◌, inl, inr, ℕ, ◌≤◌, Bool, true, false, cond, eqb, ◌&&◌, Option, Some, None, List, [], ◌∷◌, refl, sym}
+use Rattle.std.proofs.Common.{◌∙◌, ap, subst, arith}
 use Rattle.std.proofs.lemmas.Bool.{cond-true, cond-false}
 use Rattle.std.specs.Option.{option_map}
 use Rattle.pm_table.specs.declared.cell.Cell.{Cell}
 use Rattle.pm_table.specs.declared.cell.Cell.TheVariants.{Out, Protect}
-use Rattle.pm_table.specs.Cell.{cell_at, cell_accepts, same_cell, IsCell}
+use Rattle.pm_table.specs.Cell.{cell_at, cell_accepts, is_output_cell, same_cell, IsCell}
 use Rattle.pm_table.specs.Codes as command
 use Rattle.pm_table.specs.Laws.{CellsAreToldApart}
 use Rattle.pm_frame.specs.Fault.{write_fault}
@@ -15,21 +15,21 @@ use Rattle.pm_frame.specs.View.{message_in, message_code}
 use Rattle.pm_model.specs.Laws.{SettingsAreAMap}
 use Rattle.pm_model.specs.Settings.{Words, AreWords, word_at, with_word}
 use Rattle.pm_device.specs.declared.act.Act.{Act}
-use Rattle.pm_device.specs.declared.act.Act.TheVariants.{Put, Select, ClearFaults, ClearVout, ClearCml}
+use Rattle.pm_device.specs.declared.act.Act.TheVariants.{Put, Select, ClearFaults, ClearVout, ClearCml, Store, Restore}
 use Rattle.pm_device.specs.declared.config.Config.{Config}
 use Rattle.pm_device.specs.declared.heard.Ending.{Ending}
 use Rattle.pm_device.specs.declared.heard.Ending.TheVariants.{Stop}
 use Rattle.pm_device.specs.declared.heard.Heard.TheVariants.{Taken}
-use Rattle.pm_device.specs.declared.verdict.Verdict.{Verdict}
 use Rattle.pm_device.specs.declared.verdict.Verdict.TheVariants.{Ignores, Refuses, Takes, Answers}
 use Rattle.pm_device.specs.Start.{start_word, start_words, IsSound}
 use Rattle.pm_device.specs.Verdict.{written_word, output_in, act_in, verdict_of}
-use Rattle.pm_device.specs.Effect.{Event, Hearing, Restarted, Reading, Heard, Kept, kept_by}
+use Rattle.pm_device.specs.Effect.{Event, Hearing, Restarted, Reading, Outcome, Heard, Restarts, Measures, outcome_of, Kept, kept_by}
 use Rattle.pm_device.specs.Status.{kept}
 use Rattle.pm_device.specs.Reply.{reply_to, reply_of}
-use Rattle.pm_device.specs.History.{now, AreHeard, IsUnbroken, WasCarried}
-use Rattle.pm_device.proofs.TakenActs.{verdict-taken, verdict-can}
-use Rattle.pm_device.proofs.Follow.{IsCount, kept-words, kept-page}
+use Rattle.pm_device.specs.History.{now, AreHeard, WasCarried, loads, saves, loaded_word, stored_word}
+use Rattle.pm_device.proofs.TakenActs.{verdict-taken}
+use Rattle.pm_device.proofs.Follow.{IsCount}
+use Rattle.pm_device.proofs.KeptLemmas.{AreFull, kept-full, kept-page, outcome-can}
 
 -- two acts that put a word put the same one into the same cell
 put-one : (cell other : Cell) (word number : ℕ) → Some (Put cell word) ≡ Some (Put other number) →
@@ -40,19 +40,27 @@ put-one cell other word number e = (cc, cc)
 pub put-names : (code output word number : ℕ) (cell : Cell) → act_in code output word ≡ Some (Put cell number) →
     (cell_at code output ≡ Some cell) × (word ≡ number)
 put-names code output word number cell e =
-    first (eqb code command.page) (eqb code command.clear_faults) (eqb code command.status_vout)
-    (eqb code command.status_cml) (cell_at code output) e
+    first (eqb code command.page) (eqb code command.clear_faults) (eqb code command.status_vout) (eqb code command.status_cml) e
   where
-    first : (a b c d : Bool) (found : Option Cell) →
-        cond a (Some (Select word)) (cond b (Some (ClearFaults output)) (cond c (Some (ClearVout output word))
-        (cond d (Some (ClearCml word)) (option_map (λ x. Put x word) found)))) ≡ Some (Put cell number) →
+    last : (a b : Bool) (found : Option Cell) →
+        cond a (Some Store) (cond b (Some Restore) (option_map (λ x. Put x word) found)) ≡ Some (Put cell number) →
         (found ≡ Some cell) × (word ≡ number)
-    first true b c d found h = cc
-    first false true c d found h = cc
-    first false false true d found h = cc
-    first false false false true found h = cc
-    first false false false false None h = cc
-    first false false false false (Some x) h = put-one x cell word number h
+    last true b found h = cc
+    last false true found h = cc
+    last false false None h = cc
+    last false false (Some x) h = put-one x cell word number h
+
+    first : (a b c d : Bool) →
+        cond a (Some (Select word)) (cond b (Some (ClearFaults output)) (cond c (Some (ClearVout output word))
+        (cond d (Some (ClearCml word)) (cond (eqb code command.store_user_all) (Some Store)
+        (cond (eqb code command.restore_user_all) (Some Restore) (option_map (λ x. Put x word) (cell_at code output)))))))
+        ≡ Some (Put cell number) → (cell_at code output ≡ Some cell) × (word ≡ number)
+    first true b c d h = cc
+    first false true c d h = cc
+    first false false true d h = cc
+    first false false false true h = cc
+    first false false false false h =
+        last (eqb code command.store_user_all) (eqb code command.restore_user_all) (cell_at code output) h
 
 -- a cell of fewer outputs is one of eight
 pub cell-of_eight : (count : ℕ) (cell : Cell) → count ≤ 8 → IsCell count cell → IsCell 8 cell
@@ -66,25 +74,22 @@ written-message exact addr bytes are none =
     let some = exact.faultless addr bytes are none in
     subst (λ m. IsWrite addr m bytes) (sym (exact.places addr some.0 bytes some.1)) some.1
 
--- a frame of the past is one of a longer past without a restart
+-- a frame of the past is one of a longer past, where the cell didn't get its word in the store since
 later-carried : (config : Config) (past : List Event) (event : Event) (cell : Cell) (word : ℕ) →
-    IsUnbroken (event ∷ []) → WasCarried config past cell word → WasCarried config (event ∷ past) cell word
+    loads cell (outcome_of config (kept config past) event) ≡ false →
+    WasCarried config past cell word → WasCarried config (event ∷ past) cell word
 later-carried config past event cell word unbroken h = record {
   later = event ∷ h.later;
   before = h.before;
   bytes = h.bytes;
   message = h.message;
   heard = ap (λ p. event ∷ p) h.heard;
-  since = since event unbroken;
+  since = (subst (λ p. loads cell (outcome_of config (kept config p) event) ≡ false) h.heard unbroken, h.since);
   carries = h.carries;
   taken = h.taken;
   names = h.names;
   number = h.number;
-} where
-  since : (found : Event) → IsUnbroken (found ∷ []) → IsUnbroken (found ∷ h.later)
-  since (Hearing bytes ending) u = h.since
-  since (Reading output code number) u = h.since
-  since Restarted u = u
+}
 
 -- a frame that is taken is answered so
 taken-now : (config : Config) (past : List Event) (bytes : List ℕ) (act : Act) →
@@ -120,9 +125,38 @@ carried-now exact config past bytes ending cell word (are, e) =
       number = names.1;
     }
 
--- a word is the cell's start word, or one that was carried for it
+-- what is put by an event is carried by it
+carried-event : WritesAreExact → (config : Config) (past : List Event) (event : Event) (cell : Cell) (word : ℕ) →
+    AreHeard (event ∷ past) → outcome_of config (kept config past) event ≡ Heard (Takes (Put cell word)) →
+    WasCarried config (event ∷ past) cell word
+carried-event exact config past (Hearing bytes ending) cell word heard e =
+    let same : verdict_of config (kept config past).words (kept config past).page bytes ending ≡ Takes (Put cell word) = cc in
+    carried-now exact config past bytes ending cell word (heard.0, same)
+carried-event exact config past Restarted cell word heard e = cc
+carried-event exact config past (Reading output code number) cell word heard e = cc
+
+-- what was heard before an event
+heard-before : (event : Event) (past : List Event) → AreHeard (event ∷ past) → AreHeard past
+heard-before (Hearing bytes ending) past heard = heard.1
+heard-before Restarted past heard = heard
+heard-before (Reading output code word) past heard = heard.1
+
+-- a bit beside one that isn't set
+and-fails : (b : Bool) → (b && false) ≡ false
+and-fails true = refl
+and-fails false = refl
+
+-- a word is the one that the cell was last loaded with, or one that was carried for it
 HasOrigin : Config → List Event → Cell → ℕ → Type 0
-HasOrigin config past cell word = (word ≡ start_word config cell) ⊎ WasCarried config past cell word
+HasOrigin config past cell word = (word ≡ loaded_word config past cell) ⊎ WasCarried config past cell word
+
+-- and so it is where the cell wasn't loaded since
+origin-later : (config : Config) (past : List Event) (event : Event) (cell : Cell) (word : ℕ) →
+    loads cell (outcome_of config (kept config past) event) ≡ false →
+    HasOrigin config past cell word → HasOrigin config (event ∷ past) cell word
+unfolding HasOrigin loaded_word
+origin-later config past event cell word unbroken (inl e) = inl (e ∙ sym (cond-false _ _ _ unbroken))
+origin-later config past event cell word unbroken (inr w) = inr (later-carried config past event cell word unbroken w)
 
 module _ (map : SettingsAreAMap) (told : CellsAreToldApart) where
   -- what holds of a cell's word, and of the word that it may get, holds after a write
@@ -135,21 +169,52 @@ module _ (map : SettingsAreAMap) (told : CellsAreToldApart) where
         subst P (sym (map.read words cell other word are here there ∙ cond-true _ _ _ is)) (put ((told cell other).0 is))
     go false is = subst P (sym (map.read words cell other word are here there ∙ cond-false _ _ _ is)) before
 
-  -- and so after any hearing
-  heard-word : (config : Config) (before : Kept) (verdict : Verdict) (other : Cell) (P : ℕ → Type 0) →
-      AreWords before.words × IsCell 8 other →
-      ((cell : Cell) (word : ℕ) → verdict ≡ Takes (Put cell word) → IsCell 8 cell × (cell ≡ other → P word)) →
-      P (word_at before.words other) → P (word_at (kept_by config before (Heard verdict)).words other)
-  heard-word config before Ignores other P (are, there) put holds = holds
-  heard-word config before (Refuses fault) other P (are, there) put holds = holds
-  heard-word config before (Answers request) other P (are, there) put holds = holds
-  heard-word config before (Takes (Put cell word)) other P (are, there) put holds =
-      let puts = put cell word refl in
-      put-word before.words cell other word P (are, puts.0, there) puts.1 holds
-  heard-word config before (Takes (Select page)) other P (are, there) put holds = holds
-  heard-word config before (Takes (ClearFaults output)) other P (are, there) put holds = holds
-  heard-word config before (Takes (ClearVout output byte)) other P (are, there) put holds = holds
-  heard-word config before (Takes (ClearCml byte)) other P (are, there) put holds = holds
+  -- what holds of a cell's word where it isn't loaded, of its word in the store where it is, and of the word that
+  -- it may get, holds after what an event came to
+  outcome-word : (before : Kept) (outcome : Outcome) (cell : Cell) (P : ℕ → Type 0) →
+      AreFull before × IsCell 8 cell →
+      ((other : Cell) (word : ℕ) → outcome ≡ Heard (Takes (Put other word)) → IsCell 8 other × (other ≡ cell → P word)) →
+      (loads cell outcome ≡ false → P (word_at before.words cell)) →
+      (loads cell outcome ≡ true → P (word_at before.store cell)) →
+      P (word_at (kept_by before outcome).words cell)
+  outcome-word before (Heard Ignores) cell P facts put holds loaded = holds refl
+  outcome-word before (Heard (Refuses fault)) cell P facts put holds loaded = holds refl
+  outcome-word before (Heard (Answers request)) cell P facts put holds loaded = holds refl
+  outcome-word before (Heard (Takes (Put other word))) cell P (full, there) put holds loaded =
+      let puts = put other word refl in
+      put-word before.words other cell word P (full.words, puts.0, there) puts.1 (holds (and-fails (is_output_cell cell)))
+  outcome-word before (Heard (Takes (Select page))) cell P facts put holds loaded = holds (and-fails (is_output_cell cell))
+  outcome-word before (Heard (Takes (ClearFaults output))) cell P facts put holds loaded = holds (and-fails (is_output_cell cell))
+  outcome-word before (Heard (Takes (ClearVout output byte))) cell P facts put holds loaded =
+      holds (and-fails (is_output_cell cell))
+  outcome-word before (Heard (Takes (ClearCml byte))) cell P facts put holds loaded = holds (and-fails (is_output_cell cell))
+  outcome-word before (Heard (Takes Store)) cell P facts put holds loaded = holds (and-fails (is_output_cell cell))
+  outcome-word before (Heard (Takes Restore)) (Out output register) P (full, there) put holds loaded =
+      subst P (sym (map.outputs before.words before.store output register full.store there)) (loaded refl)
+  outcome-word before (Heard (Takes Restore)) Protect P (full, there) put holds loaded =
+      subst P (sym (map.protect before.words before.store full.store)) (holds refl)
+  outcome-word before Restarts cell P facts put holds loaded = loaded refl
+  outcome-word before (Measures output code word) cell P facts put holds loaded = holds refl
+
+  -- a cell's word in the store after what an event came to
+  outcome-stored : (before : Kept) (outcome : Outcome) (cell : Cell) → AreFull before × IsCell 8 cell →
+      word_at (kept_by before outcome).store cell
+      ≡ cond (saves cell outcome) (word_at before.words cell) (word_at before.store cell)
+  outcome-stored before (Heard Ignores) cell facts = refl
+  outcome-stored before (Heard (Refuses fault)) cell facts = refl
+  outcome-stored before (Heard (Answers request)) cell facts = refl
+  outcome-stored before (Heard (Takes (Put other word))) cell facts = sym (cond-false _ _ _ (and-fails (is_output_cell cell)))
+  outcome-stored before (Heard (Takes (Select page))) cell facts = sym (cond-false _ _ _ (and-fails (is_output_cell cell)))
+  outcome-stored before (Heard (Takes (ClearFaults output))) cell facts = sym (cond-false _ _ _ (and-fails (is_output_cell cell)))
+  outcome-stored before (Heard (Takes (ClearVout output byte))) cell facts =
+      sym (cond-false _ _ _ (and-fails (is_output_cell cell)))
+  outcome-stored before (Heard (Takes (ClearCml byte))) cell facts = sym (cond-false _ _ _ (and-fails (is_output_cell cell)))
+  outcome-stored before (Heard (Takes Restore)) cell facts = sym (cond-false _ _ _ (and-fails (is_output_cell cell)))
+  outcome-stored before (Heard (Takes Store)) (Out output register) (full, there) =
+      map.outputs before.store before.words output register full.words there
+  outcome-stored before (Heard (Takes Store)) Protect (full, there) = map.protect before.store before.words full.words
+  outcome-stored before Restarts cell facts = refl
+  outcome-stored before (Measures output code word) cell facts = refl
 
   -- a cell's word as a converter starts
   start-at : (config : Config) (cell : Cell) → IsCell 8 cell → word_at (start_words config) cell ≡ start_word config cell
@@ -159,63 +224,80 @@ module _ (map : SettingsAreAMap) (told : CellsAreToldApart) where
   -- each cell's word has an origin
   kept-origin : WritesAreExact → (config : Config) (past : List Event) (cell : Cell) →
       IsCount config → AreHeard past → IsCell config.count cell → HasOrigin config past cell (word_at (kept config past).words cell)
-  unfolding HasOrigin kept
+  unfolding HasOrigin kept loaded_word
   kept-origin exact config [] cell count heard here =
       inl (start-at config cell (cell-of_eight config.count cell count.few here))
-  kept-origin exact config (Restarted ∷ past) cell count heard here =
-      inl (start-at config cell (cell-of_eight config.count cell count.few here))
-  kept-origin exact config (Reading output code number ∷ past) cell count heard here =
-      elim (kept-origin exact config past cell count heard.1 here) [
-        | inl e ↦ inl e
-        | inr w ↦ inr (later-carried config past (Reading output code number) cell (word_at (kept config past).words cell) tt w)
-      ]
-  kept-origin exact config (Hearing bytes ending ∷ past) cell count heard here =
+  kept-origin exact config (event ∷ past) cell count heard here =
       let before = kept config past in
-      heard-word config before (verdict_of config before.words before.page bytes ending) cell
-      (λ w. (w ≡ start_word config cell) ⊎ WasCarried config (Hearing bytes ending ∷ past) cell w)
-      (kept-words map config past, cell-of_eight config.count cell count.few here)
+      outcome-word before (outcome_of config before event) cell (HasOrigin config (event ∷ past) cell)
+      (kept-full map config past, cell-of_eight config.count cell count.few here)
       (λ other word e.
-      let can = verdict-can config before.words before.page bytes ending (Put other word) e (kept-page config past count.some) in (
+      let can = outcome-can config before event (Put other word) e (kept-page config past count.some) in (
         cell-of_eight config.count other count.few can.0,
-        λ same. inr (subst (λ c. WasCarried config (Hearing bytes ending ∷ past) c word) same
-            (carried-now exact config past bytes ending other word (heard.0, e))),
+        λ same. inr (subst (λ c. WasCarried config (event ∷ past) c word) same (carried-event exact config past event other word heard e)),
       ))
-      (elim (kept-origin exact config past cell count heard.1 here) [
-        | inl e ↦ inl e
-        | inr w ↦ inr (later-carried config past (Hearing bytes ending) cell (word_at before.words cell) tt w)
-      ])
+      (λ unbroken. origin-later config past event cell (word_at before.words cell) unbroken
+      (kept-origin exact config past cell count (heard-before event past heard) here))
+      (λ loaded. inl (sym (cond-true _ _ _ loaded)))
 
   pub now-origin : WritesAreExact → (config : Config) (past : List Event) (cell : Cell) →
       IsCount config → AreHeard past → IsCell config.count cell →
-      (word_at (now config past).words cell ≡ start_word config cell)
+      (word_at (now config past).words cell ≡ loaded_word config past cell)
       ⊎ WasCarried config past cell (word_at (now config past).words cell)
   unfolding now HasOrigin
   now-origin exact config past cell count heard here = kept-origin exact config past cell count heard here
 
-  -- each cell accepts its word
+  -- and so has its word in the store
+  kept-stored : (config : Config) (past : List Event) (cell : Cell) → IsCell 8 cell →
+      word_at (kept config past).store cell ≡ stored_word config past cell
+  unfolding kept stored_word
+  kept-stored config [] cell here = start-at config cell here
+  kept-stored config (event ∷ past) cell here =
+      let before = kept config past in
+      outcome-stored before (outcome_of config before event) cell (kept-full map config past, here)
+      ∙ ap (λ w. cond (saves cell (outcome_of config before event)) (word_at before.words cell) w) (kept-stored config past cell here)
+
+  pub now-stored : (config : Config) (past : List Event) (cell : Cell) → config.count ≤ 8 → IsCell config.count cell →
+      word_at (now config past).store cell ≡ stored_word config past cell
+  unfolding now
+  now-stored config past cell few here = kept-stored config past cell (cell-of_eight config.count cell few here)
+
+  -- each cell accepts its word, and the one in the store
   kept-accepted : (config : Config) (past : List Event) (cell : Cell) → IsSound config → IsCell config.count cell →
-      cell_accepts cell (word_at (kept config past).words cell) ≡ true
+      (cell_accepts cell (word_at (kept config past).words cell) ≡ true)
+      × (cell_accepts cell (word_at (kept config past).store cell) ≡ true)
   unfolding kept
   kept-accepted config [] cell sound here =
+      let start =
       subst (λ w. cell_accepts cell w ≡ true)
-      (sym (start-at config cell (cell-of_eight config.count cell sound.few here))) (sound.starts cell here)
-  kept-accepted config (Restarted ∷ past) cell sound here =
-      subst (λ w. cell_accepts cell w ≡ true)
-      (sym (start-at config cell (cell-of_eight config.count cell sound.few here))) (sound.starts cell here)
-  kept-accepted config (Reading output code word ∷ past) cell sound here = kept-accepted config past cell sound here
-  kept-accepted config (Hearing bytes ending ∷ past) cell sound here =
+      (sym (start-at config cell (cell-of_eight config.count cell sound.few here))) (sound.starts cell here) in (start, start)
+  kept-accepted config (event ∷ past) cell sound here =
       let before = kept config past in
-      heard-word config before (verdict_of config before.words before.page bytes ending) cell
-      (λ w. cell_accepts cell w ≡ true)
-      (kept-words map config past, cell-of_eight config.count cell sound.few here)
-      (λ other word e.
-      let can = verdict-can config before.words before.page bytes ending (Put other word) e (kept-page config past sound.some) in (
-        cell-of_eight config.count other sound.few can.0,
-        λ same. subst (λ c. cell_accepts c word ≡ true) same can.1,
-      ))
-      (kept-accepted config past cell sound here)
+      let outcome = outcome_of config before event in
+      let facts : AreFull before × IsCell 8 cell = (kept-full map config past, cell-of_eight config.count cell sound.few here) in
+      let both = kept-accepted config past cell sound here in (
+        outcome-word before outcome cell (λ w. cell_accepts cell w ≡ true) facts
+            (λ other word e.
+            let can = outcome-can config before event (Put other word) e (kept-page config past sound.some) in (
+              cell-of_eight config.count other sound.few can.0,
+              λ same. subst (λ c. cell_accepts c word ≡ true) same can.1,
+            ))
+            (λ unbroken. both.0) (λ loaded. both.1),
+        subst (λ w. cell_accepts cell w ≡ true) (sym (outcome-stored before outcome cell facts))
+            (either (saves cell outcome) (word_at before.words cell) (word_at before.store cell) both.0 both.1),
+      )
+    where
+      either : (b : Bool) (one two : ℕ) → cell_accepts cell one ≡ true → cell_accepts cell two ≡ true →
+          cell_accepts cell (cond b one two) ≡ true
+      either true one two h k = h
+      either false one two h k = k
 
   pub now-accepted : (config : Config) (past : List Event) (cell : Cell) → IsSound config → IsCell config.count cell →
       cell_accepts cell (word_at (now config past).words cell) ≡ true
   unfolding now
-  now-accepted config past cell sound here = kept-accepted config past cell sound here
+  now-accepted config past cell sound here = (kept-accepted config past cell sound here).0
+
+  pub now-stored_accepted : (config : Config) (past : List Event) (cell : Cell) → IsSound config → IsCell config.count cell →
+      cell_accepts cell (word_at (now config past).store cell) ≡ true
+  unfolding now
+  now-stored_accepted config past cell sound here = (kept-accepted config past cell sound here).1

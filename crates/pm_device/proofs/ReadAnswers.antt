@@ -7,6 +7,7 @@ use Rattle.std.specs.Option.{option_map_or}
 use Rattle.pm_table.specs.declared.cell.Cell.{Cell}
 use Rattle.pm_table.specs.declared.cell.Cell.TheVariants.{Out, Protect}
 use Rattle.pm_table.specs.Cell.{cell_at, cell_accepts, cell_code, is_operation, is_protection, is_voltage, register_code}
+use Rattle.pm_table.specs.Codes as command
 use Rattle.pm_table.specs.Commands.{line_of, payload_length}
 use Rattle.pm_table.specs.Laws.{PayloadsAreShort, RegistersAreInTheTable}
 use Rattle.pm_frame.specs.declared.fault.FrameFault.{FrameFault}
@@ -15,17 +16,18 @@ use Rattle.pm_frame.specs.declared.message.Message.TheVariants.{SendByte, WriteB
 use Rattle.pm_frame.specs.declared.message.Message.TheVariants.{ReadCoefficients}
 use Rattle.pm_frame.specs.Fault.{request_fault}
 use Rattle.pm_frame.specs.Laws.{RequestsAreExact}
-use Rattle.pm_frame.specs.Layout.{IsRequest, IsAnswer, sent, answered, with_pec, answer_length, is_read_message}
+use Rattle.pm_frame.specs.Layout.{IsRequest, IsAnswer, answer_length, is_read_message}
 use Rattle.pm_frame.specs.View.{message_in, payload_in}
 use Rattle.pm_model.specs.Settings.{word_at}
 use Rattle.pm_device.specs.declared.fault.DeviceFault.TheVariants.{UnsupportedData, BadPage}
 use Rattle.pm_device.specs.declared.heard.Ending.TheVariants.{Restart}
 use Rattle.pm_device.specs.declared.heard.Heard.{Heard}
-use Rattle.pm_device.specs.declared.heard.Heard.TheVariants.{Silent, Taken, Answer, Refused}
+use Rattle.pm_device.specs.declared.heard.Heard.TheVariants.{Answer, Refused}
 use Rattle.pm_device.specs.declared.verdict.Verdict.TheVariants.{Refuses, Answers}
 use Rattle.pm_device.specs.Held.{Held}
 use Rattle.pm_device.specs.Laws.{AnswersWith}
-use Rattle.pm_device.specs.Verdict.{payload_word, answers_coefficients, fault_verdict, is_answered, read_verdict, unless_faulty, verdict_of}
+use Rattle.pm_device.specs.Start.{has_direct}
+use Rattle.pm_device.specs.Verdict.{payload_word, answers_coefficients, is_answered, read_verdict, unless_faulty, verdict_of}
 use Rattle.pm_device.specs.Reply.{answer_bytes, plain_register, register_bytes, register_word, payload_for, reply_to, reply_of}
 use Rattle.pm_device.proofs.Replies.{fault-not_answer}
 
@@ -92,6 +94,15 @@ request-answered exact short held request bytes h can = (
   ap (λ v. reply_to held v) (heard-request exact held request bytes h ∙ verdict-answers held request can),
   answer-fits short held request bytes h,
 )
+
+-- coefficients are refused where no output is DIRECT
+pub coefficients-refused : RequestsAreExact → (held : Held) (bytes : List ℕ) →
+    IsRequest held.config.addr (ReadCoefficients command.vout_command 0x00) bytes → has_direct held.config ≡ false →
+    reply_of held bytes Restart ≡ Refused UnsupportedData
+unfolding reply_of
+coefficients-refused exact held bytes h none =
+    ap (λ v. reply_to held v) (heard-request exact held (ReadCoefficients command.vout_command 0x00) bytes h)
+    ∙ ap (λ b. reply_to held (cond b (Answers (ReadCoefficients command.vout_command 0x00)) (Refuses UnsupportedData))) none
 
 -- the bytes of an answer
 bytes_in : Heard → List ℕ

@@ -1,10 +1,9 @@
 -- Which replies come after which endings, and for which codes.
-use Rattle.std.proofs.Common.{◌≡◌, ◌≢◌, ◌⊎◌, inl, inr, ℕ, ◌<◌, Bool, true, false, cond, eqb, ltb, not, ◌||◌, ◌&&◌, is_some, Option, Some}
+use Rattle.std.proofs.Common.{◌≡◌, ℕ, Bool, true, false, cond, eqb, ltb, not, ◌||◌, ◌&&◌, is_some, Option, Some}
 use Rattle.std.proofs.Common.{None, List, [], ◌∷◌, refl, sym, ◌∙◌, ap, subst}
-use Rattle.std.proofs.lemmas.Bool.{and_parts, eqb-true, lt-ltb}
+use Rattle.std.proofs.lemmas.Bool.{and_parts, eqb-true}
 use Rattle.std.specs.List.{list_all}
-use Rattle.std.specs.Option.{option_map, option_map_or}
-use Rattle.pm_table.specs.declared.cell.Cell.{Cell}
+use Rattle.std.specs.Option.{option_map_or}
 use Rattle.pm_table.specs.declared.cell.Cell.TheVariants.{Protect}
 use Rattle.pm_table.specs.Codes as command
 use Rattle.pm_table.specs.Commands.{Line, Row, rows, line_among, line_of, is_written}
@@ -14,15 +13,12 @@ use Rattle.pm_frame.specs.declared.fault.FrameFault.TheVariants as frame
 use Rattle.pm_frame.specs.declared.message.Message.{Message}
 use Rattle.pm_frame.specs.declared.message.Message.TheVariants.{SendByte, WriteByte, WriteWord, PagePlusWrite, ReadCommand, PagePlusRead}
 use Rattle.pm_frame.specs.declared.message.Message.TheVariants.{ReadCoefficients}
-use Rattle.pm_frame.specs.declared.message.Payload.{Payload}
 use Rattle.pm_frame.specs.Fault.{write_fault, request_fault}
 use Rattle.pm_frame.specs.Laws.{WritesAreExact, RequestsAreExact}
-use Rattle.pm_frame.specs.Layout.{AreBytes, IsWrite, IsRequest, fits_layout, is_read_message}
+use Rattle.pm_frame.specs.Layout.{AreBytes, IsWrite, fits_layout, is_read_message}
 use Rattle.pm_frame.specs.View.{message_in, message_code}
-use Rattle.pm_model.specs.Settings.{Words, word_at}
+use Rattle.pm_model.specs.Settings.{word_at}
 use Rattle.pm_device.specs.declared.act.Act.{Act}
-use Rattle.pm_device.specs.declared.act.Act.TheVariants.{Put, Select, ClearFaults, ClearVout, ClearCml}
-use Rattle.pm_device.specs.declared.config.Config.{Config}
 use Rattle.pm_device.specs.declared.fault.DeviceFault.TheVariants.{UnsupportedCode, UnsupportedData, BadPage, Protected}
 use Rattle.pm_device.specs.declared.heard.Ending.TheVariants.{Stop, Restart}
 use Rattle.pm_device.specs.declared.heard.Heard.{Heard}

@@ -17,7 +17,7 @@ use Rattle.pm_frame.specs.Fault.{write_fault, request_fault}
 use Rattle.pm_frame.specs.View.{message_in, message_page, message_code}
 use Rattle.pm_model.specs.Settings.{Words, word_at}
 use Rattle.pm_device.specs.declared.act.Act.{Act}
-use Rattle.pm_device.specs.declared.act.Act.TheVariants.{Put, Select, ClearFaults, ClearVout, ClearCml}
+use Rattle.pm_device.specs.declared.act.Act.TheVariants.{Put, Select, ClearFaults, ClearVout, ClearCml, Store, Restore}
 use Rattle.pm_device.specs.declared.config.Config.{Config}
 use Rattle.pm_device.specs.declared.fault.DeviceFault.TheVariants.{UnsupportedCode, UnsupportedData, BadPage, Protected}
 use Rattle.pm_device.specs.declared.heard.Ending.{Ending}
@@ -150,18 +150,26 @@ some-act x y h = cc
 -- so the act of any code names it
 pub acts-on : (code output word : ℕ) (act : Act) → act_in code output word ≡ Some act → ActsOn output act
 acts-on code output word act e =
-    first (eqb code command.page) (eqb code command.clear_faults) (eqb code command.status_vout) (eqb code command.status_cml) e where
-      rest : Option Act
-      rest = option_map (λ cell. Put cell word) (cell_at code output)
+    first (eqb code command.page) (eqb code command.clear_faults) (eqb code command.status_vout) (eqb code command.status_cml) e
+  where
+    rest : Option Act
+    rest = option_map (λ cell. Put cell word) (cell_at code output)
 
-      first : (a b c d : Bool) → cond a (Some (Select word))
-          (cond b (Some (ClearFaults output)) (cond c (Some (ClearVout output word)) (cond d (Some (ClearCml word)) rest))) ≡ Some act
-          → ActsOn output act
-      first true b c d h = subst (λ x. ActsOn output x) (some-act (Select word) act h) tt
-      first false true c d h = subst (λ x. ActsOn output x) (some-act (ClearFaults output) act h) refl
-      first false false true d h = subst (λ x. ActsOn output x) (some-act (ClearVout output word) act h) refl
-      first false false false true h = subst (λ x. ActsOn output x) (some-act (ClearCml word) act h) tt
-      first false false false false h = acts-on_code code output word (eqb code command.write_protect) act h
+    last : (a b : Bool) → cond a (Some Store) (cond b (Some Restore) rest) ≡ Some act → ActsOn output act
+    last true b h = subst (λ x. ActsOn output x) (some-act Store act h) tt
+    last false true h = subst (λ x. ActsOn output x) (some-act Restore act h) tt
+    last false false h = acts-on_code code output word (eqb code command.write_protect) act h
+
+    first : (a b c d : Bool) → cond a (Some (Select word))
+        (cond b (Some (ClearFaults output)) (cond c (Some (ClearVout output word)) (cond d (Some (ClearCml word))
+        (cond (eqb code command.store_user_all) (Some Store) (cond (eqb code command.restore_user_all) (Some Restore) rest)))))
+        ≡ Some act
+        → ActsOn output act
+    first true b c d h = subst (λ x. ActsOn output x) (some-act (Select word) act h) tt
+    first false true c d h = subst (λ x. ActsOn output x) (some-act (ClearFaults output) act h) refl
+    first false false true d h = subst (λ x. ActsOn output x) (some-act (ClearVout output word) act h) refl
+    first false false false true h = subst (λ x. ActsOn output x) (some-act (ClearCml word) act h) tt
+    first false false false false h = last (eqb code command.store_user_all) (eqb code command.restore_user_all) h
 
 -- a page that is named is there, or PAGE is
 pub output-there : (count page : ℕ) (message : Message) → names_no_output count message ≡ false → page < count
@@ -187,6 +195,8 @@ can-act count output (Select page) here on selected accepted = go (ltb page coun
 can-act count output (ClearFaults named) here on selected accepted = subst (λ n. n < count) (sym on) here
 can-act count output (ClearVout named byte) here on selected accepted = subst (λ n. n < count) (sym on) here
 can-act count output (ClearCml byte) here on selected accepted = tt
+can-act count output Store here on selected accepted = tt
+can-act count output Restore here on selected accepted = tt
 
 -- so an act that is taken can be done
 pub taken-can : (config : Config) (words : Words) (page : ℕ) (message : Message) (act : Act) → IsTaken config words page message act

@@ -1,4 +1,4 @@
--- What a converter was made with and what it holds: the words of its cells, PAGE, the readings, and
+-- What a converter was made with and what it holds: the words of its cells, its store, PAGE, the readings, and
 -- the status bits that are latched.
 use Rattle.std.specs.Prelude.{ℕ, Bool, false, ◌||◌, ◌&&◌, ◌==◌, nat_lt, if◌then◌else◌, List, Option, map, replicate, slice_index, slice_set, unwrap_or}
 use Rattle.std.specs.Option.{option_and_then}
@@ -68,6 +68,7 @@ no_faults = record { command = false; «data» = false; pec = false; other = fal
 pub record Held : Type 0 where
   pub config : Config
   pub words : Words
+  pub store : Words
   pub page : ℕ
   pub readings : Measured
   pub cut : List Bool

@@ -1,23 +1,24 @@
 -- A converter's past, newest event first, and what it holds after it; and what one event makes of
 -- what it holds, where the status bits are latched.
-use Rattle.std.specs.Prelude.{◌≡◌, ℕ, ◌<◌, ◌^◌, Bool, false, ◌||◌, if◌then◌else◌, List, [], ◌∷◌, ◌++◌, map, slice_set, Some}
+use Rattle.std.specs.Prelude.{◌≡◌, ℕ, ◌<◌, ◌^◌, Bool, false, ◌||◌, true, ◌&&◌, if◌then◌else◌, List, [], ◌∷◌, ◌++◌, map, slice_set, Some}
 use Rattle.std.specs.List.{range_with_len}
 use Rattle.pm_table.specs.declared.cell.Cell.{Cell}
 use Rattle.pm_table.specs.declared.cell.Cell.TheVariants.{Out, Protect}
-use Rattle.pm_table.specs.Cell.{cell_at}
+use Rattle.pm_table.specs.Cell.{cell_at, is_output_cell}
 use Rattle.pm_frame.specs.declared.message.Message.{Message}
 use Rattle.pm_frame.specs.Layout.{AreBytes, IsWrite}
 use Rattle.pm_frame.specs.View.{message_code}
-use Rattle.pm_model.specs.Settings.{Words}
+use Rattle.pm_model.specs.Settings.{Words, word_at}
 use Rattle.pm_device.specs.declared.act.Act.{Act}
-use Rattle.pm_device.specs.declared.act.Act.TheVariants.{Put, Select, ClearFaults, ClearVout, ClearCml}
+use Rattle.pm_device.specs.declared.act.Act.TheVariants.{Put, Select, ClearFaults, ClearVout, ClearCml, Store, Restore}
 use Rattle.pm_device.specs.declared.config.Config.{Config}
 use Rattle.pm_device.specs.declared.heard.Ending.TheVariants.{Stop}
 use Rattle.pm_device.specs.declared.heard.Heard.TheVariants.{Taken}
 use Rattle.pm_device.specs.declared.verdict.Verdict.TheVariants.{Ignores, Refuses, Takes, Answers}
 use Rattle.pm_device.specs.Held.{Held, Measured, CmlFaults, no_readings, no_faults, is_reading, with_reading}
+use Rattle.pm_device.specs.Start.{start_word}
 use Rattle.pm_device.specs.Verdict.{output_in, written_word}
-use Rattle.pm_device.specs.Effect.{Event, Hearing, Restarted, Reading, Outcome, Heard, Restarts, Measures, outcome_in, kept_by, kept_in, restarted, restart_words}
+use Rattle.pm_device.specs.Effect.{Event, Hearing, Restarted, Reading, Outcome, Heard, Restarts, Measures, outcome_in, outcome_of, kept_by, kept_in, started}
 use Rattle.pm_device.specs.Status.{CmlBit, Command, Data, Pec, Other, has_bit, kept, is_output_cut, cut_at, vout_in, cml_in, clears, act_clears_cml, sets_cml}
 use Rattle.pm_device.specs.Reply.{reply_of}
 
@@ -40,12 +41,13 @@ readings_in config (Reading output code word ∷ past) =
 readings_in config (Hearing bytes ending ∷ past) = readings_in config past
 readings_in config (Restarted ∷ past) = readings_in config past
 
--- what a converter holds after its past: words, page and readings one event after another, the
+-- what a converter holds after its past: words, store, page and readings one event after another, the
 -- status bits by looking back
 unfoldable pub now : Config → List Event → Held
 now config past = record {
   config = config;
   words = (kept config past).words;
+  store = (kept config past).store;
   page = (kept config past).page;
   readings = readings_in config past;
   cut = each_output (vout_in config past);
@@ -61,10 +63,11 @@ now config past = record {
 unfoldable pub start_of : Config → Held
 start_of config = record {
   config = config;
-  words = (restarted config).words;
-  page = (restarted config).page;
+  words = (started config).words;
+  store = (started config).store;
+  page = (started config).page;
   readings = no_readings;
-  cut = each_output (is_output_cut config (restart_words config));
+  cut = each_output (is_output_cut config (started config).words);
   faults = no_faults;
 }
 
@@ -85,6 +88,9 @@ cut_by_act config words cut (ClearFaults output) = cleared config words cut outp
 cut_by_act config words cut (ClearVout output byte) =
     if has_bit byte 0x08 then cleared config words cut output else cut
 cut_by_act config words cut (ClearCml byte) = cut
+cut_by_act config words cut Store = cut
+cut_by_act config words cut Restore =
+    each_output (λ output. cut_at cut output || is_output_cut config words output)
 
 -- the latches after what an event came to
 abbrev pub cut_by : Config → Words → List Bool → Outcome → List Bool
@@ -111,10 +117,11 @@ faults_by faults outcome = record {
 -- what a converter holds after what an event came to
 unfoldable pub after : Held → Outcome → Held
 after held outcome =
-    let kept = kept_by held.config (kept_in held) outcome in
+    let kept = kept_by (kept_in held) outcome in
     record {
       config = held.config;
       words = kept.words;
+      store = kept.store;
       page = kept.page;
       readings = readings_by held.config held.readings outcome;
       cut = cut_by held.config kept.words held.cut outcome;
@@ -132,22 +139,57 @@ AreHeard (Restarted ∷ past) = AreHeard past
 AreHeard (Hearing bytes ending ∷ past) = AreBytes bytes × AreHeard past
 AreHeard (Reading output code word ∷ past) = (word < 2 ^ 16) × AreHeard past
 
--- no restart stands in a past
-abbrev pub IsUnbroken : List Event → Type 0
-IsUnbroken [] = Unit {0}
-IsUnbroken (Restarted ∷ past) = ⊥
-IsUnbroken (Hearing bytes ending ∷ past) = IsUnbroken past
-IsUnbroken (Reading output code word ∷ past) = IsUnbroken past
+-- an act is a RESTORE_USER_ALL, and a STORE_USER_ALL
+abbrev pub act_restores : Act → Bool
+act_restores Restore = true
+act_restores _ = false
 
--- a frame that was taken since the last restart carried this word for this very cell; where it
--- named no page, its output is what PAGE was then
+abbrev pub act_stores : Act → Bool
+act_stores Store = true
+act_stores _ = false
+
+-- what an event came to brings a cell its word in the store: a restart, or for an output's cell a
+-- RESTORE_USER_ALL
+abbrev pub loads : Cell → Outcome → Bool
+loads cell Restarts = true
+loads cell (Heard (Takes act)) = is_output_cell cell && act_restores act
+loads cell _ = false
+
+-- what an event came to copies a cell's word to the store
+abbrev pub saves : Cell → Outcome → Bool
+saves cell (Heard (Takes act)) = is_output_cell cell && act_stores act
+saves cell _ = false
+
+-- the word that the last such event brought a cell; its start word where there was none
+unfoldable pub loaded_word : Config → List Event → Cell → ℕ
+loaded_word config [] cell = start_word config cell
+loaded_word config (event ∷ past) cell =
+    if loads cell (outcome_of config (kept config past) event)
+    then word_at (kept config past).store cell else loaded_word config past cell
+
+-- the word that a cell had when it was last copied to the store; its start word where it never was
+unfoldable pub stored_word : Config → List Event → Cell → ℕ
+stored_word config [] cell = start_word config cell
+stored_word config (event ∷ past) cell =
+    if saves cell (outcome_of config (kept config past) event)
+    then word_at (kept config past).words cell else stored_word config past cell
+
+-- none of the later events, which came upon these before, brought the cell its word in the store
+abbrev pub IsUnbroken : Config → Cell → List Event → List Event → Type 0
+IsUnbroken config cell [] before = Unit {0}
+IsUnbroken config cell (event ∷ later) before =
+    (loads cell (outcome_of config (kept config (later ++ before)) event) ≡ false)
+    × IsUnbroken config cell later before
+
+-- a frame that was taken, since the cell last got its word in the store, carried this word for this very
+-- cell; where it named no page, its output is what PAGE was then
 pub record WasCarried (config : Config) (past : List Event) (cell : Cell) (word : ℕ) : Type 0 where
   pub later : List Event
   pub before : List Event
   pub bytes : List ℕ
   pub message : Message
   pub heard : past ≡ later ++ Hearing bytes Stop ∷ before
-  pub since : IsUnbroken later
+  pub since : IsUnbroken config cell later (Hearing bytes Stop ∷ before)
   pub carries : IsWrite config.addr message bytes
   pub taken : reply_of (now config before) bytes Stop ≡ Taken
   pub names : cell_at (message_code message) (output_in (now config before).page message) ≡ Some cell

@@ -16,26 +16,26 @@ use Rattle.pm_frame.specs.declared.message.Payload.{Payload}
 use Rattle.pm_frame.specs.Fault.{write_fault, request_fault}
 use Rattle.pm_frame.specs.Layout.{AreBytes, IsWrite, IsRequest, IsAnswer}
 use Rattle.pm_frame.specs.View.{payload_in, message_code}
-use Rattle.pm_model.specs.Settings.{Words, AreWords, word_at, with_word}
+use Rattle.pm_model.specs.Settings.{Words, AreWords, word_at, with_word, with_outputs}
 use Rattle.pm_model.specs.Commanded.{is_cut}
 use Rattle.pm_device.specs.declared.config.Config.{Config}
 use Rattle.pm_device.specs.declared.fault.DeviceFault.{DeviceFault}
-use Rattle.pm_device.specs.declared.fault.DeviceFault.TheVariants.{UnsupportedCode}
+use Rattle.pm_device.specs.declared.fault.DeviceFault.TheVariants.{UnsupportedCode, UnsupportedData}
 use Rattle.pm_device.specs.declared.heard.Ending.{Ending}
 use Rattle.pm_device.specs.declared.heard.Ending.TheVariants.{Stop, Restart}
 use Rattle.pm_device.specs.declared.heard.Heard.TheVariants.{Silent, Taken, Answer, Refused}
 use Rattle.pm_device.specs.Held.{Held, is_device_reading, is_output_reading, mode_for, reading_at, value_for}
-use Rattle.pm_device.specs.Start.{IsSound, has_direct, start_word}
+use Rattle.pm_device.specs.Start.{IsSound, has_direct}
 use Rattle.pm_device.specs.Verdict.{is_answered, names_no_output, output_in, payload_word, verdict_of, write_verdict, written_word}
-use Rattle.pm_device.specs.Effect.{Event, Hearing, words_after, page_after}
+use Rattle.pm_device.specs.Effect.{Event, Hearing, kept_in, kept_after}
 use Rattle.pm_device.specs.Status.{CmlBit, fault_bit, with_bit, cml_at, cml_in, vout_in, marked, status_byte, status_cml, status_vout, status_word}
 use Rattle.pm_device.specs.Reply.{payload_for, register_bytes, register_word, reply_of}
-use Rattle.pm_device.specs.History.{AreHeard, WasCarried, next, now, start_of}
+use Rattle.pm_device.specs.History.{AreHeard, WasCarried, loaded_word, stored_word, next, now, start_of}
 
 -- What a converter with 1 to 8 outputs holds after any past is what one event after another makes of
 -- its start (`none`, `more`), so the status bits that are latched are those that are found by looking
 -- back (`vout`, `cml`). A cause that holds now shows at once (`shows`). PAGE always names an output
--- that exists (`page`), and there is always a word for each cell (`words`).
+-- that exists (`page`), and there is always a word for each cell, in the store too (`words`, `store`).
 pub record PastsAreFollowed : Type 0 where
   pub none : (config : Config) → now config [] ≡ start_of config
   pub more : (config : Config) (past : List Event) (event : Event) →
@@ -52,18 +52,26 @@ pub record PastsAreFollowed : Type 0 where
   pub page : (config : Config) (past : List Event) →
       1 ≤ config.count → (now config past).page < config.count
   pub words : (config : Config) (past : List Event) → AreWords (now config past).words
+  pub store : (config : Config) (past : List Event) → AreWords (now config past).store
 
--- Over any past each cell's word is its start word, or one that a frame which was taken since the
--- last restart carried for that very cell (`origin`), and it is a word that the cell accepts
--- (`accepted`).
+-- Over any past each cell's word is the one that it was last loaded with, at a restart or by
+-- RESTORE_USER_ALL, or at the start, or one that a frame which was taken since carried for that very cell
+-- (`origin`). Its word in the store is the one that it had at the last STORE_USER_ALL, or its start word
+-- (`stored`). Both are words that the cell accepts (`accepted`, `stored_accepted`).
 pub record WordsHaveAnOrigin : Type 0 where
   pub origin : (config : Config) (past : List Event) (cell : Cell) →
       1 ≤ config.count → config.count ≤ 8 → AreHeard past → IsCell config.count cell →
-      (word_at (now config past).words cell ≡ start_word config cell)
+      (word_at (now config past).words cell ≡ loaded_word config past cell)
       ⊎ WasCarried config past cell (word_at (now config past).words cell)
+  pub stored : (config : Config) (past : List Event) (cell : Cell) →
+      1 ≤ config.count → config.count ≤ 8 → IsCell config.count cell →
+      word_at (now config past).store cell ≡ stored_word config past cell
   pub accepted : (config : Config) (past : List Event) (cell : Cell) →
       IsSound config → IsCell config.count cell →
       cell_accepts cell (word_at (now config past).words cell) ≡ true
+  pub stored_accepted : (config : Config) (past : List Event) (cell : Cell) →
+      IsSound config → IsCell config.count cell →
+      cell_accepts cell (word_at (now config past).store cell) ≡ true
 
 -- A refusal sets the one bit of STATUS_CML of its kind, and changes nothing else (`refused`).
 -- Silence and a read that is answered change nothing (`silent`, `answered`). A write that is taken
@@ -84,21 +92,20 @@ pub record RefusalsSetOneBit : Type 0 where
       cml_at (next held (Hearing bytes ending)).faults bit ≡ true →
       cml_at held.faults bit ≡ true
 
--- What the words of the cells and PAGE are after one frame. A request and a faulty write leave both
--- (`request`, `faulty`); a write results in what its message results in (`write`). A write of a cell's
--- code, plain by PAGE or carried, gives that cell the word where the output is there, WRITE_PROTECT
+-- What is kept after one frame: the words of the cells, the store and PAGE. A request and a faulty write
+-- leave all (`request`, `faulty`); a write results in what its message results in (`write`). A write of a
+-- cell's code, plain by PAGE or carried, gives that cell the word where the output is there, WRITE_PROTECT
 -- allows the code and the cell accepts the word, otherwise all stays (`cell`); so does a
 -- PAGE_PLUS_WRITE (`carried`), and a plain write of WRITE_PROTECT (`plain`). A write of PAGE selects
--- an output that exists, where WRITE_PROTECT allows it (`selects`). CLEAR_FAULTS leaves both
--- (`clears`).
+-- an output that exists, where WRITE_PROTECT allows it (`selects`). CLEAR_FAULTS leaves all (`clears`).
+-- STORE_USER_ALL, plain or carried with a page that is there, copies the outputs' words to the store, and
+-- RESTORE_USER_ALL brings them back, where WRITE_PROTECT allows it (`stores`, `restores`).
 pub record WritesReachOneCell : Type 0 where
   pub request : (held : Held) (bytes : List ℕ) →
-      (words_after held (Hearing bytes Restart) ≡ held.words)
-      × (page_after held (Hearing bytes Restart) ≡ held.page)
+      kept_after held (Hearing bytes Restart) ≡ kept_in held
   pub faulty : (held : Held) (bytes : List ℕ) →
       write_fault held.config.addr bytes ≢ None →
-      (words_after held (Hearing bytes Stop) ≡ held.words)
-      × (page_after held (Hearing bytes Stop) ≡ held.page)
+      kept_after held (Hearing bytes Stop) ≡ kept_in held
   pub write : (held : Held) (message : Message) (bytes : List ℕ) →
       IsWrite held.config.addr message bytes →
       verdict_of held.config held.words held.page bytes Stop
@@ -106,38 +113,52 @@ pub record WritesReachOneCell : Type 0 where
   pub cell : (held : Held) (message : Message) (cell : Cell) (bytes : List ℕ) →
       IsWrite held.config.addr message bytes →
       cell_at (message_code message) (output_in held.page message) ≡ Some cell →
-      (words_after held (Hearing bytes Stop)
-      ≡ (if not (names_no_output held.config.count message)
-      && is_allowed (word_at held.words Protect) (message_code message)
-      && cell_accepts cell (written_word message)
-      then with_word held.words cell (written_word message) else held.words))
-      × (page_after held (Hearing bytes Stop) ≡ held.page)
+      kept_after held (Hearing bytes Stop) ≡ record (kept_in held) {
+        words = if not (names_no_output held.config.count message)
+            && is_allowed (word_at held.words Protect) (message_code message)
+            && cell_accepts cell (written_word message)
+            then with_word held.words cell (written_word message) else held.words;
+      }
   pub carried : (held : Held) (output code : ℕ) (payload : Payload) (cell : Cell)
       (bytes : List ℕ) →
       IsWrite held.config.addr (PagePlusWrite output code payload) bytes →
       cell_at code output ≡ Some cell →
-      (words_after held (Hearing bytes Stop)
-      ≡ (if nat_lt output held.config.count && is_allowed (word_at held.words Protect) code
-      && cell_accepts cell (payload_word payload)
-      then with_word held.words cell (payload_word payload) else held.words))
-      × (page_after held (Hearing bytes Stop) ≡ held.page)
+      kept_after held (Hearing bytes Stop) ≡ record (kept_in held) {
+        words = if nat_lt output held.config.count && is_allowed (word_at held.words Protect) code
+            && cell_accepts cell (payload_word payload)
+            then with_word held.words cell (payload_word payload) else held.words;
+      }
   pub plain : (held : Held) (byte : ℕ) (bytes : List ℕ) →
       IsWrite held.config.addr (WriteByte command.write_protect byte) bytes →
-      (words_after held (Hearing bytes Stop)
-      ≡ (if is_allowed (word_at held.words Protect) command.write_protect
-      && cell_accepts Protect byte
-      then with_word held.words Protect byte else held.words))
-      × (page_after held (Hearing bytes Stop) ≡ held.page)
+      kept_after held (Hearing bytes Stop) ≡ record (kept_in held) {
+        words = if is_allowed (word_at held.words Protect) command.write_protect
+            && cell_accepts Protect byte
+            then with_word held.words Protect byte else held.words;
+      }
   pub selects : (held : Held) (byte : ℕ) (bytes : List ℕ) →
       IsWrite held.config.addr (WriteByte command.page byte) bytes →
-      (words_after held (Hearing bytes Stop) ≡ held.words)
-      × (page_after held (Hearing bytes Stop)
-      ≡ (if nat_lt byte held.config.count && is_allowed (word_at held.words Protect) command.page
-      then byte else held.page))
+      kept_after held (Hearing bytes Stop) ≡ record (kept_in held) {
+        page = if nat_lt byte held.config.count
+            && is_allowed (word_at held.words Protect) command.page
+            then byte else held.page;
+      }
   pub clears : (held : Held) (output : ℕ) (payload : Payload) (bytes : List ℕ) →
       IsWrite held.config.addr (PagePlusWrite output command.clear_faults payload) bytes →
-      (words_after held (Hearing bytes Stop) ≡ held.words)
-      × (page_after held (Hearing bytes Stop) ≡ held.page)
+      kept_after held (Hearing bytes Stop) ≡ kept_in held
+  pub stores : (held : Held) (message : Message) (bytes : List ℕ) →
+      IsWrite held.config.addr message bytes → message_code message ≡ command.store_user_all →
+      kept_after held (Hearing bytes Stop) ≡ record (kept_in held) {
+        store = if not (names_no_output held.config.count message)
+            && is_allowed (word_at held.words Protect) command.store_user_all
+            then with_outputs held.store held.words else held.store;
+      }
+  pub restores : (held : Held) (message : Message) (bytes : List ℕ) →
+      IsWrite held.config.addr message bytes → message_code message ≡ command.restore_user_all →
+      kept_after held (Hearing bytes Stop) ≡ record (kept_in held) {
+        words = if not (names_no_output held.config.count message)
+            && is_allowed (word_at held.words Protect) command.restore_user_all
+            then with_outputs held.words held.store else held.words;
+      }
 
 -- bytes that a repeated start ended are answered by an answer to this request with this payload
 abbrev pub AnswersWith : Held → List ℕ → Message → List ℕ → Type 0
@@ -150,8 +171,8 @@ AnswersWith held bytes request payload =
 -- are, is answered (`answered`). So a PAGE_PLUS_READ of a cell's code at an output that exists
 -- is answered with that cell's word (`cell`), a plain read of WRITE_PROTECT with its word
 -- (`protect`), VOUT_MODE with the output's byte (`mode`), and COEFFICIENTS of VOUT_COMMAND with the
--- coefficients where some output is DIRECT (`coefficients`). A word that its cell accepts is the number of the bytes
--- that answer it (`number`).
+-- coefficients where some output is DIRECT (`coefficients`), and otherwise refused (`no_coefficients`). A word
+-- that its cell accepts is the number of the bytes that answer it (`number`).
 pub record ReadsAreAnswered : Type 0 where
   pub answer : (held : Held) (bytes items : List ℕ) →
       reply_of held bytes Restart ≡ Answer (record { items = items }) →
@@ -180,6 +201,9 @@ pub record ReadsAreAnswered : Type 0 where
       has_direct held.config ≡ true →
       AnswersWith held bytes (ReadCoefficients command.vout_command 0x00)
       (coefficient_bytes held.config.coefficients)
+  pub no_coefficients : (held : Held) (bytes : List ℕ) →
+      IsRequest held.config.addr (ReadCoefficients command.vout_command 0x00) bytes →
+      has_direct held.config ≡ false → reply_of held bytes Restart ≡ Refused UnsupportedData
   pub number : (cell : Cell) (word : ℕ) → cell_accepts cell word ≡ true →
       payload_word (payload_in (register_bytes (cell_code cell) word)) ≡ word
 

@@ -11,13 +11,13 @@ use Rattle.pm_frame.specs.declared.fault.FrameFault.TheVariants as frame
 use Rattle.pm_model.specs.Settings.{Words, word_at}
 use Rattle.pm_model.specs.Commanded.{is_cut}
 use Rattle.pm_device.specs.declared.act.Act.{Act}
-use Rattle.pm_device.specs.declared.act.Act.TheVariants.{Put, Select, ClearFaults, ClearVout, ClearCml}
+use Rattle.pm_device.specs.declared.act.Act.TheVariants.{Put, Select, ClearFaults, ClearVout, ClearCml, Store, Restore}
 use Rattle.pm_device.specs.declared.config.Config.{Config}
 use Rattle.pm_device.specs.declared.fault.DeviceFault.{DeviceFault}
 use Rattle.pm_device.specs.declared.fault.DeviceFault.TheVariants.{Frame, UnsupportedCode, UnsupportedData, BadPage, Protected, Nested, ReadOnly}
 use Rattle.pm_device.specs.declared.verdict.Verdict.TheVariants.{Ignores, Refuses, Takes, Answers}
 use Rattle.pm_device.specs.Held.{Held, CmlFaults, value_for}
-use Rattle.pm_device.specs.Effect.{Event, Kept, Outcome, Heard, Restarts, Measures, outcome_of, kept_by, restarted, restart_words}
+use Rattle.pm_device.specs.Effect.{Event, Kept, Outcome, Heard, Restarts, Measures, outcome_of, kept_by, started}
 
 -- the byte has the bit set
 abbrev pub has_bit : ℕ → ℕ → Bool
@@ -65,13 +65,13 @@ pub record Moment : Type 0 where
 
 -- what a converter keeps after a past, newest event first
 unfoldable pub kept : Config → List Event → Kept
-kept config [] = restarted config
+kept config [] = started config
 kept config (event ∷ past) =
-    let before = kept config past in kept_by config before (outcome_of config before event)
+    let before = kept config past in kept_by before (outcome_of config before event)
 
 -- the moments since a converter was made, which counts as a restart
 unfoldable pub moments : Config → List Event → List Moment
-moments config [] = record { outcome = Restarts; words = restart_words config } ∷ []
+moments config [] = record { outcome = Restarts; words = (started config).words } ∷ []
 moments config (event ∷ past) = record {
   outcome = outcome_of config (kept config past) event;
   words = (kept config (event ∷ past)).words;
@@ -90,6 +90,8 @@ act_clears_vout output (Select page) = false
 act_clears_vout output (ClearFaults cleared) = cleared == output
 act_clears_vout output (ClearVout cleared byte) = cleared == output && has_bit byte 0x08
 act_clears_vout output (ClearCml byte) = false
+act_clears_vout output Store = false
+act_clears_vout output Restore = false
 
 -- an act clears a bit of STATUS_CML: CLEAR_FAULTS of any output, or that bit written to it
 abbrev pub act_clears_cml : CmlBit → Act → Bool
@@ -98,6 +100,8 @@ act_clears_cml bit (Select page) = false
 act_clears_cml bit (ClearFaults output) = true
 act_clears_cml bit (ClearVout output byte) = false
 act_clears_cml bit (ClearCml byte) = has_bit byte (cml_mask bit)
+act_clears_cml bit Store = false
+act_clears_cml bit Restore = false
 
 -- the same of what an event came to: a restart clears all
 abbrev pub clears : (Act → Bool) → Outcome → Bool

@@ -18,7 +18,7 @@ use Rattle.pm_frame.specs.Layout.{is_read_message, fits_layout}
 use Rattle.pm_frame.specs.View.{message_in, message_page, message_code}
 use Rattle.pm_model.specs.Settings.{Words, word_at}
 use Rattle.pm_device.specs.declared.act.Act.{Act}
-use Rattle.pm_device.specs.declared.act.Act.TheVariants.{Put, Select, ClearFaults, ClearVout, ClearCml}
+use Rattle.pm_device.specs.declared.act.Act.TheVariants.{Put, Select, ClearFaults, ClearVout, ClearCml, Store, Restore}
 use Rattle.pm_device.specs.declared.config.Config.{Config}
 use Rattle.pm_device.specs.declared.fault.DeviceFault.TheVariants.{Frame, UnsupportedCode, UnsupportedData, BadPage, Protected, Nested, ReadOnly}
 use Rattle.pm_device.specs.declared.heard.Ending.{Ending}
@@ -53,14 +53,16 @@ names_no_output count message =
     option_map_or (λ named. not (nat_lt named count)) (message_page message) false
 
 -- what the write of a code asks for, at an output and with a number: a word of a cell, another
--- page, CLEAR_FAULTS, or that status bits are cleared
+-- page, CLEAR_FAULTS, that status bits are cleared, or a store or restore of the outputs' words
 abbrev pub act_in : ℕ → ℕ → ℕ → Option Act
 act_in code output word =
     if code == command.page then Some (Select word)
     else (if code == command.clear_faults then Some (ClearFaults output)
     else (if code == command.status_vout then Some (ClearVout output word)
     else (if code == command.status_cml then Some (ClearCml word)
-    else option_map (λ cell. Put cell word) (cell_at code output))))
+    else (if code == command.store_user_all then Some Store
+    else (if code == command.restore_user_all then Some Restore
+    else option_map (λ cell. Put cell word) (cell_at code output))))))
 
 -- the act asks for a page that has no output
 abbrev pub selects_no_output : ℕ → Act → Bool
@@ -69,6 +71,8 @@ selects_no_output count (Select page) = not (nat_lt page count)
 selects_no_output count (ClearFaults output) = false
 selects_no_output count (ClearVout output byte) = false
 selects_no_output count (ClearCml byte) = false
+selects_no_output count Store = false
+selects_no_output count Restore = false
 
 -- the cell accepts the word; every other act is accepted
 abbrev pub is_accepted : Act → Bool
@@ -77,6 +81,8 @@ is_accepted (Select page) = true
 is_accepted (ClearFaults output) = true
 is_accepted (ClearVout output byte) = true
 is_accepted (ClearCml byte) = true
+is_accepted Store = true
+is_accepted Restore = true
 
 -- what an act results in with this many outputs, while WRITE_PROTECT has this value: K4 where there is no
 -- such output, K5 where WRITE_PROTECT blocks the code, K3 where the cell doesn't accept the word
@@ -160,6 +166,8 @@ CanAct count (Select page) = page < count
 CanAct count (ClearFaults output) = output < count
 CanAct count (ClearVout output byte) = output < count
 CanAct count (ClearCml byte) = Unit {0}
+CanAct count Store = Unit {0}
+CanAct count Restore = Unit {0}
 
 -- the output that an act names is this one
 abbrev pub ActsOn : ℕ → Act → Type 0
@@ -169,6 +177,8 @@ ActsOn output (Select page) = Unit {0}
 ActsOn output (ClearFaults named) = named ≡ output
 ActsOn output (ClearVout named byte) = named ≡ output
 ActsOn output (ClearCml byte) = Unit {0}
+ActsOn output Store = Unit {0}
+ActsOn output Restore = Unit {0}
 
 -- what can be done of what a hearing came to; a request that is answered is one, and fits its layout
 abbrev pub IsFit : ℕ → Verdict → Type 0

@@ -17,6 +17,10 @@ pub(crate) enum Act {
     ClearVout(u8, u8),
     /// The bits that are 1 in this byte are cleared in STATUS_CML.
     ClearCml(u8),
+    /// The outputs' words are copied to the store.
+    Store,
+    /// The outputs' words come back from the store.
+    Restore,
 }
 
 impl Act {
@@ -33,6 +37,8 @@ impl Act {
             Code::CLEAR_FAULTS => Some(Act::ClearFaults(output)),
             Code::STATUS_VOUT => Some(Act::ClearVout(output, word as u8)),
             Code::STATUS_CML => Some(Act::ClearCml(word as u8)),
+            Code::STORE_USER_ALL => Some(Act::Store),
+            Code::RESTORE_USER_ALL => Some(Act::Restore),
             _ => cell_of(code, output).map(|cell| Act::Put(cell, word)),
         }
     }

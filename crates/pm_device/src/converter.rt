@@ -1,6 +1,6 @@
 ghost use Rattle.std.specs.Prelude.{◌≡◌, ◌<◌, true, false, IfOk, OnOk};
 ghost use Rattle.std.specs.Result.{result_err};
-ghost use Rattle.pm_table.specs.Cell.{cell_accepts, IsCell};
+ghost use Rattle.pm_table.specs.Cell.{cell_accepts, is_output_cell, IsCell};
 ghost use Rattle.pm_model.specs.Settings.{word_at};
 ghost use Rattle.pm_model.specs.Commanded.{commanded, greatest_value, least_value, is_above};
 ghost use Rattle.pm_device.specs.Held.{is_reading, value_for};
@@ -31,14 +31,17 @@ const ON: u16 = 0x80;
 
 /// The model of a power converter with one to eight outputs.
 ///
-/// It holds its configuration, the words of its cells, PAGE, the readings, and the status bits that
-/// are latched. Every frame that it hears either changes what its message asks for, or is refused
-/// and leaves every setting and PAGE as they were.
+/// It holds its configuration, the words of its cells, the store, PAGE, the readings, and the status
+/// bits that are latched. The store has a word for each cell of an output: its start word, or the one
+/// that the cell had at the last STORE_USER_ALL. Every frame that it hears either changes what its
+/// message asks for, or is refused and leaves every setting, the store and PAGE as they were.
 #[derive(Debug, Drop)]
 pub struct Converter {
     config: Config,
     formats: Formats,
     settings: Plain,
+    // The outputs' words, and for WRITE_PROTECT, which isn't stored, its start word.
+    store: Plain,
     page: u8,
     readings: Readings,
     cut: [bool; 8],
@@ -55,19 +58,21 @@ impl Model for Converter {
     ghost view = { λ c. record {
       config = c.config;
       words = c.settings.words;
+      store = c.store.words;
       page = c.page;
       readings = c.readings;
       cut = c.cut;
       faults = c.faults;
     } };
 
-    ghost invariant = { λ c. IsKept c.config c.formats.each c.settings.count c.page c.cut };
+    ghost invariant = { λ c. IsKept c.config c.formats.each c.settings.count c.store.count c.page
+        c.cut };
 }
 
 impl Converter {
-    /// A converter that starts: every cell has its start word, PAGE and the readings are 0, and no
-    /// status bit is latched but those whose cause holds. `Err` is the configuration's first fault,
-    /// in the order of [`ConfigFault`].
+    /// A converter that starts: every cell has its start word, and so has the store; PAGE and the
+    /// readings are 0, and no status bit is latched but those whose cause holds. `Err` is the
+    /// configuration's first fault, in the order of [`ConfigFault`].
     #[tactic(auto, unfolding(crate::specs::History::start_of))]
     pub fn new(c: Config) -> Result<Converter, ConfigFault>
         ensures made { IfOk result (λ made. made ≡ start_of c) }
@@ -84,6 +89,7 @@ impl Converter {
         Ok(Converter {
             config: c,
             formats,
+            store: settings.copied(),
             settings,
             page: 0,
             readings: Readings::new(),
@@ -92,14 +98,15 @@ impl Converter {
         })
     }
 
-    /// Every cell has its start word again, PAGE is 0, and what is latched is clear, but for a status
-    /// bit whose cause holds. The readings stay.
+    /// Every cell of an output has its word in the store and WRITE_PROTECT its start word, PAGE is 0,
+    /// and what is latched is clear, but for a status bit whose cause holds. The store and the readings
+    /// stay.
     #[tactic(auto, unfolding(crate::specs::History::next, crate::specs::History::after))]
     pub fn restart(&mut self)
         ensures after { self.new ≡ next self.old Restarted }
         ensures config { self.new.config ≡ self.old.config }
     {
-        self.settings = start_settings(&self.config);
+        self.settings = self.store.copied();
         self.page = 0;
         self.cut = each_cut(&self.config, &self.formats, &self.settings);
         self.faults = CmlLatches::new();
@@ -120,7 +127,7 @@ impl Converter {
     /// Hears the bytes of one frame, of any number, and answers: [`Heard::Silent`] where the frame is
     /// for another device, [`Heard::Taken`] for a write, [`Heard::Answer`] for a read, otherwise
     /// [`Heard::Refused`] with the first of K1, K2, K6, K7, K4, K5 and K3 that applies. A refusal
-    /// changes no setting and no PAGE, and sets one bit of STATUS_CML.
+    /// changes no setting, no word in the store and no PAGE, and sets one bit of STATUS_CML.
     #[tactic(auto, unfolding(crate::specs::Reply::reply_of, crate::specs::History::next, crate::specs::History::after))]
     pub fn hear(&mut self, bytes: &[u8], ending: Ending) -> Heard
         ensures reply { result ≡ reply_of self.old bytes.now ending }
@@ -148,6 +155,17 @@ impl Converter {
         ensures accepted { cell_accepts cell result ≡ true }
     {
         self.settings.get(cell)
+    }
+
+    /// The word that a cell of an output has in the store, one that the cell accepts; the output is
+    /// there. WRITE_PROTECT isn't stored.
+    pub fn stored(&self, cell: Cell) -> u16
+        requires there { IsCell self.now.config.count cell }
+        requires output { is_output_cell cell ≡ true }
+        ensures word { result ≡ word_at self.now.store cell }
+        ensures accepted { cell_accepts cell result ≡ true }
+    {
+        self.store.get(cell)
     }
 
     /// The value of PAGE, which is an output that there is.

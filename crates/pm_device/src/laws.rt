@@ -10,7 +10,8 @@ use pm_table::{cells_are_told_apart, payloads_are_short, registers_are_in_the_ta
 
 /// What a converter with 1 to 8 outputs holds after any list of hearings, restarts and readings is
 /// what one event after another makes of its start. So the status bits that are latched are those
-/// that are found by looking back, and PAGE always names an output that exists.
+/// that are found by looking back, PAGE always names an output that exists, and there is always a word
+/// for each cell, in the store too.
 pub fn pasts_are_followed()
     ensures { PastsAreFollowed }
 {
@@ -19,9 +20,10 @@ pub fn pasts_are_followed()
     outputs_stand_alone();
 }
 
-/// Over any list of hearings, restarts and readings, each cell's word is its start word, or one that
-/// a frame which was taken since the last restart carried for that very cell, and it is a word that
-/// the cell accepts.
+/// Over any list of hearings, restarts and readings, each cell's word is the one that it last got from
+/// the store, at a restart or by RESTORE_USER_ALL, or at the start, or one that a frame which was taken
+/// since carried for that very cell. Its word in the store is the one that it had at the last
+/// STORE_USER_ALL, or its start word. Both are words that the cell accepts.
 pub fn words_have_an_origin()
     ensures { WordsHaveAnOrigin }
 {
@@ -37,9 +39,10 @@ pub fn refusals_set_one_bit()
     ensures { RefusalsSetOneBit }
 {}
 
-/// What the words of the cells and PAGE are after one frame: a write of a cell's code, plain or
-/// carried, reaches that cell where its page is there, WRITE_PROTECT allows the code and the cell
-/// accepts the word; a write of PAGE selects an output; everything else leaves both.
+/// What the words of the cells, the store and PAGE are after one frame: a write of a cell's code, plain
+/// or carried, reaches that cell where its page is there, WRITE_PROTECT allows the code and the cell
+/// accepts the word; a write of PAGE selects an output; STORE_USER_ALL copies the outputs' words to the
+/// store and RESTORE_USER_ALL brings them back; everything else leaves all of them.
 pub fn writes_reach_one_cell()
     ensures { WritesReachOneCell }
 {

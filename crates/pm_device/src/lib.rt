@@ -4,8 +4,9 @@
 //! A [`Converter`] is made of a [`Config`], which says how each output starts. [`Converter::hear`]
 //! lets it hear the bytes of one frame, of any number, with how they ended, and gives a [`Heard`]:
 //! silence, that a write is taken, the bytes that answer a read, or the first [`DeviceFault`] that
-//! applies. [`Converter::reply`] says what it would answer. What it holds is a function of its
-//! configuration and of what it heard, measured and was restarted since: `pasts_are_followed` is
+//! applies. [`Converter::reply`] says what it would answer. STORE_USER_ALL copies the outputs' words to
+//! the converter's store, and RESTORE_USER_ALL and a restart bring them back. What it holds is a function
+//! of its configuration and of what it heard, measured and was restarted since: `pasts_are_followed` is
 //! that law.
 //!
 //! It reads no text, knows no host and takes no memory. It regulates no output: READ codes answer

@@ -15,24 +15,24 @@ pub(crate) fn start_settings(config: &Config) -> Plain
 {
     // No other words give each cell its start word.
     settings_are_a_map();
-    Plain::new(config.count, rows(config.starts), config.protect)
+    Plain::new(config.count, rows(&config.starts), config.protect)
 }
 
 // The start words of each output, in the order of its registers.
-fn rows(starts: [OutputStart; 8]) -> [[u16; Reg::COUNT]; 8]
+fn rows(starts: &[OutputStart; 8]) -> [[u16; Reg::COUNT]; 8]
     ensures { (output : ℕ) → output < 8 →
-        slice_index_or result output [] ≡ start_row (slice_index_or starts output no_start) }
+        slice_index_or result output [] ≡ start_row (slice_index_or starts.now output no_start) }
 {
     let [a, b, c, d, e, f, g, h] = starts;
     [
-        row(&a),
-        row(&b),
-        row(&c),
-        row(&d),
-        row(&e),
-        row(&f),
-        row(&g),
-        row(&h),
+        row(a),
+        row(b),
+        row(c),
+        row(d),
+        row(e),
+        row(f),
+        row(g),
+        row(h),
     ]
 }
 

@@ -9,6 +9,7 @@ mod outputs;
 mod refusals;
 mod registers;
 mod status_bits;
+mod store;
 mod writes;
 
 use crate::fixtures::{BASE, CELLS, FIRST, OUTPUT, SECOND};

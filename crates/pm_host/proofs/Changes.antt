@@ -83,7 +83,7 @@ finished_change s job told acked = record {
     setup = s.setup;
     stage = stage_by s.setup job (Finished acked ∷ told);
     formats = s.formats;
-    known = s.known;
+    known = known_more s.known (puts_by s.setup job (Finished acked ∷ told));
   };
   step = step_by (end_by s.setup job (Finished acked ∷ told));
 }

@@ -108,9 +108,13 @@ change-now setup entries (Finished acked) made there may =
     let last = last_job entries in
     let told = told_since entries in
     let writes = WritesBy-from setup last told may in
+    let begun = puts_by setup last (Finished acked ∷ told) in
     let formats = formats_found setup last (Finished acked ∷ told) (format_of_output setup entries) made.few_outputs there in
+    let are =
+    put_by-marks setup last (Finished acked ∷ told) made.few_outputs there (is_none (end_by setup last (Finished acked ∷ told))) in
     finished_follows (idle (now setup entries)) last told acked writes
-    ∙ same_change (sym (formats ∙ formats_finished setup last told (Finished acked) _ writes)) refl
+    ∙ same_change (sym (formats ∙ formats_finished setup last told (Finished acked) _ writes))
+    (sym (known_now-more begun (marks setup entries) are))
 change-now setup entries (Got bytes) made there may =
     let last = last_job entries in
     let told = told_since entries in

@@ -4,13 +4,14 @@ use Rattle.std.proofs.Common.{None, refl, sym, ap, ◌∙◌}
 use Rattle.std.specs.Option.{option_map}
 use Rattle.std.proofs.lemmas.List.{reverse-append}
 use Rattle.pm_table.specs.declared.cell.Cell.{Cell}
+use Rattle.pm_table.specs.declared.cell.Cell.TheVariants.{Protect}
 use Rattle.pm_host.specs.declared.possible.Possible.{Possible}
 use Rattle.pm_host.specs.declared.possible.Possible.TheVariants.{Any, Words}
 use Rattle.pm_host.specs.declared.standing.Standing.{Standing}
 use Rattle.pm_host.specs.declared.standing.Standing.TheVariants.{Confirmed, Unknown}
 use Rattle.pm_table.specs.Cell.{IsCell, place_of, places, same_cell}
 use Rattle.pm_host.specs.Cells.{table}
-use Rattle.pm_host.specs.Marks.{Mark, Put, Good, Restart}
+use Rattle.pm_host.specs.Marks.{Mark, Put, Good, Restored, Restart}
 use Rattle.pm_host.specs.Standing.{standing_of}
 use Rattle.pm_host.specs.Possible.{is_listed, is_possible, once, possible_from, words_since, possible_of, restart_seen_of, only, joined}
 use Rattle.pm_host.specs.Known.{Known, known_possible, known_standing, all_any, all_unknown, nothing_known, known_after, known_now}
@@ -21,6 +22,7 @@ use Rattle.pm_host.proofs.CellLemmas.{same_cell_itself, table-at, table-set, tab
 abbrev pub IsMark : Mark → Type 0
 IsMark (Put cell word) = IsCell 8 cell
 IsMark (Good cell word) = IsCell 8 cell
+IsMark Restored = Unit {0}
 IsMark Restart = Unit {0}
 
 -- a word that is listed leaves the list, and another is put at its end
@@ -30,7 +32,8 @@ listed_step : (word : ℕ) (xs : List ℕ) (listed : Bool) → is_listed word (o
 listed_step = search rules
 
 -- one more write joins its word to those that were found
-joined-from : (word : ℕ) (found : Option (List ℕ)) → possible_from (option_map (λ ws. word ∷ ws) found) ≡ joined (possible_from found) word
+pub joined-from : (word : ℕ) (found : Option (List ℕ)) →
+    possible_from (option_map (λ ws. word ∷ ws) found) ≡ joined (possible_from found) word
 joined-from word None = refl
 joined-from word (Some ws) =
     ap (λ xs. Words (record { items = once xs })) (reverse-append (word ∷ []) ws)
@@ -153,6 +156,31 @@ unknown_all : replicate places Unknown ≡ all_unknown
 unfolding all_unknown
 unknown_all = search rules
 
+-- after a restore nothing is known of another cell than WRITE_PROTECT, and of that as much as before
+restored_cell : (before : List Mark) (cell : Cell) → same_cell Protect cell ≡ false
+    → (possible_of (Restored ∷ before) cell ≡ Any) × (standing_of (Restored ∷ before) cell ≡ Unknown)
+unfolding possible_of
+restored_cell = search rules
+
+-- the list of possible words after a restore
+restored_possible : (before : List Mark)
+    → table places (possible_of (Restored ∷ before)) ≡ set all_any (place_of Protect) (known_possible (known_now before) Protect)
+unfolding possible_of
+restored_possible before =
+    table-set (λ _. Any) (possible_of (Restored ∷ before)) Protect (possible_of before Protect) tt refl
+    (λ d other. (restored_cell before d other).0)
+    ∙ ap (λ xs. set xs (place_of Protect) (possible_of before Protect)) any_table
+    ∙ ap (λ p. set all_any (place_of Protect) p) (sym (known_now-possible before Protect tt))
+
+-- and what is said of the cells
+restored_standing : (before : List Mark)
+    → table places (standing_of (Restored ∷ before)) ≡ set all_unknown (place_of Protect) (known_standing (known_now before) Protect)
+restored_standing before =
+    table-set (λ _. Unknown) (standing_of (Restored ∷ before)) Protect (standing_of before Protect) tt refl
+    (λ d other. (restored_cell before d other).1)
+    ∙ ap (λ xs. set xs (place_of Protect) (standing_of before Protect)) (table-same places (λ _. Unknown) Unknown (λ _. refl) ∙ unknown_all)
+    ∙ ap (λ s. set all_unknown (place_of Protect) s) (sym (known_now-standing before Protect tt))
+
 -- one more mark makes of what is known what `known_after` says
 pub known_now-next : (before : List Mark) (m : Mark) → IsMark m → known_now (m ∷ before) ≡ known_after (known_now before) m
 unfolding known_now nothing_known
@@ -168,6 +196,7 @@ known_now-next before (Good cell word) there =
     ∙ ap (λ p. set (cond (is_possible word p) (table places (possible_of before)) all_any) (place_of cell) (only word)) (sym held))
     (good_standing before cell word there)
     (ap (λ p. not (is_possible word p) || restart_seen_of before) (sym held))
+known_now-next before Restored there = same_known (restored_possible before) (restored_standing before) refl
 known_now-next before Restart there =
     same_known
     (table-agree places (possible_of (Restart ∷ before)) (possible_of []) (λ cell. restart_possible before cell) ∙ nil_possible)

@@ -8,6 +8,7 @@ pub mod KnownLaws
 pub mod Left
 pub mod Once
 pub mod OpenJobs
+pub mod PossibleMarks
 pub mod RangeLemmas
 pub mod Tested
 pub mod Written

@@ -6,15 +6,17 @@ use Rattle.std.proofs.lemmas.Option.{none-some, same_Some}
 use Rattle.std.proofs.lemmas.List.FromFn.{length-map-range_with_len}
 use Rattle.pm_table.specs.declared.cell.Cell.{Cell}
 use Rattle.pm_table.specs.declared.cell.Cell.TheVariants.{Out, Protect}
+use Rattle.pm_table.specs.declared.cell.Reg.{Reg}
 use Rattle.pm_table.specs.Cell.{cell_accepts, IsCell}
 use Rattle.pm_frame.specs.declared.message.Message.{Message}
+use Rattle.pm_host.specs.declared.command.Command.TheVariants.{RestoreUserAll}
 use Rattle.pm_host.specs.declared.possible.Possible.{Possible}
 use Rattle.pm_host.specs.declared.possible.Possible.TheVariants.{Any, Words}
 use Rattle.pm_host.specs.declared.stage.Stage.TheVariants.{Writes, Reads, AsksMode, AsksCoefficients}
 use Rattle.pm_host.specs.declared.standing.Standing.TheVariants as standing
 use Rattle.pm_host.specs.Frames.{CanSend, writes_output, writes_protect, reads_output, reads_protect, reads_mode, reads_coefficients}
 use Rattle.pm_host.specs.Frames.{sends_command}
-use Rattle.pm_host.specs.Marks.{Mark, Put, marks, puts, goods, put_by}
+use Rattle.pm_host.specs.Marks.{Mark, Put, Restored, marks, puts, goods, put_by}
 use Rattle.pm_host.specs.Messages.{cell_write, cell_read, mode_read, coefficients_read}
 use Rattle.pm_host.specs.Now.{now, stage_of, job_stage, AreTold}
 use Rattle.pm_host.specs.Possible.{is_listed, is_possible, joined, possible_of}
@@ -73,6 +75,22 @@ marked_facts : (marks' before : List Mark) (cell : Cell) (word : ℕ) → marks'
     → (is_possible word (possible_of marks' cell) ≡ true) × (standing_of marks' cell ≡ standing.Unknown)
 marked_facts marks' before cell word is = rw is (put_facts before cell word)
 
+-- where its read is sent, there is no new mark
+put_none : (job : Option Job) (told : List Entry) (cell : Cell) (word : ℕ) (before : List Mark) → job ≡ Some (Order cell word)
+    → is_write_turn told ≡ false
+    → put_by job told ++ before ≡ before
+put_none = search rules
+
+-- after a write comes a read
+turn_after_write : (entry : Entry) (told : List Entry) → is_write_turn told ≡ true → is_write_turn (entry ∷ told) ≡ false
+turn_after_write = search rules
+
+-- so that what held of its marks before still does
+same_facts : (marks' before : List Mark) (cell : Cell) (word : ℕ) → marks' ≡ before
+    → (is_possible word (possible_of before cell) ≡ true) × (standing_of before cell ≡ standing.Unknown)
+    → (is_possible word (possible_of marks' cell) ≡ true) × (standing_of marks' cell ≡ standing.Unknown)
+same_facts marks' before cell word is facts = rw is facts
+
 -- an order that is open writes in its turn
 writes_order : (setup : Setup) (job : Option Job) (told : List Entry) (cell : Cell) (word : ℕ) → job ≡ Some (Order cell word)
     → WritesBy setup job told
@@ -105,8 +123,11 @@ open_order setup (Finished acked ∷ entries) cell word made told is =
     let last = (open_is_last setup (Finished acked ∷ entries) (Order cell word) is).0 in
     let writes = WritesBy-from setup (last_job entries) (told_since entries)
     (unfold now in unfold stage_of in unfold open_job in unfold end_of in told.0) in
-    open_order setup entries cell word made told.1
-    (still_open setup entries cell word last (writes_order setup (last_job entries) (told_since entries) cell word last writes).0)
+    let turn' = writes_order setup (last_job entries) (told_since entries) cell word last writes in
+    same_facts _ (marks setup entries) cell word
+    (put_none (open_job setup (Finished acked ∷ entries)) (told_since (Finished acked ∷ entries)) cell word (marks setup entries) is
+    (turn_after_write (Finished acked) (told_since entries) turn'.1))
+    (open_order setup entries cell word made told.1 (still_open setup entries cell word last turn'.0))
 open_order setup (Got bytes ∷ entries) cell word made told is =
     let last = (open_is_last setup (Got bytes ∷ entries) (Order cell word) is).0 in
     let reads = ReadsBy-from setup (last_job entries) (told_since entries)
@@ -118,6 +139,38 @@ open_order setup (Got bytes ∷ entries) cell word made told is =
     (turn_after_read (length (told_since entries)) setup.passes odd).0)
 open_order setup (Restarted ∷ entries) cell word made told is =
     absurd (none-some (Order cell word) (open_is_last setup (Restarted ∷ entries) (Order cell word) is).0)
+
+-- where a restore is sent, the newest mark is its own
+restore_newest : (job : Option Job) (told : List Entry) (before : List Mark) → job ≡ Some (Send RestoreUserAll)
+    → put_by job told ++ before ≡ Restored ∷ before
+restore_newest = search rules
+
+-- and nothing is known of an output's cell
+restored_facts : (marks' before : List Mark) (output : ℕ) (register : Reg) → marks' ≡ Restored ∷ before
+    → (possible_of marks' (Out output register) ≡ Any) × (standing_of marks' (Out output register) ≡ standing.Unknown)
+unfolding possible_of
+restored_facts marks' before output register is = rw is (refl, refl)
+
+-- so it is while a restore is open
+pub open_restore : (setup : Setup) (entries : List Entry) (output : ℕ) (register : Reg)
+    → open_job setup entries ≡ Some (Send RestoreUserAll)
+    → (possible_of (marks setup entries) (Out output register) ≡ Any)
+    × (standing_of (marks setup entries) (Out output register) ≡ standing.Unknown)
+unfolding puts
+open_restore setup [] output register is =
+    absurd (none-some (Send RestoreUserAll) (open_is_last setup [] (Send RestoreUserAll) is).0)
+open_restore setup (Accepted job ∷ entries) output register is =
+    restored_facts _ (marks setup entries) output register
+    (restore_newest (open_job setup (Accepted job ∷ entries)) [] (marks setup entries) is)
+open_restore setup (Finished acked ∷ entries) output register is =
+    restored_facts _ (marks setup entries) output register
+    (restore_newest (open_job setup (Finished acked ∷ entries)) (told_since (Finished acked ∷ entries)) (marks setup entries) is)
+open_restore setup (Got bytes ∷ entries) output register is =
+    restored_facts _ (goods setup entries bytes ++ marks setup entries) output register
+    (restore_newest (open_job setup (Got bytes ∷ entries)) (told_since (Got bytes ∷ entries))
+    (goods setup entries bytes ++ marks setup entries) is)
+open_restore setup (Restarted ∷ entries) output register is =
+    absurd (none-some (Send RestoreUserAll) (open_is_last setup (Restarted ∷ entries) (Send RestoreUserAll) is).0)
 
 -- what a host holds of its open job is sound
 job_there : (setup : Setup) (last : Option Job) (job : Job) → last ≡ Some job → IsJob setup last → IsJob setup (Some job)

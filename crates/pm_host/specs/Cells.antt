@@ -5,16 +5,18 @@ use Rattle.pm_table.specs.declared.cell.Cell.{Cell}
 use Rattle.pm_table.specs.declared.cell.Cell.TheVariants.{Out, Protect}
 use Rattle.pm_table.specs.Cell.{cell_in}
 use Rattle.pm_host.specs.declared.command.Command.{Command}
-use Rattle.pm_host.specs.declared.command.Command.TheVariants.{ClearFaults}
+use Rattle.pm_host.specs.declared.command.Command.TheVariants.{ClearFaults, StoreUserAll, RestoreUserAll}
 
 -- the cell is a register of one of this many outputs, or the device's own
 abbrev pub is_cell : ℕ → Cell → Bool
 is_cell outputs (Out output register) = nat_lt output outputs
 is_cell outputs Protect = true
 
--- the output that the command names is one of this many
+-- the output that the command names is one of this many; a store and a restore name none
 abbrev pub is_command : ℕ → Command → Bool
 is_command outputs (ClearFaults output) = nat_lt output outputs
+is_command outputs StoreUserAll = true
+is_command outputs RestoreUserAll = true
 
 -- the list that has at each of n places what f gives for its cell
 unfoldable pub table : {X : Type 0} → ℕ → (Cell → X) → List X

@@ -9,7 +9,7 @@ use Rattle.pm_table.specs.declared.cell.Cell.{Cell}
 use Rattle.pm_table.specs.declared.vout_mode.VoutMode.TheVariants.{Direct}
 use Rattle.pm_table.specs.Cell.{cell_at, cell_accepts}
 use Rattle.pm_table.specs.Format.{shape_in}
-use Rattle.pm_host.specs.declared.command.Command.TheVariants.{ClearFaults}
+use Rattle.pm_host.specs.declared.command.Command.TheVariants.{ClearFaults, StoreUserAll, RestoreUserAll}
 use Rattle.pm_host.specs.declared.format_image.FormatImage.{FormatImage}
 use Rattle.pm_host.specs.declared.image.Image.{Image}
 use Rattle.pm_host.specs.declared.knowledge.Knowledge.{Knowledge}
@@ -81,7 +81,9 @@ stage_in i =
     else (if i.kind == 4 then AsksMode i.output i.count
     else (if i.kind == 5 then AsksCoefficients i.output i.count
     else (if i.kind == 6 then Sends (ClearFaults i.output) i.count
-    else nowhere)))))
+    else (if i.kind == 7 then Sends StoreUserAll i.count
+    else (if i.kind == 8 then Sends RestoreUserAll i.count
+    else nowhere)))))))
 
 -- kind 0 is no open job
 unfoldable pub stage_held : StageImage → Option Stage

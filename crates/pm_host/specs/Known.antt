@@ -1,13 +1,14 @@
 -- What the host holds of its marks, and what one more mark makes of it.
 use Rattle.std.specs.Prelude.{Bool, false, not, ◌||◌, if◌then◌else◌, List, replicate, slice_index_or, slice_set}
 use Rattle.pm_table.specs.declared.cell.Cell.{Cell}
-use Rattle.pm_table.specs.Cell.{place_of, places}
+use Rattle.pm_table.specs.declared.cell.Cell.TheVariants.{Protect}
+use Rattle.pm_table.specs.Cell.{place_of, places, protect_place}
 use Rattle.pm_host.specs.declared.possible.Possible.{Possible}
 use Rattle.pm_host.specs.declared.possible.Possible.TheVariants.{Any}
 use Rattle.pm_host.specs.declared.standing.Standing.{Standing}
 use Rattle.pm_host.specs.declared.standing.Standing.TheVariants.{Confirmed, Unknown}
 use Rattle.pm_host.specs.Cells.{table}
-use Rattle.pm_host.specs.Marks.{Mark, Put, Good, Restart}
+use Rattle.pm_host.specs.Marks.{Mark, Put, Good, Restored, Restart}
 use Rattle.pm_host.specs.Possible.{is_possible, joined, only, possible_of, restart_seen_of}
 use Rattle.pm_host.specs.Standing.{standing_of}
 
@@ -50,6 +51,11 @@ known_after known (Good cell word) =
       standing = slice_set known.standing (place_of cell) (Confirmed word);
       seen = not expected || known.seen;
     }
+known_after known Restored = record {
+  possible = slice_set all_any protect_place (known_possible known Protect);
+  standing = slice_set all_unknown protect_place (known_standing known Protect);
+  seen = known.seen;
+}
 known_after known Restart = nothing_known
 
 -- what the definitions say of all marks, newest first

@@ -1,22 +1,26 @@
 -- What the laws of this crate say, each by a name that a crate above takes it by. A transcript is
 -- newest first.
-use Rattle.std.specs.Prelude.{◌≡◌, ◌≢◌, ℕ, ◌*◌, ◌<◌, ◌≤◌, true, List, [], ◌∷◌, Some, is_some}
+use Rattle.std.specs.Prelude.{◌≡◌, ◌≢◌, ℕ, ◌*◌, ◌<◌, ◌≤◌, ◌==◌, true, ◌||◌, if◌then◌else◌, List, [], ◌∷◌, Some, is_some}
 use Rattle.pm_table.specs.declared.cell.Cell.{Cell}
-use Rattle.pm_table.specs.Cell.{cell_accepts, IsCell}
+use Rattle.pm_table.specs.Cell.{cell_accepts, is_output_cell, same_cell, IsCell}
 use Rattle.pm_table.specs.Codes as command
 use Rattle.pm_frame.specs.declared.message.Message.{Message}
 use Rattle.pm_frame.specs.Layout.{fits_layout}
 use Rattle.pm_frame.specs.View.{message_code}
+use Rattle.pm_table.specs.declared.cell.Reg.{Reg}
+use Rattle.pm_table.specs.declared.cell.Cell.TheVariants.{Out}
+use Rattle.pm_host.specs.declared.command.Command.TheVariants.{RestoreUserAll}
+use Rattle.pm_host.specs.declared.possible.Possible.TheVariants.{Any}
 use Rattle.pm_host.specs.declared.standing.Standing.TheVariants.{Unknown}
 use Rattle.pm_host.specs.Frames.{CanSend, frames_of}
-use Rattle.pm_host.specs.Marks.{marks}
+use Rattle.pm_host.specs.Marks.{Mark, Put, Good, Restored, Restart, marks}
 use Rattle.pm_host.specs.Now.{now, AreTold}
 use Rattle.pm_host.specs.Possible.{possible_of, is_possible, restart_seen_of}
 use Rattle.pm_host.specs.Refusals.{IsSetup, is_busy}
 use Rattle.pm_host.specs.Sound.{IsSound}
 use Rattle.pm_host.specs.Standing.{standing_of}
 use Rattle.pm_host.specs.Summary.{Summary, start, next, step_of, step_by, sending_in, possible_at, standing_at, format_at}
-use Rattle.pm_host.specs.Transcript.{Setup, Order, Entry, open_job, end_of, sending_of, format_of_output}
+use Rattle.pm_host.specs.Transcript.{Setup, Order, Send, Entry, open_job, end_of, sending_of, format_of_output}
 
 -- What a host holds after its transcript, which the definitions find by looking back over the whole
 -- of it, is what one entry after another makes of its start.
@@ -82,3 +86,34 @@ pub record OpenOrdersAreUncertain : Type 0 where
   pub unknown : (setup : Setup) (entries : List Entry) (cell : Cell) (word : ℕ) → IsSetup setup
       → AreTold setup entries → open_job setup entries ≡ Some (Order cell word)
       → standing_of (marks setup entries) cell ≡ Unknown
+
+-- while a restore is open, from its acceptance to its end
+pub record OpenRestoresAreUncertain : Type 0 where
+  -- any word is possible for each cell of an output
+  pub possible : (setup : Setup) (entries : List Entry) (output : ℕ) (register : Reg)
+      → AreTold setup entries → open_job setup entries ≡ Some (Send RestoreUserAll)
+      → possible_of (marks setup entries) (Out output register) ≡ Any
+  -- and none is confirmed
+  pub unknown : (setup : Setup) (entries : List Entry) (output : ℕ) (register : Reg)
+      → AreTold setup entries → open_job setup entries ≡ Some (Send RestoreUserAll)
+      → standing_of (marks setup entries) (Out output register) ≡ Unknown
+
+-- Which words are possible for a cell, one mark after another: at first any; after a write that begins its
+-- word too; after a good answer its word alone, and for the other cells what was possible, unless the
+-- answer wasn't. After a restore any word is possible for an output's cell, after a restart for each.
+pub record PossibleWordsAreFollowed : Type 0 where
+  pub none : (cell : Cell) (other : ℕ) → is_possible other (possible_of [] cell) ≡ true
+  pub put : (before : List Mark) (put cell : Cell) (word other : ℕ)
+      → is_possible other (possible_of (Put put word ∷ before) cell)
+      ≡ (if same_cell put cell then is_possible other (possible_of before cell) || word == other
+      else is_possible other (possible_of before cell))
+  pub good : (before : List Mark) (read cell : Cell) (word other : ℕ)
+      → is_possible other (possible_of (Good read word ∷ before) cell)
+      ≡ (if same_cell read cell then word == other
+      else (if is_possible word (possible_of before read) then is_possible other (possible_of before cell)
+      else true))
+  pub restored : (before : List Mark) (cell : Cell) (other : ℕ)
+      → is_possible other (possible_of (Restored ∷ before) cell)
+      ≡ (if is_output_cell cell then true else is_possible other (possible_of before cell))
+  pub restart : (before : List Mark) (cell : Cell) (other : ℕ)
+      → is_possible other (possible_of (Restart ∷ before) cell) ≡ true

@@ -2,6 +2,8 @@
 -- this project's own choice.
 use Rattle.std.specs.Prelude.{ℕ, if◌then◌else◌, List, [], ◌∷◌, ◌++◌, Option, Some, None, option_map, option_and_then, option_to_list}
 use Rattle.pm_table.specs.declared.cell.Cell.{Cell}
+use Rattle.pm_host.specs.declared.command.Command.{Command}
+use Rattle.pm_host.specs.declared.command.Command.TheVariants.{ClearFaults, StoreUserAll, RestoreUserAll}
 use Rattle.pm_host.specs.Answers.{good_word}
 use Rattle.pm_host.specs.Transcript.{Setup, Job, Order, Check, Learn, Send, Entry, Accepted, Finished, Got, Restarted, open_job, told_since, is_write_turn}
 
@@ -10,16 +12,24 @@ pub data Mark : Type 0 where
   Put : (cell : Cell) (word : ℕ) → Mark
   -- a good answer for the cell came
   Good : (cell : Cell) (word : ℕ) → Mark
+  -- a restore of the outputs' settings began to be sent
+  Restored : Mark
   -- the host restarted
   Restart : Mark
 
--- the write of a cell that an open job sends, and the cell that it reads
+-- the mark of a command that begins to be sent
+abbrev pub send_marks : Command → List Mark
+send_marks (ClearFaults output) = []
+send_marks StoreUserAll = []
+send_marks RestoreUserAll = Restored ∷ []
+
+-- the write of a cell, or the restore, that an open job sends, and the cell that it reads
 abbrev pub put_by : Option Job → List Entry → List Mark
 put_by None told = []
 put_by (Some (Order cell word)) told = if is_write_turn told then Put cell word ∷ [] else []
 put_by (Some (Check cell)) told = []
 put_by (Some (Learn output)) told = []
-put_by (Some (Send command)) told = []
+put_by (Some (Send command)) told = send_marks command
 
 abbrev pub read_by : Option Job → List Entry → Option Cell
 read_by None told = None
@@ -28,7 +38,7 @@ read_by (Some (Check cell)) told = Some cell
 read_by (Some (Learn output)) told = None
 read_by (Some (Send command)) told = None
 
--- the write of a cell that begins to be sent with the newest entry
+-- the write of a cell, or the restore, that begins to be sent with the newest entry
 unfoldable pub puts : Setup → List Entry → List Mark
 puts setup entries = put_by (open_job setup entries) (told_since entries)
 
@@ -42,7 +52,7 @@ goods setup before bytes = option_to_list (option_and_then
 abbrev pub marks : Setup → List Entry → List Mark
 marks setup [] = []
 marks setup (Accepted job ∷ before) = puts setup (Accepted job ∷ before) ++ marks setup before
-marks setup (Finished acked ∷ before) = marks setup before
+marks setup (Finished acked ∷ before) = puts setup (Finished acked ∷ before) ++ marks setup before
 marks setup (Got bytes ∷ before) =
     puts setup (Got bytes ∷ before) ++ (goods setup before bytes ++ marks setup before)
 marks setup (Restarted ∷ before) = Restart ∷ marks setup before

@@ -8,12 +8,12 @@ use Rattle.pm_table.specs.declared.cell.Cell.TheVariants.{Out, Protect}
 use Rattle.pm_table.specs.Cell.{cell_code, is_voltage, register_code}
 use Rattle.pm_table.specs.Codes as command
 use Rattle.pm_frame.specs.declared.message.Message.{Message}
-use Rattle.pm_frame.specs.declared.message.Message.TheVariants.{WriteByte, PagePlusWrite, ReadCommand, PagePlusRead, ReadCoefficients}
+use Rattle.pm_frame.specs.declared.message.Message.TheVariants.{SendByte, WriteByte, PagePlusWrite, ReadCommand, PagePlusRead, ReadCoefficients}
 use Rattle.pm_frame.specs.declared.message.Payload.{Payload}
 use Rattle.pm_frame.specs.declared.message.Payload.TheVariants.{Empty, Byte, Word}
 use Rattle.pm_frame.specs.Layout.{IsWrite, IsRequest, is_read_message}
 use Rattle.pm_host.specs.declared.command.Command.{Command}
-use Rattle.pm_host.specs.declared.command.Command.TheVariants.{ClearFaults}
+use Rattle.pm_host.specs.declared.command.Command.TheVariants.{ClearFaults, StoreUserAll, RestoreUserAll}
 
 -- the word of a register on the wire: OPERATION has one byte, a voltage two
 abbrev pub register_payload : Reg → ℕ → Payload
@@ -42,9 +42,12 @@ values_written = 0x00
 abbrev pub coefficients_read : Message
 coefficients_read = ReadCoefficients command.vout_command values_written
 
--- what a command sends: CLEAR_FAULTS of an output goes by PAGE_PLUS_WRITE
+-- what a command sends: CLEAR_FAULTS of an output goes by PAGE_PLUS_WRITE, STORE_USER_ALL and
+-- RESTORE_USER_ALL, which are the device's, by a plain send byte
 abbrev pub command_message : Command → Message
 command_message (ClearFaults output) = PagePlusWrite output command.clear_faults Empty
+command_message StoreUserAll = SendByte command.store_user_all
+command_message RestoreUserAll = SendByte command.restore_user_all
 
 -- these are the bytes that a host puts on the wire for a message
 pub record IsFrameOf (addr : ℕ) (message : Message) (bytes : List ℕ) : Type 0 where

@@ -6,8 +6,8 @@ use Rattle.std.specs.List.{list_any}
 use Rattle.pm_table.specs.declared.cell.Cell.{Cell}
 use Rattle.pm_host.specs.declared.possible.Possible.{Possible}
 use Rattle.pm_host.specs.declared.possible.Possible.TheVariants.{Any, Words}
-use Rattle.pm_table.specs.Cell.{same_cell}
-use Rattle.pm_host.specs.Marks.{Mark, Put, Good, Restart}
+use Rattle.pm_table.specs.Cell.{same_cell, is_output_cell}
+use Rattle.pm_host.specs.Marks.{Mark, Put, Good, Restored, Restart}
 
 -- the word is in the list
 abbrev pub is_listed : ℕ → List ℕ → Bool
@@ -29,11 +29,13 @@ possible_from None = Any
 possible_from (Some words) = Words (record { items = once (reverse words) })
 
 -- The words of the cell's writes since its last good answer, newest first, with the answer's own word
--- last. None where a restart comes before it, or a good answer of another cell that wasn't possible
--- there, which shows that the device restarted.
+-- last. None where a restart comes before it, or for an output's cell a restore, or a good answer of
+-- another cell that wasn't possible there, which shows that the device restarted.
 abbrev pub words_since : List Mark → Cell → Option (List ℕ)
 words_since [] cell = None
 words_since (Restart ∷ before) cell = None
+words_since (Restored ∷ before) cell =
+    if is_output_cell cell then None else words_since before cell
 words_since (Put put word ∷ before) cell =
     if same_cell put cell then option_map (λ words. word ∷ words) (words_since before cell)
     else words_since before cell
@@ -50,6 +52,7 @@ possible_of marks cell = possible_from (words_since marks cell)
 abbrev pub restart_seen_of : List Mark → Bool
 restart_seen_of [] = false
 restart_seen_of (Restart ∷ before) = false
+restart_seen_of (Restored ∷ before) = restart_seen_of before
 restart_seen_of (Put put word ∷ before) = restart_seen_of before
 restart_seen_of (Good read word ∷ before) =
     not (is_possible word (possible_of before read)) || restart_seen_of before

@@ -11,6 +11,8 @@ use Rattle.pm_table.specs.declared.vout_mode.VoutMode.TheVariants.{Linear, Direc
 use Rattle.pm_table.specs.VoutMode.{mode_of}
 use Rattle.pm_table.specs.Format.{shape_in}
 use Rattle.pm_frame.specs.declared.message.Message.{Message}
+use Rattle.pm_host.specs.declared.command.Command.{Command}
+use Rattle.pm_host.specs.declared.command.Command.TheVariants.{ClearFaults, StoreUserAll, RestoreUserAll}
 use Rattle.pm_host.specs.declared.possible.Possible.{Possible}
 use Rattle.pm_host.specs.declared.standing.Standing.{Standing}
 use Rattle.pm_host.specs.declared.stage.Stage.{Stage}
@@ -21,7 +23,7 @@ use Rattle.pm_host.specs.declared.step.Step.{Step}
 use Rattle.pm_host.specs.declared.step.Step.TheVariants.{Next, Ended}
 use Rattle.pm_host.specs.Answers.{good_word, good_mode, good_coefficients}
 use Rattle.pm_host.specs.Known.{Known, known_possible, known_standing, known_after, nothing_known}
-use Rattle.pm_host.specs.Marks.{Mark, Put, Good}
+use Rattle.pm_host.specs.Marks.{Mark, Put, Good, Restored}
 use Rattle.pm_host.specs.Messages.{cell_write, cell_read, mode_read, coefficients_read, command_message}
 use Rattle.pm_host.specs.Transcript.{Setup, Job, Order, Check, Learn, Send, Entry, Accepted, Finished, Got, Restarted}
 
@@ -104,6 +106,15 @@ marked s mark = record s { known = known_after s.known mark }
 abbrev pub writes : Summary → Cell → ℕ → ℕ → Change
 writes s cell word pass = goes_on (marked s (Put cell word)) (Writes cell word pass)
 
+-- a command begins to be sent, after these tries: a restore leaves a mark
+abbrev pub send_marked : Summary → Command → Summary
+send_marked s (ClearFaults output) = s
+send_marked s StoreUserAll = s
+send_marked s RestoreUserAll = marked s Restored
+
+abbrev pub sends : Summary → Command → ℕ → Change
+sends s command tries = goes_on (send_marked s command) (Sends command tries)
+
 -- the stage, which is one more try, where one is left after these
 abbrev pub another : Summary → ℕ → Stage → Change
 another s tries stage = if tries + 1 == s.setup.passes then ends s Unknown else goes_on s stage
@@ -113,7 +124,7 @@ abbrev pub begins : Summary → Job → Change
 begins s (Order cell word) = writes s cell word 0
 begins s (Check cell) = goes_on s (Checks cell 0)
 begins s (Learn output) = goes_on s (AsksMode output 0)
-begins s (Send command) = goes_on s (Sends command 0)
+begins s (Send command) = sends s command 0
 
 -- an order read its cell back, in this pass
 abbrev pub read_another : Summary → Cell → ℕ → ℕ → ℕ → Change
@@ -159,7 +170,8 @@ coefficients_answered s output tries (Some coefficients) =
 abbrev pub finished : Summary → Option Stage → Bool → Change
 finished s (Some (Writes cell word pass)) acked = goes_on s (Reads cell word pass)
 finished s (Some (Sends command tries)) acked =
-    if acked then ends s Done else another s tries (Sends command (tries + 1))
+    if acked then ends s Done
+    else (if tries + 1 == s.setup.passes then ends s Unknown else sends s command (tries + 1))
 finished s stage acked = stays s stage
 
 -- bytes came back for a request

@@ -1,4 +1,4 @@
-/// A command that a job sends until it is acknowledged.
+/// A command that a job sends until it is acknowledged (PMBus 1.3 Part II).
 #[derive(Clone, Copy, Debug)]
 pub enum Command {
     /// CLEAR_FAULTS: clears the latched status of an output.
@@ -6,6 +6,11 @@ pub enum Command {
         /// The output, by its page.
         output: u8,
     },
+    /// STORE_USER_ALL: copies the outputs' settings to the user store, which a restart of the device
+    /// loads.
+    StoreUserAll,
+    /// RESTORE_USER_ALL: brings the outputs' settings back from the user store.
+    RestoreUserAll,
 }
 
 impl Command {
@@ -18,6 +23,7 @@ impl Command {
     {
         match self {
             Command::ClearFaults { output } => output < outputs,
+            Command::StoreUserAll | Command::RestoreUserAll => true,
         }
     }
 }

@@ -30,12 +30,12 @@ use std::marker::Model;
 /// after a good answer, one that has the layout of an answer to its own request, which the packet
 /// error code covers too.
 ///
-/// At most one job is open. `order`, `order_micro`, `check`, `learn` and `clear` begin one and are
-/// refused (H3) until it has ended. Until then `turn` shows what to send now, and each frame that was
-/// sent is followed by one call of `told`, which has to be of the kind that `turn` showed: ask `turn`
-/// before each `told`. A job has ended once `told` answers `Step::Ended`, after at most twice `passes`
-/// frames. `restart`, `standing`, `possible` and `restart_seen` may come at any time. A refused call
-/// changes nothing. No call takes memory.
+/// At most one job is open. `order`, `order_micro`, `check`, `learn`, `clear`, `store` and `restore`
+/// begin one and are refused (H3) until it has ended. Until then `turn` shows what to send now, and each
+/// frame that was sent is followed by one call of `told`, which has to be of the kind that `turn` showed:
+/// ask `turn` before each `told`. A job has ended once `told` answers `Step::Ended`, after at most twice
+/// `passes` frames. `restart`, `standing`, `possible` and `restart_seen` may come at any time. A refused
+/// call changes nothing. No call takes memory.
 #[derive(Drop)]
 pub struct Host {
     state: State,
@@ -156,9 +156,9 @@ impl Host {
         Ok(())
     }
 
-    /// Begins to send a command, until it is acknowledged, at most `passes` times. `Done` says no more
-    /// than this acknowledgement, `Unknown` that none came. H3 where a job is open, otherwise H4 where
-    /// the command names an output that isn't there.
+    /// Begins to send a command, until it is acknowledged, at most `passes` times: `clear`, `store` and
+    /// `restore` in one. `Done` says no more than this acknowledgement, `Unknown` that none came. H3
+    /// where a job is open, otherwise H4 where the command names an output that isn't there.
     pub fn send(&mut self, command: Command) -> Result<(), HostFault>
         ensures fault { result_err result ≡ command_fault self.old command }
         ensures ok { OnOk result (self.new ≡ next self.old (Accepted (Send command))) }
@@ -181,6 +181,39 @@ impl Host {
         ensures left { OnOk result (frames_left self.new ≤ 2 * self.new.setup.passes) }
     {
         self.send(Command::ClearFaults { output })
+    }
+
+    /// Begins a store: sends STORE_USER_ALL, a plain send byte that copies the outputs' settings to the
+    /// user store, which a restart of the device loads, until it is acknowledged, at most `passes`
+    /// times. `Done` says that it was acknowledged, and not that the store has the settings; `Unknown`
+    /// that it never was, and the store may have them all the same. What is known of the cells stays.
+    /// H3 where a job is open.
+    pub fn store(&mut self) -> Result<(), HostFault>
+        ensures fault { result_err result ≡ command_fault self.old Command.StoreUserAll }
+        ensures ok { OnOk result (self.new ≡ next self.old (Accepted (Send Command.StoreUserAll))) }
+        ensures err { OnErr result (self.new ≡ self.old) }
+        ensures kept { self.new.setup ≡ self.old.setup }
+        ensures left { OnOk result (frames_left self.new ≤ 2 * self.new.setup.passes) }
+    {
+        self.send(Command::StoreUserAll)
+    }
+
+    /// Begins a restore: sends RESTORE_USER_ALL, a plain send byte that brings the outputs' settings back
+    /// from the user store, until it is acknowledged, at most `passes` times. `Done` says that it was
+    /// acknowledged, and not that the settings came back; `Unknown` that it never was, and they may have
+    /// come back all the same.
+    ///
+    /// From now on no word of an output's cell is confirmed and any is possible, until the cell is read
+    /// again, after the job's end. What is known of WRITE_PROTECT, which isn't stored, stays. H3 where a
+    /// job is open.
+    pub fn restore(&mut self) -> Result<(), HostFault>
+        ensures fault { result_err result ≡ command_fault self.old Command.RestoreUserAll }
+        ensures ok { OnOk result (self.new ≡ next self.old (Accepted (Send Command.RestoreUserAll))) }
+        ensures err { OnErr result (self.new ≡ self.old) }
+        ensures kept { self.new.setup ≡ self.old.setup }
+        ensures left { OnOk result (frames_left self.new ≤ 2 * self.new.setup.passes) }
+    {
+        self.send(Command::RestoreUserAll)
     }
 
     /// What to do now: nothing, to send a write, or to send a request and read its answer. It stays the
@@ -280,7 +313,8 @@ impl Host {
     }
 
     /// What is known of a cell's word: confirmed where a good answer for the cell came after every write
-    /// of it that began to be sent. The cell's output is there.
+    /// of it and, where it is an output's, every restore that began to be sent. The cell's output is
+    /// there.
     pub fn standing(&self, cell: Cell) -> Standing
         requires { IsCell self.now.setup.outputs cell }
         ensures { result ≡ standing_at self.now cell }
@@ -289,8 +323,9 @@ impl Host {
     }
 
     /// The words that a cell may hold: the word of its last good answer, and those that were put on the
-    /// wire for it since. Any word where there was no good answer for it since the host started or saw
-    /// a restart of the device. The cell's output is there.
+    /// wire for it since. Any word where there was no good answer for it since the host started, saw a
+    /// restart of the device or, where the cell is an output's, last began to send a restore. The cell's
+    /// output is there.
     pub fn possible(&self, cell: Cell) -> Possible
         requires { IsCell self.now.setup.outputs cell }
         ensures { result ≡ possible_at self.now cell }

@@ -3,7 +3,7 @@ ghost use Rattle.pm_table.specs.Cell.{places, IsCell};
 ghost use Rattle.pm_host.specs.Image.{known_held, words_held, standing_held};
 ghost use Rattle.pm_host.specs.Possible.{is_possible, has_room, only};
 ghost use Rattle.pm_host.specs.Known.{known_possible, known_standing, known_after, nothing_known, all_any, all_unknown};
-ghost use Rattle.pm_host.specs.Marks.{Put, Good};
+ghost use Rattle.pm_host.specs.Marks.{Put, Good, Restored};
 
 use crate::possible::Possible;
 use crate::standing::Standing;
@@ -96,6 +96,20 @@ impl Knowledge {
                 word,
             },
         );
+    }
+
+    /// A restore of the outputs' settings begins to be sent: nothing is known of their cells, and what is
+    /// known of WRITE_PROTECT stays.
+    #[tactic(auto, unfolding(crate::specs::Image::known_held, crate::specs::Known::nothing_known))]
+    pub(crate) fn restored(&mut self)
+        ensures { known_held self.new ≡ known_after (known_held self.old) Restored }
+    {
+        let (words, said) = (*self.possible(Cell::Protect), self.standing(Cell::Protect));
+        let seen = self.seen;
+        self.clear();
+        put_words(&mut self.possible, Cell::Protect.place(), words);
+        put_standing(&mut self.standing, Cell::Protect.place(), said);
+        self.seen = seen;
     }
 }
 

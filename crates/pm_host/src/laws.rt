@@ -1,7 +1,7 @@
 //! The laws of a host over its whole transcript, over the definitions alone. A transcript is newest
 //! first.
 
-ghost use Rattle.pm_host.specs.Laws.{TranscriptsAreFollowed, JobsAreBounded, FramesAreNamed, OpenOrdersAreUncertain};
+ghost use Rattle.pm_host.specs.Laws.{TranscriptsAreFollowed, JobsAreBounded, FramesAreNamed, OpenOrdersAreUncertain, OpenRestoresAreUncertain, PossibleWordsAreFollowed};
 
 /// What a host holds after its transcript, which the definitions find by looking back over the whole
 /// of it, is what one entry after another makes of its start; so what the host answers is what they
@@ -23,4 +23,14 @@ pub fn frames_are_named()
 /// While an order is open its word is one that its cell may hold, and no word of the cell is confirmed.
 pub fn open_orders_are_uncertain()
     ensures { OpenOrdersAreUncertain }
+{}
+
+/// While a restore is open any word is possible for each cell of an output, and none is confirmed.
+pub fn open_restores_are_uncertain()
+    ensures { OpenRestoresAreUncertain }
+{}
+
+/// Which words a cell may hold, by one mark after another.
+pub fn possible_words_are_followed()
+    ensures { PossibleWordsAreFollowed }
 {}

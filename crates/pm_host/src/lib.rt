@@ -3,8 +3,10 @@
 //!
 //! A [`Host`] says which frame to send next and is told what came of it. An order writes a word and
 //! reads it back, a check reads one, a learn reads the format of an output's voltages, a clear clears
-//! its latched faults. It trusts no acknowledgement: a setting is confirmed by a good answer alone,
-//! and until then the host keeps the exact list of words that the setting may hold.
+//! its latched faults, a store copies the outputs' settings to the device's user store, a restore brings
+//! them back. It trusts no acknowledgement: a setting is confirmed by a good answer alone, and until
+//! then the host keeps the exact list of words that the setting may hold. Once it begins to send a
+//! restore, an output's setting may hold any word, until it is read again.
 //!
 //! It has no bus, no clock and no memory of its own: the caller sends the frames, and decides how long
 //! to wait for an answer. It reads no telemetry and no status, and selects no output by PAGE.
@@ -62,7 +64,8 @@ pub use image::Image;
 pub use job_end::JobEnd;
 pub use knowledge::Knowledge;
 pub use laws::{
-    frames_are_named, jobs_are_bounded, open_orders_are_uncertain, transcripts_are_followed,
+    frames_are_named, jobs_are_bounded, open_orders_are_uncertain, open_restores_are_uncertain,
+    possible_words_are_followed, transcripts_are_followed,
 };
 pub use possible::Possible;
 pub use stage::Stage;

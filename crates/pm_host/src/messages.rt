@@ -85,5 +85,11 @@ pub(crate) fn command_message(command: Command) -> Message
             code: Code::CLEAR_FAULTS.0,
             payload: Payload::Empty,
         },
+        Command::StoreUserAll => Message::SendByte {
+            code: Code::STORE_USER_ALL.0,
+        },
+        Command::RestoreUserAll => Message::SendByte {
+            code: Code::RESTORE_USER_ALL.0,
+        },
     }
 }

@@ -6,7 +6,8 @@ use arrayvec::ArrayVec;
 /// The words that a cell may hold, as far as the host knows.
 #[derive(Debug, Drop)]
 pub enum Possible {
-    /// Any word: the host has no good answer for the cell since it started or saw a restart.
+    /// Any word: the host has no good answer for the cell since it started, saw a restart or, where the
+    /// cell is an output's, last began to send a restore.
     Any,
     /// One of these: the word of the last good answer for the cell, and then the words that were put
     /// on the wire for it since, each once, in the order in which they first came.

@@ -11,7 +11,8 @@ use pm_table::{Cell, Code, cell_of};
 #[derive(Clone, Copy)]
 pub struct StageImage {
     /// 0 where no job is open; 1 and 2 for an order that writes or reads, 3 for a check, 4 and 5 for a
-    /// learn that asks VOUT_MODE or COEFFICIENTS, 6 for CLEAR_FAULTS. No host has another number.
+    /// learn that asks VOUT_MODE or COEFFICIENTS, 6 for CLEAR_FAULTS, 7 for STORE_USER_ALL, 8 for
+    /// RESTORE_USER_ALL. No host has another number.
     pub kind: u8,
     /// The command code of the cell, for 1 to 3.
     pub code: u8,
@@ -61,6 +62,14 @@ impl StageImage {
                 command: Command::ClearFaults { output },
                 tries,
             } => StageImage::at_output(6, output, tries),
+            Stage::Sends {
+                command: Command::StoreUserAll,
+                tries,
+            } => StageImage::at_output(7, 0, tries),
+            Stage::Sends {
+                command: Command::RestoreUserAll,
+                tries,
+            } => StageImage::at_output(8, 0, tries),
         }
     }
 
@@ -105,30 +114,25 @@ impl StageImage {
             return None;
         }
         let cell = cell_of(Code(self.code), self.output);
-        let (word, count, output) = (self.word, self.count, self.output);
+        let (word, output) = (self.word, self.output);
+        let (pass, tries) = (self.count, self.count);
         Some(match (self.kind, cell) {
-            (1, Some(cell)) => Stage::Writes {
-                cell,
-                word,
-                pass: count,
-            },
-            (2, Some(cell)) => Stage::Reads {
-                cell,
-                word,
-                pass: count,
-            },
-            (3, Some(cell)) => Stage::Checks { cell, tries: count },
-            (4, _) => Stage::AsksMode {
-                output,
-                tries: count,
-            },
-            (5, _) => Stage::AsksCoefficients {
-                output,
-                tries: count,
-            },
+            (1, Some(cell)) => Stage::Writes { cell, word, pass },
+            (2, Some(cell)) => Stage::Reads { cell, word, pass },
+            (3, Some(cell)) => Stage::Checks { cell, tries },
+            (4, _) => Stage::AsksMode { output, tries },
+            (5, _) => Stage::AsksCoefficients { output, tries },
             (6, _) => Stage::Sends {
                 command: Command::ClearFaults { output },
-                tries: count,
+                tries,
+            },
+            (7, _) => Stage::Sends {
+                command: Command::StoreUserAll,
+                tries,
+            },
+            (8, _) => Stage::Sends {
+                command: Command::RestoreUserAll,
+                tries,
             },
             _ => NOWHERE,
         })

@@ -197,7 +197,7 @@ impl State {
         ensures left { OnOk result (frames_left (held self.new) ≤ 2 * (held self.new).setup.passes) }
     {
         self.is_free(command.is_there(self.outputs))?;
-        self.go_on(Stage::Sends { command, tries: 0 });
+        self.begin_send(command, 0);
         Ok(())
     }
 

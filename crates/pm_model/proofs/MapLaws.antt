@@ -4,10 +4,12 @@ use Rattle.std.proofs.Common.{ap, arith}
 use Rattle.std.proofs.lemmas.Bool.{cases_eq}
 use Rattle.std.proofs.lemmas.List.{get_or-set_same, get_or-set_other, get_or_default, length-set, same_lists}
 use Rattle.std.proofs.lemmas.List.FromFn.{length-map-range_with_len, get_or-map-range_with_len, fill_by_all}
+use Rattle.pm_table.specs.declared.cell.Reg.{Reg}
 use Rattle.pm_table.specs.declared.cell.Cell.{Cell}
+use Rattle.pm_table.specs.declared.cell.Cell.TheVariants.{Out, Protect}
 use Rattle.pm_table.specs.Cell.{IsCell, same_cell, place_of, places, cell_in}
 use Rattle.pm_table.specs.Laws.{CellsAreToldApart, CellsHavePlaces}
-use Rattle.pm_model.specs.Settings.{Words, AreWords, words_of, word_at, with_word}
+use Rattle.pm_model.specs.Settings.{Words, AreWords, words_of, word_at, with_word, with_outputs}
 
 -- two cells at one place are one
 place_of-one : CellsHavePlaces → (cell other : Cell) → IsCell 8 cell → IsCell 8 other →
@@ -33,6 +35,20 @@ word_at-with_word stand told words cell other word (full, here, there) = go (sam
     where
       differ : other ≡ cell → ⊥
       differ one = let t : same_cell cell other ≡ true = (told cell other).1 (sym one) in cc
+
+-- the outputs' words from elsewhere are those, and WRITE_PROTECT keeps its own
+pub outputs-from : CellsHavePlaces → CellsAreToldApart → (words others : Words) (output : ℕ) (register : Reg) →
+    AreWords others → output < 8 →
+    word_at (with_outputs words others) (Out output register) ≡ word_at others (Out output register)
+unfolding with_outputs
+outputs-from stand told words others output register full here =
+    word_at-with_word stand told others Protect (Out output register) (word_at words Protect) (full, tt, here)
+
+pub protect-own : CellsHavePlaces → CellsAreToldApart → (words others : Words) → AreWords others →
+    word_at (with_outputs words others) Protect ≡ word_at words Protect
+unfolding with_outputs
+protect-own stand told words others full =
+    word_at-with_word stand told others Protect Protect (word_at words Protect) (full, tt, tt)
 
 -- to write what stands at a place changes nothing
 set-there : (xs : List ℕ) (i : ℕ) → i < length xs → set xs i (get_or xs i 0) ≡ xs

@@ -1,5 +1,6 @@
--- In a run of the order machine each cell has its start word, or one that was accepted for it.
-use Rattle.std.proofs.Common.{◌≡◌, inl, inr, ℕ, ◌≤◌, Bool, true, false, cond, List, [], ◌∷◌, Option, Some, None, refl, sym, ap}
+-- In a run of the order machine each cell has its start word, or one that was accepted for it; so has the
+-- store.
+use Rattle.std.proofs.Common.{◌≡◌, inl, inr, ℕ, ◌≤◌, Bool, true, false, cond, List, [], ◌∷◌, Option, Some, None, refl, sym}
 use Rattle.std.proofs.Common.{subst, arith}
 use Rattle.std.specs.List.{Contains}
 use Rattle.std.proofs.lemmas.List.Elements.{Contains-append_left, Contains-append_right, Contains-push}
@@ -7,10 +8,12 @@ use Rattle.pm_table.specs.declared.cell.Cell.{Cell}
 use Rattle.pm_table.specs.declared.cell.Cell.TheVariants.{Out, Protect}
 use Rattle.pm_table.specs.Cell.{IsCell, same_cell}
 use Rattle.pm_table.specs.Laws.{CellsAreToldApart}
-use Rattle.pm_model.specs.declared.pending_order.PendingOrder.{PendingOrder}
-use Rattle.pm_model.specs.Settings.{Settings, Words, AreWords, word_at}
+use Rattle.pm_model.specs.declared.pending_job.PendingJob.{PendingJob}
+use Rattle.pm_model.specs.declared.pending_job.PendingJob.TheVariants.{Order, Store, Restore}
+use Rattle.pm_model.specs.Settings.{Settings, Words, AreWords, word_at, with_word, with_outputs}
 use Rattle.pm_model.specs.Laws.{SettingsAreAMap}
-use Rattle.pm_model.specs.OrderMachine.{Step, Accept, Take, End, Back, with_order, machine_of, IsRun, IsOwnWord, IsAccepted}
+use Rattle.pm_model.specs.OrderMachine.{Step, Accept, Take, End, Back, words_taken, store_taken, machine_of, CanTake, IsRun}
+use Rattle.pm_model.specs.OrderMachine.{IsOwnWord, IsAccepted}
 
 -- the newest element of a list, and the older ones
 newest : {X : Type 0} → (x : X) (xs : List X) → Contains (x ∷ xs) x
@@ -29,82 +32,128 @@ cell-of_eight count Protect few here = tt
 pub machine-start : (start : Settings) (steps : List Step) → (machine_of start steps).start ≡ start
 unfolding machine_of
 machine-start start [] = refl
-machine-start start (Accept cell word ∷ steps) = machine-start start steps
+machine-start start (Accept job ∷ steps) = machine-start start steps
 machine-start start (Take ∷ steps) = machine-start start steps
 machine-start start (End ∷ steps) = machine-start start steps
 machine-start start (Back ∷ steps) = machine-start start steps
 
--- an order that was accepted was so after one more step
-later-accepted : (start : Settings) (step : Step) (steps : List Step) (pending : Option PendingOrder) →
+-- a job that was accepted was so after one more step
+later-accepted : (start : Settings) (step : Step) (steps : List Step) (pending : Option PendingJob) →
     IsAccepted start steps pending → IsAccepted start (step ∷ steps) pending
 later-accepted start step steps None h = tt
-later-accepted start step steps (Some order) h = (h.0, older step (Accept order.cell order.word) steps h.1)
+later-accepted start step steps (Some job) h = (h.0, older step (Accept job) steps h.1)
 
--- a pending order was accepted
+-- a pending job was accepted
 pub machine-pending : (start : Settings) (steps : List Step) → IsRun start steps →
     IsAccepted start steps (machine_of start steps).pending
 unfolding machine_of
 machine-pending start [] run = tt
-machine-pending start (Accept cell word ∷ steps) (may, run) =
-    let here = subst (λ (s : Settings). IsCell s.count cell) (machine-start start steps) may.there in
-    ((here, may.fits), newest (Accept cell word) steps)
+machine-pending start (Accept job ∷ steps) (may, run) =
+    let can = subst (λ (s : Settings). CanTake s.count (Some job)) (machine-start start steps) may.can in
+    (can, newest (Accept job) steps)
 machine-pending start (Take ∷ steps) (may, run) =
     later-accepted start Take steps (machine_of start steps).pending (machine-pending start steps run)
 machine-pending start (End ∷ steps) (may, run) = tt
 machine-pending start (Back ∷ steps) (may, run) =
     later-accepted start Back steps (machine_of start steps).pending (machine-pending start steps run)
 
+-- there is a word for each cell, and each cell that there is has one of its own
+record AreOwn (start : Settings) (steps : List Step) (words : Words) : Type 0 where
+  full : AreWords words
+  each : (cell : Cell) → IsCell start.count cell → IsOwnWord start steps cell (word_at words cell)
+
 -- a word that is a cell's own is so after one more step
 own-later : (start : Settings) (step : Step) (steps : List Step) (cell : Cell) (word : ℕ) →
     IsOwnWord start steps cell word → IsOwnWord start (step ∷ steps) cell word
 own-later start step steps cell word (inl e) = inl e
-own-later start step steps cell word (inr h) = inr (older step (Accept cell word) steps h)
+own-later start step steps cell word (inr h) = inr (older step (Accept (Order cell word)) steps h)
+
+-- and so are all
+later : (start : Settings) (step : Step) (steps : List Step) (words : Words) →
+    AreOwn start steps words → AreOwn start (step ∷ steps) words
+later start step steps words are = record {
+  full = are.full;
+  each = λ cell here. own-later start step steps cell (word_at words cell) (are.each cell here);
+}
 
 -- a run that starts with a word for each cell of at most eight outputs
 module _ (told : CellsAreToldApart) (map : SettingsAreAMap) (start : Settings) (few : start.count ≤ 8) (full : AreWords start.words) where
-  -- there is a word for each cell after an order took
-  order-words : (words : Words) (pending : Option PendingOrder) → AreWords words → AreWords (with_order words pending)
-  order-words words None are = are
-  order-words words (Some order) are = map.kept words order.cell order.word are
+  -- an order that takes gives its own cell the accepted word
+  ordered-own : (steps : List Step) (words : Words) (ordered : Cell) (word : ℕ) →
+      AreOwn start steps words → IsAccepted start steps (Some (Order ordered word)) →
+      AreOwn start steps (with_word words ordered word)
+  ordered-own steps words ordered word are accepted = record {
+    full = map.kept words ordered word are.full;
+    each = λ cell here.
+        let one = cell-of_eight start.count ordered few accepted.0.0 in
+        let two = cell-of_eight start.count cell few here in
+        subst (IsOwnWord start steps cell) (sym (map.read words ordered cell word are.full one two))
+        (go cell here (same_cell ordered cell) refl);
+  } where
+    go : (cell : Cell) → IsCell start.count cell → (b : Bool) → same_cell ordered cell ≡ b →
+        IsOwnWord start steps cell (cond b word (word_at words cell))
+    go cell here true e = inr (subst (λ (d : Cell). Contains steps (Accept (Order d word))) ((told ordered cell).0 e) accepted.1)
+    go cell here false e = are.each cell here
 
-  -- and after each step
-  machine-words : (steps : List Step) → AreWords (machine_of start steps).words
+  -- the outputs' words from elsewhere are their own where they are there
+  outputs-own : (steps : List Step) (words others : Words) → AreOwn start steps words → AreOwn start steps others →
+      AreOwn start steps (with_outputs words others)
+  outputs-own steps words others are from = record { full = map.whole words others from.full; each = each } where
+    each : (cell : Cell) → IsCell start.count cell → IsOwnWord start steps cell (word_at (with_outputs words others) cell)
+    each (Out output register) here =
+        subst (IsOwnWord start steps (Out output register))
+        (sym (map.outputs words others output register from.full (cell-of_eight start.count (Out output register) few here)))
+        (from.each (Out output register) here)
+    each Protect here = subst (IsOwnWord start steps Protect) (sym (map.protect words others from.full)) (are.each Protect here)
+
+  -- the words after a job took, and the store
+  words-own : (steps : List Step) (words store : Words) (pending : Option PendingJob) →
+      AreOwn start steps words → AreOwn start steps store → IsAccepted start steps pending →
+      AreOwn start steps (words_taken words store pending)
+  words-own steps words store None are stored accepted = are
+  words-own steps words store (Some (Order cell word)) are stored accepted = ordered-own steps words cell word are accepted
+  words-own steps words store (Some Store) are stored accepted = are
+  words-own steps words store (Some Restore) are stored accepted = outputs-own steps words store are stored
+
+  store-own : (steps : List Step) (words store : Words) (pending : Option PendingJob) →
+      AreOwn start steps words → AreOwn start steps store → AreOwn start steps (store_taken words store pending)
+  store-own steps words store None are stored = stored
+  store-own steps words store (Some (Order cell word)) are stored = stored
+  store-own steps words store (Some Store) are stored = outputs-own steps store words stored are
+  store-own steps words store (Some Restore) are stored = stored
+
+  -- each cell has a word of its own, and one in the store
+  machine-are : (steps : List Step) → IsRun start steps →
+      AreOwn start steps (machine_of start steps).words × AreOwn start steps (machine_of start steps).store
   unfolding machine_of
-  machine-words [] = full
-  machine-words (Accept cell word ∷ steps) = machine-words steps
-  machine-words (Take ∷ steps) =
-      order-words (machine_of start steps).words (machine_of start steps).pending (machine-words steps)
-  machine-words (End ∷ steps) = machine-words steps
-  machine-words (Back ∷ steps) = subst (λ (s : Settings). AreWords s.words) (sym (machine-start start steps)) full
+  machine-are [] run =
+      let are : AreOwn start [] start.words = record { full = full; each = λ cell here. inl refl } in (are, are)
+  machine-are (Accept job ∷ steps) (may, run) =
+      let before = machine_of start steps in
+      let both = machine-are steps run in
+      (later start (Accept job) steps before.words both.0, later start (Accept job) steps before.store both.1)
+  machine-are (Take ∷ steps) (may, run) =
+      let before = machine_of start steps in
+      let both = machine-are steps run in
+      let pending = machine-pending start steps run in (
+        later start Take steps (words_taken before.words before.store before.pending)
+            (words-own steps before.words before.store before.pending both.0 both.1 pending),
+        later start Take steps (store_taken before.words before.store before.pending)
+            (store-own steps before.words before.store before.pending both.0 both.1),
+      )
+  machine-are (End ∷ steps) (may, run) =
+      let before = machine_of start steps in
+      let both = machine-are steps run in
+      (later start End steps before.words both.0, later start End steps before.store both.1)
+  machine-are (Back ∷ steps) (may, run) =
+      let before = machine_of start steps in
+      let both = machine-are steps run in
+      (later start Back steps before.store both.1, later start Back steps before.store both.1)
 
-  -- a pending order that takes gives its own cell the accepted word
-  own-taken : (steps : List Step) (words : Words) (pending : Option PendingOrder) (cell : Cell) →
-      AreWords words → IsCell start.count cell → IsAccepted start steps pending →
-      IsOwnWord start steps cell (word_at words cell) → IsOwnWord start steps cell (word_at (with_order words pending) cell)
-  own-taken steps words None cell are here accepted own = own
-  own-taken steps words (Some order) cell are here accepted own =
-      let one = cell-of_eight start.count order.cell few accepted.0.0 in
-      let two = cell-of_eight start.count cell few here in
-      subst (IsOwnWord start steps cell) (sym (map.read words order.cell cell order.word are one two))
-      (go (same_cell order.cell cell) refl)
-    where
-      go : (b : Bool) → same_cell order.cell cell ≡ b → IsOwnWord start steps cell (cond b order.word (word_at words cell))
-      go true e = inr (subst (λ (d : Cell). Contains steps (Accept d order.word)) ((told order.cell cell).0 e) accepted.1)
-      go false e = own
-
-  -- each cell has a word of its own
   pub machine-own : (steps : List Step) (cell : Cell) → IsRun start steps → IsCell start.count cell →
       IsOwnWord start steps cell (word_at (machine_of start steps).words cell)
-  unfolding machine_of
-  machine-own [] cell run here = inl refl
-  machine-own (Accept c w ∷ steps) cell (may, run) here =
-      own-later start (Accept c w) steps cell (word_at (machine_of start steps).words cell) (machine-own steps cell run here)
-  machine-own (Take ∷ steps) cell (may, run) here =
-      let before = machine_of start steps in
-      own-later start Take steps cell (word_at (with_order before.words before.pending) cell)
-      (own-taken steps before.words before.pending cell (machine-words steps) here (machine-pending start steps run)
-      (machine-own steps cell run here))
-  machine-own (End ∷ steps) cell (may, run) here =
-      own-later start End steps cell (word_at (machine_of start steps).words cell) (machine-own steps cell run here)
-  machine-own (Back ∷ steps) cell (may, run) here =
-      inl (ap (λ (s : Settings). word_at s.words cell) (machine-start start steps))
+  machine-own steps cell run here = (machine-are steps run).0.each cell here
+
+  pub machine-stored : (steps : List Step) (cell : Cell) → IsRun start steps → IsCell start.count cell →
+      IsOwnWord start steps cell (word_at (machine_of start steps).store cell)
+  machine-stored steps cell run here = (machine-are steps run).1.each cell here

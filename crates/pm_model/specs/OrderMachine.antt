@@ -1,65 +1,81 @@
--- The order machine: a converter's settings under orders alone. An order is accepted, takes any number
--- of times or never, and ends; the start words may come back at any time. There are no bytes, pages,
--- packet error codes or passes in it. This project's own. A list of steps is newest first.
+-- The order machine: a converter's settings and its store under jobs alone. A job is an order of a word
+-- for a cell, a store of the outputs' words, or their restore. It is accepted, takes any number of times
+-- or never, and ends; the stored words may come back at any time. There are no bytes, pages, packet error
+-- codes or passes in it. This project's own. A list of steps is newest first.
 use Rattle.std.specs.Prelude.{◌≡◌, ◌⊎◌, ℕ, true, List, [], ◌∷◌, Option, Some, None, IsSome}
 use Rattle.std.specs.List.{Contains}
 use Rattle.pm_table.specs.declared.cell.Cell.{Cell}
 use Rattle.pm_table.specs.Cell.{cell_accepts, IsCell}
-use Rattle.pm_model.specs.declared.pending_order.PendingOrder.{PendingOrder}
-use Rattle.pm_model.specs.Settings.{Settings, Words, word_at, with_word}
+use Rattle.pm_model.specs.declared.pending_job.PendingJob.{PendingJob}
+use Rattle.pm_model.specs.declared.pending_job.PendingJob.TheVariants.{Order, Store, Restore}
+use Rattle.pm_model.specs.Settings.{Settings, Words, word_at, with_word, with_outputs}
 
 pub data Step : Type 0 where
-  -- a word is ordered for a cell
-  Accept : (cell : Cell) (word : ℕ) → Step
-  -- the cell of the pending order gets its word
+  -- a job is accepted
+  Accept : (job : PendingJob) → Step
+  -- the pending job takes
   Take : Step
-  -- no order is pending any more
+  -- no job is pending any more
   End : Step
   -- each cell gets the word that a restart gives
   Back : Step
 
--- the settings at the start, the words of the cells now, and the order that is pending
+-- the settings at the start, the words of the cells now, those in the store, and the job that is pending;
+-- the store has the outputs' words, and for WRITE_PROTECT its start word
 pub record Machine : Type 0 where
   pub start : Settings
   pub words : Words
-  pub pending : Option PendingOrder
+  pub store : Words
+  pub pending : Option PendingJob
 
--- the words that a restart gives: those of the start
-abbrev pub restart_words : Machine → Words
-restart_words m = m.start.words
+-- the words after a job took: an order gives its cell its word, a restore brings back the outputs' words
+abbrev pub words_taken : Words → Words → Option PendingJob → Words
+words_taken words store None = words
+words_taken words store (Some (Order cell word)) = with_word words cell word
+words_taken words store (Some Store) = words
+words_taken words store (Some Restore) = with_outputs words store
 
-abbrev pub ordered : Cell → ℕ → PendingOrder
-ordered cell word = record { cell = cell; word = word }
-
--- the words after the pending order took
-abbrev pub with_order : Words → Option PendingOrder → Words
-with_order words None = words
-with_order words (Some order) = with_word words order.cell order.word
+-- the store after a job took: a store copies the outputs' words to it
+abbrev pub store_taken : Words → Words → Option PendingJob → Words
+store_taken words store None = store
+store_taken words store (Some (Order cell word)) = store
+store_taken words store (Some Store) = with_outputs store words
+store_taken words store (Some Restore) = store
 
 -- the machine as it starts, and what one step makes of it
 abbrev pub begun : Settings → Machine
-begun start = record { start = start; words = start.words; pending = None }
+begun start =
+    record { start = start; words = start.words; store = start.words; pending = None }
 
 abbrev pub stepped : Machine → Step → Machine
-stepped m (Accept cell word) = record m { pending = Some (ordered cell word) }
-stepped m Take = record m { words = with_order m.words m.pending }
+stepped m (Accept job) = record m { pending = Some job }
+stepped m Take = record m {
+  words = words_taken m.words m.store m.pending;
+  store = store_taken m.words m.store m.pending;
+}
 stepped m End = record m { pending = None }
-stepped m Back = record m { words = restart_words m }
+stepped m Back = record m { words = m.store }
 
 -- the machine after some steps
 unfoldable pub machine_of : Settings → List Step → Machine
 machine_of start [] = begun start
 machine_of start (step ∷ before) = stepped (machine_of start before) step
 
--- a word may be ordered for a cell where no order is pending, the cell is there and accepts the word
-pub record CanAccept (m : Machine) (cell : Cell) (word : ℕ) : Type 0 where
-  pub free : m.pending ≡ None
-  pub there : IsCell m.start.count cell
-  pub fits : cell_accepts cell word ≡ true
+-- a job that can take: the cell of an order is there, and accepts its word
+abbrev pub CanTake : ℕ → Option PendingJob → Type 0
+CanTake count None = Unit {0}
+CanTake count (Some (Order cell word)) = IsCell count cell × (cell_accepts cell word ≡ true)
+CanTake count (Some Store) = Unit {0}
+CanTake count (Some Restore) = Unit {0}
 
--- only a pending order takes
+-- a job may be accepted where none is pending and it can take
+pub record CanAccept (m : Machine) (job : PendingJob) : Type 0 where
+  pub free : m.pending ≡ None
+  pub can : CanTake m.start.count (Some job)
+
+-- only a pending job takes
 abbrev pub MayStep : Machine → Step → Type 0
-MayStep m (Accept cell word) = CanAccept m cell word
+MayStep m (Accept job) = CanAccept m job
 MayStep m Take = IsSome m.pending
 MayStep m End = Unit {0}
 MayStep m Back = Unit {0}
@@ -72,16 +88,9 @@ IsRun start (step ∷ before) = MayStep (machine_of start before) step × IsRun 
 -- a cell's start word, or one that was accepted for this very cell
 abbrev pub IsOwnWord : Settings → List Step → Cell → ℕ → Type 0
 IsOwnWord start steps cell word =
-    (word ≡ word_at start.words cell) ⊎ Contains steps (Accept cell word)
+    (word ≡ word_at start.words cell) ⊎ Contains steps (Accept (Order cell word))
 
--- an order that can take: its cell is there, and accepts its word
-abbrev pub CanTake : ℕ → Option PendingOrder → Type 0
-CanTake count None = Unit {0}
-CanTake count (Some order) =
-    IsCell count order.cell × (cell_accepts order.cell order.word ≡ true)
-
--- the pending order is one that was accepted: it can take
-abbrev pub IsAccepted : Settings → List Step → Option PendingOrder → Type 0
+-- the pending job is one that was accepted: it can take
+abbrev pub IsAccepted : Settings → List Step → Option PendingJob → Type 0
 IsAccepted start steps None = Unit {0}
-IsAccepted start steps (Some order) =
-    CanTake start.count (Some order) × Contains steps (Accept order.cell order.word)
+IsAccepted start steps (Some job) = CanTake start.count (Some job) × Contains steps (Accept job)

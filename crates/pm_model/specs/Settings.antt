@@ -4,7 +4,7 @@ use Rattle.std.specs.Prelude.{◌≡◌, ℕ, ◌≤◌, true, List, length, map
 use Rattle.std.specs.List.{range_with_len}
 use Rattle.pm_table.specs.declared.cell.Reg.{Reg}
 use Rattle.pm_table.specs.declared.cell.Cell.{Cell}
-use Rattle.pm_table.specs.declared.cell.Cell.TheVariants.{Out}
+use Rattle.pm_table.specs.declared.cell.Cell.TheVariants.{Out, Protect}
 use Rattle.pm_table.specs.Cell.{cell_accepts, cell_in, place_of, places}
 pub use Rattle.pm_table.specs.Cell.{IsCell, same_cell}
 
@@ -32,6 +32,10 @@ word_at words cell = slice_index words (place_of cell)
 -- the words with another one for a cell
 unfoldable pub with_word : Words → Cell → ℕ → Words
 with_word words cell word = slice_set words (place_of cell) word
+
+-- the outputs' words of others; WRITE_PROTECT keeps its own
+unfoldable pub with_outputs : Words → Words → Words
+with_outputs words others = with_word others Protect (word_at words Protect)
 
 -- an output's registers have the same words in both
 abbrev pub HaveSameRegisters : Words → Words → ℕ → Type 0

@@ -10,7 +10,9 @@ use pm_table::{cells_are_told_apart, cells_have_places};
 /// - `read`: a cell that was written has the new word, and every other cell its old one;
 /// - `kept`, `again`, `unchanged`: a write leaves a word for each cell; the same write a second
 ///   time changes nothing, and neither does that of the existing word;
-/// - `made`, `one`: any words can be given to the cells, and no two maps give each cell the same one.
+/// - `made`, `one`: any words can be given to the cells, and no two maps give each cell the same one;
+/// - `whole`, `outputs`, `protect`: the outputs' words can be had from another map, with WRITE_PROTECT's
+///   own word.
 pub fn settings_are_a_map()
     ensures { SettingsAreAMap }
 {
@@ -34,8 +36,9 @@ pub fn commands_are_limited()
 {}
 
 /// In each run of the order machine, which starts with a word for each cell of at most eight outputs,
-/// each cell that there is has its start word or one that was accepted for that very cell (`own`),
-/// and a pending order is one that was accepted (`pending`); the start stays what it was (`start`).
+/// each cell that there is has its start word or one that was accepted for that very cell (`own`), and so
+/// has the store (`stored`); a pending job is one that was accepted (`pending`), and the start stays what
+/// it was (`start`).
 pub fn orders_stay_in_their_cells()
     ensures { OrdersStayInTheirCells }
 {

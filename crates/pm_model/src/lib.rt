@@ -1,8 +1,8 @@
 //! The settings of a power converter as a map of cells: each cell a word, and what the outputs
 //! command by it.
 //!
-//! [`Plain`] is the map of a converter with one to eight outputs, [`OrderMachine`] is such a map under
-//! orders alone, and [`Formats`] says what the words of each output's voltages stand for.
+//! [`Plain`] is the map of a converter with one to eight outputs, [`OrderMachine`] is such a map and its
+//! store under jobs alone, and [`Formats`] says what the words of each output's voltages stand for.
 //! [`Plain::commanded`] is the voltage that an output asks for, cut to its VOUT_MIN and
 //! VOUT_MAX.
 //!
@@ -13,7 +13,7 @@
 mod formats;
 mod laws;
 mod order_machine;
-mod pending_order;
+mod pending_job;
 mod plain;
 
 pub use formats::Formats;
@@ -21,5 +21,5 @@ pub use laws::{
     commands_are_limited, orders_stay_in_their_cells, outputs_stand_alone, settings_are_a_map,
 };
 pub use order_machine::OrderMachine;
-pub use pending_order::PendingOrder;
+pub use pending_job::PendingJob;
 pub use plain::Plain;

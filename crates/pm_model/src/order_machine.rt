@@ -1,23 +1,26 @@
 //! The order machine.
 
-ghost use Rattle.std.specs.Prelude.{◌≡◌, ◌↔◌, None, true, IsTrue};
+ghost use Rattle.std.specs.Prelude.{◌≡◌, ◌↔◌, None, Some, true, IsTrue};
 ghost use Rattle.pm_table.specs.Cell.{cell_accepts, IsCell};
 ghost use Rattle.pm_model.specs.Settings.{word_at};
-ghost use Rattle.pm_model.specs.OrderMachine.{Accept, Take, End, Back, begun, stepped};
+ghost use Rattle.pm_model.specs.OrderMachine.{Accept, Take, End, Back, begun, stepped, CanTake};
 
-use crate::pending_order::PendingOrder;
+use crate::pending_job::PendingJob;
 use crate::plain::Plain;
 use pm_table::Cell;
 use std::marker::Model;
 
-/// The settings of a converter under orders alone: one order at a time is pending, takes any number
-/// of times, and ends. A slow copy of both ends of the bus, for tests: it has no bytes, pages, packet
-/// error codes or passes.
+/// The settings of a converter and its store under jobs alone: one job at a time is pending, takes any
+/// number of times, and ends. A job is an order of a word for a cell, a store of the outputs' words, or
+/// their restore. A slow copy of both ends of the bus, for tests: it has no bytes, pages, packet error
+/// codes or passes.
 #[derive(Debug, Drop)]
 pub struct OrderMachine {
     start: Plain,
     settings: Plain,
-    pending: Option<PendingOrder>,
+    // The outputs' words, and for WRITE_PROTECT, which isn't stored, its start word.
+    store: Plain,
+    pending: Option<PendingJob>,
 }
 
 impl Model for OrderMachine {
@@ -29,57 +32,65 @@ impl Model for OrderMachine {
     ghost view = { λ m. record {
       start = m.start;
       words = m.settings.words;
+      store = m.store.words;
       pending = m.pending;
     } };
 
     ghost invariant = { λ m. (m.settings.count ≡ m.start.count)
+        × (m.store.count ≡ m.start.count)
         × CanTake m.start.count m.pending };
 }
 
 impl OrderMachine {
-    /// The machine with these settings at its start, and no order.
+    /// The machine with these settings at its start and in its store, and no job.
     pub fn new(start: Plain) -> OrderMachine
         ensures { result ≡ begun start }
     {
         OrderMachine {
             settings: start.copied(),
+            store: start.copied(),
             start,
             pending: None,
         }
     }
 
-    /// A word is ordered for a cell that exists. Asks that no order is pending and that the cell
-    /// accepts the word.
-    pub fn accept(&mut self, cell: Cell, word: u16)
+    /// A job is accepted. Asks that none is pending, and of an order that its cell exists and accepts
+    /// its word.
+    pub fn accept(&mut self, job: PendingJob)
         requires free { self.old.pending ≡ None }
-        requires cell { IsCell self.old.start.count cell }
-        requires fits { IsTrue (cell_accepts cell word) }
-        ensures { self.new ≡ stepped self.old (Accept cell word) }
+        requires can { CanTake self.old.start.count (Some job) }
+        ensures { self.new ≡ stepped self.old (Accept job) }
     {
-        self.pending = Some(PendingOrder { cell, word });
+        self.pending = Some(job);
     }
 
-    /// The pending order's cell gets its word; nothing happens where none is pending.
+    /// The pending job takes: an order gives its cell its word, a store copies the outputs' words to the
+    /// store, a restore brings them back. Nothing happens where none is pending.
     pub fn take(&mut self)
         ensures { self.new ≡ stepped self.old Take }
     {
-        if let Some(order) = self.pending {
-            self.settings = self.settings.with(order.cell, order.word);
+        match self.pending {
+            Some(PendingJob::Order { cell, word }) => {
+                self.settings = self.settings.with(cell, word);
+            }
+            Some(PendingJob::Store) => self.store = self.store.with_outputs(&self.settings),
+            Some(PendingJob::Restore) => self.settings = self.settings.with_outputs(&self.store),
+            None => {}
         }
     }
 
-    /// No order is pending any more.
+    /// No job is pending any more.
     pub fn end(&mut self)
         ensures { self.new ≡ stepped self.old End }
     {
         self.pending = None;
     }
 
-    /// Each cell gets the word that a restart gives. A pending order stays pending.
+    /// Each cell gets the word that a restart gives, that of the store. A pending job stays pending.
     pub fn back(&mut self)
         ensures { self.new ≡ stepped self.old Back }
     {
-        self.settings = self.start.copied();
+        self.settings = self.store.copied();
     }
 
     /// Whether there is such a cell.
@@ -98,8 +109,18 @@ impl OrderMachine {
         self.settings.get(cell)
     }
 
-    /// The order that is pending.
-    pub fn pending(&self) -> Option<PendingOrder>
+    /// The word in the store of a cell that exists, one that the cell accepts; for WRITE_PROTECT, which
+    /// isn't stored, its start word.
+    pub fn stored(&self, cell: Cell) -> u16
+        requires { IsCell self.now.start.count cell }
+        ensures word { result ≡ word_at self.now.store cell }
+        ensures accepted { cell_accepts cell result ≡ true }
+    {
+        self.store.get(cell)
+    }
+
+    /// The job that is pending.
+    pub fn pending(&self) -> Option<PendingJob>
         ensures { result ≡ self.now.pending }
     {
         self.pending

@@ -2,7 +2,7 @@ ghost use Rattle.std.specs.Prelude.{◌≡◌, ◌↔◌, ◌≤◌, ◌<◌, �
 ghost use Rattle.pm_num.specs.AnyFormat.{any_value};
 ghost use Rattle.pm_table.specs.Cell.{cell_accepts, protect_place, register_accepts, register_count, register_number, IsCell};
 ghost use Rattle.pm_table.specs.declared.cell.Reg.{Reg as Register};
-ghost use Rattle.pm_model.specs.Settings.{word_at, with_word, AreSettings, AreWords};
+ghost use Rattle.pm_model.specs.Settings.{word_at, with_outputs as spec_with_outputs, with_word, AreSettings, AreWords};
 ghost use Rattle.pm_model.specs.Commanded.{commanded, greatest_value, least_value, is_above as spec_is_above, is_outside as spec_is_outside, is_cut, scale_at, selected, selected_register as spec_selected_register};
 
 use crate::formats::Formats;
@@ -72,7 +72,7 @@ impl Plain {
     }
 
     /// The same settings.
-    pub(crate) fn copied(&self) -> Plain
+    pub fn copied(&self) -> Plain
         ensures { result ≡ self.now }
     {
         Plain { ..*self }
@@ -110,20 +110,44 @@ impl Plain {
         words[cell.place()]
     }
 
-    /// The settings with another word for a cell that there is. Asks that the cell accepts it.
+    /// Gives a cell that there is another word. Asks that the cell accepts it.
     #[tactic(auto, unfolding(crate::specs::Settings::with_word, crate::specs::Settings::AreWords))]
+    pub fn put(&mut self, cell: Cell, word: u16)
+        requires cell { IsCell self.old.count cell }
+        requires accepted { IsTrue (cell_accepts cell word) }
+        ensures { self.new
+            ≡ record { count = self.old.count; words = with_word self.old.words cell word } }
+    {
+        // There are eight outputs at most, and every other cell keeps its word.
+        let _count = self.count();
+        settings_are_a_map();
+        cells_are_told_apart();
+        self.words[cell.place()] = word;
+    }
+
+    /// The settings with another word for a cell that there is. Asks that the cell accepts it.
     pub fn with(&self, cell: Cell, word: u16) -> Plain
         requires cell { IsCell self.now.count cell }
         requires accepted { IsTrue (cell_accepts cell word) }
         ensures { result
             ≡ record { count = self.now.count; words = with_word self.now.words cell word } }
     {
-        // Every other cell keeps its word.
-        settings_are_a_map();
-        cells_are_told_apart();
         let mut changed = self.copied();
-        changed.words[cell.place()] = word;
+        changed.put(cell, word);
         changed
+    }
+
+    /// The outputs' words of other settings; WRITE_PROTECT keeps its word. Asks that there are as many
+    /// outputs in both.
+    #[tactic(auto, unfolding(crate::specs::Settings::with_outputs))]
+    pub fn with_outputs(&self, others: &Plain) -> Plain
+        requires { others.now.count ≡ self.now.count }
+        ensures { result ≡ record {
+          count = self.now.count;
+          words = spec_with_outputs self.now.words others.now.words;
+        } }
+    {
+        others.with(Cell::Protect, self.get(Cell::Protect))
     }
 
     /// The voltage that an output which is there commands: the value of the word that OPERATION

@@ -12,7 +12,7 @@ use Rattle.pm_text.specs.declared.form.Form.TheVariants.{Second}
 use Rattle.pm_text.specs.declared.scenario.fault.ScenarioFault.{ScenarioFault}
 use Rattle.pm_text.specs.declared.scenario.fault.ScenarioFault.TheVariants as fault
 use Rattle.pm_session.specs.declared.ask.Ask.{Ask}
-use Rattle.pm_session.specs.declared.ask.Ask.TheVariants.{Order, Volts, Check, Learn, Clear, Finished, Got, Sending, Restart, State, Seen}
+use Rattle.pm_session.specs.declared.ask.Ask.TheVariants.{Order, Volts, Check, Learn, Clear, Store, Restore, Finished, Got, Sending, Restart, State, Seen}
 use Rattle.pm_session.specs.declared.refusal.Refusal.{Refusal}
 use Rattle.pm_session.specs.declared.refusal.Refusal.TheVariants.{Syntax, BadHex, TooLong}
 
@@ -23,6 +23,8 @@ asked_as (event.OrderMicro ordered microvolts) left = gives (Volts ordered micro
 asked_as (event.Check checked) left = gives (Check checked) left
 asked_as (event.Learn output) left = gives (Learn output) left
 asked_as (event.Clear output) left = gives (Clear output) left
+asked_as event.Store left = gives Store left
+asked_as event.Restore left = gives Restore left
 asked_as (event.Finish acked) left = gives (Finished acked) left
 asked_as _ left = Err (fault.Syntax left.line)
 
@@ -63,6 +65,8 @@ ask_line = one_of (
     (codes "check", asking (check_rest Second)) ∷
     (codes "learn", asking learn_rest) ∷
     (codes "clear", asking clear_rest) ∷
+    (codes "store", asking (gives event.Store)) ∷
+    (codes "restore", asking (gives event.Restore)) ∷
     (codes "finished", asking finish_rest) ∷
     (codes "got", got_rest) ∷
     (codes "sending", gives Sending) ∷

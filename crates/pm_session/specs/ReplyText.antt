@@ -1,15 +1,12 @@
 -- The line that an answer is written as. This project's own choice.
 use Rattle.std.specs.Prelude.{ℕ, Bool, if◌then◌else◌, List, ◌++◌, flat_map, codes, decimal}
-use Rattle.pm_table.specs.declared.cell.Cell.{Cell}
 use Rattle.pm_host.specs.FaultWords.{host_fault_words}
-use Rattle.pm_host.specs.declared.possible.Possible.{Possible}
-use Rattle.pm_host.specs.declared.possible.Possible.TheVariants.{Any, Words}
 use Rattle.pm_world.specs.FaultWords.{cause_words}
 use Rattle.pm_world.specs.declared.stop.Cause.TheVariants as cause
 use Rattle.pm_lines.specs.Faults.{fault_words}
 use Rattle.pm_lines.specs.Numbers.{hex_byte}
 use Rattle.pm_lines.specs.declared.fault.TextFault.TheVariants as text
-use Rattle.pm_text.specs.Report.{cell_text, end_text, standing_text}
+use Rattle.pm_text.specs.Report.{end_text, possible_text, standing_text}
 use Rattle.pm_session.specs.declared.refusal.Refusal.{Refusal}
 use Rattle.pm_session.specs.declared.refusal.Refusal.TheVariants.{Syntax, BadHex, TooLong, NothingSent, WrongKind, Host}
 use Rattle.pm_session.specs.declared.reply.Reply.{Reply}
@@ -27,14 +24,6 @@ refusal_words (Host fault) = host_fault_words fault
 -- bytes in hexadecimal, a space before each
 abbrev pub spaced_bytes : List ℕ → List ℕ
 spaced_bytes bytes = flat_map (λ byte. codes " " ++ hex_byte byte) bytes
-
--- the words that a cell may hold, a space before each
-abbrev pub spaced_words : Cell → List ℕ → List ℕ
-spaced_words cell words = flat_map (λ word. codes " " ++ cell_text cell word) words
-
-abbrev pub possible_text : Cell → Possible → List ℕ
-possible_text cell Any = codes " any"
-possible_text cell (Words words) = spaced_words cell words.items
 
 abbrev pub seen_text : Bool → List ℕ
 seen_text seen = if seen then codes "yes" else codes "no"

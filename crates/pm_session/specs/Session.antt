@@ -6,10 +6,11 @@ use Rattle.pm_frame.specs.declared.message.Message.{Message}
 use Rattle.pm_frame.specs.Fault.{whole_answer}
 use Rattle.pm_frame.specs.Layout.{is_read_message}
 use Rattle.pm_host.specs.Cells.{is_cell}
-use Rattle.pm_host.specs.Refusals.{cell_fault, may_come, micro_fault, micro_word, order_fault, output_fault}
+use Rattle.pm_host.specs.Refusals.{cell_fault, command_fault, may_come, micro_fault, micro_word, order_fault, output_fault}
 use Rattle.pm_host.specs.Summary.{Summary, next, possible_at, sending_in, standing_at, step_of}
 use Rattle.pm_host.specs.Transcript as host
-use Rattle.pm_host.specs.declared.command.Command.TheVariants.{ClearFaults}
+use Rattle.pm_host.specs.declared.command.Command.{Command}
+use Rattle.pm_host.specs.declared.command.Command.TheVariants.{ClearFaults, StoreUserAll, RestoreUserAll}
 use Rattle.pm_host.specs.declared.fault.HostFault.{HostFault}
 use Rattle.pm_host.specs.declared.fault.HostFault.TheVariants.{UnknownOutput}
 use Rattle.pm_host.specs.declared.step.Step.{Step}
@@ -50,6 +51,10 @@ abbrev pub begins : Summary → Option HostFault → host.Job → Answered
 begins s (Some fault) job = refuses s (Host fault)
 begins s None job = record { reply = sending_reply (next s (host.Accepted job)); after = next s (host.Accepted job) }
 
+-- a job that sends a command
+abbrev pub sends : Summary → Command → Answered
+sends s command = begins s (command_fault s command) (host.Send command)
+
 -- how a job goes on or ends
 abbrev pub step_reply : Summary → Step → Reply
 step_reply s step.Next = sending_reply s
@@ -83,8 +88,9 @@ answers s (ask.Order cell word) = begins s (order_fault s cell word) (host.Order
 answers s (ask.Volts cell microvolts) = volts s cell microvolts
 answers s (ask.Check cell) = begins s (cell_fault s cell) (host.Check cell)
 answers s (ask.Learn output) = begins s (output_fault s output) (host.Learn output)
-answers s (ask.Clear output) =
-    begins s (output_fault s output) (host.Send (ClearFaults output))
+answers s (ask.Clear output) = sends s (ClearFaults output)
+answers s ask.Store = sends s StoreUserAll
+answers s ask.Restore = sends s RestoreUserAll
 answers s (ask.Finished acked) = tells s (host.Finished acked)
 answers s (ask.Got frame) = tells s (host.Got frame.items)
 answers s ask.Sending = stays s (sending_reply s)

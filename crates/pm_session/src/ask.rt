@@ -14,6 +14,10 @@ pub enum Ask {
     Learn(u8),
     /// `clear O`: to clear an output's latched status.
     Clear(u8),
+    /// `store`: to have the outputs' settings stored, for a restart of the device to load.
+    Store,
+    /// `restore`: to have the outputs' stored settings back.
+    Restore,
     /// `finished ack` or `finished nack`: the write was sent, and acknowledged or not.
     Finished(bool),
     /// `got B1 02 CD 34 B9`: the request was sent, and these bytes came back, the read address first;

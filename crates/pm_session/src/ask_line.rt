@@ -67,6 +67,10 @@ fn read_words(fields: &mut Fields<'_>) -> Result<Ask, ScenarioFault>
         learn(fields)
     } else if name == b"clear".as_slice() {
         clear(fields)
+    } else if name == b"store".as_slice() {
+        asked(Event::Store, fields)
+    } else if name == b"restore".as_slice() {
+        asked(Event::Restore, fields)
     } else if name == b"finished".as_slice() {
         finished(fields)
     } else if name == b"got".as_slice() {
@@ -142,6 +146,8 @@ fn asked(event: Event, fields: &Fields<'_>) -> Result<Ask, ScenarioFault>
         Event::Check(cell) => Ok(Ask::Check(cell)),
         Event::Learn(output) => Ok(Ask::Learn(output)),
         Event::Clear(output) => Ok(Ask::Clear(output)),
+        Event::Store => Ok(Ask::Store),
+        Event::Restore => Ok(Ask::Restore),
         Event::Finish(acked) => Ok(Ask::Finished(acked)),
         _ => Err(fields.syntax()),
     }

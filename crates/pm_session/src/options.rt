@@ -26,6 +26,8 @@ const LINES: &str = "Each line of standard input gets one line at once. A line s
   check 0 VOUT_COMMAND           read a setting; check - WRITE_PROTECT
   learn 0                        read the format of an output's voltages
   clear 0                        clear an output's latched faults
+  store                          store the outputs' settings, for a restart of the device to load
+  restore                        bring them back: then none is confirmed until it is read
   finished ack | finished nack   the write was sent, and acknowledged or not
   got B1 02 CD 34 B9 | got       the request was sent, and this came back, or nothing
   sending                        say again what is to be sent

@@ -1,8 +1,8 @@
 //! The line of an answer. Nothing here takes memory: the longest line has 110 bytes.
 ghost use Rattle.std.specs.Prelude.{◌≡◌, ◌+◌, ◌*◌, ◌≤◌, ◌++◌, codes, length};
 ghost use Rattle.arrayvec.specs.ArrayVec.{array_vec_len};
-ghost use Rattle.pm_text.specs.Report.{cell_text, end_text, standing_text};
-ghost use Rattle.pm_session.specs.ReplyText.{possible_text, refusal_words, reply_text as spec_reply_text, reply_words, spaced_bytes, spaced_words};
+ghost use Rattle.pm_text.specs.Report.{cell_text, end_text, possible_text, spaced_words, standing_text};
+ghost use Rattle.pm_session.specs.ReplyText.{refusal_words, reply_text as spec_reply_text, reply_words, spaced_bytes};
 ghost use Rattle.pm_lines.specs.Numbers.{hex_byte, hex_word};
 
 use crate::refusal::Refusal;

@@ -4,7 +4,7 @@ ghost use Rattle.pm_table.specs.Cell.{IsCell};
 ghost use Rattle.pm_host.specs.Cells.{is_cell};
 ghost use Rattle.pm_host.specs.Refusals.{cell_fault, micro_fault, order_fault, output_fault};
 ghost use Rattle.pm_host.specs.Transcript.{Got};
-ghost use Rattle.pm_session.specs.Session.{answer_to, answers, sending_reply, step_reply, tells, volts as spec_volts};
+ghost use Rattle.pm_session.specs.Session.{answer_to, answers, sending_reply, sends, step_reply, tells, volts as spec_volts};
 ghost use Rattle.pm_session.specs.declared.ask.Ask.TheVariants as ask;
 
 use crate::ask::Ask;
@@ -12,7 +12,7 @@ use crate::ask_line::read_ask;
 use crate::refusal::Refusal;
 use crate::reply::Reply;
 use pm_frame::Frame;
-use pm_host::{Host, HostFault, Step, Told, Turn};
+use pm_host::{Command, Host, HostFault, Step, Told, Turn};
 use pm_table::Cell;
 
 /// Answers a line, which is without its line feed. The answer and the host after it are those that the
@@ -37,7 +37,9 @@ fn answer(host: &mut Host, ask: Ask) -> Reply
         Ask::Volts(cell, microvolts) => volts(host, cell, microvolts),
         Ask::Check(cell) => check(host, cell),
         Ask::Learn(output) => learn(host, output),
-        Ask::Clear(output) => clear(host, output),
+        Ask::Clear(output) => send(host, Command::ClearFaults { output }),
+        Ask::Store => send(host, Command::StoreUserAll),
+        Ask::Restore => send(host, Command::RestoreUserAll),
         Ask::Finished(acked) => finished(host, acked),
         Ask::Got(frame) => got(host, frame.as_slice()),
         Ask::Sending => sending(host),
@@ -91,11 +93,12 @@ fn learn(host: &mut Host, output: u8) -> Reply
     }
 }
 
-fn clear(host: &mut Host, output: u8) -> Reply
-    ensures reply { result ≡ (answers host.old (ask.Clear output)).reply }
-    ensures after { host.new ≡ (answers host.old (ask.Clear output)).after }
+// A job that sends a command.
+fn send(host: &mut Host, command: Command) -> Reply
+    ensures reply { result ≡ (sends host.old command).reply }
+    ensures after { host.new ≡ (sends host.old command).after }
 {
-    match host.clear(output) {
+    match host.send(command) {
         Ok(()) => sending(host),
         Err(fault) => Reply::Refused(Refusal::Host(fault)),
     }

@@ -84,8 +84,35 @@ const OTHERS: [(&[u8], &str); 14] = [
     (b"state 0 VOUT_COMMAND", "state unknown possible any\n"),
 ];
 
+// A store leaves what is known, and a restore nothing of an output's; WRITE_PROTECT isn't stored.
+const STORED: [(&[u8], &str); 20] = [
+    (b"check 0 VOUT_COMMAND", "send B0 06 02 00 21 read 4\n"),
+    (b"got B1 02 CD 34 B9", "ended done\n"),
+    (b"check - WRITE_PROTECT", "send B0 10 read 2\n"),
+    (b"got B1 40 A7", "ended done\n"),
+    (b"store", "send B0 15 24\n"),
+    (b"restore", "refused H3 Busy\n"),
+    (b"finished nack", "send B0 15 24\n"),
+    (b"finished ack", "ended done\n"),
+    (
+        b"state 0 VOUT_COMMAND",
+        "state confirmed 34CD possible 34CD\n",
+    ),
+    (b"restore", "send B0 16 2D\n"),
+    (b"store", "refused H3 Busy\n"),
+    (b"state 0 VOUT_COMMAND", "state unknown possible any\n"),
+    (b"state - WRITE_PROTECT", "state confirmed 40 possible 40\n"),
+    (b"finished nack", "send B0 16 2D\n"),
+    (b"finished nack", "ended unknown\n"),
+    (b"  restore ", "send B0 16 2D\n"),
+    (b"finished ack", "ended done\n"),
+    (b"state 0 VOUT_COMMAND", "state unknown possible any\n"),
+    (b"seen", "seen no\n"),
+    (b"sending", "idle\n"),
+];
+
 // Lines that ask nothing.
-const REFUSED: [(&[u8], &str); 17] = [
+const REFUSED: [(&[u8], &str); 19] = [
     (b"", "refused X1 Syntax\n"),
     (b"   ", "refused X1 Syntax\n"),
     (b"# seen", "refused X1 Syntax\n"),
@@ -95,6 +122,8 @@ const REFUSED: [(&[u8], &str); 17] = [
     (b"finished yes", "refused X1 Syntax\n"),
     (b"deliver whole", "refused X1 Syntax\n"),
     (b"restart host", "refused X1 Syntax\n"),
+    (b"store 0", "refused X1 Syntax\n"),
+    (b"restore ZZ", "refused X1 Syntax\n"),
     (b"order 0 VOUT_COMMAND", "refused X1 Syntax\n"),
     (b"order 0 VOUT_MODE 14", "refused X1 Syntax\n"),
     (b"order 0 VOUT_COMMAND 34C", "refused X2 BadHex\n"),
@@ -123,6 +152,9 @@ fn each_line_has_its_answer(rt: HostRuntime) {
         expect(&rt, &mut host, line, wanted);
     }
     for (line, wanted) in OTHERS {
+        expect(&rt, &mut host, line, wanted);
+    }
+    for (line, wanted) in STORED {
         expect(&rt, &mut host, line, wanted);
     }
     for (line, wanted) in REFUSED {

@@ -100,6 +100,11 @@ abbrev pub cell_accepts : Cell → ℕ → Bool
 cell_accepts (Out output register) word = register_accepts register word
 cell_accepts Protect word = is_protection word
 
+-- the cell is one of an output's, and not the device's own
+abbrev pub is_output_cell : Cell → Bool
+is_output_cell (Out output register) = true
+is_output_cell Protect = false
+
 -- two cells are one
 abbrev pub same_cell : Cell → Cell → Bool
 same_cell (Out output register) (Out other second) =

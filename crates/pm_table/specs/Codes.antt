@@ -20,6 +20,12 @@ page_plus_read = 0x06
 abbrev pub write_protect : ℕ
 write_protect = 0x10
 
+abbrev pub store_user_all : ℕ
+store_user_all = 0x15
+
+abbrev pub restore_user_all : ℕ
+restore_user_all = 0x16
+
 abbrev pub capability : ℕ
 capability = 0x19
 

@@ -69,6 +69,8 @@ rows =
     row command.page_plus_write (action (codes "PAGE_PLUS_WRITE") 0 false) ∷
     row command.page_plus_read (reading (codes "PAGE_PLUS_READ") 0 false) ∷
     row command.write_protect (setting (codes "WRITE_PROTECT") 1 false) ∷
+    row command.store_user_all (action (codes "STORE_USER_ALL") 0 false) ∷
+    row command.restore_user_all (action (codes "RESTORE_USER_ALL") 0 false) ∷
     row command.capability (reading (codes "CAPABILITY") 1 false) ∷
     row command.vout_mode (reading (codes "VOUT_MODE") 1 true) ∷
     row command.vout_command (setting (codes "VOUT_COMMAND") 2 true) ∷

@@ -22,6 +22,10 @@ impl Code {
     pub const PAGE_PLUS_READ: Code = Code(0x06);
     /// WRITE_PROTECT.
     pub const WRITE_PROTECT: Code = Code(0x10);
+    /// STORE_USER_ALL.
+    pub const STORE_USER_ALL: Code = Code(0x15);
+    /// RESTORE_USER_ALL.
+    pub const RESTORE_USER_ALL: Code = Code(0x16);
     /// CAPABILITY.
     pub const CAPABILITY: Code = Code(0x19);
     /// VOUT_MODE.
@@ -71,6 +75,8 @@ impl Code {
             Code::PAGE_PLUS_WRITE => Some(action(0, false)),
             Code::PAGE_PLUS_READ => Some(reading(0, false)),
             Code::WRITE_PROTECT => Some(setting(1, false)),
+            Code::STORE_USER_ALL => Some(action(0, false)),
+            Code::RESTORE_USER_ALL => Some(action(0, false)),
             Code::CAPABILITY => Some(reading(1, false)),
             Code::VOUT_MODE => Some(reading(1, true)),
             Code::VOUT_COMMAND => Some(setting(2, true)),
@@ -144,6 +150,8 @@ impl Code {
             Code::PAGE_PLUS_WRITE => "PAGE_PLUS_WRITE",
             Code::PAGE_PLUS_READ => "PAGE_PLUS_READ",
             Code::WRITE_PROTECT => "WRITE_PROTECT",
+            Code::STORE_USER_ALL => "STORE_USER_ALL",
+            Code::RESTORE_USER_ALL => "RESTORE_USER_ALL",
             Code::CAPABILITY => "CAPABILITY",
             Code::VOUT_MODE => "VOUT_MODE",
             Code::VOUT_COMMAND => "VOUT_COMMAND",

@@ -49,7 +49,7 @@ pub fn run_and_step(
     }
 }
 
-/// So its settings are those of the order machine.
+/// So its settings and its store are those of the order machine.
 pub fn orders_after_a_step(
     c: Config,
     passes: u8,
@@ -57,9 +57,11 @@ pub fn orders_after_a_step(
     more: &Event,
 ) -> Result<Option<World>, SetupFault>
     ensures orders { IfOk result (λ found. IfSome found (λ world.
-        IsOrderRun c passes (more.now ∷ reverse events.now) world.device.words)) }
+        IsOrderRun c passes (more.now ∷ reverse events.now) world.device.words world.device.store)) }
     ensures own { IfOk result (λ found. IfSome found (λ world. (cell : Cell) → IsCell c.count cell →
         IsOwnWord c passes (more.now ∷ reverse events.now) cell (word_at world.device.words cell))) }
+    ensures stored { IfOk result (λ found. IfSome found (λ world. (cell : Cell) → IsCell c.count cell →
+        IsOwnWord c passes (more.now ∷ reverse events.now) cell (word_at world.device.store cell))) }
     ensures commanded { IfOk result (λ found. IfSome found (λ world. (output : ℕ) → output < c.count →
         CommandsOwn c passes (more.now ∷ reverse events.now) output
         (commanded (value_for world.device.config output) world.device.words output))) }

@@ -28,4 +28,10 @@ mod restarts;
 #[cfg(test)]
 mod runs;
 #[cfg(test)]
+mod stores;
+#[cfg(test)]
 mod turns;
+#[cfg(test)]
+mod uncertain;
+#[cfg(test)]
+mod watch;

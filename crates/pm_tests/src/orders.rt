@@ -5,7 +5,7 @@ ghost use Rattle.std.specs.Prelude.{◌≡◌};
 use crate::fixtures::{
     ACKED, CELLS, FIRST, NOT_ACKED, READ, SECOND, START, WHOLE, base, begun, step, word,
 };
-use pm_model::{OrderMachine, Plain};
+use pm_model::{OrderMachine, PendingJob, Plain};
 use pm_table::Cell;
 use pm_world::{Arrival, Back, Event, SetupFault, World};
 use std::process::Abort;
@@ -42,7 +42,7 @@ fn tell(machine: &mut OrderMachine, told: Told) -> bool {
         }
         Told::Accept(cell, word) => match machine.pending() {
             None if machine.has(cell) && cell.accepts(word) => {
-                machine.accept(cell, word);
+                machine.accept(PendingJob::Order { cell, word });
                 true
             }
             _ => false,

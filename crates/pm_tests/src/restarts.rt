@@ -5,109 +5,14 @@ ghost use Rattle.std.specs.Prelude.{◌≡◌, ◌<◌};
 
 use crate::fixtures::{
     ACKED, CELLS, CHECK, FIRST, LOST, NOT_ACKED, ORDER, READ, READ_LOST, SECOND, START, WHOLE,
-    arrival, base, begun, may_hold, ran, replied, sends, standing, step, with_protect, word,
+    arrival, base, begun, may_hold, ran, standing, with_protect, word,
 };
-use pm_device::{Config, Ending, Heard};
+use crate::watch::{Watch, are_ordered, happens};
 use pm_host::{Possible, Standing};
 use pm_model::{OrderMachine, Plain};
 use pm_table::Cell;
-use pm_world::{Arrival, Back, Event, SetupFault, World};
+use pm_world::{Event, SetupFault, World};
 use std::process::Abort;
-
-// What is seen from outside: the settings under orders alone, whether the converter restarted since
-// the last good answer for VOUT_COMMAND of either output, and whether it did since the host's start.
-#[derive(Drop)]
-struct Watch {
-    machine: OrderMachine,
-    since_answer: [bool; 2],
-    since_start: bool,
-}
-
-impl Watch {
-    fn new(machine: OrderMachine) -> Watch {
-        Watch {
-            machine,
-            since_answer: [true; 2],
-            since_start: false,
-        }
-    }
-
-    // An order was accepted.
-    fn accepts(&mut self, cell: Cell, word: u16) {
-        match self.machine.pending() {
-            None if self.machine.has(cell) && cell.accepts(word) => self.machine.accept(cell, word),
-            _ => {}
-        }
-    }
-
-    // The converter took a write, a read was answered, either end restarted, or a job ended.
-    fn sees(&mut self, event: &Event, is_taken: bool, read: Option<bool>, has_ended: bool) {
-        if is_taken {
-            self.machine.take();
-        }
-        match read {
-            Some(true) => self.since_answer[1] = false,
-            Some(false) => self.since_answer[0] = false,
-            None => {}
-        }
-        match event {
-            Event::Order(cell, word) => self.accepts(*cell, *word),
-            Event::RestartDevice => {
-                self.machine.back();
-                self.since_answer = [true; 2];
-                self.since_start = true;
-            }
-            Event::RestartHost => {
-                self.machine.end();
-                self.since_start = false;
-            }
-            _ => {}
-        }
-        if has_ended {
-            self.machine.end();
-        }
-    }
-}
-
-// Whether the write that is sent would be taken, heard whole.
-fn would_take(world: &World) -> bool {
-    match world.host().sending() {
-        Some(sent) => matches!(replied(world, sent.as_slice(), Ending::Stop), Heard::Taken),
-        None => false,
-    }
-}
-
-// Which VOUT_COMMAND is read by the request that is sent: whether the second one.
-fn reads(rt: &impl Abort, world: &World) -> Option<bool> {
-    if sends(rt, world, "B0 06 02 00 21") {
-        Some(false)
-    } else if sends(rt, world, "B0 06 02 01 21") {
-        Some(true)
-    } else {
-        None
-    }
-}
-
-// An event that happens, where it is taken, to the world and before the watch.
-fn happens(rt: &impl Abort, world: &mut World, watch: &mut Watch, event: &Event) {
-    let delivered = matches!(event, Event::Deliver(Arrival::Whole)) && would_take(world);
-    let answered = match event {
-        Event::Exchange(Arrival::Whole, Back::Whole) => reads(rt, world),
-        _ => None,
-    };
-    if step(world, event).is_ok() {
-        watch.sees(event, delivered, answered, world.last_end().is_some());
-    }
-}
-
-// The word of a cell in the machine; 0 where there is no such cell.
-fn ordered(machine: &OrderMachine, cell: Cell) -> u16 {
-    if machine.has(cell) {
-        machine.word(cell)
-    } else {
-        0
-    }
-}
 
 // Whether the host says that the cell may hold the word.
 fn may_be(world: &World, cell: Cell, word: u16) -> bool {
@@ -207,13 +112,6 @@ fn a_restart_at_any_place_leaves_true_what_the_host_says(
         second, READ, CHECK, READ, ORDER, LOST, ACKED, READ, WHOLE, ACKED, READ, again, CHECK, READ,
     ];
     follow_restarts(&rt, &restart_seen)
-}
-
-fn are_ordered(rt: &impl Abort, world: &World, machine: &OrderMachine, at: usize) {
-    for cell in CELLS {
-        let held = word(world.device(), cell);
-        assert_eq!(rt; held, ordered(machine, cell), "{cell:?} after {at} events");
-    }
 }
 
 // After each number of events a run with this WRITE_PROTECT holds what the order machine does.

@@ -10,11 +10,12 @@ use Rattle.pm_world.specs.declared.event.Arrival.TheVariants as arrives
 use Rattle.pm_world.specs.declared.event.Back.{Back}
 use Rattle.pm_world.specs.declared.event.Back.TheVariants as returns
 use Rattle.pm_world.specs.declared.event.Event.{Event}
-use Rattle.pm_world.specs.declared.event.Event.TheVariants.{Order, OrderMicro, Check, Learn, Clear, Deliver, Finish, Exchange, RestartDevice, RestartHost, Reading as Measure}
+use Rattle.pm_world.specs.declared.event.Event.TheVariants.{Order, OrderMicro, Check, Learn, Clear, Store, Restore, Deliver, Finish, Exchange, RestartDevice, RestartHost, Reading as Measure}
 use Rattle.pm_lines.specs.Digits.{hex_of, signed_of, small_of}
 use Rattle.pm_text.specs.Kinds.{output_or_device, register_named, device_cell_named, output_reading_named, device_reading_named, cell_word, frame_bytes}
 use Rattle.pm_text.specs.Readers.{◌>>=◌, Field, field, gives, named, one_of}
 use Rattle.pm_text.specs.declared.form.Form.{Form}
+use Rattle.pm_text.specs.declared.form.Form.TheVariants.{First, Second}
 use Rattle.pm_text.specs.declared.scenario.fault.ScenarioFault.TheVariants.{Syntax, BadHex}
 
 -- `O NAME`, or `- WRITE_PROTECT`
@@ -130,6 +131,11 @@ reading_rest = do
   output ← field Syntax output_or_device
   reading_at output
 
+-- the event lines that the second form alone has: `store` and `restore`, with no more words
+abbrev pub store_lines : Form → List (List ℕ × Field Event)
+store_lines First = []
+store_lines Second = (codes "store", gives Store) ∷ (codes "restore", gives Restore) ∷ []
+
 -- an event line: its first word, and the words that follow it
 unfoldable pub event_line : Form → Field Event
 event_line form = one_of (
@@ -142,4 +148,4 @@ event_line form = one_of (
     (codes "finish", finish_rest) ∷
     (codes "exchange", exchange_rest) ∷
     (codes "restart", restart_rest) ∷
-    (codes "reading", reading_rest) ∷ [])
+    (codes "reading", reading_rest) ∷ store_lines form)

@@ -13,7 +13,9 @@ use Rattle.pm_model.specs.Commanded.{commanded}
 use Rattle.pm_model.specs.Settings.{word_at}
 use Rattle.pm_device.specs.Held.{value_for}
 use Rattle.pm_device.specs.Status.{is_on, status_byte, status_cml, status_vout, status_word}
-use Rattle.pm_host.specs.Summary.{standing_at}
+use Rattle.pm_host.specs.Summary.{possible_at, standing_at}
+use Rattle.pm_host.specs.declared.possible.Possible.{Possible}
+use Rattle.pm_host.specs.declared.possible.Possible.TheVariants.{Any, Words}
 use Rattle.pm_host.specs.declared.standing.Standing.{Standing}
 use Rattle.pm_host.specs.declared.standing.Standing.TheVariants.{Confirmed, Unknown}
 use Rattle.pm_host.specs.declared.job_end.JobEnd.{JobEnd}
@@ -24,6 +26,7 @@ use Rattle.pm_world.specs.declared.stop.Stop.{Stop}
 use Rattle.pm_lines.specs.Numbers.{hex_byte, hex_word}
 use Rattle.pm_text.specs.Kinds.{registers_of}
 use Rattle.pm_text.specs.declared.form.Form.{Form}
+use Rattle.pm_text.specs.declared.form.Form.TheVariants.{First, Second}
 
 -- ---- words
 
@@ -36,10 +39,27 @@ abbrev pub standing_text : Cell → Standing → List ℕ
 standing_text cell (Confirmed word) = codes "confirmed " ++ cell_text cell word
 standing_text cell Unknown = codes "unknown"
 
+-- words of a cell, a space before each
+abbrev pub spaced_words : Cell → List ℕ → List ℕ
+spaced_words cell words = flat_map (λ word. codes " " ++ cell_text cell word) words
+
+-- the words that a cell may hold
+abbrev pub possible_text : Cell → Possible → List ℕ
+possible_text cell Any = codes " any"
+possible_text cell (Words words) = spaced_words cell words.items
+
+-- what texts of a form tell of a cell: the second one says of a cell that isn't confirmed what it may hold
+abbrev pub said_text : Form → Cell → Standing → Possible → List ℕ
+said_text First cell standing possible = standing_text cell standing
+said_text Second cell (Confirmed word) possible = standing_text cell (Confirmed word)
+said_text Second cell Unknown possible =
+    standing_text cell Unknown ++ (codes " possible" ++ possible_text cell possible)
+
 -- a setting: its name, the converter's word, and what the host says
-unfoldable pub setting_line : State → List ℕ → Cell → List ℕ
-setting_line s name cell = name ++ (codes " " ++ (cell_text cell (word_at s.device.words cell)
-    ++ (codes " host " ++ (standing_text cell (standing_at s.host cell) ++ codes "\n"))))
+unfoldable pub setting_line : Form → State → List ℕ → Cell → List ℕ
+setting_line form s name cell = name ++ (codes " " ++ (cell_text cell (word_at s.device.words cell)
+    ++ (codes " host " ++ (said_text form cell (standing_at s.host cell) (possible_at s.host cell)
+    ++ codes "\n"))))
 
 -- ---- an output
 
@@ -74,13 +94,13 @@ status_line s output = codes "status " ++ (hex_byte (status_byte s.device output
     ++ (codes " " ++ (hex_word (status_word s.device output)
     ++ (codes " " ++ (hex_byte (status_vout s.device output) ++ codes "\n")))))
 
-abbrev pub register_line : State → ℕ → Reg → List ℕ
-register_line s output register =
-    setting_line s (cell_name (Out output register)) (Out output register)
+abbrev pub register_line : Form → State → ℕ → Reg → List ℕ
+register_line form s output register =
+    setting_line form s (cell_name (Out output register)) (Out output register)
 
 -- an output's settings: the registers that texts of this form name
 abbrev pub register_lines : Form → State → ℕ → List ℕ
-register_lines form s output = flat_map (register_line s output) (registers_of form)
+register_lines form s output = flat_map (register_line form s output) (registers_of form)
 
 -- an output's lines: what it commands, its settings, its status
 unfoldable pub output_lines : Form → State → ℕ → List ℕ
@@ -122,7 +142,7 @@ job_line s = codes "job " ++ (job_text (is_some s.host.stage) s.end ++ codes "\n
 
 -- the lines that follow the first one
 unfoldable pub world_lines : Form → State → List ℕ
-world_lines form s = setting_line s (codes "protect") Protect
+world_lines form s = setting_line form s (codes "protect") Protect
     ++ (all_outputs form s ++ (cml_line s ++ (seen_line s.host.known.seen ++ job_line s)))
 
 unfoldable pub report_text : Form → State → ℕ → Option Stop → List ℕ

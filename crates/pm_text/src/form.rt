@@ -7,7 +7,8 @@ use pm_table::Reg;
 /// registers a scenario may have, and which lines its report has.
 #[derive(Clone, Copy, Debug, PartialEq, Eq)]
 pub enum Form {
-    /// `scenario 1`, which doesn't know VOUT_MIN: no output line, event or report names it.
+    /// `scenario 1`, which knows neither VOUT_MIN nor the user store: no output line, event or report
+    /// names the one, and no event is `store` or `restore`.
     First,
     /// `scenario 2`.
     Second,

@@ -17,16 +17,17 @@ use pm_world::{Cause, Stop, World};
 use settings::push_setting;
 use std::alloc::{AllocError, Global};
 
-/// The bytes that are reserved for a report: those of eight outputs have some 2800.
-const ROOM: usize = 4096;
+/// The bytes that are reserved for a report: one of eight outputs, each of whose cells may hold sixteen
+/// words, has some 7000.
+const ROOM: usize = 8192;
 
 /// The report of a run. Its first line is `ran N`, or `stopped N` and the cause, where an event wasn't
 /// taken. Then comes, of the state after the taken events: WRITE_PROTECT; for each output the voltage
 /// that it commands, its settings, each with what the host says of it, and STATUS_BYTE,
 /// STATUS_WORD and STATUS_VOUT; STATUS_CML; whether the host saw a restart; and its job. Version 1 tells
-/// nothing of VOUT_MIN.
+/// nothing of VOUT_MIN, and nothing of the words that a cell may hold.
 ///
-/// Takes memory once, 4096 bytes, which every report fits.
+/// Takes memory once, 8192 bytes, which every report fits.
 ///
 /// # Errors
 ///
@@ -90,7 +91,7 @@ fn push_world(text: &mut String, form: Form, world: &World) -> Result<(), AllocE
     ensures { OnOk result (string_bytes text.new
         ≡ string_bytes text.old ++ world_lines form world.now) }
 {
-    push_setting(text, world, "protect", Cell::Protect)?;
+    push_setting(text, form, world, "protect", Cell::Protect)?;
     push_outputs(text, form, world)?;
     push_cml(text, world)?;
     text.push_str(seen_words(world.host().restart_seen()))?;

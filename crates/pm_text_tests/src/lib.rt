@@ -21,6 +21,8 @@ mod scenarios;
 #[cfg(test)]
 mod sizes;
 #[cfg(test)]
+mod stores;
+#[cfg(test)]
 mod streams;
 #[cfg(test)]
 mod tool;

@@ -52,7 +52,7 @@ fn a_decoder_without_memory_refuses_from_then_on(rt: HostRuntime) {
     let mut rest = CODES.as_bytes();
     let mut accepted = 0u64;
     let mut is_refused = false;
-    for _ in 0..21 {
+    for _ in 0..23 {
         match decoder.feed(rest) {
             Ok(fed) => {
                 rest = &rest[fed.taken..];
@@ -73,7 +73,7 @@ fn a_decoder_without_memory_refuses_from_then_on(rt: HostRuntime) {
         decoder.finish()
     };
     match end {
-        Ok(true) if !is_refused => assert_eq!(rt; decoder.counts(), (21, 21, 0, 0)),
+        Ok(true) if !is_refused => assert_eq!(rt; decoder.counts(), (23, 23, 0, 0)),
         _ => {
             assert!(rt; decoder.line().is_none());
             assert_eq!(rt; decoder.feed(b"x").err(), Some(TextFault::Memory));

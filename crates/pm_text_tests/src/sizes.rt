@@ -65,7 +65,7 @@ fn expect_lines(
 #[test]
 fn long_traces_are_decoded(rt: HostRuntime) -> Result<(), Fail> {
     let rows: [(Long, Written); 4] = [
-        ((["", ""], "", 0, CODES), (43, CODES_SAID, CODES_SAID)),
+        ((["", ""], "", 0, CODES), (47, CODES_SAID, CODES_SAID)),
         (
             (["", ""], "B0 03 46\n", 40_000, ""),
             (

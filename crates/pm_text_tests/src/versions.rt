@@ -38,22 +38,22 @@ fn replayed(alloc: Global, text: &str) -> (Result<bool, TextFault>, Vec<u8>) {
 // The report of the second version, with a line for VOUT_MIN. Output 0 is cut to its floor of 0.5 V. Output
 // 1 is DIRECT, its words fall as volts rise: it asks for 2 V, and is cut to its floor of 3 V.
 const SECOND: &str = "ran 4
-protect 00 host unknown
+protect 00 host unknown possible any
 output 0 on commanded 2048/4096 500000 uV
-OPERATION 80 host unknown
+OPERATION 80 host unknown possible any
 VOUT_COMMAND 0400 host confirmed 0400
-VOUT_MAX 4000 host unknown
-VOUT_MARGIN_HIGH 1100 host unknown
-VOUT_MARGIN_LOW 0F00 host unknown
-VOUT_MIN 0800 host unknown
+VOUT_MAX 4000 host unknown possible any
+VOUT_MARGIN_HIGH 1100 host unknown possible any
+VOUT_MARGIN_LOW 0F00 host unknown possible any
+VOUT_MIN 0800 host unknown possible any
 status 01 8001 08
 output 1 on commanded 3000/1000 3000000 uV
-OPERATION 80 host unknown
-VOUT_COMMAND 0BB8 host unknown
-VOUT_MAX 03E8 host unknown
-VOUT_MARGIN_HIGH 0BB8 host unknown
-VOUT_MARGIN_LOW 0BB8 host unknown
-VOUT_MIN 07D0 host unknown
+OPERATION 80 host unknown possible any
+VOUT_COMMAND 0BB8 host unknown possible any
+VOUT_MAX 03E8 host unknown possible any
+VOUT_MARGIN_HIGH 0BB8 host unknown possible any
+VOUT_MARGIN_LOW 0BB8 host unknown possible any
+VOUT_MIN 07D0 host unknown possible any
 status 01 8001 08
 cml 00
 restart seen no
@@ -67,6 +67,50 @@ fn a_report_of_version_2_tells_vout_min(rt: HostRuntime) -> Result<(), Fail> {
     let (end, written) = replayed(rt.alloc(), &text);
     assert_eq!(rt; end, Ok(true));
     assert_eq!(rt; written.as_slice(), SECOND.as_bytes());
+    Ok(())
+}
+
+// Both answers of an order are lost; then a report of version 2 tells the two words that the cell may have.
+const LOST: &str = "check 0 VOUT_COMMAND
+exchange whole whole
+order 0 VOUT_COMMAND 34CD
+deliver whole
+finish nack
+exchange whole cut 0
+deliver cut 0
+finish nack
+exchange whole cut 0
+";
+
+#[test]
+fn a_report_of_version_2_tells_the_possible_words(rt: HostRuntime) -> Result<(), Fail> {
+    let text = text_with(rt.alloc(), 8, "", LOST)?;
+    let (end, written) = replayed(rt.alloc(), &text);
+    assert_eq!(rt; end, Ok(true));
+    let told = std::str::from_utf8(&written)?;
+    for line in [
+        "ran 9\nprotect 00 host unknown possible any\n",
+        "VOUT_COMMAND 34CD host unknown possible 1000 34CD\n",
+        "VOUT_COMMAND 0BB8 host unknown possible any\n",
+        "job unknown\n",
+    ] {
+        assert!(rt; told.contains(line), "{line}");
+    }
+    let text = format!(in rt.alloc(); "{SCENARIO}{LOST}")?;
+    let (end, written) = replayed(rt.alloc(), &text);
+    assert_eq!(rt; end, Ok(true));
+    assert!(rt; !std::str::from_utf8(&written)?.contains("possible"));
+    Ok(())
+}
+
+// A byte that OPERATION and WRITE_PROTECT may have is told with its two digits.
+#[test]
+fn a_possible_byte_has_two_digits(rt: HostRuntime) -> Result<(), Fail> {
+    let events = "check - WRITE_PROTECT\nexchange whole whole\norder - WRITE_PROTECT 40\n";
+    let text = text_with(rt.alloc(), 8, "", events)?;
+    let (_, written) = replayed(rt.alloc(), &text);
+    let line = "protect 00 host unknown possible 00 40\n";
+    assert!(rt; std::str::from_utf8(&written)?.contains(line));
     Ok(())
 }
 

@@ -135,7 +135,8 @@ pushed_whole front rest split none pushes = record {
 
 -- a piece with a byte too many
 pub pushed_front : {text mid_text new_text : List ℕ} {old mid new : Holding} {piece : List ℕ} (front rest : List ℕ)
-    → piece ≡ front ++ rest → 0 < length rest → Pushes text mid_text old mid front → refusal_of mid rest ≡ Some TooLong → new_text ≡ mid_text
+    → piece ≡ front ++ rest → 0 < length rest → Pushes text mid_text old mid front
+    → refusal_of mid rest ≡ Some TooLong → new_text ≡ mid_text
     → PushesFront text new_text old new piece false
 pushed_front {old = old} {mid = mid} front rest split some pushes refused same =
     let full = room_none mid rest pushes.standing refused in

@@ -125,18 +125,28 @@ fn push_plain(
     }
 }
 
-// A space, and the page where one is named.
-#[tactic(auto, using(crate::proofs::Joins::joins))]
+// A space, and the page where one is named: one that a converter may have is put as one text.
+#[tactic(auto, using(crate::proofs::Joins::digit_joins))]
 fn push_page(text: &mut String, page: Option<u8>) -> Result<(), AllocError>
     ensures { OnOk result (string_bytes text.new
         ≡ string_bytes text.old ++ (codes " " ++ page_text page)) }
 {
-    let Some(page) = page else {
-        return text.push_str(" ");
-    };
-    text.push_str(" page ")?;
-    push_decimal(text, u64::from(page))?;
-    text.push_str(" ")
+    match page {
+        None => text.push_str(" "),
+        Some(0) => text.push_str(" page 0 "),
+        Some(1) => text.push_str(" page 1 "),
+        Some(2) => text.push_str(" page 2 "),
+        Some(3) => text.push_str(" page 3 "),
+        Some(4) => text.push_str(" page 4 "),
+        Some(5) => text.push_str(" page 5 "),
+        Some(6) => text.push_str(" page 6 "),
+        Some(7) => text.push_str(" page 7 "),
+        Some(page) => {
+            text.push_str(" page ")?;
+            push_decimal(text, u64::from(page))?;
+            text.push_str(" ")
+        }
+    }
 }
 
 // What a write carries.

@@ -1,4 +1,4 @@
--- What a legal hearing of a frame that the host sends makes of the converter's words: nothing, or what a
+-- What a legal hearing of a frame that the host sends makes of what the converter keeps: nothing, or what a
 -- whole write asks for.
 use Rattle.std.proofs.Common.{◌≡◌, ◌⊎◌, inl, inr, ℕ, Bool, true, false, cond, eqb, ◌&&◌, List, [], ◌∷◌, ◌++◌, length, drop, None, refl, ◌∙◌}
 use Rattle.std.proofs.Common.{ap, subst}
@@ -21,7 +21,7 @@ use Rattle.pm_device.specs.declared.heard.Ending.{Ending}
 use Rattle.pm_device.specs.declared.heard.Ending.TheVariants.{Stop, Restart}
 use Rattle.pm_device.specs.Held.{Held}
 use Rattle.pm_device.specs.Verdict.{payload_word}
-use Rattle.pm_device.specs.Effect.{Hearing, words_after}
+use Rattle.pm_device.specs.Effect.{Hearing, Kept, kept_in, kept_after, words_after}
 use Rattle.pm_host.specs.Messages.{cell_write, register_payload}
 use Rattle.pm_world.specs.Below.{Below}
 use Rattle.pm_world.specs.Legal.{frame_of, is_legal_hearing}
@@ -40,13 +40,13 @@ pub frame-request : (addr : ℕ) (message : Message) → is_read_message message
 unfolding frame_of
 frame-request addr message reads = ap (λ b. cond b (sent addr message) (with_pec [] (sent addr message))) reads
 
--- a legal hearing of a write that changes words is the whole of it
+-- a legal hearing of a write that changes what is kept is the whole of it
 pub hears-write : Below → (held : Held) (message : Message) (bytes : List ℕ) (ending : Ending) →
     is_read_message message ≡ false → fits_layout message ≡ true →
     is_legal_hearing (frame_of held.config.addr message) bytes ending ≡ true →
-    (words_after held (Hearing bytes ending) ≡ held.words) ⊎ ((ending ≡ Stop) × IsWrite held.config.addr message bytes)
+    (kept_after held (Hearing bytes ending) ≡ kept_in held) ⊎ ((ending ≡ Stop) × IsWrite held.config.addr message bytes)
 unfolding is_legal_hearing
-hears-write laws held message bytes Restart writes fits legal = inl (laws.writes_reach_one_cell.request held bytes).0
+hears-write laws held message bytes Restart writes fits legal = inl (laws.writes_reach_one_cell.request held bytes)
 hears-write laws held message bytes Stop writes fits legal = go (or_cases (starts_with eqb frame bytes) (is_betrayed [] bytes) legal) where
   frame : List ℕ
   frame = frame_of held.config.addr message
@@ -55,26 +55,26 @@ hears-write laws held message bytes Stop writes fits legal = go (or_cases (start
   is_frame = record { writes = writes; fits = fits; spelled = frame-write held.config.addr message writes }
 
   by_rest : (rest : List ℕ) → frame_of held.config.addr message ≡ bytes ++ rest →
-      (words_after held (Hearing bytes Stop) ≡ held.words) ⊎ ((Stop ≡ Stop) × IsWrite held.config.addr message bytes)
+      (kept_after held (Hearing bytes Stop) ≡ kept_in held) ⊎ ((Stop ≡ Stop) × IsWrite held.config.addr message bytes)
   by_rest [] e = inr (refl, subst (IsWrite held.config.addr message) (e ∙ append-nil bytes) is_frame)
   by_rest (x ∷ rest) e =
       let whole = laws.writes_are_exact.spelled held.config.addr message (frame_of held.config.addr message) is_frame in
       inl (laws.writes_reach_one_cell.faulty held bytes (laws.damage_is_refused.write_cut held.config.addr bytes (x ∷ rest)
-      (subst (λ l. write_fault held.config.addr l ≡ None) e whole) (λ same. cc))).0
+      (subst (λ l. write_fault held.config.addr l ≡ None) e whole) (λ same. cc)))
 
   go : (starts_with eqb (frame_of held.config.addr message) bytes ≡ true) ⊎ (is_betrayed [] bytes ≡ true) →
-      (words_after held (Hearing bytes Stop) ≡ held.words) ⊎ ((Stop ≡ Stop) × IsWrite held.config.addr message bytes)
+      (kept_after held (Hearing bytes Stop) ≡ kept_in held) ⊎ ((Stop ≡ Stop) × IsWrite held.config.addr message bytes)
   go (inl front) = by_rest (drop (length bytes) (frame_of held.config.addr message))
       (front-is (frame_of held.config.addr message) bytes front)
   go (inr wrong) =
-      inl (laws.writes_reach_one_cell.faulty held bytes (laws.betrayal_is_refused.write held.config.addr bytes wrong)).0
+      inl (laws.writes_reach_one_cell.faulty held bytes (laws.betrayal_is_refused.write held.config.addr bytes wrong))
 
--- a legal hearing of a request changes no word
+-- a legal hearing of a request changes nothing that is kept
 pub hears-request : Below → (held : Held) (addr : ℕ) (message : Message) (bytes : List ℕ) (ending : Ending) →
     (is_read_message message ≡ true) × (fits_layout message ≡ true) →
-    is_legal_hearing (frame_of addr message) bytes ending ≡ true → words_after held (Hearing bytes ending) ≡ held.words
+    is_legal_hearing (frame_of addr message) bytes ending ≡ true → kept_after held (Hearing bytes ending) ≡ kept_in held
 unfolding is_legal_hearing
-hears-request laws held addr message bytes Restart asks legal = (laws.writes_reach_one_cell.request held bytes).0
+hears-request laws held addr message bytes Restart asks legal = laws.writes_reach_one_cell.request held bytes
 hears-request laws held addr message bytes Stop (reads, fits) legal =
     go (or_cases (starts_with eqb (frame_of addr message) bytes) (is_betrayed [] bytes) legal)
   where
@@ -82,35 +82,41 @@ hears-request laws held addr message bytes Stop (reads, fits) legal =
     is_frame = record { reads = reads; fits = fits; spelled = frame-request addr message reads }
 
     go : (starts_with eqb (frame_of addr message) bytes ≡ true) ⊎ (is_betrayed [] bytes ≡ true) →
-        words_after held (Hearing bytes Stop) ≡ held.words
+        kept_after held (Hearing bytes Stop) ≡ kept_in held
     go (inl front) =
         let whole = laws.requests_are_exact.spelled addr message (frame_of addr message) is_frame in
-        (laws.writes_reach_one_cell.faulty held bytes
+        laws.writes_reach_one_cell.faulty held bytes
         (laws.damage_is_refused.request_written addr held.config.addr bytes (drop (length bytes) (frame_of addr message))
-        (subst (λ l. request_fault addr l ≡ None) (front-is (frame_of addr message) bytes front) whole))).0
-    go (inr wrong) = (laws.writes_reach_one_cell.faulty held bytes (laws.betrayal_is_refused.write held.config.addr bytes wrong)).0
+        (subst (λ l. request_fault addr l ≡ None) (front-is (frame_of addr message) bytes front) whole))
+    go (inr wrong) = laws.writes_reach_one_cell.faulty held bytes (laws.betrayal_is_refused.write held.config.addr bytes wrong)
 
 -- the payload of a write has the word
 payload-number : (voltage : Bool) (word : ℕ) → payload_word (cond voltage (Word word) (Byte word)) ≡ word
 payload-number true word = refl
 payload-number false word = refl
 
--- a whole write of a cell leaves the words, or gives that cell the word
-either : (b : Bool) (words new old : Words) → words ≡ cond b new old → (words ≡ old) ⊎ (words ≡ new)
-either true words new old e = inr e
-either false words new old e = inl e
+-- what is kept with other words
+abbrev pub with_words : Held → Words → Kept
+with_words held words = record (kept_in held) { words = words }
+
+-- a whole write of a cell leaves all, or gives that cell the word
+either : (held : Held) (b : Bool) (words : Words) (after : Kept) → after ≡ with_words held (cond b words held.words) →
+    (after ≡ kept_in held) ⊎ (after ≡ with_words held words)
+either held true words after e = inr e
+either held false words after e = inl e
 
 -- by either way of writing a cell
 pub cell-reached : Below → (held : Held) (cell : Cell) (word : ℕ) (bytes : List ℕ) → IsWrite held.config.addr (cell_write cell word) bytes →
-    (words_after held (Hearing bytes Stop) ≡ held.words) ⊎ (words_after held (Hearing bytes Stop) ≡ with_word held.words cell word)
+    (kept_after held (Hearing bytes Stop) ≡ kept_in held)
+    ⊎ (kept_after held (Hearing bytes Stop) ≡ with_words held (with_word held.words cell word))
 cell-reached laws held (Out output register) word bytes is =
     let found = laws.registers_are_in_the_table.found register output in
-    subst (λ w. (words_after held (Hearing bytes Stop) ≡ held.words) ⊎
-    (words_after held (Hearing bytes Stop) ≡ with_word held.words (Out output register) w))
+    subst (λ w. (kept_after held (Hearing bytes Stop) ≡ kept_in held) ⊎
+    (kept_after held (Hearing bytes Stop) ≡ with_words held (with_word held.words (Out output register) w)))
     (payload-number (is_voltage register) word)
-    (either _ _ _ _ (laws.writes_reach_one_cell.carried held output (register_code register) (register_payload register word)
-    (Out output register) bytes is found).0)
-cell-reached laws held Protect word bytes is = either _ _ _ _ (laws.writes_reach_one_cell.plain held word bytes is).0
+    (either held _ _ _ (laws.writes_reach_one_cell.carried held output (register_code register) (register_payload register word)
+    (Out output register) bytes is found))
+cell-reached laws held Protect word bytes is = either held _ _ _ (laws.writes_reach_one_cell.plain held word bytes is)
 
 -- a write that a converter takes: its cell is there and accepts the word, and WRITE_PROTECT allows its
 -- code
@@ -134,13 +140,13 @@ pub whole-write : Below → (held : Held) (cell : Cell) (word : ℕ) (bytes : Li
 whole-write laws held (Out output register) word bytes can is =
     let same = payload-number (is_voltage register) word in
     let found = laws.registers_are_in_the_table.found register output in
-    (laws.writes_reach_one_cell.carried held output (register_code register) (register_payload register word) (Out output register) bytes
-    is found).0
+    ap (λ (k : Kept). k.words) (laws.writes_reach_one_cell.carried held output (register_code register) (register_payload register word)
+    (Out output register) bytes is found)
     ∙ (all_three _ _ _ _ _ (lt-ltb output held.config.count can.there) can.allowed
     (ap (cell_accepts (Out output register)) same ∙ can.accepted)
     ∙ ap (with_word held.words (Out output register)) same)
 whole-write laws held Protect word bytes can is =
-    (laws.writes_reach_one_cell.plain held word bytes is).0 ∙ both _ _ _ _ can.allowed can.accepted
+    ap (λ (k : Kept). k.words) (laws.writes_reach_one_cell.plain held word bytes is) ∙ both _ _ _ _ can.allowed can.accepted
 
 -- the write of a cell is a write, and its frame spells it
 pub write-kind : (cell : Cell) (word : ℕ) → is_read_message (cell_write cell word) ≡ false
@@ -159,6 +165,6 @@ pub legal-write : Below → (held : Held) (cell : Cell) (word : ℕ) (bytes : Li
     (words_after held (Hearing bytes ending) ≡ held.words) ⊎ (words_after held (Hearing bytes ending) ≡ with_word held.words cell word)
 legal-write laws held cell word bytes ending can legal =
     elim (hears-write laws held (cell_write cell word) bytes ending (write-kind cell word) can.fits legal) [
-      | inl same ↦ inl same
+      | inl same ↦ inl (ap (λ (k : Kept). k.words) same)
       | inr (stop, is) ↦ inr (ap (λ e. words_after held (Hearing bytes e)) stop ∙ whole-write laws held cell word bytes can is)
     ]

@@ -1,20 +1,27 @@
 -- A word that the host calls confirmed is the converter's, event by event.
-use Rattle.std.proofs.Common.{◌≡◌, ◌⊎◌, inl, inr, ℕ, Bool, true, false, cond, ◌||◌, List, [], ◌∷◌, ◌++◌, Option, Some, None, IsSome}
+use Rattle.std.proofs.Common.{◌≡◌, inl, inr, ℕ, Bool, true, false, cond, ◌||◌, List, [], ◌∷◌, ◌++◌, Option, Some, None}
 use Rattle.std.proofs.Common.{option_map, refl, sym, ◌∙◌, ap, subst}
 use Rattle.std.specs.Prelude.{option_to_list}
-use Rattle.std.specs.Option.{option_map_or}
+use Rattle.std.specs.Option.{option_and_then, option_map_or}
 use Rattle.std.proofs.lemmas.Option.{none-some, same_Some}
+use Rattle.pm_table.specs.declared.cell.Reg.{Reg}
 use Rattle.pm_table.specs.declared.cell.Cell.{Cell}
+use Rattle.pm_table.specs.declared.cell.Cell.TheVariants.{Out, Protect}
 use Rattle.pm_table.specs.Cell.{cell_accepts, IsCell, same_cell}
 use Rattle.pm_frame.specs.declared.message.Message.{Message}
 use Rattle.pm_frame.specs.Layout.{fits_layout}
-use Rattle.pm_model.specs.declared.pending_order.PendingOrder.{PendingOrder}
-use Rattle.pm_model.specs.OrderMachine.{ordered, with_order}
-use Rattle.pm_model.specs.Settings.{Words, AreWords, word_at, with_word}
+use Rattle.pm_model.specs.declared.pending_job.PendingJob.{PendingJob}
+use Rattle.pm_model.specs.declared.pending_job.PendingJob.TheVariants as pending
+use Rattle.pm_model.specs.OrderMachine.{words_taken}
+use Rattle.pm_model.specs.Settings.{Words, AreWords, word_at, with_outputs, with_word}
 use Rattle.pm_device.specs.declared.config.Config.{Config}
+use Rattle.pm_device.specs.Held.{Held}
 use Rattle.pm_device.specs.History.{now as device_now, next as device_next, after as device_by}
+use Rattle.pm_host.specs.declared.command.Command.{Command}
+use Rattle.pm_host.specs.declared.command.Command.TheVariants.{ClearFaults, StoreUserAll, RestoreUserAll}
+use Rattle.pm_host.specs.declared.possible.Possible.TheVariants.{Any}
 use Rattle.pm_host.specs.declared.stage.Stage.{Stage}
-use Rattle.pm_host.specs.declared.stage.Stage.TheVariants.{Writes, Reads}
+use Rattle.pm_host.specs.declared.stage.Stage.TheVariants.{Writes, Reads, Sends}
 use Rattle.pm_host.specs.declared.standing.Standing.TheVariants.{Confirmed, Unknown}
 use Rattle.pm_host.specs.Answers.{good_payload, good_word, word_in}
 use Rattle.pm_host.specs.Marks.{read_by, marks}
@@ -29,28 +36,41 @@ use Rattle.pm_world.specs.Below.{Below}
 use Rattle.pm_world.specs.declared.event.Arrival.{Arrival}
 use Rattle.pm_world.specs.declared.event.Back.{Back}
 use Rattle.pm_world.specs.declared.event.Event.{Event}
-use Rattle.pm_world.specs.declared.event.Event.TheVariants.{Deliver, Exchange, RestartDevice, RestartHost}
+use Rattle.pm_world.specs.declared.event.Event.TheVariants.{Deliver, Finish, Exchange, RestartDevice, RestartHost}
 use Rattle.pm_world.specs.Confirmed.{reads_cell, restarts_converter, restarted_since, ConfirmedIsHeld}
 use Rattle.pm_world.specs.Legal.{back_bytes}
 use Rattle.pm_world.specs.Life.{life, now, state_of}
+use Rattle.pm_world.specs.Retelling.{command_pending, pending_of}
 use Rattle.pm_world.specs.Setup.{setup_of}
 use Rattle.pm_world.specs.State.{State, asked, share_of, share_beside, tells, exchanged, delivered, device_after, next, event_cause}
 use Rattle.pm_world.specs.State.{exchange_cause, answer_to}
 use Rattle.pm_world.proofs.Causes.{asked-restarts}
 use Rattle.pm_world.proofs.Learned.{from_some}
 use Rattle.pm_world.proofs.Lives.{IsLived, earlier, newest, entries-more, life-told, now-next}
-use Rattle.pm_world.proofs.OpenOrders.{stage_order}
-use Rattle.pm_world.proofs.OrderEvents.{delivered-words, exchanged-words}
+use Rattle.pm_world.proofs.OpenOrders.{pending-of_stage, stage_pending}
+use Rattle.pm_world.proofs.OrderEvents.{delivered-takes, exchanged-stays, Takes}
 use Rattle.pm_world.proofs.ReadBack.{reads-cell, read-word}
 use Rattle.pm_world.proofs.Sending.{eight, told-nothing}
-use Rattle.pm_world.proofs.Standings.{IsKnown, IsKnownAfter, ReadsTrue, same-cells, accepted-known, got-known, restarted-known}
+use Rattle.pm_world.proofs.Standings.{IsKnown, IsKnownAfter, ReadsTrue, same-cells, accepted-known, finished-known, got-known}
+use Rattle.pm_world.proofs.Standings.{restarted-known as host_restarted-known}
 use Rattle.pm_world.proofs.TrueHost.{good-same}
 
 -- the order that is open: its word is possible, and no word of its cell is confirmed
-pub record IsPending (setup : host.Setup) (entries : List host.Entry) (order : PendingOrder) : Type 0 where
-  pub there : IsCell 8 order.cell
-  pub unknown : standing_of (marks setup entries) order.cell ≡ Unknown
-  pub possible : is_possible order.word (possible_of (marks setup entries) order.cell) ≡ true
+pub record IsOrdered (setup : host.Setup) (entries : List host.Entry) (cell : Cell) (word : ℕ) : Type 0 where
+  pub there : IsCell 8 cell
+  pub unknown : standing_of (marks setup entries) cell ≡ Unknown
+  pub possible : is_possible word (possible_of (marks setup entries) cell) ≡ true
+
+-- the restore that is open: any word is possible for each output's cell, and none is confirmed
+pub record IsRestoring (setup : host.Setup) (entries : List host.Entry) : Type 0 where
+  pub unknown : (output : ℕ) (register : Reg) → standing_of (marks setup entries) (Out output register) ≡ Unknown
+  pub possible : (output : ℕ) (register : Reg) → possible_of (marks setup entries) (Out output register) ≡ Any
+
+-- what is known while a job is open; a store changes no word of a cell
+abbrev pub IsPending : host.Setup → List host.Entry → PendingJob → Type 0
+IsPending setup entries (pending.Order cell word) = IsOrdered setup entries cell word
+IsPending setup entries pending.Store = Unit {0}
+IsPending setup entries pending.Restore = IsRestoring setup entries
 
 -- what is known of a world and of what its host was told
 pub record Knows (s : State) (setup : host.Setup) (entries : List host.Entry) : Type 0 where
@@ -61,8 +81,9 @@ pub record Knows (s : State) (setup : host.Setup) (entries : List host.Entry) : 
       (sending_in s.host ≡ Some (cell_read read)) × IsCell s.device.config.count read
   pub accepted : (cell : Cell) → IsCell s.device.config.count cell → cell_accepts cell (word_at s.device.words cell) ≡ true
   pub fits : (message : Message) → sending_in s.host ≡ Some message → fits_layout message ≡ true
-  pub pending : (order : PendingOrder) → stage_order s.host.stage ≡ Some order → IsPending setup entries order
+  pub pending : (job : PendingJob) → stage_pending s.host.stage ≡ Some job → IsPending setup entries job
   pub are : AreWords s.device.words
+  pub stored : AreWords s.device.store
 
 -- a good answer that is legal has the cell's word
 good-read : Below → {s : State} {setup : host.Setup} {entries : List host.Entry} {word : ℕ} (arrival : Arrival) (back : Back)
@@ -104,55 +125,77 @@ exchange-known laws arrival back None knows e free so_far = cc
 exchange-known laws {s = s} {setup = setup} {entries = entries} {cell = cell} {restarted = restarted} arrival back (Some message) knows e
     free so_far =
     subst (λ (w : Words). IsKnownAfter setup entries cell restarted (exchanged s arrival back (Some message)).told w)
-    (sym (exchanged-words laws s arrival back (Some message) (λ m is. knows.fits m (e ∙ is)) free))
+    (sym (exchanged-stays laws s arrival back (Some message) (λ m is. knows.fits m (e ∙ is)) free).words)
     (got-known laws setup entries (back_bytes (answer_to s.device s.host.setup.addr message arrival) back)
     (reads-true laws arrival back message knows e free) so_far)
 
--- a delivery: the words stay, or the open order's cell gets its word, which is possible and not confirmed
+-- an order that takes: its cell gets its word, which is possible and not confirmed
 written-known : Below → {s : State} {setup : host.Setup} {entries : List host.Entry} {cell : Cell} {restarted : Bool}
-    (order : PendingOrder) → Knows s setup entries → IsCell 8 cell →
-    stage_order s.host.stage ≡ Some order → IsKnown (marks setup entries) cell restarted s.device.words →
-    IsKnown (marks setup entries) cell restarted (with_word s.device.words order.cell order.word)
-written-known laws {s = s} {setup = setup} {entries = entries} {cell = cell} {restarted = restarted} order knows there pending so_far =
-    by_cell (same_cell order.cell cell) refl where
-      is : IsPending setup entries order
-      is = knows.pending order pending
+    (ordered : Cell) (word : ℕ) → Knows s setup entries → IsCell 8 cell →
+    IsOrdered setup entries ordered word → IsKnown (marks setup entries) cell restarted s.device.words →
+    IsKnown (marks setup entries) cell restarted (with_word s.device.words ordered word)
+written-known laws {s = s} {setup = setup} {entries = entries} {cell = cell} {restarted = restarted} ordered word knows there is so_far =
+    by_cell (same_cell ordered cell) refl where
+      has : word_at (with_word s.device.words ordered word) cell ≡ cond (same_cell ordered cell) word (word_at s.device.words cell)
+      has = laws.settings_are_a_map.read s.device.words ordered cell word knows.are is.there there
 
-      has : word_at (with_word s.device.words order.cell order.word) cell
-          ≡ cond (same_cell order.cell cell) order.word (word_at s.device.words cell)
-      has = laws.settings_are_a_map.read s.device.words order.cell cell order.word knows.are is.there there
-
-      by_cell : (b : Bool) → same_cell order.cell cell ≡ b →
-          IsKnown (marks setup entries) cell restarted (with_word s.device.words order.cell order.word)
+      by_cell : (b : Bool) → same_cell ordered cell ≡ b →
+          IsKnown (marks setup entries) cell restarted (with_word s.device.words ordered word)
       by_cell true e = record {
-        held = λ word confirmed fresh.
-            let both : Unknown ≡ Confirmed word = sym is.unknown
-            ∙ (ap (standing_of (marks setup entries)) (same-cells laws order.cell cell e) ∙ confirmed) in cc;
+        held = λ found confirmed fresh.
+            let both : Unknown ≡ Confirmed found = sym is.unknown
+            ∙ (ap (standing_of (marks setup entries)) (same-cells laws ordered cell e) ∙ confirmed) in cc;
         among = λ fresh.
             ap (λ w. is_possible w (possible_of (marks setup entries) cell))
-            (has ∙ ap (λ b. cond b order.word (word_at s.device.words cell)) e)
-            ∙ (ap (λ c. is_possible order.word (possible_of (marks setup entries) c)) (sym (same-cells laws order.cell cell e))
+            (has ∙ ap (λ b. cond b word (word_at s.device.words cell)) e)
+            ∙ (ap (λ c. is_possible word (possible_of (marks setup entries) c)) (sym (same-cells laws ordered cell e))
             ∙ is.possible);
       }
       by_cell false e =
-          let left = has ∙ ap (λ b. cond b order.word (word_at s.device.words cell)) e in
+          let left = has ∙ ap (λ b. cond b word (word_at s.device.words cell)) e in
           record {
-            held = λ word confirmed fresh. left ∙ so_far.held word confirmed fresh;
+            held = λ found confirmed fresh. left ∙ so_far.held found confirmed fresh;
             among = λ fresh. ap (λ w. is_possible w (possible_of (marks setup entries) cell)) left ∙ so_far.among fresh;
           }
 
--- the open order takes, or nothing does
-taken-known : Below → {s : State} {setup : host.Setup} {entries : List host.Entry} {cell : Cell} {restarted : Bool} (words : Words)
-    (order : Option PendingOrder) → Knows s setup entries → IsCell 8 cell →
-    stage_order s.host.stage ≡ order → (words ≡ s.device.words) ⊎ (IsSome order × (words ≡ with_order s.device.words order)) →
-    IsKnown (marks setup entries) cell restarted s.device.words → IsKnown (marks setup entries) cell restarted words
-taken-known laws {setup = setup} {entries = entries} {cell = cell} {restarted = restarted} words order knows there pending (inl e) so_far =
-    subst (IsKnown (marks setup entries) cell restarted) (sym e) so_far
-taken-known laws words None knows there pending (inr (some, e)) so_far = cc
-taken-known laws {setup = setup} {entries = entries} {cell = cell} {restarted = restarted} words (Some order) knows there pending
-    (inr (some, e)) so_far =
-    subst (IsKnown (marks setup entries) cell restarted) (sym e)
-    (written-known laws order knows there pending so_far)
+-- a restore that takes: an output's cell gets its word in the store, where any word is possible and none is confirmed
+restored-known : Below → {s : State} {setup : host.Setup} {entries : List host.Entry} (cell : Cell) {restarted : Bool} →
+    Knows s setup entries → IsRestoring setup entries → IsKnown (marks setup entries) cell restarted s.device.words →
+    IsKnown (marks setup entries) cell restarted (with_outputs s.device.words s.device.store)
+restored-known laws {s = s} {setup = setup} {entries = entries} (Out output register) knows is so_far = record {
+  held = λ found confirmed fresh.
+      let both : Unknown ≡ Confirmed found = sym (is.unknown output register) ∙ confirmed in cc;
+  among = λ fresh.
+      ap (is_possible (word_at (with_outputs s.device.words s.device.store) (Out output register))) (is.possible output register);
+}
+restored-known laws {s = s} {setup = setup} {entries = entries} Protect knows is so_far =
+    let left = laws.settings_are_a_map.protect s.device.words s.device.store knows.stored in
+    record {
+      held = λ found confirmed fresh. left ∙ so_far.held found confirmed fresh;
+      among = λ fresh. ap (λ w. is_possible w (possible_of (marks setup entries) Protect)) left ∙ so_far.among fresh;
+    }
+
+-- the open job takes
+took-known : Below → {s : State} {setup : host.Setup} {entries : List host.Entry} {cell : Cell} {restarted : Bool}
+    (job : Option PendingJob) → Knows s setup entries → IsCell 8 cell →
+    stage_pending s.host.stage ≡ job → IsKnown (marks setup entries) cell restarted s.device.words →
+    IsKnown (marks setup entries) cell restarted (words_taken s.device.words s.device.store job)
+took-known laws None knows there is so_far = so_far
+took-known laws (Some (pending.Order ordered word)) knows there is so_far =
+    written-known laws ordered word knows there (knows.pending (pending.Order ordered word) is) so_far
+took-known laws (Some pending.Store) knows there is so_far = so_far
+took-known laws {cell = cell} (Some pending.Restore) knows there is so_far =
+    restored-known laws cell knows (knows.pending pending.Restore is) so_far
+
+-- or nothing does
+taken-known : Below → {s : State} {setup : host.Setup} {entries : List host.Entry} {cell : Cell} {restarted : Bool} (new : Held) →
+    Knows s setup entries → IsCell 8 cell → Takes s new →
+    IsKnown (marks setup entries) cell restarted s.device.words → IsKnown (marks setup entries) cell restarted new.words
+taken-known laws {setup = setup} {entries = entries} {cell = cell} {restarted = restarted} new knows there (inl same) so_far =
+    subst (IsKnown (marks setup entries) cell restarted) (sym same.words) so_far
+taken-known laws {s = s} {setup = setup} {entries = entries} {cell = cell} {restarted = restarted} new knows there (inr took) so_far =
+    subst (IsKnown (marks setup entries) cell restarted) (sym took.words)
+    (took-known laws (stage_pending s.host.stage) knows there refl so_far)
 
 -- a delivery leaves what is known
 deliver-known : Below → {s : State} {setup : host.Setup} {entries : List host.Entry} {cell : Cell} {restarted : Bool}
@@ -164,8 +207,8 @@ deliver-known laws {s = s} {setup = setup} {entries = entries} {cell = cell} {re
     subst (λ told. IsKnownAfter setup entries cell restarted told
     (device_after s.device (delivered s arrival (sending_in s.host)).heard).words)
     (sym (told-nothing s arrival (sending_in s.host)))
-    (taken-known laws _ (stage_order s.host.stage) knows there refl
-    (delivered-words laws s arrival (sending_in s.host) knows.addr refl knows.fits free) so_far)
+    (taken-known laws (device_after s.device (delivered s arrival (sending_in s.host)).heard) knows there
+    (delivered-takes laws s arrival (sending_in s.host) knows.addr refl knows.fits free) so_far)
 
 -- one event that asks for no job
 beside-known : Below → {s : State} (event : Event) {setup : host.Setup} {entries : List host.Entry} {cell : Cell} {restarted : Bool} →
@@ -178,10 +221,12 @@ beside-known laws (Deliver arrival) knows there free so_far =
     deliver-known laws arrival knows there free so_far
 beside-known laws {s = s} (Exchange arrival back) knows there free so_far =
     exchange-known laws arrival back (sending_in s.host) knows refl free so_far
+beside-known laws {s = s} (Finish acked) {setup = setup} {entries = entries} {cell = cell} {restarted = restarted} knows there free so_far =
+    finished-known laws setup entries cell restarted s.device.words acked so_far
 beside-known laws RestartDevice knows there free so_far =
     record { held = λ word confirmed fresh. cc; among = λ fresh. cc }
 beside-known laws {s = s} RestartHost {setup = setup} {entries = entries} {cell = cell} {restarted = restarted} knows there free so_far =
-    restarted-known setup entries cell restarted s.device.words
+    host_restarted-known setup entries cell restarted s.device.words
 beside-known laws _ knows there free so_far = so_far
 
 -- one event
@@ -198,7 +243,7 @@ event-known laws {s = s} event {setup = setup} {entries = entries} {cell = cell}
       go None is = beside-known laws event knows there free so_far
       go (Some job) is =
           subst (λ b. IsKnownAfter setup entries cell (b || restarted) (Some (host.Accepted job)) s.device.words)
-          (sym (asked-restarts s event job is)) (accepted-known setup entries cell restarted s.device.words job so_far)
+          (sym (asked-restarts s event job is)) (accepted-known laws setup entries cell restarted s.device.words job so_far)
 
 -- the read that an open job sends
 read-sent : (setup : host.Setup) (s : Summary) (job : Option host.Job) (told : List host.Entry) (read : Cell) →
@@ -217,21 +262,67 @@ read-sent setup s (Some (host.Check cell)) told read e is =
 read-sent setup s job told read e is = absurd (none-some read e)
 
 -- the order of a stage
-stage-ordering : (s : Summary) (stage : Option Stage) (order : PendingOrder) → IsStage s stage → stage_order stage ≡ Some order →
-    IsCell s.setup.outputs order.cell × (standing_at s order.cell ≡ Unknown) × (is_possible order.word (possible_at s order.cell) ≡ true)
-stage-ordering s stage order is e = by_stage stage is e where
-  by_order : (cell : Cell) (word pass : ℕ) → IsOrdering s cell word pass → Some (ordered cell word) ≡ Some order →
-      IsCell s.setup.outputs order.cell × (standing_at s order.cell ≡ Unknown) × (is_possible order.word (possible_at s order.cell) ≡ true)
-  by_order cell word pass is e =
-      subst (λ (o : PendingOrder). IsCell s.setup.outputs o.cell × (standing_at s o.cell ≡ Unknown) ×
-      (is_possible o.word (possible_at s o.cell) ≡ true))
-      (same_Some (ordered cell word) order e) (is.there, is.unknown, is.possible)
+stage-ordering : (s : Summary) (stage : Option Stage) (cell : Cell) (word : ℕ) → IsStage s stage →
+    stage_pending stage ≡ Some (pending.Order cell word) →
+    IsCell s.setup.outputs cell × (standing_at s cell ≡ Unknown) × (is_possible word (possible_at s cell) ≡ true)
+stage-ordering s stage cell word is e = by_stage stage is e where
+  Says : Cell → ℕ → Type 0
+  Says c w = IsCell s.setup.outputs c × (standing_at s c ≡ Unknown) × (is_possible w (possible_at s c) ≡ true)
 
-  by_stage : (stage : Option Stage) → IsStage s stage → stage_order stage ≡ Some order →
-      IsCell s.setup.outputs order.cell × (standing_at s order.cell ≡ Unknown) × (is_possible order.word (possible_at s order.cell) ≡ true)
-  by_stage (Some (Writes cell word pass)) is e = by_order cell word pass is e
-  by_stage (Some (Reads cell word pass)) is e = by_order cell word pass is e
-  by_stage stage is e = absurd (none-some order e)
+  by_order : (c : Cell) (w pass : ℕ) → IsOrdering s c w pass → Some (pending.Order c w) ≡ Some (pending.Order cell word) → Says cell word
+  by_order c w pass is e =
+      let same : (c ≡ cell) × (w ≡ word) = (cc, cc) in
+      subst (λ x. Says x word) same.0 (subst (Says c) same.1 (is.there, is.unknown, is.possible))
+
+  by_command : (sent : Command) → command_pending sent ≡ Some (pending.Order cell word) → Says cell word
+  by_command (ClearFaults output) e = cc
+  by_command StoreUserAll e = cc
+  by_command RestoreUserAll e = cc
+
+  by_stage : (stage : Option Stage) → IsStage s stage → stage_pending stage ≡ Some (pending.Order cell word) → Says cell word
+  by_stage (Some (Writes c w pass)) is e = by_order c w pass is e
+  by_stage (Some (Reads c w pass)) is e = by_order c w pass is e
+  by_stage (Some (Sends sent tries)) is e = by_command sent e
+  by_stage stage is e = absurd (none-some (pending.Order cell word) e)
+
+-- the job that is a restore
+restoring-job : (job : Option host.Job) → option_and_then pending_of job ≡ Some pending.Restore →
+    job ≡ Some (host.Send RestoreUserAll)
+restoring-job None e = cc
+restoring-job (Some (host.Order cell word)) e = cc
+restoring-job (Some (host.Check cell)) e = cc
+restoring-job (Some (host.Learn output)) e = cc
+restoring-job (Some (host.Send (ClearFaults output))) e = cc
+restoring-job (Some (host.Send StoreUserAll)) e = cc
+restoring-job (Some (host.Send RestoreUserAll)) e = refl
+
+-- what is known while a job is open
+job-known : Below → (config : Config) (passes : ℕ) (events : List Event) → IsLived config passes events → (job : PendingJob) →
+    stage_pending (host_now (setup_of config passes) (life config passes events).entries).stage ≡ Some job →
+    IsPending (setup_of config passes) (life config passes events).entries job
+unfolding host_now stage_of
+job-known laws config passes events lived (pending.Order cell word) e =
+    let setup = setup_of config passes in
+    let entries = (life config passes events).entries in
+    let told = life-told config passes events lived.legal in
+    let is = laws.transcripts_are_followed.sound setup entries lived.made told in
+    let at = stage-ordering (host_now setup entries) (host_now setup entries).stage cell word is.stage e in
+    let there = eight config.count cell lived.sound.few at.0 in
+    record {
+      there = there;
+      unknown = sym (laws.transcripts_are_followed.standing setup entries cell there) ∙ at.1;
+      possible = ap (is_possible word) (sym (laws.transcripts_are_followed.possible setup entries cell there)) ∙ at.2;
+    }
+job-known laws config passes events lived pending.Store e = tt
+job-known laws config passes events lived pending.Restore e =
+    let setup = setup_of config passes in
+    let entries = (life config passes events).entries in
+    let told = life-told config passes events lived.legal in
+    let open' = restoring-job (host.open_job setup entries) (sym (pending-of_stage setup entries) ∙ e) in
+    record {
+      unknown = λ output register. laws.open_restores_are_uncertain.unknown setup entries output register told open';
+      possible = λ output register. laws.open_restores_are_uncertain.possible setup entries output register told open';
+    }
 
 -- what is known holds after each life
 pub knows : Below → (config : Config) (passes : ℕ) (events : List Event) → IsLived config passes events →
@@ -251,15 +342,9 @@ knows laws config passes events lived =
       fits = λ message e. laws.frames_are_named.fits setup message
           (laws.frames_are_named.named setup entries message lived.made told
           (sym (laws.transcripts_are_followed.sending setup entries) ∙ e));
-      pending = λ order e.
-          let at = stage-ordering (host_now setup entries) (host_now setup entries).stage order is.stage e in
-          let there = eight config.count order.cell lived.sound.few at.0 in
-          record {
-            there = there;
-            unknown = sym (laws.transcripts_are_followed.standing setup entries order.cell there) ∙ at.1;
-            possible = ap (is_possible order.word) (sym (laws.transcripts_are_followed.possible setup entries order.cell there)) ∙ at.2;
-          };
+      pending = job-known laws config passes events lived;
       are = laws.pasts_are_followed.words config past;
+      stored = laws.pasts_are_followed.store config past;
     }
 
 -- the look back after one more event

@@ -61,6 +61,18 @@ restart-is : (ending : Ending) → is_restart ending ≡ true → ending ≡ Res
 restart-is Stop h = cc
 restart-is Restart h = refl
 
+-- bytes that are the answer to a request which was heard whole
+pub whole-same : (held : Held) (frame heard : List ℕ) (ending : Ending) (bytes : List ℕ) →
+    (is_heard_whole frame heard ending && bytes_eq bytes (answer_in (reply_of held heard ending))) ≡ true →
+    bytes ≡ answer_in (reply_of held frame Restart)
+whole-same held frame heard ending bytes same =
+    let answer = answer_in (reply_of held heard ending) in
+    let parts = and_parts (is_heard_whole frame heard ending) (bytes_eq bytes answer) same in
+    let whole = and_parts (is_restart ending) (bytes_eq heard frame) parts.0 in
+    (bytes_eq-Decides bytes answer).0 parts.1
+    ∙ (ap (λ e. answer_in (reply_of held heard e)) (restart-is ending whole.0)
+    ∙ ap (λ b. answer_in (reply_of held b Restart)) ((bytes_eq-Decides heard frame).0 whole.1))
+
 -- a good answer whose return is legal is the converter's to the whole request
 pub legal-good : Below → (held : Held) (addr : ℕ) (request : Message) (heard : List ℕ) (ending : Ending) {bytes : List ℕ} →
     (is_read_message request ≡ true)
@@ -73,12 +85,7 @@ legal-good laws held addr request heard ending {bytes = bytes} (reads, legal) fr
     let answer = answer_in (reply_of held heard ending) in
     elim (or_cases (is_heard_whole frame heard ending && bytes_eq bytes answer)
     (nat_lt (length bytes) (whole_answer request) || is_betrayed frame bytes) legal) [
-      | inl same ↦
-          let parts = and_parts (is_heard_whole frame heard ending) (bytes_eq bytes answer) same in
-          let whole = and_parts (is_restart ending) (bytes_eq heard frame) parts.0 in
-          (bytes_eq-Decides bytes answer).0 parts.1
-          ∙ (ap (λ e. answer_in (reply_of held heard e)) (restart-is ending whole.0)
-          ∙ ap (λ b. answer_in (reply_of held b Restart)) ((bytes_eq-Decides heard frame).0 whole.1))
+      | inl same ↦ whole-same held frame heard ending bytes same
       | inr damaged ↦
           elim (or_cases (nat_lt (length bytes) (whole_answer request)) (is_betrayed frame bytes) damaged) [
             | inl short ↦ absurd (laws.damage_is_refused.answer_short addr request bytes
@@ -120,7 +127,7 @@ pub is_request : (addr : ℕ) (request : Message) → is_read_message request �
 is_request addr request reads fits = record { reads = reads; fits = fits; spelled = frame-request addr request reads }
 
 -- some output is DIRECT where this one is
-direct-found : (starts : List OutputStart) (count output : ℕ) → output < count →
+pub direct-found : (starts : List OutputStart) (count output : ℕ) → output < count →
     mode_of (get_or (map (λ s. s.mode) starts) output 0) ≡ Ok Direct →
     list_any (λ s. is_direct (mode_of s.mode)) (take count starts) ≡ true
 direct-found [] count output below h = cc

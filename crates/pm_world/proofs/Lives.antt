@@ -23,28 +23,20 @@ use Rattle.pm_world.specs.declared.event.Back.{Back}
 use Rattle.pm_world.specs.declared.stop.Cause.TheVariants.{WrongKind}
 use Rattle.pm_world.specs.Setup.{setup_of, start}
 use Rattle.pm_world.specs.State.{State, Share, asked, share_of, share_beside, tells, delivered, exchanged, shared, counted, next, end_by}
-use Rattle.pm_world.specs.State.{end_after, host_after, device_after, HasWord, rule, event_cause, finish_cause, exchange_cause, IsTaken}
+use Rattle.pm_world.specs.State.{end_after, host_after, device_after, rule, event_cause, finish_cause, exchange_cause, IsTaken}
 use Rattle.pm_world.proofs.Causes.{or-none, rule-none, not-false, taken-free, job-free}
 use Rattle.pm_world.proofs.Ends.{state}
+use Rattle.pm_world.specs.Uncertainty.{AreLegal}
 use Rattle.pm_world.specs.Life.{Life, state_of, lived, life, now, AreTaken, after_all, AreTakenFrom}
 
 -- events that a world of this configuration lived through: nothing but their number may be against one
-pub record IsLegal (s : State) (event : Event) : Type 0 where
-  pub free : event_cause s event ≡ None
-  pub word : HasWord s event
-
--- each of the events is legal
-abbrev pub AreLegal : Config → ℕ → List Event → Type 0
-AreLegal config passes [] = Unit {0}
-AreLegal config passes (event ∷ before) = IsLegal (now config passes before) event × AreLegal config passes before
-
 pub record IsLived (config : Config) (passes : ℕ) (events : List Event) : Type 0 where
   pub sound : IsSound config
   pub made : IsSetup (setup_of config passes)
   pub legal : AreLegal config passes events
 
 -- events that were taken are legal
-are-legal : (config : Config) (passes : ℕ) (events : List Event) → AreTaken config passes events → AreLegal config passes events
+pub are-legal : (config : Config) (passes : ℕ) (events : List Event) → AreTaken config passes events → AreLegal config passes events
 are-legal config passes [] taken = tt
 are-legal config passes (event ∷ before) (taken, all) =
     (record { free = taken-free (now config passes before) event taken; word = taken.word }, are-legal config passes before all)

@@ -1,4 +1,4 @@
--- The order that is open, event by event.
+-- The order, store or restore that is open, event by event.
 use Rattle.std.proofs.Common.{◌≡◌, ◌⊎◌, inl, inr, ℕ, ◌+◌, Bool, true, false, cond, eqb, List, Option, Some, None, refl, sym}
 use Rattle.std.specs.Prelude.{Result, Ok, Err}
 use Rattle.std.specs.Option.{option_and_then, option_map}
@@ -11,8 +11,8 @@ use Rattle.pm_table.specs.declared.vout_mode.VoutMode.{VoutMode}
 use Rattle.pm_table.specs.declared.vout_mode.VoutMode.TheVariants.{Linear, Direct}
 use Rattle.pm_table.specs.VoutMode.{mode_of}
 use Rattle.pm_table.specs.Format.{shape_in}
-use Rattle.pm_model.specs.declared.pending_order.PendingOrder.{PendingOrder}
-use Rattle.pm_model.specs.OrderMachine.{ordered}
+use Rattle.pm_model.specs.declared.pending_job.PendingJob.{PendingJob}
+use Rattle.pm_model.specs.declared.pending_job.PendingJob.TheVariants as pending
 use Rattle.pm_device.specs.declared.config.Config.{Config}
 use Rattle.pm_host.specs.declared.stage.Stage.{Stage}
 use Rattle.pm_host.specs.declared.stage.Stage.TheVariants.{Writes, Reads, Checks, AsksMode, AsksCoefficients, Sends}
@@ -22,104 +22,106 @@ use Rattle.pm_host.specs.declared.job_end.JobEnd.TheVariants.{Done, Differs, Unk
 use Rattle.pm_host.specs.Marks.{Good}
 use Rattle.pm_host.specs.Now.{now as host_now, stage_of, job_stage}
 use Rattle.pm_host.specs.Summary.{Summary, another, learned, read_back, checked, mode_taken, mode_answered, coefficients_answered, finished}
-use Rattle.pm_host.specs.Summary.{answered, marked, writes, ends, goes_on}
+use Rattle.pm_host.specs.Summary.{answered, marked, writes, ends, goes_on, sends}
 use Rattle.pm_host.specs.Transcript as host
 use Rattle.pm_world.specs.declared.event.Event.{Event}
 use Rattle.pm_world.specs.Life.{life, now, state_of}
-use Rattle.pm_world.specs.Retelling.{order_of, open_order}
+use Rattle.pm_world.specs.Retelling.{command_pending, pending_of, open_pending}
 use Rattle.pm_world.specs.Setup.{setup_of}
 
--- the order of a stage
-abbrev pub stage_order : Option Stage → Option PendingOrder
-stage_order (Some (Writes cell word pass)) = Some (ordered cell word)
-stage_order (Some (Reads cell word pass)) = Some (ordered cell word)
-stage_order stage = None
+-- the order, store or restore of a stage
+abbrev pub stage_pending : Option Stage → Option PendingJob
+stage_pending (Some (Writes cell word pass)) = Some (pending.Order cell word)
+stage_pending (Some (Reads cell word pass)) = Some (pending.Order cell word)
+stage_pending (Some (Sends command tries)) = command_pending command
+stage_pending stage = None
 
--- it is the order of the open job
-order-of_stage : (setup : host.Setup) (entries : List host.Entry) →
-    stage_order (host_now setup entries).stage ≡ option_and_then order_of (host.open_job setup entries)
+-- it is that of the open job
+pub pending-of_stage : (setup : host.Setup) (entries : List host.Entry) →
+    stage_pending (host_now setup entries).stage ≡ option_and_then pending_of (host.open_job setup entries)
 unfolding host_now stage_of
-order-of_stage setup entries = go (host.open_job setup entries) where
+pending-of_stage setup entries = go (host.open_job setup entries) where
   by_turn : (b : Bool) (cell : Cell) (word n : ℕ) →
-      stage_order (Some (cond b (Writes cell word n) (Reads cell word n))) ≡ Some (ordered cell word)
+      stage_pending (Some (cond b (Writes cell word n) (Reads cell word n))) ≡ Some (pending.Order cell word)
   by_turn true cell word n = refl
   by_turn false cell word n = refl
 
-  by_mode : (b : Bool) (output m n : ℕ) → stage_order (Some (cond b (AsksCoefficients output m) (AsksMode output n))) ≡ None
+  by_mode : (b : Bool) (output m n : ℕ) → stage_pending (Some (cond b (AsksCoefficients output m) (AsksMode output n))) ≡ None
   by_mode true output m n = refl
   by_mode false output m n = refl
 
-  go : (job : Option host.Job) → stage_order (option_map (λ j. job_stage setup j (host.told_since entries)) job) ≡ option_and_then
-      order_of job
+  go : (job : Option host.Job) → stage_pending (option_map (λ j. job_stage setup j (host.told_since entries)) job) ≡ option_and_then
+      pending_of job
   go (Some (host.Order cell word)) = by_turn _ cell word _
   go (Some (host.Learn output)) = by_mode _ output _ _
   go (Some (host.Check cell)) = refl
   go job = refl
 
--- and so the open order of a life
-pub open_order-is : (config : Config) (passes : ℕ) (events : List Event) →
-    open_order config passes events ≡ stage_order (now config passes events).host.stage
-unfolding open_order now state_of
-open_order-is config passes events = sym (order-of_stage (setup_of config passes) (life config passes events).entries)
+-- and so that of a life
+pub open_pending-is : (config : Config) (passes : ℕ) (events : List Event) →
+    open_pending config passes events ≡ stage_pending (now config passes events).host.stage
+unfolding open_pending now state_of
+open_pending-is config passes events = sym (pending-of_stage (setup_of config passes) (life config passes events).entries)
 
--- the end of a write leaves the order
-pub finished-order : (s : Summary) (stage : Option Stage) (acked : Bool) →
-    stage_order (finished s stage acked).after.stage ≡ stage_order stage
-finished-order s (Some (Sends sent tries)) true = refl
-finished-order s (Some (Sends sent tries)) false = go (eqb (tries + 1) s.setup.passes) where
-  go : (b : Bool) → stage_order (cond b (ends s Unknown) (goes_on s (Sends sent (tries + 1)))).after.stage ≡ None
-  go true = refl
-  go false = refl
-finished-order s stage acked = refl
-
--- an order stays open, or ends
-abbrev pub Goes : Option PendingOrder → Option PendingOrder → Type 0
+-- it stays open, or ends
+abbrev pub Goes : Option PendingJob → Option PendingJob → Type 0
 Goes before after = (after ≡ before) ⊎ (after ≡ None)
 
+-- the end of a write leaves an order, and leaves or ends a store or restore
+pub finished-order : (s : Summary) (stage : Option Stage) (acked : Bool) →
+    Goes (stage_pending stage) (stage_pending (finished s stage acked).after.stage)
+finished-order s (Some (Sends sent tries)) true = inr refl
+finished-order s (Some (Sends sent tries)) false = go (eqb (tries + 1) s.setup.passes) where
+  go : (b : Bool) → Goes (command_pending sent) (stage_pending (cond b (ends s Unknown) (sends s sent (tries + 1))).after.stage)
+  go true = inr refl
+  go false = inl refl
+finished-order s stage acked = inl refl
+
 -- another try of a job that is no order
-another-order : (s : Summary) (tries : ℕ) (stage : Stage) → stage_order (Some stage) ≡ None →
-    stage_order (another s tries stage).after.stage ≡ None
+another-order : (s : Summary) (tries : ℕ) (stage : Stage) → stage_pending (Some stage) ≡ None →
+    stage_pending (another s tries stage).after.stage ≡ None
 another-order s tries stage none = go (eqb (tries + 1) s.setup.passes) where
-  go : (b : Bool) → stage_order (cond b (ends s Unknown) (goes_on s stage)).after.stage ≡ None
+  go : (b : Bool) → stage_pending (cond b (ends s Unknown) (goes_on s stage)).after.stage ≡ None
   go true = refl
   go false = none
 
 -- what came back leaves an order open, or ends it
 pub answered-order : (s : Summary) (stage : Option Stage) (bytes : List ℕ) →
-    Goes (stage_order stage) (stage_order (answered s stage bytes).after.stage)
+    Goes (stage_pending stage) (stage_pending (answered s stage bytes).after.stage)
 answered-order s (Some (Reads cell word pass)) bytes = go (good_word s.setup.addr cell bytes) where
   last : (b : Bool) (t : Summary) (e : JobEnd) →
-      Goes (Some (ordered cell word)) (stage_order (cond b (ends t e) (writes t cell word (pass + 1))).after.stage)
+      Goes (Some (pending.Order cell word)) (stage_pending (cond b (ends t e) (writes t cell word (pass + 1))).after.stage)
   last true t e = inr refl
   last false t e = inl refl
 
   same : (b c : Bool) (t : Summary) (e : JobEnd) →
-      Goes (Some (ordered cell word)) (stage_order (cond b (ends t Done) (cond c (ends t e) (writes t cell word (pass + 1)))).after.stage)
+      Goes (Some (pending.Order cell word))
+      (stage_pending (cond b (ends t Done) (cond c (ends t e) (writes t cell word (pass + 1)))).after.stage)
   same true c t e = inr refl
   same false c t e = last c t e
 
-  go : (read : Option ℕ) → Goes (Some (ordered cell word)) (stage_order (read_back s cell word pass read).after.stage)
+  go : (read : Option ℕ) → Goes (Some (pending.Order cell word)) (stage_pending (read_back s cell word pass read).after.stage)
   go None = last (eqb (pass + 1) s.setup.passes) s Unknown
   go (Some read) = same (eqb read word) (eqb (pass + 1) s.setup.passes) (marked s (Good cell read)) (Differs read)
 answered-order s (Some (Checks cell tries)) bytes = go (good_word s.setup.addr cell bytes) where
-  go : (read : Option ℕ) → Goes None (stage_order (checked s cell tries read).after.stage)
+  go : (read : Option ℕ) → Goes None (stage_pending (checked s cell tries read).after.stage)
   go None = inr (another-order s tries (Checks cell (tries + 1)) refl)
   go (Some read) = inr refl
 answered-order s (Some (AsksMode output tries)) bytes = go (good_mode s.setup.addr output bytes) where
-  taken : (mode : Result VoutMode TableFault) → Goes None (stage_order (mode_taken s output mode).after.stage)
+  taken : (mode : Result VoutMode TableFault) → Goes None (stage_pending (mode_taken s output mode).after.stage)
   taken (Err fault) = inr refl
   taken (Ok (Linear exponent)) = inr refl
   taken (Ok Direct) = inr refl
 
-  go : (byte : Option ℕ) → Goes None (stage_order (mode_answered s output tries byte).after.stage)
+  go : (byte : Option ℕ) → Goes None (stage_pending (mode_answered s output tries byte).after.stage)
   go None = inr (another-order s tries (AsksMode output (tries + 1)) refl)
   go (Some byte) = taken (mode_of byte)
 answered-order s (Some (AsksCoefficients output tries)) bytes = go (good_coefficients s.setup.addr bytes) where
-  found : (shape : Option Shape) → Goes None (stage_order (learned s output shape).after.stage)
+  found : (shape : Option Shape) → Goes None (stage_pending (learned s output shape).after.stage)
   found None = inr refl
   found (Some shape) = inr refl
 
-  go : (coefficients : Option Coefficients) → Goes None (stage_order (coefficients_answered s output tries coefficients).after.stage)
+  go : (coefficients : Option Coefficients) → Goes None (stage_pending (coefficients_answered s output tries coefficients).after.stage)
   go None = inr (another-order s tries (AsksCoefficients output (tries + 1)) refl)
   go (Some coefficients) = found (result_ok (shape_in Direct coefficients))
 answered-order s stage bytes = inl refl

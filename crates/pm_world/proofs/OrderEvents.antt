@@ -1,23 +1,28 @@
--- What an event makes of the converter's words and of the open order, in a world that takes it.
+-- What an event makes of the converter's words, of its store and of the open job, in a world that takes it.
 use Rattle.std.proofs.Common.{◌≡◌, ◌⊎◌, inl, inr, ℕ, Bool, true, false, not, List, Option, Some, None, is_some, IsSome, unwrap_or, refl}
-use Rattle.std.proofs.Common.{sym, ◌∙◌, ap, subst}
+use Rattle.std.proofs.Common.{cond, sym, ◌∙◌, ap, subst}
 use Rattle.std.specs.Option.{option_or, option_map}
 use Rattle.std.proofs.lemmas.Bool.{ltb-true}
 use Rattle.pm_table.specs.declared.cell.Cell.{Cell}
 use Rattle.pm_table.specs.declared.cell.Cell.TheVariants.{Out, Protect}
 use Rattle.pm_table.specs.Cell.{cell_accepts, IsCell}
 use Rattle.pm_frame.specs.declared.message.Message.{Message}
+use Rattle.pm_frame.specs.declared.message.Message.TheVariants.{SendByte}
+use Rattle.pm_table.specs.Codes as command
 use Rattle.pm_frame.specs.declared.message.Payload.TheVariants.{Empty}
 use Rattle.pm_frame.specs.Layout.{IsWrite, is_read_message, fits_layout}
-use Rattle.pm_model.specs.OrderMachine.{with_order}
-use Rattle.pm_model.specs.Settings.{Words, with_word}
+use Rattle.pm_model.specs.declared.pending_job.PendingJob.{PendingJob}
+use Rattle.pm_model.specs.declared.pending_job.PendingJob.TheVariants as pending
+use Rattle.pm_model.specs.OrderMachine.{words_taken, store_taken}
+use Rattle.pm_model.specs.Settings.{with_outputs}
 use Rattle.pm_device.specs.declared.heard.Ending.{Ending}
 use Rattle.pm_device.specs.declared.heard.Ending.TheVariants.{Stop}
 use Rattle.pm_device.specs.Held.{Held}
-use Rattle.pm_device.specs.Effect.{Hearing, words_after}
+use Rattle.pm_device.specs.Effect.{Hearing, Kept, kept_in, kept_after}
 use Rattle.pm_device.specs.History.{next as device_next, after as device_by}
 use Rattle.pm_host.specs.declared.fault.HostFault.{HostFault}
-use Rattle.pm_host.specs.declared.command.Command.TheVariants.{ClearFaults}
+use Rattle.pm_host.specs.declared.command.Command.{Command}
+use Rattle.pm_host.specs.declared.command.Command.TheVariants.{ClearFaults, StoreUserAll, RestoreUserAll}
 use Rattle.pm_host.specs.declared.stage.Stage.{Stage}
 use Rattle.pm_host.specs.declared.stage.Stage.TheVariants.{Writes, Reads, Checks, AsksMode, AsksCoefficients, Sends}
 use Rattle.pm_host.specs.Cells.{is_cell}
@@ -30,11 +35,12 @@ use Rattle.pm_world.specs.declared.event.Arrival.{Arrival}
 use Rattle.pm_world.specs.declared.event.Back.{Back as Return}
 use Rattle.pm_world.specs.declared.stop.Cause.TheVariants.{NotBetrayed, WrongKind}
 use Rattle.pm_world.specs.Legal.{frame_of, heard_bytes, heard_ending, is_legal_hearing}
+use Rattle.pm_world.specs.Retelling.{command_pending}
 use Rattle.pm_world.specs.State.{State, rule, device_after, host_after, delivered, exchanged, delivery_cause, exchange_cause, hearing_cause}
 use Rattle.pm_world.specs.State.{return_cause}
 use Rattle.pm_world.proofs.Causes.{or-none, rule-none, not-false}
 use Rattle.pm_world.proofs.Hearings.{hears-write, hears-request, cell-reached}
-use Rattle.pm_world.proofs.OpenOrders.{stage_order, Goes, answered-order}
+use Rattle.pm_world.proofs.OpenOrders.{stage_pending, Goes, answered-order}
 
 -- a rule of the host that names no fault doesn't apply
 host_rule-none : (b : Bool) (fault : HostFault) → host_rule b fault ≡ None → b ≡ false
@@ -55,131 +61,186 @@ reads-cell : (cell : Cell) (message : Message) → Some (cell_read cell) ≡ Som
 reads-cell (Out output register) message e writes = reads (cell_read (Out output register)) message refl e writes
 reads-cell Protect message e writes = reads (cell_read Protect) message refl e writes
 
--- a whole write that is being sent leaves the words, or is the open order's
+-- what is kept after a job took
+abbrev pub kept_taken : Held → Option PendingJob → Kept
+kept_taken held job = record (kept_in held) {
+  words = words_taken held.words held.store job;
+  store = store_taken held.words held.store job;
+}
+
+-- all that is kept stays, or a job took
+abbrev pub Reaches : Held → Option PendingJob → Kept → Type 0
+Reaches held job after = (after ≡ kept_in held) ⊎ (IsSome job × (after ≡ kept_taken held job))
+
+-- a store, and a restore, that WRITE_PROTECT allows or not
+stored : (held : Held) (b : Bool) (after : Kept) →
+    after ≡ record (kept_in held) { store = cond b (with_outputs held.store held.words) held.store } →
+    Reaches held (Some pending.Store) after
+stored held true after e = inr (refl, e)
+stored held false after e = inl e
+
+restored : (held : Held) (b : Bool) (after : Kept) →
+    after ≡ record (kept_in held) { words = cond b (with_outputs held.words held.store) held.words } →
+    Reaches held (Some pending.Restore) after
+restored held true after e = inr (refl, e)
+restored held false after e = inl e
+
+-- a command that is heard whole
+sent-whole : Below → (held : Held) (sent : Command) (bytes : List ℕ) → IsWrite held.config.addr (command_message sent) bytes →
+    Reaches held (command_pending sent) (kept_after held (Hearing bytes Stop))
+sent-whole laws held (ClearFaults output) bytes h = inl (laws.writes_reach_one_cell.clears held output Empty bytes h)
+sent-whole laws held StoreUserAll bytes h =
+    stored held _ _ (laws.writes_reach_one_cell.stores held (SendByte command.store_user_all) bytes h refl)
+sent-whole laws held RestoreUserAll bytes h =
+    restored held _ _ (laws.writes_reach_one_cell.restores held (SendByte command.restore_user_all) bytes h refl)
+
+-- a whole write that is being sent leaves all, or the open job took
 written : Below → (held : Held) (stage : Option Stage) (message : Message) (bytes : List ℕ) →
     option_map stage_message stage ≡ Some message → is_read_message message ≡ false →
     IsWrite held.config.addr message bytes →
-    (words_after held (Hearing bytes Stop) ≡ held.words)
-    ⊎ (IsSome (stage_order stage) × (words_after held (Hearing bytes Stop) ≡ with_order held.words (stage_order stage)))
+    Reaches held (stage_pending stage) (kept_after held (Hearing bytes Stop))
 written laws held None message bytes e writes h = cc
 written laws held (Some (Writes cell word pass)) message bytes e writes h =
-    go (cell-reached laws held cell word bytes
-    (subst (λ m. IsWrite held.config.addr m bytes) (sym (some-is (cell_write cell word) message e)) h))
-  where
-    go : (words_after held (Hearing bytes Stop) ≡ held.words) ⊎ (words_after held (Hearing bytes Stop) ≡ with_word held.words cell word) →
-        (words_after held (Hearing bytes Stop) ≡ held.words)
-        ⊎ (IsSome (stage_order (Some (Writes cell word pass))) ×
-        (words_after held (Hearing bytes Stop) ≡ with_order held.words (stage_order (Some (Writes cell word pass)))))
-    go (inl e) = inl e
-    go (inr e) = inr (refl, e)
-written laws held (Some (Sends (ClearFaults output) tries)) message bytes e writes h =
-    inl (laws.writes_reach_one_cell.clears held output Empty bytes
-    (subst (λ m. IsWrite held.config.addr m bytes) (sym (some-is (command_message (ClearFaults output)) message e)) h)).0
+    elim (cell-reached laws held cell word bytes
+    (subst (λ m. IsWrite held.config.addr m bytes) (sym (some-is (cell_write cell word) message e)) h)) [
+      | inl same ↦ inl same
+      | inr put ↦ inr (refl, put)
+    ]
+written laws held (Some (Sends sent tries)) message bytes e writes h =
+    sent-whole laws held sent bytes
+    (subst (λ m. IsWrite held.config.addr m bytes) (sym (some-is (command_message sent) message e)) h)
 written laws held (Some (Reads cell word pass)) message bytes e writes h = absurd (reads-cell cell message e writes)
 written laws held (Some (Checks cell tries)) message bytes e writes h = absurd (reads-cell cell message e writes)
 written laws held (Some (AsksMode output tries)) message bytes e writes h = absurd (reads (mode_read output) message refl e writes)
 written laws held (Some (AsksCoefficients output tries)) message bytes e writes h = absurd (reads coefficients_read message refl e writes)
 
+-- the words of the cells, and those in the store, stay
+pub record Stays (old new : Held) : Type 0 where
+  pub words : new.words ≡ old.words
+  pub store : new.store ≡ old.store
+
+-- they are what a job makes of them
+pub record TookJob (old new : Held) (job : Option PendingJob) : Type 0 where
+  pub some : IsSome job
+  pub words : new.words ≡ words_taken old.words old.store job
+  pub store : new.store ≡ store_taken old.words old.store job
+
+-- a delivery leaves them, or lets the open job take
+abbrev pub Takes : State → Held → Type 0
+Takes s new = Stays s.device new ⊎ TookJob s.device new (stage_pending s.host.stage)
+
 -- what a hearing leaves is what the converter holds then
 heard-words : (held : Held) (bytes : List ℕ) (ending : Ending) →
-    (device_next held (Hearing bytes ending)).words ≡ words_after held (Hearing bytes ending)
+    (device_next held (Hearing bytes ending)).words ≡ (kept_after held (Hearing bytes ending)).words
 unfolding device_next device_by
 heard-words held bytes ending = refl
 
--- a delivery leaves the words, or lets the open order take
-abbrev pub Takes : State → Words → Type 0
-Takes s words = (words ≡ s.device.words) ⊎
-    (IsSome (stage_order s.host.stage) × (words ≡ with_order s.device.words (stage_order s.host.stage)))
+heard-store : (held : Held) (bytes : List ℕ) (ending : Ending) →
+    (device_next held (Hearing bytes ending)).store ≡ (kept_after held (Hearing bytes ending)).store
+unfolding device_next device_by
+heard-store held bytes ending = refl
+
+-- so where all that is kept stays
+heard-stays : (held : Held) (bytes : List ℕ) (ending : Ending) → kept_after held (Hearing bytes ending) ≡ kept_in held →
+    Stays held (device_next held (Hearing bytes ending))
+heard-stays held bytes ending e = record {
+  words = heard-words held bytes ending ∙ ap (λ (k : Kept). k.words) e;
+  store = heard-store held bytes ending ∙ ap (λ (k : Kept). k.store) e;
+}
+
+-- or a job took
+heard-takes : (held : Held) (bytes : List ℕ) (ending : Ending) (job : Option PendingJob) →
+    Reaches held job (kept_after held (Hearing bytes ending)) →
+    Stays held (device_next held (Hearing bytes ending)) ⊎ TookJob held (device_next held (Hearing bytes ending)) job
+heard-takes held bytes ending job (inl e) = inl (heard-stays held bytes ending e)
+heard-takes held bytes ending job (inr (some, e)) = inr (record {
+  some = some;
+  words = heard-words held bytes ending ∙ ap (λ (k : Kept). k.words) e;
+  store = heard-store held bytes ending ∙ ap (λ (k : Kept). k.store) e;
+})
 
 -- by the legal hearing of what is being sent
-pub delivered-words : Below → (s : State) (arrival : Arrival) (sending : Option Message) → s.host.setup.addr ≡ s.device.config.addr →
+pub delivered-takes : Below → (s : State) (arrival : Arrival) (sending : Option Message) → s.host.setup.addr ≡ s.device.config.addr →
     sending_in s.host ≡ sending →
     ((message : Message) → sending ≡ Some message → fits_layout message ≡ true) → delivery_cause s arrival sending ≡ None →
-    Takes s (device_after s.device (delivered s arrival sending).heard).words
-delivered-words laws s arrival None same e fits h = cc
-delivered-words laws s arrival (Some message) same e fits h =
-    go (hears-write laws s.device message bytes ending writes (fits message refl) legal) where
-      bytes : List ℕ
-      bytes = heard_bytes (frame_of s.host.setup.addr message) arrival
+    Takes s (device_after s.device (delivered s arrival sending).heard)
+delivered-takes laws s arrival None same e fits h = cc
+delivered-takes laws s arrival (Some message) same e fits h =
+    heard-takes s.device bytes ending (stage_pending s.host.stage)
+    (go (hears-write laws s.device message bytes ending writes (fits message refl) legal))
+  where
+    bytes : List ℕ
+    bytes = heard_bytes (frame_of s.host.setup.addr message) arrival
 
-      ending : Ending
-      ending = heard_ending message arrival
+    ending : Ending
+    ending = heard_ending message arrival
 
-      parts : (rule (is_read_message message) WrongKind ≡ None) × (hearing_cause s.host.setup.addr message arrival ≡ None)
-      parts = or-none (rule (is_read_message message) WrongKind) (hearing_cause s.host.setup.addr message arrival) h
+    parts : (rule (is_read_message message) WrongKind ≡ None) × (hearing_cause s.host.setup.addr message arrival ≡ None)
+    parts = or-none (rule (is_read_message message) WrongKind) (hearing_cause s.host.setup.addr message arrival) h
 
-      writes : is_read_message message ≡ false
-      writes = rule-none (is_read_message message) WrongKind parts.0
+    writes : is_read_message message ≡ false
+    writes = rule-none (is_read_message message) WrongKind parts.0
 
-      legal : is_legal_hearing (frame_of s.device.config.addr message) (heard_bytes (frame_of s.host.setup.addr message) arrival)
-          (heard_ending message arrival) ≡ true
-      legal = subst (λ a. is_legal_hearing (frame_of a message) (heard_bytes (frame_of s.host.setup.addr message) arrival)
-          (heard_ending message arrival) ≡ true) same
-          (not-false _ (rule-none _ NotBetrayed parts.1))
+    legal : is_legal_hearing (frame_of s.device.config.addr message) (heard_bytes (frame_of s.host.setup.addr message) arrival)
+        (heard_ending message arrival) ≡ true
+    legal = subst (λ a. is_legal_hearing (frame_of a message) (heard_bytes (frame_of s.host.setup.addr message) arrival)
+        (heard_ending message arrival) ≡ true) same
+        (not-false _ (rule-none _ NotBetrayed parts.1))
 
-      go : (words_after s.device
-          (Hearing (heard_bytes (frame_of s.host.setup.addr message) arrival) (heard_ending message arrival)) ≡ s.device.words)
-          ⊎ ((heard_ending message arrival ≡ Stop) × IsWrite s.device.config.addr message
-          (heard_bytes (frame_of s.host.setup.addr message) arrival)) →
-          ((device_next s.device
-          (Hearing (heard_bytes (frame_of s.host.setup.addr message) arrival) (heard_ending message arrival))).words ≡ s.device.words)
-          ⊎ (IsSome (stage_order s.host.stage) ×
-          ((device_next s.device
-          (Hearing (heard_bytes (frame_of s.host.setup.addr message) arrival) (heard_ending message arrival))).words ≡ with_order
-          s.device.words (stage_order s.host.stage)))
-      go (inl e) = inl (heard-words s.device _ _ ∙ e)
-      go (inr (stop, whole)) =
-          subst (λ x. ((device_next s.device (Hearing (heard_bytes (frame_of s.host.setup.addr message) arrival) x)).words ≡ s.device.words)
-          ⊎ (IsSome (stage_order s.host.stage) ×
-          ((device_next s.device (Hearing (heard_bytes (frame_of s.host.setup.addr message) arrival) x)).words ≡ with_order s.device.words
-          (stage_order s.host.stage)))) (sym stop)
-          (subst (λ (w : Words). (w ≡ s.device.words) ⊎
-          (IsSome (stage_order s.host.stage) × (w ≡ with_order s.device.words (stage_order s.host.stage))))
-          (sym (heard-words s.device (heard_bytes (frame_of s.host.setup.addr message) arrival) Stop))
-          (written laws s.device s.host.stage message (heard_bytes (frame_of s.host.setup.addr message) arrival) e writes whole))
+    go : (kept_after s.device
+        (Hearing (heard_bytes (frame_of s.host.setup.addr message) arrival) (heard_ending message arrival)) ≡ kept_in s.device)
+        ⊎ ((heard_ending message arrival ≡ Stop) × IsWrite s.device.config.addr message
+        (heard_bytes (frame_of s.host.setup.addr message) arrival)) →
+        Reaches s.device (stage_pending s.host.stage) (kept_after s.device
+        (Hearing (heard_bytes (frame_of s.host.setup.addr message) arrival) (heard_ending message arrival)))
+    go (inl e) = inl e
+    go (inr (stop, whole)) =
+        subst (λ x. Reaches s.device (stage_pending s.host.stage) (kept_after s.device
+        (Hearing (heard_bytes (frame_of s.host.setup.addr message) arrival) x))) (sym stop)
+        (written laws s.device s.host.stage message (heard_bytes (frame_of s.host.setup.addr message) arrival) e writes whole)
 
 -- and leaves the host
 pub delivered-stage : (s : State) (arrival : Arrival) (sending : Option Message) →
-    stage_order (host_after s.host (delivered s arrival sending).told).stage ≡ stage_order s.host.stage
+    stage_pending (host_after s.host (delivered s arrival sending).told).stage ≡ stage_pending s.host.stage
 delivered-stage s arrival None = refl
 delivered-stage s arrival (Some message) = refl
 
 -- an exchange leaves them
-pub exchanged-words : Below → (s : State) (arrival : Arrival) (back : Return) (sending : Option Message) →
+pub exchanged-stays : Below → (s : State) (arrival : Arrival) (back : Return) (sending : Option Message) →
     ((message : Message) → sending ≡ Some message → fits_layout message ≡ true) → exchange_cause s arrival back sending ≡ None →
-    (device_after s.device (exchanged s arrival back sending).heard).words ≡ s.device.words
-exchanged-words laws s arrival back None fits h = cc
-exchanged-words laws s arrival back (Some message) fits h =
+    Stays s.device (device_after s.device (exchanged s arrival back sending).heard)
+exchanged-stays laws s arrival back None fits h = cc
+exchanged-stays laws s arrival back (Some message) fits h =
     let kinds = or-none (rule (not (is_read_message message)) WrongKind)
     (option_or (hearing_cause s.host.setup.addr message arrival) (return_cause s.device s.host.setup.addr message arrival back)) h in
     let hears = or-none (hearing_cause s.host.setup.addr message arrival) (return_cause s.device s.host.setup.addr message arrival back)
     kinds.1 in
-    heard-words s.device (heard_bytes (frame_of s.host.setup.addr message) arrival) (heard_ending message arrival)
-    ∙ hears-request laws s.device s.host.setup.addr message (heard_bytes (frame_of s.host.setup.addr message) arrival)
+    heard-stays s.device (heard_bytes (frame_of s.host.setup.addr message) arrival) (heard_ending message arrival)
+    (hears-request laws s.device s.host.setup.addr message (heard_bytes (frame_of s.host.setup.addr message) arrival)
     (heard_ending message arrival)
     (not-false (is_read_message message) (rule-none (not (is_read_message message)) WrongKind kinds.0), fits message refl)
-    (not-false _ (rule-none _ NotBetrayed hears.0))
+    (not-false _ (rule-none _ NotBetrayed hears.0)))
 
--- and keeps an order open, or ends it
+-- and keeps a job open, or ends it
 pub exchanged-order : (s : State) (arrival : Arrival) (back : Return) (sending : Option Message) →
-    Goes (stage_order s.host.stage) (stage_order (host_after s.host (exchanged s arrival back sending).told).stage)
+    Goes (stage_pending s.host.stage) (stage_pending (host_after s.host (exchanged s arrival back sending).told).stage)
 unfolding host_next
 exchanged-order s arrival back None = inl refl
 exchanged-order s arrival back (Some message) = answered-order (idle s.host) s.host.stage _
 
--- a job that isn't refused comes where no order is open
-idle-order : (s : Summary) → is_busy s ≡ false → stage_order s.stage ≡ None
+-- a job that isn't refused comes where none is open
+idle-order : (s : Summary) → is_busy s ≡ false → stage_pending s.stage ≡ None
 idle-order s free = go s.stage free where
-  go : (stage : Option Stage) → is_some stage ≡ false → stage_order stage ≡ None
+  go : (stage : Option Stage) → is_some stage ≡ false → stage_pending stage ≡ None
   go None h = refl
   go (Some stage) h = cc
 
 -- by the first fault of a job
-asking-order : (s : Summary) (there : Bool) → asking_fault s there ≡ None → stage_order s.stage ≡ None
+asking-order : (s : Summary) (there : Bool) → asking_fault s there ≡ None → stage_pending s.stage ≡ None
 asking-order s there h = idle-order s (host_rule-none (is_busy s) _ (or-none (host_rule (is_busy s) _) _ h).0)
 
 -- and of each job
-pub job-order : (s : Summary) (job : host.Job) → job_fault s job ≡ None → stage_order s.stage ≡ None
+pub job-order : (s : Summary) (job : host.Job) → job_fault s job ≡ None → stage_pending s.stage ≡ None
 job-order s (host.Order cell word) h = asking-order s _ (or-none (cell_fault s cell) _ h).0
 job-order s (host.Check cell) h = asking-order s _ h
 job-order s (host.Learn output) h = asking-order s _ h
@@ -192,7 +253,7 @@ cell-there outputs Protect h = tt
 
 -- an order that isn't refused may be accepted
 pub record IsFree (s : Summary) (cell : Cell) (word : ℕ) : Type 0 where
-  pub free : stage_order s.stage ≡ None
+  pub free : stage_pending s.stage ≡ None
   pub there : IsCell s.setup.outputs cell
   pub fits : cell_accepts cell word ≡ true
 

@@ -1,36 +1,34 @@
 -- A life is a run of the order machine, event by event.
-use Rattle.std.proofs.Common.{◌≡◌, inl, inr, ℕ, true, List, [], ◌∷◌, ◌++◌, Option, Some, None, is_some, IsSome, refl, sym, ◌∙◌, ap, ap₂}
+use Rattle.std.proofs.Common.{◌≡◌, inl, inr, ℕ, true, List, [], ◌∷◌, ◌++◌, Option, Some, None, is_some, IsSome, refl, sym, ◌∙◌, ap}
 use Rattle.std.proofs.Common.{subst}
 use Rattle.std.specs.Option.{option_map_or}
-use Rattle.pm_table.specs.declared.cell.Cell.{Cell}
-use Rattle.pm_table.specs.Cell.{IsCell}
 use Rattle.pm_frame.specs.declared.message.Message.{Message}
 use Rattle.pm_frame.specs.Layout.{fits_layout}
-use Rattle.pm_model.specs.declared.pending_order.PendingOrder.{PendingOrder}
-use Rattle.pm_model.specs.OrderMachine.{Step, Accept, Take, End, Back, machine_of, ordered, with_order, CanAccept}
+use Rattle.pm_model.specs.declared.pending_job.PendingJob.{PendingJob}
+use Rattle.pm_model.specs.declared.pending_job.PendingJob.TheVariants as pending
+use Rattle.pm_model.specs.OrderMachine.{Step, Accept, Take, End, Back, machine_of, words_taken, store_taken, CanAccept, CanTake}
 use Rattle.pm_model.specs.Settings.{Settings, Words}
 use Rattle.pm_device.specs.declared.config.Config.{Config}
 use Rattle.pm_device.specs.History.{next as device_next, after as device_by, start_of, now as device_now}
-use Rattle.pm_device.specs.Start.{start_words}
+use Rattle.pm_host.specs.declared.command.Command.TheVariants.{ClearFaults, StoreUserAll, RestoreUserAll}
 use Rattle.pm_host.specs.Now.{now as host_now}
 use Rattle.pm_host.specs.Refusals.{IsSetup}
 use Rattle.pm_host.specs.Summary.{next as host_next, sending_in, idle}
 use Rattle.pm_host.specs.Transcript as host
 use Rattle.pm_world.specs.Below.{Below}
 use Rattle.pm_world.specs.declared.event.Arrival.{Arrival}
-use Rattle.pm_world.specs.declared.event.Back.{Back as Return}
 use Rattle.pm_world.specs.declared.event.Event.{Event}
 use Rattle.pm_world.specs.declared.event.Event.TheVariants.{Deliver, Finish, Exchange, RestartDevice, RestartHost, Reading}
 use Rattle.pm_world.specs.Life.{life, now, state_of}
-use Rattle.pm_world.specs.Retelling.{start_settings, open_order, order_of, accepts, ends_between, told, told_beside, Retells, nothing}
+use Rattle.pm_world.specs.Retelling.{start_settings, open_pending, pending_of, accepts, ends_between, told, told_beside, Retells, nothing}
 use Rattle.pm_world.specs.Retelling.{tells, takes, IsOrderRun}
 use Rattle.pm_world.specs.Setup.{setup_of, start}
 use Rattle.pm_world.specs.State.{State, asked, event_cause, next}
 use Rattle.pm_world.proofs.Causes.{job-free, asked-next, beside-next}
-use Rattle.pm_world.proofs.Lives.{IsLived, earlier, newest, life-told, now-config, now-next, now-nil}
-use Rattle.pm_world.proofs.OpenOrders.{stage_order, open_order-is, finished-order, Goes}
-use Rattle.pm_world.proofs.OrderEvents.{delivered-stage, Takes, delivered-words, exchanged-words, exchanged-order, IsFree, job-order}
-use Rattle.pm_world.proofs.OrderEvents.{order-free}
+use Rattle.pm_world.proofs.Lives.{IsLived, earlier, newest, life-told, now-next, now-nil}
+use Rattle.pm_world.proofs.OpenOrders.{stage_pending, open_pending-is, finished-order, Goes}
+use Rattle.pm_world.proofs.OrderEvents.{Stays, TookJob, Takes, delivered-stage, delivered-takes, exchanged-stays}
+use Rattle.pm_world.proofs.OrderEvents.{exchanged-order, job-order, order-free}
 
 -- the message whose frame is being sent fits its layout
 sent-fits : Below → (config : Config) (passes : ℕ) (events : List Event) → IsLived config passes events → (message : Message) →
@@ -54,246 +52,290 @@ same-outputs : (config : Config) (passes : ℕ) (events : List Event) → (now c
 unfolding now state_of host_now
 same-outputs config passes events = refl
 
--- an event that asks for a job is told as the order that it is
+-- an event that asks for a job is told as the order, store or restore that it is
 asked-told : (config : Config) (passes : ℕ) (before : List Event) (event : Event) (job : host.Job) →
-    asked (now config passes before) event ≡ Some job → told config passes before event ≡ accepts (order_of job)
+    asked (now config passes before) event ≡ Some job → told config passes before event ≡ accepts (pending_of job)
 unfolding told
 asked-told config passes before event job is =
-    ap (λ o. option_map_or (λ j. accepts (order_of j)) o (told_beside config passes before event)) is
+    ap (λ o. option_map_or (λ j. accepts (pending_of j)) o (told_beside config passes before event)) is
 
 -- any other is told as what it does
 beside-told : (config : Config) (passes : ℕ) (before : List Event) (event : Event) →
     asked (now config passes before) event ≡ None → told config passes before event ≡ told_beside config passes before event
 unfolding told
 beside-told config passes before event is =
-    ap (λ o. option_map_or (λ j. accepts (order_of j)) o (told_beside config passes before event)) is
+    ap (λ o. option_map_or (λ j. accepts (pending_of j)) o (told_beside config passes before event)) is
+
+-- after these events the converter's words, and those in its store, are those of a run
+abbrev pub Runs : Config → ℕ → List Event → Type 0
+Runs config passes events =
+    IsOrderRun config passes events (now config passes events).device.words (now config passes events).device.store
 
 -- an event that is taken after events whose run of the order machine is known
 record Follows (config : Config) (passes : ℕ) (before : List Event) (event : Event) : Type 0 where
   free : event_cause (now config passes before) event ≡ None
   same : now config passes (event ∷ before) ≡ next (now config passes before) event
-  run : IsOrderRun config passes before (now config passes before).device.words
+  run : Runs config passes before
 
 -- the run goes on by the steps that the event is told as
-told-on : (config : Config) (passes : ℕ) (before : List Event) (event : Event) (words : Words) (new : List Step) →
-    (r : IsOrderRun config passes before words) → told config passes before event ≡ new →
-    Retells config passes (event ∷ before) (new ++ r.steps)
-told-on config passes before event words new r e =
-    subst (λ (x : List Step). Retells config passes (event ∷ before) (x ++ r.steps)) e (tells event before r.steps r.retells)
+told-on : {config : Config} {passes : ℕ} {before : List Event} {event : Event} (new : List Step) →
+    (f : Follows config passes before event) → told config passes before event ≡ new →
+    Retells config passes (event ∷ before) (new ++ f.run.steps)
+told-on {config = config} {passes = passes} {before = before} {event = event} new f e =
+    subst (λ (x : List Step). Retells config passes (event ∷ before) (x ++ f.run.steps)) e (tells event before f.run.steps f.run.retells)
 
--- the order that is open after the event
-open-after : (config : Config) (passes : ℕ) (before : List Event) (event : Event) → (f : Follows config passes before event) →
-    open_order config passes (event ∷ before) ≡ stage_order (next (now config passes before) event).host.stage
-open-after config passes before event f = open_order-is config passes (event ∷ before) ∙ ap (λ (s : State). stage_order s.host.stage) f.same
+-- the job that is open after the event
+open-after : {config : Config} {passes : ℕ} {before : List Event} {event : Event} → (f : Follows config passes before event) →
+    open_pending config passes (event ∷ before) ≡ stage_pending (next (now config passes before) event).host.stage
+open-after {config = config} {passes = passes} {before = before} {event = event} f =
+    open_pending-is config passes (event ∷ before) ∙ ap (λ (s : State). stage_pending s.host.stage) f.same
 
--- nothing is told: words and order stay
+-- the job that pends in the run
+pends : {config : Config} {passes : ℕ} {before : List Event} {event : Event} → (f : Follows config passes before event) →
+    (machine_of (start_settings config) f.run.steps).pending ≡ stage_pending (now config passes before).host.stage
+pends {config = config} {passes = passes} {before = before} f = f.run.job_is ∙ open_pending-is config passes before
+
+-- nothing is told: words, store and job stay
 stays : (config : Config) (passes : ℕ) (before : List Event) (event : Event) → (f : Follows config passes before event) →
     told config passes before event ≡ [] →
-    (next (now config passes before) event).device.words ≡ (now config passes before).device.words →
-    stage_order (next (now config passes before) event).host.stage ≡ stage_order (now config passes before).host.stage →
-    IsOrderRun config passes (event ∷ before) (now config passes (event ∷ before)).device.words
-stays config passes before event f none words order = record {
+    Stays (now config passes before).device (next (now config passes before) event).device →
+    stage_pending (next (now config passes before) event).host.stage ≡ stage_pending (now config passes before).host.stage →
+    Runs config passes (event ∷ before)
+stays config passes before event f none same job = record {
   steps = f.run.steps;
   run = f.run.run;
-  retells = told-on config passes before event _ [] f.run none;
-  words_are = f.run.words_are ∙ sym (ap (λ (s : State). s.device.words) f.same ∙ words);
-  order_is = f.run.order_is ∙ (open_order-is config passes before ∙ sym (open-after config passes before event f ∙ order));
+  retells = told-on [] f none;
+  words_are = f.run.words_are ∙ sym (ap (λ (s : State). s.device.words) f.same ∙ same.words);
+  store_is = f.run.store_is ∙ sym (ap (λ (s : State). s.device.store) f.same ∙ same.store);
+  job_is = pends f ∙ sym (open-after f ∙ job);
 }
 
--- an order is accepted
-accepted : Below → {config : Config} {passes : ℕ} {before : List Event} {event : Event} {cell : Cell} {word : ℕ} →
-    (f : Follows config passes before event) → told config passes before event ≡ Accept cell word ∷ [] →
-    (next (now config passes before) event).device.words ≡ (now config passes before).device.words →
-    stage_order (next (now config passes before) event).host.stage ≡ Some (ordered cell word) →
-    IsFree (now config passes before).host cell word →
-    IsOrderRun config passes (event ∷ before) (now config passes (event ∷ before)).device.words
+-- a job is accepted
+accepted : Below → {config : Config} {passes : ℕ} {before : List Event} {event : Event} (job : PendingJob) →
+    (f : Follows config passes before event) → told config passes before event ≡ Accept job ∷ [] →
+    Stays (now config passes before).device (next (now config passes before) event).device →
+    stage_pending (next (now config passes before) event).host.stage ≡ Some job →
+    stage_pending (now config passes before).host.stage ≡ None →
+    CanTake (now config passes before).host.setup.outputs (Some job) →
+    Runs config passes (event ∷ before)
 unfolding machine_of
-accepted laws {config = config} {passes = passes} {before = before} {event = event} {cell = cell} {word = word} f is words order may =
+accepted laws {config = config} {passes = passes} {before = before} {event = event} job f is same begun free can =
     let at_start = laws.orders_stay_in_their_cells.start (start_settings config) f.run.steps in
-    let can : CanAccept (machine_of (start_settings config) f.run.steps) cell word = record {
-      free = f.run.order_is ∙ (open_order-is config passes before ∙ may.free);
-      there = subst (λ (s : Settings). IsCell s.count cell) (sym at_start)
-          (subst (λ n. IsCell n cell) (same-outputs config passes before) may.there);
-      fits = may.fits;
+    let may : CanAccept (machine_of (start_settings config) f.run.steps) job = record {
+      free = pends f ∙ free;
+      can = subst (λ (s : Settings). CanTake s.count (Some job)) (sym at_start)
+          (subst (λ n. CanTake n (Some job)) (same-outputs config passes before) can);
     } in
     record {
-      steps = Accept cell word ∷ f.run.steps;
-      run = (can, f.run.run);
-      retells = told-on config passes before event _ (Accept cell word ∷ []) f.run is;
-      words_are = f.run.words_are ∙ sym (ap (λ (s : State). s.device.words) f.same ∙ words);
-      order_is = sym (open-after config passes before event f ∙ order);
+      steps = Accept job ∷ f.run.steps;
+      run = (may, f.run.run);
+      retells = told-on (Accept job ∷ []) f is;
+      words_are = f.run.words_are ∙ sym (ap (λ (s : State). s.device.words) f.same ∙ same.words);
+      store_is = f.run.store_is ∙ sym (ap (λ (s : State). s.device.store) f.same ∙ same.store);
+      job_is = sym (open-after f ∙ begun);
     }
 
--- an order ends
+-- a job ends
 ended : (config : Config) (passes : ℕ) (before : List Event) (event : Event) → (f : Follows config passes before event) →
     told config passes before event ≡ End ∷ [] →
-    (next (now config passes before) event).device.words ≡ (now config passes before).device.words →
-    stage_order (next (now config passes before) event).host.stage ≡ None →
-    IsOrderRun config passes (event ∷ before) (now config passes (event ∷ before)).device.words
+    Stays (now config passes before).device (next (now config passes before) event).device →
+    stage_pending (next (now config passes before) event).host.stage ≡ None →
+    Runs config passes (event ∷ before)
 unfolding machine_of
-ended config passes before event f is words order = record {
+ended config passes before event f is same over = record {
   steps = End ∷ f.run.steps;
   run = (tt, f.run.run);
-  retells = told-on config passes before event _ (End ∷ []) f.run is;
-  words_are = f.run.words_are ∙ sym (ap (λ (s : State). s.device.words) f.same ∙ words);
-  order_is = sym (open-after config passes before event f ∙ order);
+  retells = told-on (End ∷ []) f is;
+  words_are = f.run.words_are ∙ sym (ap (λ (s : State). s.device.words) f.same ∙ same.words);
+  store_is = f.run.store_is ∙ sym (ap (λ (s : State). s.device.store) f.same ∙ same.store);
+  job_is = sym (open-after f ∙ over);
 }
 
 -- the converter starts again
-came-back : Below → (config : Config) (passes : ℕ) (before : List Event) → (f : Follows config passes before RestartDevice) →
-    IsOrderRun config passes (RestartDevice ∷ before) (now config passes (RestartDevice ∷ before)).device.words
+came-back : (config : Config) (passes : ℕ) (before : List Event) → (f : Follows config passes before RestartDevice) →
+    Runs config passes (RestartDevice ∷ before)
 unfolding machine_of told_beside next device_next device_by
-came-back laws config passes before f = record {
+came-back config passes before f = record {
   steps = Back ∷ f.run.steps;
   run = (tt, f.run.run);
-  retells = told-on config passes before RestartDevice _ (Back ∷ []) f.run (beside-told config passes before RestartDevice refl);
-  words_are = ap (λ (s : Settings). s.words) (laws.orders_stay_in_their_cells.start (start_settings config) f.run.steps)
-      ∙ sym (ap (λ (s : State). s.device.words) f.same ∙ ap start_words (now-config config passes before));
-  order_is = f.run.order_is ∙ (open_order-is config passes before ∙ sym (open-after config passes before RestartDevice f));
+  retells = told-on (Back ∷ []) f (beside-told config passes before RestartDevice refl);
+  words_are = f.run.store_is ∙ sym (ap (λ (s : State). s.device.words) f.same);
+  store_is = f.run.store_is ∙ sym (ap (λ (s : State). s.device.store) f.same);
+  job_is = pends f ∙ sym (open-after f);
 }
 
--- the pending order takes
+-- what a job makes of the same words and store is the same
+same-taken : {words words' store store' : Words} {job job' : Option PendingJob} → words ≡ words' → store ≡ store' → job ≡ job' →
+    (words_taken words store job ≡ words_taken words' store' job') × (store_taken words store job ≡ store_taken words' store' job')
+same-taken w s j = (cc, cc)
+
+-- the pending job takes
 took : (config : Config) (passes : ℕ) (before : List Event) (arrival : Arrival) → (f : Follows config passes before (Deliver arrival)) →
-    IsSome (stage_order (now config passes before).host.stage) →
-    (next (now config passes before) (Deliver arrival)).device.words ≡ with_order (now config passes before).device.words
-    (stage_order (now config passes before).host.stage) →
-    stage_order (next (now config passes before) (Deliver arrival)).host.stage ≡ stage_order (now config passes before).host.stage →
-    IsOrderRun config passes (Deliver arrival ∷ before) (now config passes (Deliver arrival ∷ before)).device.words
+    TookJob (now config passes before).device (next (now config passes before) (Deliver arrival)).device
+    (stage_pending (now config passes before).host.stage) →
+    stage_pending (next (now config passes before) (Deliver arrival)).host.stage ≡ stage_pending (now config passes before).host.stage →
+    Runs config passes (Deliver arrival ∷ before)
 unfolding machine_of
-took config passes before arrival f some words order =
-    let pending = f.run.order_is ∙ open_order-is config passes before in
+took config passes before arrival f by job =
+    let taken = same-taken f.run.words_are f.run.store_is (pends f) in
     record {
       steps = Take ∷ f.run.steps;
-      run = (ap is_some pending ∙ some, f.run.run);
+      run = (ap is_some (pends f) ∙ by.some, f.run.run);
       retells = takes arrival before f.run.steps f.run.retells;
-      words_are = ap₂ with_order f.run.words_are pending ∙ sym (ap (λ (s : State). s.device.words) f.same ∙ words);
-      order_is = pending ∙ sym (open-after config passes before (Deliver arrival) f ∙ order);
+      words_are = taken.0 ∙ sym (ap (λ (s : State). s.device.words) f.same ∙ by.words);
+      store_is = taken.1 ∙ sym (ap (λ (s : State). s.device.store) f.same ∙ by.store);
+      job_is = pends f ∙ sym (open-after f ∙ job);
     }
 
--- an exchange ends the open order, or leaves it
-ends-same : (p q : Option PendingOrder) → q ≡ p → ends_between p q ≡ []
+-- what ends the open job, or leaves it
+ends-same : (p q : Option PendingJob) → q ≡ p → ends_between p q ≡ []
 ends-same None q e = refl
-ends-same (Some order) q e = ap (λ o. ends_between (Some order) o) e
+ends-same (Some job) q e = ap (λ o. ends_between (Some job) o) e
 
--- an order that isn't open any more
-ends-none : (p q : Option PendingOrder) → q ≡ None → IsSome p → ends_between p q ≡ End ∷ []
+-- a job that isn't open any more
+ends-none : (p q : Option PendingJob) → q ≡ None → IsSome p → ends_between p q ≡ End ∷ []
 ends-none None q e some = cc
-ends-none (Some order) q e some = ap (λ o. ends_between (Some order) o) e
+ends-none (Some job) q e some = ap (λ o. ends_between (Some job) o) e
 
--- the run goes on over an exchange
-exchanged-on : (config : Config) (passes : ℕ) (before : List Event) (arrival : Arrival) (back : Return) →
-    (f : Follows config passes before (Exchange arrival back)) →
-    (next (now config passes before) (Exchange arrival back)).device.words ≡ (now config passes before).device.words →
-    Goes (stage_order (now config passes before).host.stage)
-    (stage_order (next (now config passes before) (Exchange arrival back)).host.stage) →
-    IsOrderRun config passes (Exchange arrival back ∷ before) (now config passes (Exchange arrival back ∷ before)).device.words
-unfolding told_beside
-exchanged-on config passes before arrival back f words (inl same) =
-    let is_told = beside-told config passes before (Exchange arrival back) refl in
-    stays config passes before (Exchange arrival back) f
-    (is_told ∙ ends-same (open_order config passes before) (open_order config passes (Exchange arrival back ∷ before))
-    (open-after config passes before (Exchange arrival back) f ∙ (same ∙ sym (open_order-is config passes before))))
-    words same
-exchanged-on config passes before arrival back f words (inr over) = go (open_order config passes before) refl where
-  after : open_order config passes (Exchange arrival back ∷ before) ≡ None
-  after = open-after config passes before (Exchange arrival back) f ∙ over
+-- the run goes on over an exchange, and over the end of a write
+gone-on : (config : Config) (passes : ℕ) (before : List Event) (event : Event) (f : Follows config passes before event) →
+    told config passes before event ≡ ends_between (open_pending config passes before) (open_pending config passes (event ∷ before)) →
+    Stays (now config passes before).device (next (now config passes before) event).device →
+    Goes (stage_pending (now config passes before).host.stage) (stage_pending (next (now config passes before) event).host.stage) →
+    Runs config passes (event ∷ before)
+gone-on config passes before event f is_told same (inl on) =
+    stays config passes before event f
+    (is_told ∙ ends-same (open_pending config passes before) (open_pending config passes (event ∷ before))
+    (open-after f ∙ (on ∙ sym (open_pending-is config passes before))))
+    same on
+gone-on config passes before event f is_told same (inr over) = go (open_pending config passes before) refl where
+  after : open_pending config passes (event ∷ before) ≡ None
+  after = open-after f ∙ over
 
-  is_told : told config passes before (Exchange arrival back) ≡ told_beside config passes before (Exchange arrival back)
-  is_told = beside-told config passes before (Exchange arrival back) refl
-
-  go : (p : Option PendingOrder) → open_order config passes before ≡ p →
-      IsOrderRun config passes (Exchange arrival back ∷ before) (now config passes (Exchange arrival back ∷ before)).device.words
-  go None e = stays config passes before (Exchange arrival back) f
-      (is_told ∙ ends-same (open_order config passes before) (open_order config passes (Exchange arrival back ∷ before)) (after ∙ sym e))
-      words (over ∙ (sym e ∙ open_order-is config passes before))
-  go (Some order) e = ended config passes before (Exchange arrival back) f
-      (is_told ∙ ends-none (open_order config passes before) (open_order config passes (Exchange arrival back ∷ before)) after
+  go : (p : Option PendingJob) → open_pending config passes before ≡ p → Runs config passes (event ∷ before)
+  go None e = stays config passes before event f
+      (is_told ∙ ends-same (open_pending config passes before) (open_pending config passes (event ∷ before)) (after ∙ sym e))
+      same (over ∙ (sym e ∙ open_pending-is config passes before))
+  go (Some job) e = ended config passes before event f
+      (is_told ∙ ends-none (open_pending config passes before) (open_pending config passes (event ∷ before)) after
       (ap is_some e))
-      words over
+      same over
 
 -- and over a delivery
 delivered-on : (config : Config) (passes : ℕ) (before : List Event) (arrival : Arrival) →
     (f : Follows config passes before (Deliver arrival)) →
-    Takes (now config passes before) (next (now config passes before) (Deliver arrival)).device.words →
-    stage_order (next (now config passes before) (Deliver arrival)).host.stage ≡ stage_order (now config passes before).host.stage →
-    IsOrderRun config passes (Deliver arrival ∷ before) (now config passes (Deliver arrival ∷ before)).device.words
+    Takes (now config passes before) (next (now config passes before) (Deliver arrival)).device →
+    stage_pending (next (now config passes before) (Deliver arrival)).host.stage ≡ stage_pending (now config passes before).host.stage →
+    Runs config passes (Deliver arrival ∷ before)
 unfolding told_beside
-delivered-on config passes before arrival f (inl same) order =
-    stays config passes before (Deliver arrival) f (beside-told config passes before (Deliver arrival) refl) same order
-delivered-on config passes before arrival f (inr (some, took_it)) order = took config passes before arrival f some took_it order
+delivered-on config passes before arrival f (inl same) job =
+    stays config passes before (Deliver arrival) f (beside-told config passes before (Deliver arrival) refl) same job
+delivered-on config passes before arrival f (inr by) job = took config passes before arrival f by job
 
--- one more event, which asks for a job: an order is accepted, any other job leaves the order
+-- one more event, which asks for a job
 one-asked : Below → (config : Config) (passes : ℕ) (before : List Event) (event : Event) (job : host.Job) →
     (f : Follows config passes before event) → asked (now config passes before) event ≡ Some job →
-    IsOrderRun config passes (event ∷ before) (now config passes (event ∷ before)).device.words
+    Runs config passes (event ∷ before)
 unfolding host_next
-one-asked laws config passes before event (host.Order cell word) f is =
-    let s = now config passes before in
-    let after = asked-next s event (host.Order cell word) is in
-    accepted laws f (asked-told config passes before event (host.Order cell word) is)
-    (ap (λ (t : State). t.device.words) after) (ap (λ (t : State). stage_order t.host.stage) after)
-    (order-free s.host cell word (job-free s event (host.Order cell word) is f.free))
-one-asked laws config passes before event job f is =
-    let s = now config passes before in
-    let after = asked-next s event job is in
-    stays config passes before event f (asked-told config passes before event job is)
-    (ap (λ (t : State). t.device.words) after)
-    (ap (λ (t : State). stage_order t.host.stage) after ∙ sym (job-order s.host job (job-free s event job is f.free)))
+one-asked laws config passes before event job f is = go job is where
+  s : State
+  s = now config passes before
+
+  same : (job : host.Job) → asked s event ≡ Some job → Stays s.device (next s event).device
+  same job is = record {
+    words = ap (λ (t : State). t.device.words) (asked-next s event job is);
+    store = ap (λ (t : State). t.device.store) (asked-next s event job is);
+  }
+
+  free : (job : host.Job) → asked s event ≡ Some job → stage_pending s.host.stage ≡ None
+  free job is = job-order s.host job (job-free s event job is f.free)
+
+  stage : (job : host.Job) → asked s event ≡ Some job →
+      stage_pending (next s event).host.stage ≡ stage_pending (host_next s.host (host.Accepted job)).stage
+  stage job is = ap (λ (t : State). stage_pending t.host.stage) (asked-next s event job is)
+
+  -- an order, a store and a restore are accepted
+  begins : (job : host.Job) (found : PendingJob) → asked s event ≡ Some job → pending_of job ≡ Some found →
+      stage_pending (host_next s.host (host.Accepted job)).stage ≡ Some found → CanTake s.host.setup.outputs (Some found) →
+      Runs config passes (event ∷ before)
+  begins job found is e on can =
+      accepted laws found f (asked-told config passes before event job is ∙ ap accepts e) (same job is) (stage job is ∙ on)
+      (free job is) can
+
+  -- any other job leaves what is open
+  leaves : (job : host.Job) → asked s event ≡ Some job → pending_of job ≡ None →
+      stage_pending (host_next s.host (host.Accepted job)).stage ≡ None → Runs config passes (event ∷ before)
+  leaves job is e on =
+      stays config passes before event f (asked-told config passes before event job is ∙ ap accepts e) (same job is)
+      (stage job is ∙ (on ∙ sym (free job is)))
+
+  go : (job : host.Job) → asked s event ≡ Some job → Runs config passes (event ∷ before)
+  go (host.Order cell word) is =
+      let may = order-free s.host cell word (job-free s event (host.Order cell word) is f.free) in
+      begins (host.Order cell word) (pending.Order cell word) is refl refl (may.there, may.fits)
+  go (host.Send StoreUserAll) is = begins (host.Send StoreUserAll) pending.Store is refl refl tt
+  go (host.Send RestoreUserAll) is = begins (host.Send RestoreUserAll) pending.Restore is refl refl tt
+  go (host.Send (ClearFaults output)) is = leaves (host.Send (ClearFaults output)) is refl refl
+  go (host.Check cell) is = leaves (host.Check cell) is refl refl
+  go (host.Learn output) is = leaves (host.Learn output) is refl refl
 
 -- and which asks for none
 one-beside : Below → (config : Config) (passes : ℕ) (before : List Event) (event : Event) →
     IsLived config passes before →
     (f : Follows config passes before event) → asked (now config passes before) event ≡ None →
-    IsOrderRun config passes (event ∷ before) (now config passes (event ∷ before)).device.words
+    Runs config passes (event ∷ before)
 unfolding told_beside next host_next device_next device_by
 one-beside laws config passes before (Deliver arrival) lived f is =
     delivered-on config passes before arrival f
-    (delivered-words laws (now config passes before) arrival (sending_in (now config passes before).host) (same-addr config passes before)
+    (delivered-takes laws (now config passes before) arrival (sending_in (now config passes before).host) (same-addr config passes before)
     refl
     (sent-fits laws config passes before lived) f.free)
     (delivered-stage (now config passes before) arrival (sending_in (now config passes before).host))
 one-beside laws config passes before (Finish acked) lived f is =
-    stays config passes before (Finish acked) f (beside-told config passes before (Finish acked) refl) refl
+    gone-on config passes before (Finish acked) f (beside-told config passes before (Finish acked) refl)
+    (record { words = refl; store = refl })
     (finished-order (idle (now config passes before).host) (now config passes before).host.stage acked)
 one-beside laws config passes before (Exchange arrival back) lived f is =
-    exchanged-on config passes before arrival back f
-    (exchanged-words laws (now config passes before) arrival back (sending_in (now config passes before).host)
+    gone-on config passes before (Exchange arrival back) f (beside-told config passes before (Exchange arrival back) refl)
+    (exchanged-stays laws (now config passes before) arrival back (sending_in (now config passes before).host)
     (sent-fits laws config passes before lived) f.free)
     (exchanged-order (now config passes before) arrival back (sending_in (now config passes before).host))
-one-beside laws config passes before RestartDevice lived f is = came-back laws config passes before f
+one-beside laws config passes before RestartDevice lived f is = came-back config passes before f
 one-beside laws config passes before RestartHost lived f is =
-    ended config passes before RestartHost f (beside-told config passes before RestartHost refl) refl refl
+    ended config passes before RestartHost f (beside-told config passes before RestartHost refl)
+    (record { words = refl; store = refl }) refl
 one-beside laws config passes before (Reading output code word) lived f is =
-    stays config passes before (Reading output code word) f (beside-told config passes before (Reading output code word) refl) refl refl
+    stays config passes before (Reading output code word) f (beside-told config passes before (Reading output code word) refl)
+    (record { words = refl; store = refl }) refl
 one-beside laws config passes before event lived f is =
+    let alone = beside-next (now config passes before) event is in
     stays config passes before event f (beside-told config passes before event is)
-    (ap (λ (t : State). t.device.words) (beside-next (now config passes before) event is))
-    (ap (λ (t : State). stage_order t.host.stage) (beside-next (now config passes before) event is))
+    (record { words = ap (λ (t : State). t.device.words) alone; store = ap (λ (t : State). t.device.store) alone })
+    (ap (λ (t : State). stage_pending t.host.stage) alone)
 
 -- and any event
 one : Below → (config : Config) (passes : ℕ) (before : List Event) (event : Event) → IsLived config passes before →
-    (f : Follows config passes before event) → IsOrderRun config passes (event ∷ before) (now config passes (event ∷ before)).device.words
+    (f : Follows config passes before event) → Runs config passes (event ∷ before)
 one laws config passes before event lived f = go (asked (now config passes before) event) refl where
-  go : (job : Option host.Job) → asked (now config passes before) event ≡ job →
-      IsOrderRun config passes (event ∷ before) (now config passes (event ∷ before)).device.words
+  go : (job : Option host.Job) → asked (now config passes before) event ≡ job → Runs config passes (event ∷ before)
   go None is = one-beside laws config passes before event lived f is
   go (Some job) is = one-asked laws config passes before event job f is
 
 -- nothing has happened
-first-run : Below → (config : Config) (passes : ℕ) → IsSetup (setup_of config passes) →
-    IsOrderRun config passes [] (now config passes []).device.words
-unfolding machine_of open_order life host.open_job host.end_of start start_of
+first-run : Below → (config : Config) (passes : ℕ) → IsSetup (setup_of config passes) → Runs config passes []
+unfolding machine_of open_pending life host.open_job host.end_of start start_of
 first-run laws config passes made = record {
   steps = [];
   run = tt;
   retells = nothing;
   words_are = sym (ap (λ (s : State). s.device.words) (now-nil laws config passes made));
-  order_is = refl;
+  store_is = sym (ap (λ (s : State). s.device.store) (now-nil laws config passes made));
+  job_is = refl;
 }
 
 -- a whole life
 pub life-run : Below → (config : Config) (passes : ℕ) (events : List Event) → IsLived config passes events →
-    IsOrderRun config passes events (now config passes events).device.words
+    Runs config passes events
 life-run laws config passes [] lived = first-run laws config passes lived.made
 life-run laws config passes (event ∷ before) lived =
     one laws config passes before event (earlier lived) (record {

@@ -109,13 +109,13 @@ unfolding next
 next-deliver-host s arrival = ap (host_after s.host) (told-nothing s arrival (sending_in s.host))
 
 -- the words are those after the hearing
-next-deliver-words : (s : State) (arrival : Arrival) (message : Message) → sending_in s.host ≡ Some message →
+pub next-deliver-words : (s : State) (arrival : Arrival) (message : Message) → sending_in s.host ≡ Some message →
     (next s (Deliver arrival)).device.words ≡ words_after s.device (hearing s.host.setup.addr message arrival)
 unfolding next device_next device_outcome
 next-deliver-words s arrival message sending = ap (λ o. (device_after s.device (delivered s arrival o).heard).words) sending
 
 -- how a delivery of a write ends
-write-ending : (cell : Cell) (word : ℕ) (arrival : Arrival) → heard_ending (cell_write cell word) arrival ≡ ending_of Stop arrival
+pub write-ending : (cell : Cell) (word : ℕ) (arrival : Arrival) → heard_ending (cell_write cell word) arrival ≡ ending_of Stop arrival
 write-ending cell word arrival = sym (heard_ending-write (cell_write cell word) arrival (write-kind cell word))
 
 -- an ending is a stop by the test

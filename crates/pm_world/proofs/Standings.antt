@@ -1,21 +1,22 @@
 -- What the host says of a cell after one more entry, and the word that the cell has then.
-use Rattle.std.proofs.Common.{◌≡◌, inl, inr, ℕ, Bool, true, false, not, cond, eqb, ◌||◌, List, [], ◌∷◌, ◌++◌, filter, reverse, Option, Some}
+use Rattle.std.proofs.Common.{◌≡◌, ℕ, Bool, true, false, cond, eqb, ◌||◌, List, [], ◌∷◌, ◌++◌, Option, Some}
 use Rattle.std.proofs.Common.{None, option_map, option_and_then, refl, sym, ◌∙◌, ap}
 use Rattle.std.specs.Prelude.{option_to_list}
 use Rattle.std.specs.List.{list_any}
-use Rattle.std.proofs.lemmas.Bool.{cases_eq, eq-eqb, ne_eqb}
-use Rattle.std.proofs.lemmas.List.{reverse-append}
-use Rattle.std.proofs.lemmas.List.Folds.{list_any-append}
+use Rattle.std.proofs.lemmas.Bool.{eq-eqb}
 use Rattle.pm_table.specs.declared.cell.Cell.{Cell}
-use Rattle.pm_table.specs.Cell.{same_cell}
+use Rattle.pm_table.specs.Cell.{is_output_cell, same_cell}
 use Rattle.pm_model.specs.Settings.{Words, word_at}
 use Rattle.pm_host.specs.declared.standing.Standing.{Standing}
 use Rattle.pm_host.specs.declared.standing.Standing.TheVariants.{Confirmed, Unknown}
 use Rattle.pm_host.specs.Answers.{good_word}
-use Rattle.pm_host.specs.Marks.{Mark, Put, Good, put_by, read_by, puts, goods, marks}
-use Rattle.pm_host.specs.Possible.{is_listed, is_possible, once, possible_from, words_since, possible_of}
+use Rattle.pm_host.specs.declared.command.Command.{Command}
+use Rattle.pm_host.specs.declared.command.Command.TheVariants.{ClearFaults, StoreUserAll, RestoreUserAll}
+use Rattle.pm_host.specs.Marks.{Mark, Put, Good, Restored, send_marks, put_by, read_by, puts, goods, marks}
+use Rattle.pm_host.specs.Possible.{is_possible, possible_of}
 use Rattle.pm_host.specs.Standing.{standing_of}
-use Rattle.pm_host.specs.Transcript.{Setup, Job, Order, Entry, Accepted, Got, Restarted, open_job, told_since, is_write_turn}
+use Rattle.pm_host.specs.Transcript.{Setup, Job, Order, Send, Entry, Accepted, Finished, Got, Restarted, open_job, told_since}
+use Rattle.pm_host.specs.Transcript.{is_write_turn}
 use Rattle.pm_world.specs.Below.{Below}
 use Rattle.pm_world.specs.Confirmed.{is_good_for, reads}
 
@@ -42,52 +43,12 @@ IsKnownAfter setup entries cell restarted told words =
 pub same-cells : Below → (cell other : Cell) → same_cell cell other ≡ true → cell ≡ other
 same-cells laws cell other same = (laws.cells_are_told_apart cell other).0 same
 
--- words other than x stay listed where x is left out
-is_listed-filter : (w x : ℕ) → (x ≡ w → ⊥) → (ys : List ℕ) → is_listed w (filter (λ y. not (eqb y x)) ys) ≡ is_listed w ys
-is_listed-filter w x differ [] = refl
-is_listed-filter w x differ (y ∷ ys) =
-    elim (cases_eq y x) [
-      | inl same ↦
-          let other : y ≡ w → ⊥ = λ e. differ (sym same ∙ e) in
-          rw (eq-eqb y x same, ne_eqb y w other) (is_listed-filter w x differ ys)
-      | inr apart ↦ rw (ne_eqb y x apart) (ap (λ b. eqb y w || b) (is_listed-filter w x differ ys))
-    ]
-
--- each word of a list is listed once
-is_listed-once : (w : ℕ) (xs : List ℕ) → is_listed w (once xs) ≡ is_listed w xs
-is_listed-once w [] = refl
-is_listed-once w (x ∷ xs) =
-    elim (cases_eq x w) [
-      | inl same ↦ rw (eq-eqb x w same) refl
-      | inr apart ↦ ap (λ b. eqb x w || b) (is_listed-filter w x apart (once xs) ∙ is_listed-once w xs)
-    ]
-
--- words stay listed where one is added in front, and that one is listed
-listed-added : (w x : ℕ) (ws : List ℕ) → is_listed x (once (reverse (w ∷ ws))) ≡ (is_listed x (once (reverse ws)) || eqb w x)
-listed-added w x ws =
-    is_listed-once x (reverse (w ∷ ws))
-    ∙ (ap (is_listed x) (reverse-append (w ∷ []) ws)
-    ∙ (list_any-append (λ listed. eqb listed x) (reverse ws) (w ∷ [])
-    ∙ rw (sym (is_listed-once x (reverse ws))) (last (is_listed x (once (reverse ws))) (eqb w x))))
-  where
-    last : (a b : Bool) → (a || (b || false)) ≡ (a || b)
-    last true b = refl
-    last false true = refl
-    last false false = refl
-
 -- a write that begins leaves its cell's possible words, and those of the other cells
-put-from : (w x : ℕ) (found : Option (List ℕ)) → is_possible x (possible_from found) ≡ true →
-    is_possible x (possible_from (option_map (λ ws. w ∷ ws) found)) ≡ true
-put-from w x None h = refl
-put-from w x (Some ws) h = listed-added w x ws ∙ ap (λ b. b || eqb w x) h
-
--- by the marks
-put-possible : (ms : List Mark) (c cell : Cell) (w x : ℕ) → is_possible x (possible_of ms cell) ≡ true →
+put-possible : Below → (ms : List Mark) (c cell : Cell) (w x : ℕ) → is_possible x (possible_of ms cell) ≡ true →
     is_possible x (possible_of (Put c w ∷ ms) cell) ≡ true
-unfolding possible_of
-put-possible ms c cell w x h = go (same_cell c cell) where
-  go : (b : Bool) → is_possible x (possible_from (cond b (option_map (λ ws. w ∷ ws) (words_since ms cell)) (words_since ms cell))) ≡ true
-  go true = put-from w x (words_since ms cell) h
+put-possible laws ms c cell w x h = laws.possible_words_are_followed.put ms c cell w x ∙ go (same_cell c cell) where
+  go : (b : Bool) → cond b (is_possible x (possible_of ms cell) || eqb w x) (is_possible x (possible_of ms cell)) ≡ true
+  go true = ap (λ p. p || eqb w x) h
   go false = h
 
 -- it confirms nothing
@@ -96,17 +57,34 @@ put-confirms true rest word h = cc
 put-confirms false rest word h = h
 
 -- so what is known stays true
-put-known : (ms : List Mark) (c : Cell) (w : ℕ) (cell : Cell) (restarted : Bool) (words : Words) →
+put-known : Below → (ms : List Mark) (c : Cell) (w : ℕ) (cell : Cell) (restarted : Bool) (words : Words) →
     IsKnown ms cell restarted words → IsKnown (Put c w ∷ ms) cell restarted words
-put-known ms c w cell restarted words known = record {
+put-known laws ms c w cell restarted words known = record {
   held = λ word confirmed fresh. known.held word (put-confirms (same_cell c cell) (standing_of ms cell) word confirmed) fresh;
-  among = λ fresh. put-possible ms c cell w (word_at words cell) (known.among fresh);
+  among = λ fresh. put-possible laws ms c cell w (word_at words cell) (known.among fresh);
 }
 
--- the marks of the writes that begin with an entry: none, or one
+-- a restore that begins leaves any word possible for an output's cell, and for WRITE_PROTECT what was
+restored-possible : Below → (ms : List Mark) (cell : Cell) (x : ℕ) → is_possible x (possible_of ms cell) ≡ true →
+    is_possible x (possible_of (Restored ∷ ms) cell) ≡ true
+restored-possible laws ms cell x h = laws.possible_words_are_followed.restored ms cell x ∙ go (is_output_cell cell) where
+  go : (b : Bool) → cond b true (is_possible x (possible_of ms cell)) ≡ true
+  go true = refl
+  go false = h
+
+-- so what is known stays true
+begun-known : Below → (ms : List Mark) (cell : Cell) (restarted : Bool) (words : Words) →
+    IsKnown ms cell restarted words → IsKnown (Restored ∷ ms) cell restarted words
+begun-known laws ms cell restarted words known = record {
+  held = λ word confirmed fresh. known.held word (put-confirms (is_output_cell cell) (standing_of ms cell) word confirmed) fresh;
+  among = λ fresh. restored-possible laws ms cell (word_at words cell) (known.among fresh);
+}
+
+-- the marks of the writes and restores that begin with an entry: none, or one
 pub data ArePuts : List Mark → Type 0 where
   no_put : ArePuts []
   one_put : (cell : Cell) (word : ℕ) → ArePuts (Put cell word ∷ [])
+  one_restore : ArePuts (Restored ∷ [])
 
 -- by the open job
 pub are-puts : (setup : Setup) (entries : List Entry) → ArePuts (puts setup entries)
@@ -116,16 +94,23 @@ are-puts setup entries = go (open_job setup entries) where
   by_turn true cell word = one_put cell word
   by_turn false cell word = no_put
 
+  by_command : (sent : Command) → ArePuts (send_marks sent)
+  by_command (ClearFaults output) = no_put
+  by_command StoreUserAll = no_put
+  by_command RestoreUserAll = one_restore
+
   go : (job : Option Job) → ArePuts (put_by job (told_since entries))
   go None = no_put
+  go (Some (Send sent)) = by_command sent
   go (Some (Order cell word)) = by_turn (is_write_turn (told_since entries)) cell word
   go (Some job) = no_put
 
 -- and stays true after each of them
-puts-known : (new ms : List Mark) → ArePuts new → (cell : Cell) (restarted : Bool) (words : Words) →
+puts-known : Below → (new ms : List Mark) → ArePuts new → (cell : Cell) (restarted : Bool) (words : Words) →
     IsKnown ms cell restarted words → IsKnown (new ++ ms) cell restarted words
-puts-known new ms no_put cell restarted words known = known
-puts-known new ms (one_put c w) cell restarted words known = put-known ms c w cell restarted words known
+puts-known laws new ms no_put cell restarted words known = known
+puts-known laws new ms (one_put c w) cell restarted words known = put-known laws ms c w cell restarted words known
+puts-known laws new ms one_restore cell restarted words known = begun-known laws ms cell restarted words known
 
 -- the marks of the good answer that bytes are: none, or one for the cell that was asked for
 pub data AreGoods (setup : Setup) (before : List Entry) (bytes : List ℕ) : List Mark → Type 0 where
@@ -158,21 +143,20 @@ confirmed-is : (w word : ℕ) → Confirmed w ≡ Confirmed word → w ≡ word
 confirmed-is w word h = cc
 
 -- the words that are possible after a good answer
-good-possible : (ms : List Mark) (read cell : Cell) (w x : ℕ) → (same_cell read cell ≡ true → x ≡ w) →
+good-possible : Below → (ms : List Mark) (read cell : Cell) (w x : ℕ) → (same_cell read cell ≡ true → x ≡ w) →
     (same_cell read cell ≡ false → is_possible x (possible_of ms cell) ≡ true) →
     is_possible x (possible_of (Good read w ∷ ms) cell) ≡ true
-unfolding possible_of
-good-possible ms read cell w x itself other = go (same_cell read cell) refl where
-  by_surprise : (b : Bool) → is_possible x (possible_from (words_since ms cell)) ≡ true →
-      is_possible x (possible_from (cond b (words_since ms cell) None)) ≡ true
-  by_surprise true h = h
-  by_surprise false h = refl
+good-possible laws ms read cell w x itself other =
+    laws.possible_words_are_followed.good ms read cell w x ∙ go (same_cell read cell) refl
+  where
+    by_surprise : (b : Bool) → is_possible x (possible_of ms cell) ≡ true → cond b (is_possible x (possible_of ms cell)) true ≡ true
+    by_surprise true h = h
+    by_surprise false h = refl
 
-  go : (b : Bool) → same_cell read cell ≡ b →
-      is_possible x (possible_from
-      (cond b (Some (w ∷ [])) (cond (is_possible w (possible_from (words_since ms read))) (words_since ms cell) None))) ≡ true
-  go true e = ap (λ b. b || false) (eq-eqb w x (sym (itself e)))
-  go false e = by_surprise (is_possible w (possible_from (words_since ms read))) (other e)
+    go : (b : Bool) → same_cell read cell ≡ b →
+        cond b (eqb w x) (cond (is_possible w (possible_of ms read)) (is_possible x (possible_of ms cell)) true) ≡ true
+    go true e = eq-eqb w x (sym (itself e))
+    go false e = by_surprise (is_possible w (possible_of ms read)) (other e)
 
 -- of one good answer
 good-known : Below → {ms : List Mark} (read : Cell) (w : ℕ) {cell : Cell} {restarted : Bool} {words : Words} →
@@ -180,7 +164,7 @@ good-known : Below → {ms : List Mark} (read : Cell) (w : ℕ) {cell : Cell} {r
     IsKnown (Good read w ∷ ms) cell (cond (list_any (is_good_for cell) (Good read w ∷ [])) false restarted) words
 good-known laws {ms = ms} read w {cell = cell} {restarted = restarted} {words = words} is known = record {
   held = by_cell (same_cell read cell) refl;
-  among = λ fresh. good-possible ms read cell w (word_at words cell) its_word (λ e. known.among (not-read e fresh));
+  among = λ fresh. good-possible laws ms read cell w (word_at words cell) its_word (λ e. known.among (not-read e fresh));
 }
   where
     its_word : same_cell read cell ≡ true → word_at words cell ≡ w
@@ -203,18 +187,25 @@ goods-known laws (one_good read word asked good) is known =
     good-known laws read word (is read word asked good) known
 
 -- one more entry
-pub accepted-known : (setup : Setup) (entries : List Entry) (cell : Cell) (restarted : Bool) (words : Words) (job : Job) →
+pub accepted-known : Below → (setup : Setup) (entries : List Entry) (cell : Cell) (restarted : Bool) (words : Words) (job : Job) →
     IsKnown (marks setup entries) cell restarted words → IsKnownAfter setup entries cell restarted (Some (Accepted job)) words
-accepted-known setup entries cell restarted words job known =
-    puts-known (puts setup (Accepted job ∷ entries)) (marks setup entries) (are-puts setup (Accepted job ∷ entries)) cell restarted words
-    known
+accepted-known laws setup entries cell restarted words job known =
+    puts-known laws (puts setup (Accepted job ∷ entries)) (marks setup entries) (are-puts setup (Accepted job ∷ entries)) cell restarted
+    words known
+
+-- a write that is over
+pub finished-known : Below → (setup : Setup) (entries : List Entry) (cell : Cell) (restarted : Bool) (words : Words) (acked : Bool) →
+    IsKnown (marks setup entries) cell restarted words → IsKnownAfter setup entries cell restarted (Some (Finished acked)) words
+finished-known laws setup entries cell restarted words acked known =
+    puts-known laws (puts setup (Finished acked ∷ entries)) (marks setup entries) (are-puts setup (Finished acked ∷ entries)) cell
+    restarted words known
 
 -- bytes that came back
 pub got-known : Below → (setup : Setup) (entries : List Entry) {cell : Cell} {restarted : Bool} {words : Words} (bytes : List ℕ) →
     ReadsTrue setup entries bytes words → IsKnown (marks setup entries) cell restarted words →
     IsKnownAfter setup entries cell restarted (Some (Got bytes)) words
 got-known laws setup entries {cell = cell} {words = words} bytes is known =
-    puts-known (puts setup (Got bytes ∷ entries)) (goods setup entries bytes ++ marks setup entries)
+    puts-known laws (puts setup (Got bytes ∷ entries)) (goods setup entries bytes ++ marks setup entries)
     (are-puts setup (Got bytes ∷ entries)) cell _ words
     (goods-known laws (are-goods setup entries bytes) is known)
 

@@ -51,7 +51,8 @@ unfolding is_legal_hearing
 whole-hearing frame = refl
 
 -- the whole answer to a whole request is legal
-whole-return : (frame answer : List ℕ) (needed : ℕ) → is_legal_return frame needed (is_heard_whole frame frame Restart) answer answer ≡ true
+pub whole-return : (frame answer : List ℕ) (needed : ℕ) →
+    is_legal_return frame needed (is_heard_whole frame frame Restart) answer answer ≡ true
 unfolding is_legal_return
 whole-return frame answer needed = ap₂ (λ b c. (true && b) && c || (nat_lt (length answer) needed || is_betrayed frame answer))
     (same_bytes frame) (same_bytes answer)
@@ -80,7 +81,7 @@ unfolding cause_of
 free s event room none = ap (λ b. option_or (rule b Full) (event_cause s event)) (lt-leb event_limit s.taken room) ∙ none
 
 -- how many events were taken
-now-taken : (config : Config) (passes : ℕ) (events : List Event) → (now config passes events).taken ≡ length events
+pub now-taken : (config : Config) (passes : ℕ) (events : List Event) → (now config passes events).taken ≡ length events
 unfolding now state_of
 now-taken config passes events = refl
 

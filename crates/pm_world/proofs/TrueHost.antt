@@ -20,6 +20,8 @@ use Rattle.pm_device.specs.declared.heard.Ending.TheVariants.{Restart}
 use Rattle.pm_device.specs.Held.{mode_for, shape_made, shape_for}
 use Rattle.pm_device.specs.Reply.{reply_of}
 use Rattle.pm_device.specs.Start.{IsSound}
+use Rattle.pm_host.specs.declared.command.Command.{Command}
+use Rattle.pm_host.specs.declared.command.Command.TheVariants.{ClearFaults, StoreUserAll, RestoreUserAll}
 use Rattle.pm_host.specs.declared.stage.Stage.{Stage}
 use Rattle.pm_host.specs.declared.stage.Stage.TheVariants.{Reads, Checks, AsksMode, AsksCoefficients, Sends}
 use Rattle.pm_host.specs.declared.job_end.JobEnd.TheVariants as job_end
@@ -29,7 +31,7 @@ use Rattle.pm_host.specs.Frames.{reads_mode}
 use Rattle.pm_host.specs.Messages.{mode_read, coefficients_read}
 use Rattle.pm_host.specs.Sound.{IsStage, IsSound as IsSoundHost}
 use Rattle.pm_host.specs.Summary.{Summary, Change, next as host_next, begins, finished, answered, read_back, checked, learned, mode_taken}
-use Rattle.pm_host.specs.Summary.{mode_answered, coefficients_answered, another, ends, goes_on, writes, idle, marked, no_formats}
+use Rattle.pm_host.specs.Summary.{mode_answered, coefficients_answered, another, sends, ends, goes_on, writes, idle, marked, no_formats}
 use Rattle.pm_host.specs.Summary.{sending_in, stage_message}
 use Rattle.pm_host.specs.Marks.{Good}
 use Rattle.pm_host.specs.Transcript as host
@@ -176,18 +178,29 @@ answered-true config s (Some (AsksCoefficients output tries)) bytes (sound, long
     (let few = sound.few in omega arith, sound.formats output inside) (asks, told)
 answered-true config s stage bytes sized agree asks told = record { formats = agree; asks = tt }
 
+-- a command that begins to be sent
+sends-true : (config : Config) (s : Summary) (sent : Command) (tries : ℕ) → Agree config s.formats →
+    IsTrueHost config (sends s sent tries).after
+sends-true config s (ClearFaults output) tries agree = record { formats = agree; asks = tt }
+sends-true config s StoreUserAll tries agree = record { formats = agree; asks = tt }
+sends-true config s RestoreUserAll tries agree = record { formats = agree; asks = tt }
+
 -- the end of a write
 finished-true : (config : Config) (s : Summary) (stage : Option Stage) (acked : Bool) → Agree config s.formats → AsksSo config stage →
     IsTrueHost config (finished s stage acked).after
 finished-true config s (Some (AsksCoefficients output tries)) acked agree asks = record { formats = agree; asks = asks }
 finished-true config s (Some (Sends sent tries)) acked agree asks =
-    either config acked (ends s job_end.Done) (another s tries (Sends sent (tries + 1))) (record { formats = agree; asks = tt })
-    (another-true config s tries (Sends sent (tries + 1)) agree tt)
+    let last = eqb (tries + 1) s.setup.passes in
+    either config acked (ends s job_end.Done) (cond last (ends s job_end.Unknown) (sends s sent (tries + 1)))
+    (record { formats = agree; asks = tt })
+    (either config last (ends s job_end.Unknown) (sends s sent (tries + 1)) (record { formats = agree; asks = tt })
+    (sends-true config s sent (tries + 1) agree))
 finished-true config s stage acked agree asks = record { formats = agree; asks = tt }
 
 -- a job that begins
 begins-true : (config : Config) (s : Summary) (job : host.Job) → Agree config s.formats → IsTrueHost config (begins s job).after
 begins-true config s (host.Order cell word) agree = record { formats = agree; asks = tt }
+begins-true config s (host.Send sent) agree = sends-true config s sent 0 agree
 begins-true config s job agree = record { formats = agree; asks = tt }
 
 -- what holds of a world throughout

@@ -16,7 +16,7 @@ use Rattle.pm_device.specs.declared.config.Config.{Config}
 use Rattle.pm_device.specs.declared.heard.Ending.TheVariants.{Restart}
 use Rattle.pm_device.specs.Held.{Held}
 use Rattle.pm_device.specs.Effect as device
-use Rattle.pm_device.specs.Effect.{words_after}
+use Rattle.pm_device.specs.Effect.{Kept}
 use Rattle.pm_device.specs.History.{next as device_next, after as device_outcome}
 use Rattle.pm_device.specs.Reply.{reply_of}
 use Rattle.pm_host.specs.declared.stage.Stage.TheVariants.{Writes, Reads}
@@ -99,7 +99,7 @@ next-heard : Below → (s : State) (event : Event) (bytes : List ℕ) → (share
     (next s event).device.words ≡ s.device.words
 unfolding next device_next device_outcome
 next-heard laws s event bytes heard = ap (λ o. (device_after s.device o).words) heard
-    ∙ (laws.writes_reach_one_cell.request s.device bytes).0
+    ∙ ap (λ (k : Kept). k.words) (laws.writes_reach_one_cell.request s.device bytes)
 
 -- the job is done
 next-done : (s : State) (event : Event) (cell : Cell) (word : ℕ) (bytes : List ℕ) → (share_of s event).told ≡ Some (host.Got bytes) →
@@ -145,7 +145,7 @@ ended laws s cell word fixed stage held long =
     }
 
 -- what holds of the ends after a life
-now-are : Below → (config : Config) (passes : ℕ) (events : List Event) → AreWords (now config passes events).device.words
+pub now-are : Below → (config : Config) (passes : ℕ) (events : List Event) → AreWords (now config passes events).device.words
 unfolding now state_of
 now-are laws config passes events = laws.pasts_are_followed.words config (life config passes events).past
 

@@ -3,7 +3,7 @@ use Rattle.pm_table.specs.Laws.{CellsAreToldApart, CellsHavePlaces, RegistersAre
 use Rattle.pm_frame.specs.Laws.{AnswersAreExact, BetrayalIsRefused, BurstsAreBetrayed, DamageIsBetrayed, DamageIsRefused, RequestsAreExact, WritesAreExact}
 use Rattle.pm_model.specs.Laws.{OrdersStayInTheirCells, SettingsAreAMap}
 use Rattle.pm_device.specs.Laws.{PastsAreFollowed, ReadsAreAnswered, WordsHaveAnOrigin, WritesReachOneCell}
-use Rattle.pm_host.specs.Laws.{FramesAreNamed, JobsAreBounded, TranscriptsAreFollowed}
+use Rattle.pm_host.specs.Laws.{FramesAreNamed, JobsAreBounded, OpenRestoresAreUncertain, PossibleWordsAreFollowed, TranscriptsAreFollowed}
 
 pub record Below : Type 0 where
   -- of cells and registers
@@ -30,3 +30,5 @@ pub record Below : Type 0 where
   pub transcripts_are_followed : TranscriptsAreFollowed
   pub jobs_are_bounded : JobsAreBounded
   pub frames_are_named : FramesAreNamed
+  pub open_restores_are_uncertain : OpenRestoresAreUncertain
+  pub possible_words_are_followed : PossibleWordsAreFollowed

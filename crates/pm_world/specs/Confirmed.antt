@@ -7,7 +7,7 @@ use Rattle.pm_table.specs.Cell.{IsCell, same_cell}
 use Rattle.pm_model.specs.Settings.{word_at}
 use Rattle.pm_device.specs.declared.config.Config.{Config}
 use Rattle.pm_host.specs.declared.standing.Standing.TheVariants.{Confirmed}
-use Rattle.pm_host.specs.Marks.{Mark, Put, Good, Restart, goods, marks}
+use Rattle.pm_host.specs.Marks.{Mark, Put, Good, Restored, Restart, goods, marks}
 use Rattle.pm_host.specs.Standing.{standing_of}
 use Rattle.pm_host.specs.Summary.{standing_at}
 use Rattle.pm_host.specs.Transcript.{Setup, Entry, Got}
@@ -21,6 +21,7 @@ use Rattle.pm_world.specs.State.{State, share_of}
 abbrev pub is_good_for : Cell → Mark → Bool
 is_good_for cell (Put put word) = false
 is_good_for cell (Good read word) = same_cell read cell
+is_good_for cell Restored = false
 is_good_for cell Restart = false
 
 -- what the host was told is a good answer for the cell: bytes that came back after these entries

@@ -1,5 +1,5 @@
 -- The laws of a world, over the definitions alone. Events are newest first.
-use Rattle.std.specs.Prelude.{◌≡◌, ◌<◌, ◌≤◌, ◌+◌, ℕ, Bool, true, false, List, [], ◌∷◌, Some, length}
+use Rattle.std.specs.Prelude.{◌≡◌, ◌↔◌, ◌<◌, ◌≤◌, ◌+◌, ℕ, Bool, true, false, List, [], ◌∷◌, Some, length}
 use Rattle.pm_table.specs.declared.cell.Cell.{Cell}
 use Rattle.pm_table.specs.Cell.{IsCell}
 use Rattle.pm_frame.specs.declared.message.Message.{Message}
@@ -14,6 +14,7 @@ use Rattle.pm_device.specs.declared.heard.Ending.TheVariants.{Restart}
 use Rattle.pm_device.specs.Held.{Held, value_for}
 use Rattle.pm_device.specs.Reply.{reply_of}
 use Rattle.pm_device.specs.Start.{IsSound}
+use Rattle.pm_host.specs.Marks.{marks}
 use Rattle.pm_host.specs.Now.{AreTold}
 use Rattle.pm_host.specs.Refusals.{IsSetup}
 use Rattle.pm_host.specs.Summary.{sending_in}
@@ -28,10 +29,11 @@ use Rattle.pm_world.specs.Damage.{AreOthers, IsBetrayedDamage}
 use Rattle.pm_world.specs.Honest.{AreFewFrames, FormatsAgree, IsSpelled, MicrosAreNearest, OrdersGoThrough, honest, sent_by}
 use Rattle.pm_world.specs.Legal.{answer_in, frame_of, is_legal_hearing, is_legal_return}
 use Rattle.pm_world.specs.Life.{AreTaken, AreTakenFrom, after_all, life, now}
-use Rattle.pm_world.specs.Possible.{PossibleIsHeld, SeenIsTrue}
+use Rattle.pm_world.specs.Possible.{PossibleIsHeld, SeenIsTrue, restarted_since_host}
 use Rattle.pm_world.specs.Retelling.{CommandsOwn, IsOrderRun, IsOwnWord}
 use Rattle.pm_world.specs.Setup.{setup_of, start}
 use Rattle.pm_world.specs.State.{IsTaken, answer_to, asked, event_limit, next}
+use Rattle.pm_world.specs.Uncertainty.{AreLegal, AreOpen, ArePossible, Choice, Leaves, due_before, since_restart, witness_events, witness_start}
 
 -- What a world holds after its life is what one event after another makes of its start: of no event, and of
 -- one more. What the host was told is a transcript that might come. Events that are taken one after another
@@ -49,16 +51,22 @@ pub record LivesAreFollowed : Type 0 where
       IsSound config → IsSetup (setup_of config passes) → AreTakenFrom (start config passes) events →
       AreTaken config passes events × (now config passes events ≡ after_all (start config passes) events)
 
--- The converter's words are those of a run of the order machine that retells the events. Each cell has its
--- start word, or that of an order for this very cell, and each output commands a value of its own.
+-- The converter's words, and those in its store, are those of a run of the order machine that retells the
+-- events. Each cell has its start word, or that of an order for this very cell, and so it has in the store;
+-- and each output commands a value of its own.
 pub record LivesAreOrders : Type 0 where
   pub orders : (config : Config) (passes : ℕ) (events : List Event) →
       IsSound config → IsSetup (setup_of config passes) → AreTaken config passes events →
       IsOrderRun config passes events (now config passes events).device.words
+      (now config passes events).device.store
   pub own : (config : Config) (passes : ℕ) (events : List Event) (cell : Cell) →
       IsSound config → IsSetup (setup_of config passes) → AreTaken config passes events →
       IsCell config.count cell →
       IsOwnWord config passes events cell (word_at (now config passes events).device.words cell)
+  pub stored : (config : Config) (passes : ℕ) (events : List Event) (cell : Cell) →
+      IsSound config → IsSetup (setup_of config passes) → AreTaken config passes events →
+      IsCell config.count cell →
+      IsOwnWord config passes events cell (word_at (now config passes events).device.store cell)
   pub commanded : (config : Config) (passes : ℕ) (events : List Event) (output : ℕ) →
       IsSound config → IsSetup (setup_of config passes) → AreTaken config passes events →
       output < config.count → CommandsOwn config passes events output
@@ -109,6 +117,29 @@ pub record PossibleWordsAreHeld : Type 0 where
   pub seen : (config : Config) (passes : ℕ) (events : List Event) →
       IsSound config → IsSetup (setup_of config passes) → AreTaken config passes events →
       SeenIsTrue config passes events (now config passes events)
+
+-- What the host calls possible is exact, for all cells of all outputs together. Let the converter not have
+-- restarted since the host did, and since then let WRITE_PROTECT have been ordered and read as 00h alone, and
+-- no restore been ordered. Where the chosen words are all possible, the retelling tells the host just what it
+-- was told since it started, and leaves all of them (`witness`). And words that any life leaves which tells
+-- the host just that, without a restart, are all possible (`only`). Legal events are those that are taken,
+-- where there is room for them (`legal`).
+pub record PossibleWordsAreExact : Type 0 where
+  pub witness : (config : Config) (passes : ℕ) (events : List Event) (chosen : Choice) →
+      IsSound config → IsSetup (setup_of config passes) → AreTaken config passes events →
+      restarted_since_host events ≡ false →
+      let entries = since_restart (life config passes events).entries in
+      let told = marks (setup_of config passes) entries in AreOpen told →
+      ArePossible config (now config passes events).host chosen →
+      Leaves config passes entries chosen (witness_start config (due_before chosen told))
+      (witness_events (setup_of config passes) chosen entries)
+  pub only : (config : Config) (passes : ℕ) (events retold : List Event) (chosen : Choice) (other : Config) →
+      IsSound config → IsSetup (setup_of config passes) → AreTaken config passes events →
+      Leaves config passes (since_restart (life config passes events).entries) chosen other retold →
+      ArePossible config (now config passes events).host chosen
+  pub legal : (config : Config) (passes : ℕ) (events : List Event) →
+      IsSound config → IsSetup (setup_of config passes) → length events ≤ event_limit →
+      AreLegal config passes events ↔ AreTaken config passes events
 
 -- Damage that the packet error code betrays is legal: of a write, of an answer, and of a request whose answer
 -- comes back whole.

@@ -6,6 +6,7 @@ pub mod Life
 pub mod Retelling
 pub mod Confirmed
 pub mod Possible
+pub mod Uncertainty
 pub mod Honest
 pub mod Damage
 pub mod Laws

@@ -1,22 +1,25 @@
--- The life of a world, retold by the order machine: settings under orders alone, with no bytes, pages,
--- packet error codes or passes. This project's own. Lists are newest first.
+-- The life of a world, retold by the order machine: settings and a store under jobs alone, with no bytes,
+-- pages, packet error codes or passes. This project's own. Lists are newest first.
 use Rattle.std.specs.Prelude.{◌≡◌, ◌⊎◌, ℕ, ◌&&◌, if◌then◌else◌, List, [], ◌∷◌, ◌++◌, Option, Some, None, is_some, is_none, option_and_then}
 use Rattle.std.specs.Option.{option_map_or}
 use Rattle.pm_num.specs.Ratio.{Ratio}
 use Rattle.pm_table.specs.declared.cell.Cell.{Cell}
 use Rattle.pm_table.specs.declared.cell.Cell.TheVariants.{Out}
 use Rattle.pm_table.specs.declared.cell.Reg.TheVariants.{Operation, VoutMax, VoutMin}
-use Rattle.pm_model.specs.declared.pending_order.PendingOrder.{PendingOrder}
+use Rattle.pm_model.specs.declared.pending_job.PendingJob.{PendingJob}
+use Rattle.pm_model.specs.declared.pending_job.PendingJob.TheVariants as pending
 use Rattle.pm_model.specs.Commanded.{selected_register, limited}
-use Rattle.pm_model.specs.OrderMachine.{Step, Accept, Take, End, Back, IsRun, machine_of, ordered}
+use Rattle.pm_model.specs.OrderMachine.{Step, Accept, Take, End, Back, IsRun, machine_of}
 use Rattle.pm_model.specs.Settings.{Settings, Words}
 use Rattle.pm_device.specs.declared.config.Config.{Config}
 use Rattle.pm_device.specs.Held.{value_for}
 use Rattle.pm_device.specs.Start.{start_word, start_words}
+use Rattle.pm_host.specs.declared.command.Command.{Command}
+use Rattle.pm_host.specs.declared.command.Command.TheVariants.{ClearFaults, StoreUserAll, RestoreUserAll}
 use Rattle.pm_host.specs.Transcript as host
 use Rattle.pm_world.specs.declared.event.Arrival.{Arrival}
 use Rattle.pm_world.specs.declared.event.Event.{Event}
-use Rattle.pm_world.specs.declared.event.Event.TheVariants.{Deliver, Exchange, RestartDevice, RestartHost}
+use Rattle.pm_world.specs.declared.event.Event.TheVariants.{Deliver, Finish, Exchange, RestartDevice, RestartHost}
 use Rattle.pm_world.specs.Life.{life, now}
 use Rattle.pm_world.specs.Setup.{setup_of}
 use Rattle.pm_world.specs.State.{asked}
@@ -25,42 +28,53 @@ use Rattle.pm_world.specs.State.{asked}
 abbrev pub start_settings : Config → Settings
 start_settings config = record { count = config.count; words = start_words config }
 
--- the order that a job is
-abbrev pub order_of : host.Job → Option PendingOrder
-order_of (host.Order cell word) = Some (ordered cell word)
-order_of _ = None
+-- a command as a job of the order machine: a store, or a restore
+abbrev pub command_pending : Command → Option PendingJob
+command_pending (ClearFaults output) = None
+command_pending StoreUserAll = Some pending.Store
+command_pending RestoreUserAll = Some pending.Restore
 
--- the order that is open after some events
-unfoldable pub open_order : Config → ℕ → List Event → Option PendingOrder
-open_order config passes events = option_and_then order_of
+-- the order, store or restore that a job is
+abbrev pub pending_of : host.Job → Option PendingJob
+pending_of (host.Order cell word) = Some (pending.Order cell word)
+pending_of (host.Send command) = command_pending command
+pending_of (host.Check cell) = None
+pending_of (host.Learn output) = None
+
+-- the order, store or restore that is open after some events
+unfoldable pub open_pending : Config → ℕ → List Event → Option PendingJob
+open_pending config passes events = option_and_then pending_of
     (host.open_job (setup_of config passes) (life config passes events).entries)
 
--- a job that is accepted is told as the order that it is
-abbrev pub accepts : Option PendingOrder → List Step
+-- a job that is accepted is told as such a one
+abbrev pub accepts : Option PendingJob → List Step
 accepts None = []
-accepts (Some order) = Accept order.cell order.word ∷ []
+accepts (Some job) = Accept job ∷ []
 
--- an order that was open, and isn't any more, is told as its end
-abbrev pub ends_between : Option PendingOrder → Option PendingOrder → List Step
+-- one that was open, and isn't any more, is told as its end
+abbrev pub ends_between : Option PendingJob → Option PendingJob → List Step
 ends_between before after = if is_some before && is_none after then End ∷ [] else []
 
--- How an event that asks for no job is told: the end of the open order, and each restart of the host, as
--- its end; each restart of the converter as the start words' return; and nothing else.
+-- How an event that asks for no job is told: the end of the open order, store or restore, and each restart
+-- of the host, as its end; each restart of the converter as the stored words' return; and nothing else.
 unfoldable pub told_beside : Config → ℕ → List Event → Event → List Step
 told_beside config passes before (Exchange arrival back) = ends_between
-    (open_order config passes before) (open_order config passes (Exchange arrival back ∷ before))
+    (open_pending config passes before) (open_pending config passes (Exchange arrival back ∷ before))
+told_beside config passes before (Finish acked) = ends_between
+    (open_pending config passes before) (open_pending config passes (Finish acked ∷ before))
 told_beside config passes before RestartHost = End ∷ []
 told_beside config passes before RestartDevice = Back ∷ []
 told_beside config passes before _ = []
 
--- How an event is told, but for what takes: a job that it asks for as the order that it is.
+-- How an event is told, but for what takes: a job that it asks for as the order, store or restore that it
+-- is.
 unfoldable pub told : Config → ℕ → List Event → Event → List Step
 told config passes before event =
-    option_map_or (λ job. accepts (order_of job)) (asked (now config passes before) event)
+    option_map_or (λ job. accepts (pending_of job)) (asked (now config passes before) event)
     (told_beside config passes before event)
 
 -- The steps retell the events: each event in its place as it is told, and a delivery may have let the
--- pending order take. Nothing else takes.
+-- pending job take. Nothing else takes.
 pub data Retells (config : Config) (passes : ℕ) : List Event → List Step → Type 0 where
   nothing : Retells config passes [] []
   tells : (event : Event) (events : List Event) (steps : List Step)
@@ -70,14 +84,15 @@ pub data Retells (config : Config) (passes : ℕ) : List Event → List Step →
       → Retells config passes events steps
       → Retells config passes (Deliver arrival ∷ events) (Take ∷ steps)
 
--- these words, after these events, are those of a run of the order machine that retells the events;
--- the order that pends there is the open one
-pub record IsOrderRun (config : Config) (passes : ℕ) (events : List Event) (words : Words) : Type 0 where
+-- these words, and those in the store, after these events, are those of a run of the order machine that
+-- retells the events; the job that pends there is the open one
+pub record IsOrderRun (config : Config) (passes : ℕ) (events : List Event) (words store : Words) : Type 0 where
   pub steps : List Step
   pub run : IsRun (start_settings config) steps
   pub retells : Retells config passes events steps
   pub words_are : (machine_of (start_settings config) steps).words ≡ words
-  pub order_is : (machine_of (start_settings config) steps).pending ≡ open_order config passes events
+  pub store_is : (machine_of (start_settings config) steps).store ≡ store
+  pub job_is : (machine_of (start_settings config) steps).pending ≡ open_pending config passes events
 
 -- an order of this word for this very cell is among the events
 pub record WasOrdered (config : Config) (passes : ℕ) (events : List Event) (cell : Cell) (word : ℕ) : Type 0 where
@@ -85,7 +100,7 @@ pub record WasOrdered (config : Config) (passes : ℕ) (events : List Event) (ce
   pub event : Event
   pub before : List Event
   pub is : events ≡ later ++ event ∷ before
-  pub orders : told config passes before event ≡ Accept cell word ∷ []
+  pub orders : told config passes before event ≡ Accept (pending.Order cell word) ∷ []
 
 -- a cell's start word, or one that was ordered for this very cell
 abbrev pub IsOwnWord : Config → ℕ → List Event → Cell → ℕ → Type 0

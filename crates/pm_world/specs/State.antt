@@ -8,7 +8,7 @@ use Rattle.pm_device.specs.Held.{Held}
 use Rattle.pm_device.specs.Effect as device
 use Rattle.pm_device.specs.History.{next as device_next}
 use Rattle.pm_device.specs.Reply.{reply_of}
-use Rattle.pm_host.specs.declared.command.Command.TheVariants.{ClearFaults}
+use Rattle.pm_host.specs.declared.command.Command.TheVariants.{ClearFaults, StoreUserAll, RestoreUserAll}
 use Rattle.pm_host.specs.declared.fault.HostFault.{HostFault}
 use Rattle.pm_host.specs.declared.job_end.JobEnd.{JobEnd}
 use Rattle.pm_host.specs.declared.step.Step.{Step}
@@ -17,7 +17,7 @@ use Rattle.pm_host.specs.Summary.{Summary, sending_in, next as host_next, step_o
 use Rattle.pm_host.specs.Refusals.{job_fault, micro_fault, micro_word}
 use Rattle.pm_host.specs.Transcript as host
 use Rattle.pm_world.specs.declared.event.Event.{Event}
-use Rattle.pm_world.specs.declared.event.Event.TheVariants.{Order, OrderMicro, Check, Learn, Clear, Deliver, Finish, Exchange, RestartDevice, RestartHost, Reading}
+use Rattle.pm_world.specs.declared.event.Event.TheVariants.{Order, OrderMicro, Check, Learn, Clear, Store, Restore, Deliver, Finish, Exchange, RestartDevice, RestartHost, Reading}
 use Rattle.pm_world.specs.declared.event.Arrival.{Arrival}
 use Rattle.pm_world.specs.declared.event.Back.{Back}
 use Rattle.pm_world.specs.declared.stop.Cause.{Cause}
@@ -56,6 +56,8 @@ asked s (OrderMicro cell x) = option_map (λ word. host.Order cell word) (micro_
 asked s (Check cell) = Some (host.Check cell)
 asked s (Learn output) = Some (host.Learn output)
 asked s (Clear output) = Some (host.Send (ClearFaults output))
+asked s Store = Some (host.Send StoreUserAll)
+asked s Restore = Some (host.Send RestoreUserAll)
 asked s _ = None
 
 -- the converter hears a frame of a message as it arrives

@@ -39,6 +39,10 @@ pub enum Event {
     Learn(u8),
     /// The host is asked to clear an output's latched status.
     Clear(u8),
+    /// The host is asked to have the outputs' settings stored.
+    Store,
+    /// The host is asked to have the stored settings of the outputs back.
+    Restore,
     /// The converter hears the write that is being sent. It may come any number of times in an
     /// attempt, also never.
     Deliver(Arrival),

@@ -9,6 +9,7 @@ mod honest;
 mod lives;
 mod orders;
 mod possible;
+mod uncertainty;
 
 pub use confirmed::confirmed_settings_are_held;
 pub use damage::{betrayed_damage_is_legal, betrayed_damage_is_taken};
@@ -18,3 +19,4 @@ pub use honest::{frames_are_few, honest_orders_go_through};
 pub use lives::lives_are_followed;
 pub use orders::lives_are_orders;
 pub use possible::possible_words_are_held;
+pub use uncertainty::possible_words_are_exact;

@@ -36,7 +36,7 @@ pub use event::{Arrival, Back, Event};
 pub use laws::{
     betrayed_damage_is_legal, betrayed_damage_is_taken, confirmed_settings_are_held,
     frames_are_few, honest_orders_go_through, learned_formats_are_true, lives_are_followed,
-    lives_are_orders, possible_words_are_held,
+    lives_are_orders, possible_words_are_exact, possible_words_are_held,
 };
 pub use stop::{Cause, SetupFault, Stop};
 pub use world::World;

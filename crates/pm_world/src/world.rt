@@ -97,10 +97,12 @@ impl World {
     /// The *taken events* are those before the stop, or all where there is none. Whatever was lost, cut,
     /// damaged, repeated or falsely acknowledged, and whichever end started again:
     ///
-    /// - `orders`: the converter's words are those of a run of the order machine that retells the taken
-    ///   events. In it exactly the orders are accepted, each in its place and with its word, and an order
-    ///   takes only at a delivery between its acceptance and the end of its job.
-    /// - `own`: each cell has its start word, or the word of an order for that very cell.
+    /// - `orders`: the converter's words, and those in its store, are those of a run of the order machine
+    ///   that retells the taken events. In it exactly the orders, stores and restores are accepted, each in
+    ///   its place, an order with its word, and each takes only at a delivery between its acceptance and
+    ///   the end of its job.
+    /// - `own`, `stored`: each cell has its start word, or the word of an order for that very cell, and so
+    ///   it has in the store.
     /// - `commanded`: each output commands the value of one of its own words, cut to its own VOUT_MIN and
     ///   VOUT_MAX.
     /// - `confirmed`: a word that the host calls confirmed is the one that the converter holds, unless
@@ -123,10 +125,14 @@ impl World {
             run.0 ≡ now c passes (taken_events events.now run.1)) }
         ensures all { IfOk result (λ run. AreTaken c passes (taken_events events.now run.1)) }
         ensures orders { IfOk result (λ run.
-            IsOrderRun c passes (taken_events events.now run.1) run.0.device.words) }
+            IsOrderRun c passes (taken_events events.now run.1)
+            run.0.device.words run.0.device.store) }
         ensures own { IfOk result (λ run. (cell : AnyCell) → IsCell c.count cell →
             IsOwnWord c passes (taken_events events.now run.1) cell
             (word_at run.0.device.words cell)) }
+        ensures stored { IfOk result (λ run. (cell : AnyCell) → IsCell c.count cell →
+            IsOwnWord c passes (taken_events events.now run.1) cell
+            (word_at run.0.device.store cell)) }
         ensures commanded { IfOk result (λ run. (output : ℕ) → output < c.count →
             CommandsOwn c passes (taken_events events.now run.1) output
             (commanded (value_for run.0.device.config output) run.0.device.words output)) }
@@ -236,6 +242,8 @@ impl World {
             Event::Check(cell) => self.check(*cell),
             Event::Learn(output) => self.learn(*output),
             Event::Clear(output) => self.send(Command::ClearFaults { output: *output }),
+            Event::Store => self.send(Command::StoreUserAll),
+            Event::Restore => self.send(Command::RestoreUserAll),
             Event::Deliver(arrival) => self.deliver(arrival),
             Event::Finish(acked) => self.finish(*acked),
             Event::Exchange(arrival, back) => self.exchange(arrival, back),

@@ -2,7 +2,7 @@
 
 use crate::host::{
     pm_host_check, pm_host_clear, pm_host_learn, pm_host_new, pm_host_order, pm_host_order_micro,
-    pm_host_restart,
+    pm_host_restart, pm_host_restore, pm_host_store,
 };
 use crate::known::{pm_host_possible, pm_host_restart_seen, pm_host_standing};
 use crate::packet::{Packet, pm_packet_read_request, pm_packet_read_write, pm_packet_write};
@@ -63,6 +63,14 @@ pub(super) fn learn(image: &mut Image, output: u8) -> u8 {
 
 pub(super) fn clear(image: &mut Image, output: u8) -> u8 {
     pm_host_clear(image, output)
+}
+
+pub(super) fn store(image: &mut Image) -> u8 {
+    pm_host_store(image)
+}
+
+pub(super) fn restore(image: &mut Image) -> u8 {
+    pm_host_restore(image)
 }
 
 pub(super) fn restart(image: &mut Image) -> u8 {

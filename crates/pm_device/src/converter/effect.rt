@@ -10,7 +10,7 @@ ghost use Rattle.pm_device.specs.History.{after, cleared, latched};
 use crate::act::Act;
 use crate::cml_latches::CmlLatches;
 use crate::converter::Converter;
-use crate::cut::is_output_cut;
+use crate::cut::{is_output_cut, latch_each};
 use crate::status_bits::StatusVout;
 use crate::verdict::Verdict;
 use bitflags::Flags;
@@ -49,7 +49,19 @@ impl Converter {
                 }
             }
             Act::ClearCml(byte) => self.faults.clear(byte),
+            Act::Store => self.store = self.store.with_outputs(&self.settings),
+            Act::Restore => self.restore(),
         }
+    }
+
+    // Gives each cell of an output its word in the store, and latches each output that is then outside
+    // its limits.
+    #[tactic(auto, unfolding(crate::specs::History::after))]
+    fn restore(&mut self)
+        ensures { self.new ≡ after self.old (Heard (verdict.Takes act.Restore)) }
+    {
+        self.settings = self.settings.with_outputs(&self.store);
+        self.cut = latch_each(self.cut, &self.config, &self.formats, &self.settings);
     }
 
     // Gives a cell a word, and latches that its output is outside its limits, where it is.
@@ -59,7 +71,7 @@ impl Converter {
         requires accepted { cell_accepts cell word ≡ true }
         ensures { self.new ≡ after self.old (Heard (verdict.Takes (act.Put cell word))) }
     {
-        self.settings = self.settings.with(cell, word);
+        self.settings.put(cell, word);
         if let Cell::Out(output, _) = cell {
             self.latch(output);
         }

@@ -10,7 +10,7 @@ ghost use Rattle.pm_host.specs.Marks.{Good};
 ghost use Rattle.pm_host.specs.Possible.{has_room, only};
 ghost use Rattle.pm_host.specs.Sound.{IsOrdering, IsChecking, IsAsking, IsSending, IsStage, IsSound};
 ghost use Rattle.pm_host.specs.Told.{OnEnded};
-ghost use Rattle.pm_host.specs.Summary.{possible_at, goes_on, ends, another as spec_another, marked, writes, read_back as spec_read_back, checked as spec_checked, learned as spec_learned, mode_taken, mode_answered, coefficients_answered, finished};
+ghost use Rattle.pm_host.specs.Summary.{possible_at, goes_on, ends, another as spec_another, marked, writes, sends, read_back as spec_read_back, checked as spec_checked, learned as spec_learned, mode_taken, mode_answered, coefficients_answered, finished};
 
 use crate::command::Command;
 use crate::format_image::{FormatImage, NO_COEFFICIENTS};
@@ -77,6 +77,21 @@ impl State {
     {
         self.known.put(cell, word);
         self.go_on(Stage::Writes { cell, word, pass })
+    }
+
+    /// A command begins to be sent, after these tries.
+    pub(super) fn begin_send(&mut self, command: Command, tries: u8) -> Step
+        requires sound { IsSound (held self.old) }
+        requires idle { (held self.old).stage ≡ None }
+        requires sending { IsSending (held self.old) command tries }
+        ensures sound { IsSound (held self.new) }
+        ensures after { held self.new ≡ (sends (held self.old) command tries).after }
+        ensures step { result ≡ Step.Next }
+    {
+        if let Command::RestoreUserAll = command {
+            self.known.restored();
+        }
+        self.go_on(Stage::Sends { command, tries })
     }
 
     /// A good answer for a cell.
@@ -249,15 +264,12 @@ impl State {
         ensures over { OnEnded result (frames_left (held self.new) ≡ 0) }
     {
         if acked {
-            return self.end(JobEnd::Done);
+            self.end(JobEnd::Done)
+        } else if tries + 1 == self.passes {
+            self.end(JobEnd::Unknown)
+        } else {
+            self.begin_send(command, tries + 1)
         }
-        self.another(
-            tries,
-            Stage::Sends {
-                command,
-                tries: tries + 1,
-            },
-        )
     }
 }
 

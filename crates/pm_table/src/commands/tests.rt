@@ -2,13 +2,15 @@ use super::*;
 
 // The table as the standard's codes and this project's directions give it: code, name, bytes,
 // paged, read, written.
-const TABLE: [(u8, &str, u8, bool, bool, bool); 23] = [
+const TABLE: [(u8, &str, u8, bool, bool, bool); 25] = [
     (0x00, "PAGE", 1, false, true, true),
     (0x01, "OPERATION", 1, true, true, true),
     (0x03, "CLEAR_FAULTS", 0, true, false, true),
     (0x05, "PAGE_PLUS_WRITE", 0, false, false, true),
     (0x06, "PAGE_PLUS_READ", 0, false, true, false),
     (0x10, "WRITE_PROTECT", 1, false, true, true),
+    (0x15, "STORE_USER_ALL", 0, false, false, true),
+    (0x16, "RESTORE_USER_ALL", 0, false, false, true),
     (0x19, "CAPABILITY", 1, false, true, false),
     (0x20, "VOUT_MODE", 1, true, true, false),
     (0x21, "VOUT_COMMAND", 2, true, true, true),

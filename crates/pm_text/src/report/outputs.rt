@@ -73,7 +73,7 @@ fn push_registers(
         ≡ string_bytes text.old ++ register_lines form world.now output) }
 {
     for register in form.registers() {
-        push_register(text, world, output, *register)?;
+        push_register(text, form, world, output, *register)?;
     }
     Ok(())
 }

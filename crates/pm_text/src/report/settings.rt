@@ -1,9 +1,11 @@
 //! The lines of settings: what the converter holds of a cell, and what the host says of it.
-ghost use Rattle.std.specs.Prelude.{◌≡◌, ◌<◌, ◌++◌, OnOk, string_bytes};
+ghost use Rattle.std.specs.Prelude.{◌≡◌, ◌<◌, ◌++◌, OnOk, codes, string_bytes};
+ghost use Rattle.pm_host.specs.Summary.{possible_at, standing_at};
 ghost use Rattle.pm_table.specs.Cell.{IsCell};
-ghost use Rattle.pm_text.specs.Report.{cell_text, register_line, setting_line, standing_text};
+ghost use Rattle.pm_text.specs.Report.{cell_text, possible_text, register_line, said_text, setting_line, spaced_words, standing_text};
 
-use pm_host::Standing;
+use crate::form::Form;
+use pm_host::{Possible, Standing};
 use pm_lines::{push_hex, push_hex_word};
 use pm_table::{Cell, Reg};
 use pm_world::World;
@@ -12,36 +14,53 @@ use std::alloc::AllocError;
 /// Appends the line of an output's register.
 pub(crate) fn push_register(
     text: &mut String,
+    form: Form,
     world: &World,
     output: u8,
     register: Reg,
 ) -> Result<(), AllocError>
     requires { output < world.now.device.config.count }
     ensures { OnOk result (string_bytes text.new
-        ≡ string_bytes text.old ++ register_line world.now output register) }
+        ≡ string_bytes text.old ++ register_line form world.now output register) }
 {
     let cell = Cell::Out(output, register);
-    push_setting(text, world, cell.name(), cell)
+    push_setting(text, form, world, cell.name(), cell)
 }
 
 /// Appends the line of a cell, under this name.
 #[tactic(auto, using(crate::proofs::Joins::joins), unfolding(crate::specs::Report::setting_line))]
 pub(crate) fn push_setting(
     text: &mut String,
+    form: Form,
     world: &World,
     name: &str,
     cell: Cell,
 ) -> Result<(), AllocError>
     requires { IsCell world.now.device.config.count cell }
     ensures { OnOk result (string_bytes text.new
-        ≡ string_bytes text.old ++ setting_line world.now name.now cell) }
+        ≡ string_bytes text.old ++ setting_line form world.now name.now cell) }
 {
     text.push_str(name)?;
     text.push_str(" ")?;
     push_cell_word(text, cell, world.device().word(cell))?;
     text.push_str(" host ")?;
-    push_standing(text, cell, world.host().standing(cell))?;
+    push_said(text, form, world, cell)?;
     text.push_str("\n")
+}
+
+// What the host says of a cell, and what texts of this form tell more of it.
+#[tactic(auto, using(crate::proofs::Joins::joins))]
+fn push_said(text: &mut String, form: Form, world: &World, cell: Cell) -> Result<(), AllocError>
+    requires { IsCell world.now.device.config.count cell }
+    ensures { OnOk result (string_bytes text.new ≡ string_bytes text.old
+        ++ said_text form cell (standing_at world.now.host cell) (possible_at world.now.host cell)) }
+{
+    let standing = world.host().standing(cell);
+    push_standing(text, cell, standing)?;
+    match (form, standing) {
+        (Form::Second, Standing::Unknown) => push_possible(text, cell, world.host().possible(cell)),
+        _ => Ok(()),
+    }
 }
 
 // What the host says of a cell.
@@ -57,6 +76,40 @@ fn push_standing(text: &mut String, cell: Cell, standing: Standing) -> Result<()
         }
         Standing::Unknown => text.push_str("unknown"),
     }
+}
+
+// The words that a cell may hold.
+#[tactic(auto, using(crate::proofs::Joins::joins))]
+fn push_possible(text: &mut String, cell: Cell, possible: Possible) -> Result<(), AllocError>
+    ensures { OnOk result (string_bytes text.new
+        ≡ string_bytes text.old ++ (codes " possible" ++ possible_text cell possible)) }
+{
+    text.push_str(" possible")?;
+    match possible {
+        Possible::Any => text.push_str(" any"),
+        Possible::Words(words) => push_words(text, cell, words.as_slice()),
+    }
+}
+
+// Words, each after a space.
+fn push_words(text: &mut String, cell: Cell, words: &[u16]) -> Result<(), AllocError>
+    ensures { OnOk result (string_bytes text.new
+        ≡ string_bytes text.old ++ spaced_words cell words.now) }
+{
+    for word in words {
+        push_spaced(text, cell, *word)?;
+    }
+    Ok(())
+}
+
+// One word, after a space.
+#[tactic(auto, using(crate::proofs::Joins::joins))]
+fn push_spaced(text: &mut String, cell: Cell, word: u16) -> Result<(), AllocError>
+    ensures { OnOk result (string_bytes text.new
+        ≡ string_bytes text.old ++ (codes " " ++ cell_text cell word)) }
+{
+    text.push_str(" ")?;
+    push_cell_word(text, cell, word)
 }
 
 // A cell's word with its digits.

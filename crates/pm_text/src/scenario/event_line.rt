@@ -1,9 +1,9 @@
 //! The event lines of a scenario. Each reader makes the event where it stays: handed up as a result
 //! through the readers, an event would be copied at each of them.
-ghost use Rattle.std.specs.Prelude.{◌≡◌, Ok, Err, MatchResult};
+ghost use Rattle.std.specs.Prelude.{◌≡◌, Ok, Err, MatchResult, option_map};
 ghost use Rattle.pm_text.specs.EventLines as spec;
 ghost use Rattle.pm_text.specs.Kinds.{device_reading_named, output_reading_named};
-ghost use Rattle.pm_text.specs.Readers.{ReadsTo, IsRead, field, line_as};
+ghost use Rattle.pm_text.specs.Readers.{ReadsTo, IsRead, field, gives, line_as, named};
 ghost use Rattle.pm_text.specs.declared.scenario.fault.ScenarioFault.TheVariants.{Syntax};
 
 use crate::form::Form;
@@ -51,8 +51,23 @@ fn read_event(form: Form, fields: &mut Fields<'_>, event: &mut Event) -> Result<
         restart(fields, event)
     } else if name == b"reading".as_slice() {
         reading(fields, event)
+    } else if let Some(asked) = store_event(form, name) {
+        *event = asked;
+        Ok(())
     } else {
         Err(fields.syntax())
+    }
+}
+
+// What the one word of `store` or `restore` says, which texts of the second form alone may have.
+fn store_event(form: Form, name: &[u8]) -> Option<Event>
+    ensures { option_map gives result ≡ named (spec.store_lines form) name.now }
+{
+    match form {
+        Form::First => None,
+        Form::Second if name == b"store".as_slice() => Some(Event::Store),
+        Form::Second if name == b"restore".as_slice() => Some(Event::Restore),
+        Form::Second => None,
     }
 }
 

@@ -86,6 +86,8 @@ fn a_word_that_is_not_what_stands_at_its_place_is_a_fault(rt: HostRuntime) -> Re
         "clear",
         "clear -1",
         "clear 0 0",
+        "store",
+        "restore",
         "deliver",
         "deliver cut",
         "deliver cut 256",

@@ -99,7 +99,7 @@ Usage: pmb replay < SCENARIO
 Options:
   -h, --help  Print help
 
-A scenario is these lines, and then events (version 1 has no MIN and no VOUT_MIN):
+A scenario is these lines, and then events (version 1 has no MIN, VOUT_MIN, store and restore):
 
   scenario 2
   address 58                              seven bits, 08 to 77: B0 on the wire is 58
@@ -114,10 +114,12 @@ A scenario is these lines, and then events (version 1 has no MIN and no VOUT_MIN
   check 0 VOUT_COMMAND                    a job: read the register
   learn 0                                 a job: read the output's format
   clear 0                                 a job: send CLEAR_FAULTS
+  store                                   a job: send STORE_USER_ALL
+  restore                                 a job: send RESTORE_USER_ALL
   deliver A                               the converter hears the write that is being sent
   finish ack                              the write is over: ack, or nack
   exchange A B                            the converter hears the request, and B comes back
-  restart device                          an end starts again: device, or host
+  restart device                          an end starts again: device (with what is stored), or host
   reading 0 READ_VOUT 34CD                what READ_VOUT or READ_IOUT answers
   reading - READ_VIN D300                 the same of READ_VIN or READ_TEMPERATURE_1
 

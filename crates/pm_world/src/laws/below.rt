@@ -7,7 +7,10 @@ use pm_frame::{
     answers_are_exact, betrayal_is_refused, bursts_are_betrayed, damage_is_betrayed,
     damage_is_refused, requests_are_exact, writes_are_exact,
 };
-use pm_host::{frames_are_named, jobs_are_bounded, transcripts_are_followed};
+use pm_host::{
+    frames_are_named, jobs_are_bounded, open_restores_are_uncertain, possible_words_are_followed,
+    transcripts_are_followed,
+};
 use pm_model::{orders_stay_in_their_cells, settings_are_a_map};
 use pm_table::{cells_are_told_apart, cells_have_places, registers_are_in_the_table};
 
@@ -34,4 +37,6 @@ pub(crate) fn lower_laws()
     transcripts_are_followed();
     jobs_are_bounded();
     frames_are_named();
+    open_restores_are_uncertain();
+    possible_words_are_followed();
 }

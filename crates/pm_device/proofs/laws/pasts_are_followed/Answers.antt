@@ -1,4 +1,4 @@
-use Rattle.pm_device.proofs.Follow.{now-nil, now-next, now-page, now-words}
+use Rattle.pm_device.proofs.Follow.{now-nil, now-next, now-page, now-words, now-store}
 use Rattle.pm_device.proofs.Refusals.{vout-looked_up, cml-looked_up, now-shows}
 use Rattle.pm_device.proofs.laws.pasts_are_followed.Goals as goal
 
@@ -14,4 +14,5 @@ returns c =
       shows = now-shows;
       page = now-page;
       words = now-words map;
+      store = now-store map;
     }

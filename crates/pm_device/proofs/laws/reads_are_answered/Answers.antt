@@ -2,7 +2,7 @@ use Rattle.std.proofs.Common.{refl}
 use Rattle.std.proofs.lemmas.Bool.{lt-ltb}
 use Rattle.pm_table.specs.Codes as command
 use Rattle.pm_frame.specs.declared.message.Message.TheVariants.{ReadCommand, PagePlusRead, ReadCoefficients}
-use Rattle.pm_device.proofs.ReadAnswers.{answer-is, request-answered, cell-answered, read-back}
+use Rattle.pm_device.proofs.ReadAnswers.{answer-is, coefficients-refused, request-answered, cell-answered, read-back}
 use Rattle.pm_device.proofs.laws.reads_are_answered.Goals as goal
 
 pub returns : goal.returns
@@ -18,5 +18,6 @@ returns c =
           request-answered exact short held (PagePlusRead output command.vout_mode) bytes h (lt-ltb output held.config.count there);
       coefficients = λ held bytes h direct.
           request-answered exact short held (ReadCoefficients command.vout_command 0x00) bytes h direct;
+      no_coefficients = coefficients-refused exact;
       number = read-back c.registers_are_in_the_table.ensures;
     }

@@ -1,4 +1,5 @@
 use Rattle.pm_device.proofs.WriteEffects.{requested, faulty, heard-write, cell-written, carried, plain-protect, selected, cleared}
+use Rattle.pm_device.proofs.WriteEffects.{stored, restored}
 use Rattle.pm_device.proofs.laws.writes_reach_one_cell.Goals as goal
 
 pub returns : goal.returns
@@ -13,4 +14,6 @@ returns c =
       plain = plain-protect exact;
       selects = selected exact;
       clears = cleared exact;
+      stores = stored exact;
+      restores = restored exact;
     }

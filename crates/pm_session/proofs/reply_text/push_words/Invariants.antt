@@ -1,6 +1,6 @@
 use Rattle.std.proofs.Common.{◌≡◌, ◌≤◌, ◌+◌, ◌*◌, ◌++◌, drop}
 use Rattle.arrayvec.specs.ArrayVec.{array_vec_len}
-use Rattle.pm_session.specs.ReplyText.{spaced_words}
+use Rattle.pm_text.specs.Report.{spaced_words}
 use Rattle.pm_session.proofs.reply_text.push_words.Given as goal
 
 -- what is written and what is left are the whole, and each word took at most five bytes

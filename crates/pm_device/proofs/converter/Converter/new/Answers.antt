@@ -1,4 +1,5 @@
 use Rattle.std.proofs.Common.{sym, ◌∙◌, ap, length, arith}
+use Rattle.pm_model.specs.Settings.{Settings}
 use Rattle.pm_device.proofs.StartLemmas.{sound}
 use Rattle.pm_device.proofs.CutLemmas.{length-each_output}
 use Rattle.pm_device.proofs.converter.Converter.new.Goals as goal
@@ -11,6 +12,7 @@ invariant_of-result c = record {
   sound = sound c.args.c (sym c.config_fault.ensures ∙ c.in_default.is);
   shapes = c.formats_of-formats.ensures;
   counted = c.start_settings-settings.ensures.count;
+  store = ap (λ (s : Settings). s.count) c.copied.ensures ∙ c.start_settings-settings.ensures.count;
   selected = omega (arith, (sound c.args.c (sym c.config_fault.ensures ∙ c.in_default.is)).some);
   latches = ap length c.each_cut-cut.ensures ∙ length-each_output _;
 }

@@ -9,6 +9,6 @@ abbrev pub invariant-loop-register : goal.invariant-loop-register
 invariant-loop-register l = record {
   written :
       string_bytes l.text
-      ≡ string_bytes l.fn.text ++ flat_map (register_line l.world l.output) (take l.register-index l.register-items);
+      ≡ string_bytes l.fn.text ++ flat_map (register_line l.fn.form l.world l.output) (take l.register-index l.register-items);
   items : l.register-items ≡ registers_of l.fn.form;
 }
