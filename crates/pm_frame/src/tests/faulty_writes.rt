@@ -7,7 +7,7 @@ use crate::{FrameFault, read_request, read_write};
 use pm_table::address_ok;
 use std::alloc::AllocError;
 
-const FAULTY_WRITES: [(&[u8], Ends, FrameFault); 61] = [
+const FAULTY_WRITES: [(&[u8], Ends, FrameFault); 64] = [
     // lengths of a plain code that is written
     (&[], Ends::Bare, FrameFault::Short(1)),
     (&[0x03], Ends::Bare, FrameFault::Short(2)),
@@ -15,6 +15,8 @@ const FAULTY_WRITES: [(&[u8], Ends, FrameFault); 61] = [
     (&[0x21, 0xCD], Ends::Pec, FrameFault::Short(4)),
     (&[0x10], Ends::Pec, FrameFault::Short(3)),
     (&[0x03, 0x46], Ends::Pec, FrameFault::Long(3)),
+    (&[0x15], Ends::Bare, FrameFault::Short(2)),
+    (&[0x16, 0x46], Ends::Pec, FrameFault::Long(3)),
     (&[0x10, 0x80, 0x34], Ends::Pec, FrameFault::Long(4)),
     (&[0x21, 0xCD, 0x34, 0x00], Ends::Pec, FrameFault::Long(5)),
     (
@@ -130,7 +132,8 @@ const FAULTY_WRITES: [(&[u8], Ends, FrameFault); 61] = [
     (&[0x20, 0x14], Ends::Pec, FrameFault::WrongDirection(1)),
     (&[0x79, 0x08], Ends::Pec, FrameFault::WrongDirection(1)),
     (&[0x99], Ends::Pec, FrameFault::UnknownCode(1)),
-    (&[0x15], Ends::Pec, FrameFault::UnknownCode(1)),
+    (&[0x11], Ends::Pec, FrameFault::UnknownCode(1)),
+    (&[0x17], Ends::Pec, FrameFault::UnknownCode(1)),
     (&[0x99, 0x00, 0x00], Ends::Pec, FrameFault::UnknownCode(1)),
     // the carried code, whatever the count where it is not carried, known or written
     (

@@ -1,8 +1,10 @@
 use crate::{Message, Payload, fits};
 
 // The layouts by their codes alone: these fit, whatever byte, word, page and side they have.
-const FITTING: [Message; 23] = [
+const FITTING: [Message; 27] = [
     Message::SendByte { code: 0x03 },
+    Message::SendByte { code: 0x15 },
+    Message::SendByte { code: 0x16 },
     Message::WriteByte {
         code: 0x00,
         byte: 0xFF,
@@ -34,6 +36,16 @@ const FITTING: [Message; 23] = [
     Message::PagePlusWrite {
         page: 0,
         code: 0x03,
+        payload: Payload::Empty,
+    },
+    Message::PagePlusWrite {
+        page: 0,
+        code: 0x15,
+        payload: Payload::Empty,
+    },
+    Message::PagePlusWrite {
+        page: 0,
+        code: 0x16,
         payload: Payload::Empty,
     },
     Message::PagePlusWrite {
@@ -209,7 +221,7 @@ const UNFITTING: [Message; 35] = [
     },
     Message::PagePlusWrite {
         page: 0,
-        code: 0x15,
+        code: 0x11,
         payload: Payload::Empty,
     },
     Message::ReadCommand { code: 0xFF },
