@@ -10,6 +10,7 @@ use crate::{
     FrameFault, answer, fits, is_betrayed, read_answer, read_request, read_write, write_part,
 };
 use frames::{READS, WRITES};
+use framing::{answer_fault, request_fault, sent, write_fault};
 use pm_table::address_ok;
 
 #[test]
@@ -20,8 +21,8 @@ fn a_write_is_put_on_the_wire_and_read_again(rt: HostRuntime) {
             "{:?}",
             row.message
         );
-        let sent = write_part(row.addr, &row.message);
-        assert_eq!(rt; sent.as_slice(), row.bytes, "{:?}", row.message);
+        let frame = sent(row.addr, &row.message);
+        assert_eq!(rt; frame.as_slice(), row.bytes, "{:?}", row.message);
         assert!(rt; !is_betrayed(&[], row.bytes), "{:?}", row.message);
         match read_write(row.addr, row.bytes) {
             Ok(view) => {
@@ -43,8 +44,8 @@ fn a_request_is_put_on_the_wire_and_read_again(rt: HostRuntime) {
             "{:?}",
             row.message
         );
-        let sent = write_part(row.addr, &row.message);
-        assert_eq!(rt; sent.as_slice(), row.request, "{:?}", row.message);
+        let frame = sent(row.addr, &row.message);
+        assert_eq!(rt; frame.as_slice(), row.request, "{:?}", row.message);
         match read_request(row.addr, row.request) {
             Ok(view) => {
                 assert_eq!(rt; view.message(), row.message);
@@ -90,7 +91,7 @@ fn a_strict_front_is_short(rt: HostRuntime) {
     for row in &WRITES {
         assert!(rt; address_ok(row.addr));
         for n in 0..row.bytes.len() {
-            let fault = read_write(row.addr, &row.bytes[..n]).err();
+            let fault = write_fault(row.addr, &row.bytes[..n]);
             assert_eq!(rt; fault, Some(cut_to(n)), "{n} of {:?}", row.message);
         }
     }
@@ -98,11 +99,11 @@ fn a_strict_front_is_short(rt: HostRuntime) {
         let request = row.message;
         assert!(rt; address_ok(row.addr) && request.is_read() && fits(&request));
         for n in 0..row.request.len() {
-            let fault = read_request(row.addr, &row.request[..n]).err();
+            let fault = request_fault(row.addr, &row.request[..n]);
             assert_eq!(rt; fault, Some(cut_to(n)), "{n} of {request:?}");
         }
         for n in 0..row.answer.len() {
-            let fault = read_answer(row.addr, &request, &row.answer[..n]).err();
+            let fault = answer_fault(row.addr, &request, &row.answer[..n]);
             assert_eq!(rt; fault, Some(cut_to(n)), "{n} of {request:?}");
         }
     }

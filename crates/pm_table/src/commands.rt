@@ -3,6 +3,57 @@ ghost use Rattle.std.specs.Option.{option_map};
 ghost use Rattle.pm_table.specs.Laws.{PayloadsAreShort};
 ghost use Rattle.pm_table.specs.Commands.{line_of, line_seen, attributes};
 
+// The command table, a row for each code: its name, and what is known of it besides. `true` is the scope of
+// an output, `false` that of the device. It is asked for one column at a time, so that who wants the
+// attributes doesn't pay for the name.
+macro_rules! command_table {
+    ($column:ident of $code:expr) => {
+        column_of!($column of $code =>
+            PAGE is setting(1, false),
+            OPERATION is setting(1, true),
+            CLEAR_FAULTS is action(0, true),
+            PAGE_PLUS_WRITE is action(0, false),
+            PAGE_PLUS_READ is reading(0, false),
+            WRITE_PROTECT is setting(1, false),
+            STORE_USER_ALL is action(0, false),
+            RESTORE_USER_ALL is action(0, false),
+            CAPABILITY is reading(1, false),
+            VOUT_MODE is reading(1, true),
+            VOUT_COMMAND is setting(2, true),
+            VOUT_MAX is setting(2, true),
+            VOUT_MARGIN_HIGH is setting(2, true),
+            VOUT_MARGIN_LOW is setting(2, true),
+            VOUT_MIN is setting(2, true),
+            COEFFICIENTS is reading(0, false),
+            STATUS_BYTE is reading(1, true),
+            STATUS_WORD is reading(2, true),
+            STATUS_VOUT is setting(1, true),
+            STATUS_CML is setting(1, false),
+            READ_VIN is reading(2, false),
+            READ_VOUT is reading(2, true),
+            READ_IOUT is reading(2, true),
+            READ_TEMPERATURE_1 is reading(2, false),
+            PMBUS_REVISION is reading(1, false),
+        )
+    };
+}
+
+// A column of these rows, for one code.
+macro_rules! column_of {
+    (attributes of $code:expr => $($row:ident is $attributes:expr,)*) => {
+        match $code {
+            $(Code::$row => Some($attributes),)*
+            _ => None,
+        }
+    };
+    (name of $code:expr => $($row:ident is $attributes:expr,)*) => {
+        match $code {
+            $(Code::$row => stringify!($row),)*
+            _ => "",
+        }
+    };
+}
+
 /// A command code of PMBus, any of the 256 bytes.
 #[derive(Clone, Copy, Debug, PartialEq, Eq)]
 pub struct Code(pub u8);
@@ -68,34 +119,7 @@ impl Code {
         ensures attributes { result ≡ attributes_of self.0 }
         ensures short { IfSome result (λ a. a.length ≤ 2) }
     {
-        match self {
-            Code::PAGE => Some(setting(1, false)),
-            Code::OPERATION => Some(setting(1, true)),
-            Code::CLEAR_FAULTS => Some(action(0, true)),
-            Code::PAGE_PLUS_WRITE => Some(action(0, false)),
-            Code::PAGE_PLUS_READ => Some(reading(0, false)),
-            Code::WRITE_PROTECT => Some(setting(1, false)),
-            Code::STORE_USER_ALL => Some(action(0, false)),
-            Code::RESTORE_USER_ALL => Some(action(0, false)),
-            Code::CAPABILITY => Some(reading(1, false)),
-            Code::VOUT_MODE => Some(reading(1, true)),
-            Code::VOUT_COMMAND => Some(setting(2, true)),
-            Code::VOUT_MAX => Some(setting(2, true)),
-            Code::VOUT_MARGIN_HIGH => Some(setting(2, true)),
-            Code::VOUT_MARGIN_LOW => Some(setting(2, true)),
-            Code::VOUT_MIN => Some(setting(2, true)),
-            Code::COEFFICIENTS => Some(reading(0, false)),
-            Code::STATUS_BYTE => Some(reading(1, true)),
-            Code::STATUS_WORD => Some(reading(2, true)),
-            Code::STATUS_VOUT => Some(setting(1, true)),
-            Code::STATUS_CML => Some(setting(1, false)),
-            Code::READ_VIN => Some(reading(2, false)),
-            Code::READ_VOUT => Some(reading(2, true)),
-            Code::READ_IOUT => Some(reading(2, true)),
-            Code::READ_TEMPERATURE_1 => Some(reading(2, false)),
-            Code::PMBUS_REVISION => Some(reading(1, false)),
-            _ => None,
-        }
+        command_table!(attributes of self)
     }
 
     /// Whether the code stands in the command table.
@@ -143,34 +167,7 @@ impl Code {
     pub fn name(self) -> &'static str
         ensures { result.now ≡ name_of self.0 }
     {
-        match self {
-            Code::PAGE => "PAGE",
-            Code::OPERATION => "OPERATION",
-            Code::CLEAR_FAULTS => "CLEAR_FAULTS",
-            Code::PAGE_PLUS_WRITE => "PAGE_PLUS_WRITE",
-            Code::PAGE_PLUS_READ => "PAGE_PLUS_READ",
-            Code::WRITE_PROTECT => "WRITE_PROTECT",
-            Code::STORE_USER_ALL => "STORE_USER_ALL",
-            Code::RESTORE_USER_ALL => "RESTORE_USER_ALL",
-            Code::CAPABILITY => "CAPABILITY",
-            Code::VOUT_MODE => "VOUT_MODE",
-            Code::VOUT_COMMAND => "VOUT_COMMAND",
-            Code::VOUT_MAX => "VOUT_MAX",
-            Code::VOUT_MARGIN_HIGH => "VOUT_MARGIN_HIGH",
-            Code::VOUT_MARGIN_LOW => "VOUT_MARGIN_LOW",
-            Code::VOUT_MIN => "VOUT_MIN",
-            Code::COEFFICIENTS => "COEFFICIENTS",
-            Code::STATUS_BYTE => "STATUS_BYTE",
-            Code::STATUS_WORD => "STATUS_WORD",
-            Code::STATUS_VOUT => "STATUS_VOUT",
-            Code::STATUS_CML => "STATUS_CML",
-            Code::READ_VIN => "READ_VIN",
-            Code::READ_VOUT => "READ_VOUT",
-            Code::READ_IOUT => "READ_IOUT",
-            Code::READ_TEMPERATURE_1 => "READ_TEMPERATURE_1",
-            Code::PMBUS_REVISION => "PMBUS_REVISION",
-            _ => "",
-        }
+        command_table!(name of self)
     }
 }
 

@@ -3,12 +3,12 @@
 //! tried at the addresses 08h, 58h and 77h, and with another first byte, which is then the first
 //! fault.
 
-use super::framing::{ADDRESSES, Ends, framed, slow_pec};
-use crate::{FrameFault, Message, fits, read_answer, read_request, write_part};
+use super::framing::{ADDRESSES, Ends, answer_fault, framed, request_fault, sent, slow_pec};
+use crate::{FrameFault, Message, fits};
 use pm_table::address_ok;
 use std::alloc::{AllocError, Global};
 
-const FAULTY_REQUESTS: [(&[u8], FrameFault); 32] = [
+static FAULTY_REQUESTS: [(&[u8], FrameFault); 32] = [
     (&[], FrameFault::Short(1)),
     // PAGE_PLUS_READ and COEFFICIENTS: the length, the count, the code
     (&[0x06], FrameFault::Short(2)),
@@ -52,17 +52,17 @@ const FAULTY_REQUESTS: [(&[u8], FrameFault); 32] = [
 fn a_faulty_request_has_its_first_fault(rt: HostRuntime) {
     for addr in ADDRESSES {
         assert!(rt; address_ok(addr));
-        for (bytes, fault) in FAULTY_REQUESTS {
+        for (bytes, fault) in &FAULTY_REQUESTS {
             let frame = framed(&rt, 0, addr * 2, bytes, Ends::Bare);
-            let found = read_request(addr, frame.as_slice()).err();
-            assert_eq!(rt; found, Some(fault), "{addr:02X} {bytes:?}");
+            let found = request_fault(addr, frame.as_slice());
+            assert_eq!(rt; found, Some(*fault), "{addr:02X} {bytes:?}");
             for first in [addr * 2 + 1, addr ^ 1] {
                 let frame = framed(&rt, 0, first, bytes, Ends::Bare);
-                let found = read_request(addr, frame.as_slice()).err();
+                let found = request_fault(addr, frame.as_slice());
                 assert_eq!(rt; found, Some(FrameFault::NotOurs), "{addr:02X} {bytes:?}");
             }
         }
-        assert_eq!(rt; read_request(addr, &[]).err(), Some(FrameFault::NotOurs));
+        assert_eq!(rt; request_fault(addr, &[]), Some(FrameFault::NotOurs));
     }
 }
 
@@ -78,7 +78,7 @@ const SLOPES: Message = Message::ReadCoefficients {
     side: 0,
 };
 
-const FAULTY_ANSWERS: [(Message, &[u8], Ends, FrameFault); 19] = [
+static FAULTY_ANSWERS: [(Message, &[u8], Ends, FrameFault); 19] = [
     // a request with a count: the length, the count, the PEC
     (PAGE_PLUS, &[], Ends::Bare, FrameFault::Short(1)),
     (PAGE_PLUS, &[0x02, 0xCD], Ends::Bare, FrameFault::Short(3)),
@@ -156,20 +156,20 @@ const FAULTY_ANSWERS: [(Message, &[u8], Ends, FrameFault); 19] = [
 fn a_faulty_answer_has_its_first_fault(rt: HostRuntime) {
     for addr in ADDRESSES {
         assert!(rt; address_ok(addr));
-        for (request, bytes, ends, fault) in FAULTY_ANSWERS {
-            assert!(rt; request.is_read() && fits(&request));
-            let before = slow_pec(0, write_part(addr, &request).as_slice());
-            let frame = framed(&rt, before, addr * 2 + 1, bytes, ends);
-            let found = read_answer(addr, &request, frame.as_slice());
-            assert_eq!(rt; found, Err(fault), "{addr:02X} {bytes:?}");
+        for (request, bytes, ends, fault) in &FAULTY_ANSWERS {
+            assert!(rt; request.is_read() && fits(request));
+            let before = slow_pec(0, sent(addr, request).as_slice());
+            let frame = framed(&rt, before, addr * 2 + 1, bytes, *ends);
+            let found = answer_fault(addr, request, frame.as_slice());
+            assert_eq!(rt; found, Some(*fault), "{addr:02X} {bytes:?}");
             for first in [addr * 2, addr ^ 1] {
-                let frame = framed(&rt, before, first, bytes, ends);
-                let found = read_answer(addr, &request, frame.as_slice());
-                assert_eq!(rt; found, Err(FrameFault::NotOurs), "{addr:02X} {bytes:?}");
+                let frame = framed(&rt, before, first, bytes, *ends);
+                let found = answer_fault(addr, request, frame.as_slice());
+                assert_eq!(rt; found, Some(FrameFault::NotOurs), "{addr:02X} {bytes:?}");
             }
         }
         assert!(rt; PLAIN.is_read() && fits(&PLAIN));
-        assert_eq!(rt; read_answer(addr, &PLAIN, &[]), Err(FrameFault::NotOurs));
+        assert_eq!(rt; answer_fault(addr, &PLAIN, &[]), Some(FrameFault::NotOurs));
     }
 }
 
@@ -179,8 +179,8 @@ fn the_pec_of_an_answer_covers_the_request(rt: HostRuntime) {
     assert!(rt; PAGE_PLUS.is_read() && fits(&PAGE_PLUS));
     for code in [0xD0, 0x90] {
         let answer = [0xB1, 0x02, 0xCD, 0x34, code];
-        let found = read_answer(0x58, &PAGE_PLUS, &answer);
-        assert_eq!(rt; found, Err(FrameFault::WrongPec(4)), "{code:02X}");
+        let found = answer_fault(0x58, &PAGE_PLUS, &answer);
+        assert_eq!(rt; found, Some(FrameFault::WrongPec(4)), "{code:02X}");
     }
 }
 
@@ -198,8 +198,8 @@ fn a_million_bytes_are_no_answer(rt: HostRuntime) -> Result<(), AllocError> {
     for (request, fault) in rows {
         assert!(rt; request.is_read() && fits(&request));
         assert_eq!(rt;
-            read_answer(0x58, &request, &bytes),
-            Err(fault),
+            answer_fault(0x58, &request, &bytes),
+            Some(fault),
             "{request:?}"
         );
     }

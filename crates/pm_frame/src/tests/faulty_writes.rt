@@ -2,12 +2,12 @@
 //! them. Where two faults can stand in the same bytes, a row has both. Each row is tried at the
 //! addresses 08h, 58h and 77h, and with another first byte, which is then the first fault.
 
-use super::framing::{ADDRESSES, Ends, framed};
-use crate::{FrameFault, read_request, read_write};
+use super::framing::{ADDRESSES, Ends, framed, request_fault, write_fault};
+use crate::FrameFault;
 use pm_table::address_ok;
 use std::alloc::AllocError;
 
-const FAULTY_WRITES: [(&[u8], Ends, FrameFault); 64] = [
+static FAULTY_WRITES: [(&[u8], Ends, FrameFault); 64] = [
     // lengths of a plain code that is written
     (&[], Ends::Bare, FrameFault::Short(1)),
     (&[0x03], Ends::Bare, FrameFault::Short(2)),
@@ -181,23 +181,23 @@ const FAULTY_WRITES: [(&[u8], Ends, FrameFault); 64] = [
 fn a_faulty_write_has_its_first_fault(rt: HostRuntime) {
     for addr in ADDRESSES {
         assert!(rt; address_ok(addr));
-        for (bytes, ends, fault) in FAULTY_WRITES {
-            let frame = framed(&rt, 0, addr * 2, bytes, ends);
-            let found = read_write(addr, frame.as_slice()).err();
-            assert_eq!(rt; found, Some(fault), "{addr:02X} {bytes:?}");
+        for (bytes, ends, fault) in &FAULTY_WRITES {
+            let frame = framed(&rt, 0, addr * 2, bytes, *ends);
+            let found = write_fault(addr, frame.as_slice());
+            assert_eq!(rt; found, Some(*fault), "{addr:02X} {bytes:?}");
             for first in [addr * 2 + 1, addr ^ 1] {
-                let frame = framed(&rt, 0, first, bytes, ends);
-                let found = read_write(addr, frame.as_slice()).err();
+                let frame = framed(&rt, 0, first, bytes, *ends);
+                let found = write_fault(addr, frame.as_slice());
                 assert_eq!(rt; found, Some(FrameFault::NotOurs), "{addr:02X} {bytes:?}");
             }
         }
-        assert_eq!(rt; read_write(addr, &[]).err(), Some(FrameFault::NotOurs));
+        assert_eq!(rt; write_fault(addr, &[]), Some(FrameFault::NotOurs));
     }
 }
 
 // A count below 2 leaves no room for a code, so the PEC, which is right, stands at its place. It is
 // a code that isn't carried, one that isn't written and one that isn't in the table.
-const COUNTS_BEFORE_CODES: [&[u8]; 3] = [
+static COUNTS_BEFORE_CODES: [&[u8]; 3] = [
     &[0xB0, 0x05, 0x01, 0x74, 0x06],
     &[0xB0, 0x05, 0x01, 0x66, 0x78],
     &[0xB0, 0x05, 0x01, 0x9F, 0x99],
@@ -205,8 +205,8 @@ const COUNTS_BEFORE_CODES: [&[u8]; 3] = [
 
 #[test]
 fn a_count_below_two_comes_before_the_code_at_its_place(rt: HostRuntime) {
-    for bytes in COUNTS_BEFORE_CODES {
-        let found = read_write(0x58, bytes).err();
+    for bytes in &COUNTS_BEFORE_CODES {
+        let found = write_fault(0x58, bytes);
         assert_eq!(rt; found, Some(FrameFault::WrongCount(2)), "{bytes:?}");
     }
 }
@@ -223,7 +223,7 @@ fn the_length_of_a_frame_is_that_of_its_count_up_to_255(rt: HostRuntime) -> Resu
         let zeros = vec![in rt.alloc(); 0; length - 5]?;
         bytes.extend_from_slice(&zeros)?;
         assert_eq!(rt; bytes.len(), length);
-        assert_eq!(rt; read_write(0x58, &bytes).err(), Some(fault));
+        assert_eq!(rt; write_fault(0x58, &bytes), Some(fault));
     }
     Ok(())
 }
@@ -256,8 +256,8 @@ fn a_million_bytes_are_read(rt: HostRuntime) -> Result<(), AllocError> {
         let mut bytes = [first, second].to_vec(rt.alloc())?;
         let rest = vec![in rt.alloc(); 0x05; 999_998]?;
         bytes.extend_from_slice(&rest)?;
-        assert_eq!(rt; read_write(0x58, &bytes).err(), Some(in_write));
-        assert_eq!(rt; read_request(0x58, &bytes).err(), Some(in_request));
+        assert_eq!(rt; write_fault(0x58, &bytes), Some(in_write));
+        assert_eq!(rt; request_fault(0x58, &bytes), Some(in_request));
     }
     Ok(())
 }

@@ -39,7 +39,7 @@ pub(crate) struct ReadRow {
 }
 
 /// Packets that write.
-pub(crate) const WRITES: [WriteRow; 17] = [
+pub(crate) static WRITES: [WriteRow; 17] = [
     WriteRow {
         addr: 0x58,
         message: Message::SendByte { code: 0x03 },
@@ -232,7 +232,7 @@ pub(crate) const WRITES: [WriteRow; 17] = [
 ];
 
 /// Packets that read.
-pub(crate) const READS: [ReadRow; 11] = [
+pub(crate) static READS: [ReadRow; 11] = [
     ReadRow {
         addr: 0x58,
         message: Message::ReadCommand { code: 0x20 },

@@ -1,6 +1,10 @@
 //! Frames that are made from their bytes after the address byte, with a PEC found bit by bit.
 
-use crate::Frame;
+ghost use Rattle.std.specs.Prelude.{◌≡◌, true};
+ghost use Rattle.pm_table.specs.Address.{IsAddress};
+ghost use Rattle.pm_frame.specs.Layout.{fits_layout, is_read_message};
+
+use crate::{Frame, FrameFault, Message, read_answer, read_request, read_write, write_part};
 use std::process::Abort;
 
 /// The addresses that rows are tried at, the ends of the range among them.
@@ -44,4 +48,38 @@ pub(crate) fn slow_pec(before: u8, bytes: &[u8]) -> u8 {
         }
     }
     register
+}
+
+// Calls with long contracts, of which the rows need nothing: the prover carries none of them through their
+// loops.
+
+/// The fault of a write.
+pub(crate) fn write_fault(addr: u8, bytes: &[u8]) -> Option<FrameFault>
+    requires { IsAddress addr }
+{
+    read_write(addr, bytes).err()
+}
+
+/// The fault of a request.
+pub(crate) fn request_fault(addr: u8, bytes: &[u8]) -> Option<FrameFault>
+    requires { IsAddress addr }
+{
+    read_request(addr, bytes).err()
+}
+
+/// The fault of an answer.
+pub(crate) fn answer_fault(addr: u8, request: &Message, bytes: &[u8]) -> Option<FrameFault>
+    requires address { IsAddress addr }
+    requires read { is_read_message request.now ≡ true }
+    requires fits { fits_layout request.now ≡ true }
+{
+    read_answer(addr, request, bytes).err()
+}
+
+/// What is put on the wire.
+pub(crate) fn sent(addr: u8, message: &Message) -> Frame
+    requires address { IsAddress addr }
+    requires fits { fits_layout message.now ≡ true }
+{
+    write_part(addr, message)
 }

@@ -1,7 +1,7 @@
 use crate::{Message, Payload, fits};
 
 // The layouts by their codes alone: these fit, whatever byte, word, page and side they have.
-const FITTING: [Message; 27] = [
+static FITTING: [Message; 27] = [
     Message::SendByte { code: 0x03 },
     Message::SendByte { code: 0x15 },
     Message::SendByte { code: 0x16 },
@@ -97,12 +97,12 @@ const FITTING: [Message; 27] = [
 
 #[test]
 fn a_code_fits_the_layout_of_its_direction_and_length(rt: HostRuntime) {
-    for message in FITTING {
-        assert!(rt; fits(&message), "{message:?}");
+    for message in &FITTING {
+        assert!(rt; fits(message), "{message:?}");
     }
 }
 
-const UNFITTING: [Message; 35] = [
+static UNFITTING: [Message; 35] = [
     // of another length
     Message::SendByte { code: 0x10 },
     Message::WriteByte {
@@ -233,7 +233,7 @@ const UNFITTING: [Message; 35] = [
 
 #[test]
 fn a_code_fits_no_other_layout(rt: HostRuntime) {
-    for message in UNFITTING {
-        assert!(rt; !fits(&message), "{message:?}");
+    for message in &UNFITTING {
+        assert!(rt; !fits(message), "{message:?}");
     }
 }
