@@ -9,7 +9,7 @@ use std::process::Abort;
 use std::test::Fail;
 
 // A frame of each layout that is written: by PAGE_PLUS_WRITE, of a byte, of a word, and of no data.
-const WRITES: [&str; 4] = [
+static WRITES: [&str; 4] = [
     "B0 05 04 00 21 CD 34 5A",
     "B0 10 80 34",
     "B0 21 CD 34 38",
@@ -29,7 +29,7 @@ const COEFFICIENTS: Message = Message::ReadCoefficients {
 };
 
 // A frame of each layout that is read, and its answer.
-const READS: [(Message, &str, &str); 3] = [
+static READS: [(Message, &str, &str); 3] = [
     (COMMAND, "B0 06 02 00 21", "B1 02 CD 34 B9"),
     (MODE, "B0 20", "B1 14 ED"),
     (COEFFICIENTS, "B0 30 02 21 00", "B1 05 01 00 00 00 03 6B"),
@@ -119,7 +119,7 @@ fn is_betrayed_write(rt: &impl Abort, whole: &Frame, place: usize) -> Result<(),
 
 #[test]
 fn a_damaged_write_is_none(rt: HostRuntime) -> Result<(), Fail> {
-    for text in WRITES {
+    for &text in &WRITES {
         let whole = frame(&rt, text);
         assert!(rt; is_write(whole.as_slice()), "{text}");
         for place in 0..whole.as_slice().len() {
@@ -164,7 +164,7 @@ fn is_betrayed_request(
 
 #[test]
 fn a_damaged_request_gets_no_good_answer(rt: HostRuntime) -> Result<(), Fail> {
-    for (message, request, answer) in READS {
+    for &(message, request, answer) in &READS {
         let whole = frame(&rt, request);
         assert!(rt; is_request(whole.as_slice()), "{request}");
         assert!(rt;
@@ -204,7 +204,7 @@ fn is_answered(rt: &impl Abort, request: &str, whole: &Frame) -> Result<(), Conf
 
 #[test]
 fn a_damaged_answer_is_none(rt: HostRuntime) -> Result<(), Fail> {
-    for (message, request, answer) in READS {
+    for &(message, request, answer) in &READS {
         let whole = frame(&rt, answer);
         is_answered(&rt, request, &whole)?;
         assert!(rt; is_answer(&message, whole.as_slice()), "{answer}");

@@ -114,7 +114,7 @@ fn commanded(converter: &Converter, output: u8) -> (i128, i128) {
 }
 
 // Writes that a converter of its own takes, then VOUT_COMMAND of both outputs and PAGE.
-const WRITES: [(&[&str], [u16; 2], u8); 5] = [
+static WRITES: [(&[&str], [u16; 2], u8); 5] = [
     (&["B0 05 04 00 21 CD 34 5A"], [0x34CD, 0x1000], 0),
     (&["B0 05 04 01 21 CD 34 4C"], [0x1000, 0x34CD], 0),
     (&["B0 21 CD 34 38"], [0x34CD, 0x1000], 0),
@@ -154,7 +154,7 @@ fn act(rt: &impl Abort, rows: &[&str], words: [u16; 2], page: u8) -> Result<(), 
 
 #[test]
 fn writes_act_on_the_output_that_they_name(rt: HostRuntime) -> Result<(), Fail> {
-    for (rows, words, page) in WRITES {
+    for &(rows, words, page) in &WRITES {
         act(&rt, rows, words, page)?;
     }
     Ok(())

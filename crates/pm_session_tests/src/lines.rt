@@ -10,7 +10,7 @@ fn expect(rt: &impl Abort, host: &mut Host, line: &[u8], wanted: &str) {
 
 // An order whose first acknowledgement is lost and whose first answer doesn't come, beside what isn't
 // allowed on the way.
-const ORDER: [(&[u8], &str); 13] = [
+static ORDER: [(&[u8], &str); 13] = [
     (b"sending", "idle\n"),
     (b"finished ack", "refused S2 NothingSent\n"),
     (b"got", "refused S2 NothingSent\n"),
@@ -33,7 +33,7 @@ const ORDER: [(&[u8], &str); 13] = [
 ];
 
 // A format is learned, and a voltage ordered that the device doesn't take: it had restarted.
-const VOLTS: [(&[u8], &str); 15] = [
+static VOLTS: [(&[u8], &str); 15] = [
     (
         b"volts 0 VOUT_COMMAND 3300000",
         "refused H7 FormatUnknown\n",
@@ -67,7 +67,7 @@ const VOLTS: [(&[u8], &str); 15] = [
 ];
 
 // WRITE_PROTECT, a check, a clear, and a restart.
-const OTHERS: [(&[u8], &str); 14] = [
+static OTHERS: [(&[u8], &str); 14] = [
     (b"order - WRITE_PROTECT 40", "send B0 10 40 7A\n"),
     (b"finished ack", "send B0 10 read 2\n"),
     (b"got", "send B0 10 40 7A\n"),
@@ -85,7 +85,7 @@ const OTHERS: [(&[u8], &str); 14] = [
 ];
 
 // A store leaves what is known, and a restore nothing of an output's; WRITE_PROTECT isn't stored.
-const STORED: [(&[u8], &str); 20] = [
+static STORED: [(&[u8], &str); 20] = [
     (b"check 0 VOUT_COMMAND", "send B0 06 02 00 21 read 4\n"),
     (b"got B1 02 CD 34 B9", "ended done\n"),
     (b"check - WRITE_PROTECT", "send B0 10 read 2\n"),
@@ -112,7 +112,7 @@ const STORED: [(&[u8], &str); 20] = [
 ];
 
 // Lines that ask nothing.
-const REFUSED: [(&[u8], &str); 19] = [
+static REFUSED: [(&[u8], &str); 19] = [
     (b"", "refused X1 Syntax\n"),
     (b"   ", "refused X1 Syntax\n"),
     (b"# seen", "refused X1 Syntax\n"),
@@ -145,19 +145,19 @@ fn each_line_has_its_answer(rt: HostRuntime) {
     let Ok(mut host) = Host::new(0x58, 2, 2) else {
         panic!(rt; "a host");
     };
-    for (line, wanted) in ORDER {
+    for &(line, wanted) in &ORDER {
         expect(&rt, &mut host, line, wanted);
     }
-    for (line, wanted) in VOLTS {
+    for &(line, wanted) in &VOLTS {
         expect(&rt, &mut host, line, wanted);
     }
-    for (line, wanted) in OTHERS {
+    for &(line, wanted) in &OTHERS {
         expect(&rt, &mut host, line, wanted);
     }
-    for (line, wanted) in STORED {
+    for &(line, wanted) in &STORED {
         expect(&rt, &mut host, line, wanted);
     }
-    for (line, wanted) in REFUSED {
+    for &(line, wanted) in &REFUSED {
         expect(&rt, &mut host, line, wanted);
     }
     expect(&rt, &mut host, &[b' '; 256], "refused X1 Syntax\n");

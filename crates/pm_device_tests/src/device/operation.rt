@@ -10,7 +10,7 @@ use std::test::Fail;
 
 // The bytes that have a meaning, from the first to the last: whether the output is on, and the
 // numerator of what it commands over 4096.
-const MEANINGS: [(u8, u8, bool, i128); 7] = [
+static MEANINGS: [(u8, u8, bool, i128); 7] = [
     (0x00, 0x3F, false, 0x1000),
     (0x40, 0x7F, false, 0x1000),
     (0x80, 0x8F, true, 0x1000),
@@ -21,7 +21,7 @@ const MEANINGS: [(u8, u8, bool, i128); 7] = [
 ];
 
 fn meaning(byte: u8) -> Option<(bool, i128)> {
-    for (first, last, on, volts) in MEANINGS {
+    for &(first, last, on, volts) in &MEANINGS {
         if first <= byte && byte <= last {
             return Some((on, volts));
         }

@@ -8,7 +8,7 @@ use std::test::Fail;
 
 // Eight outputs: VOUT_COMMAND of each is written and read, READ_VOUT and READ_IOUT of each are read.
 // Then PAGE names the last one.
-const EIGHT: [&str; 36] = [
+static EIGHT: [&str; 36] = [
     "B0 05 04 00 21 10 20 65",
     "B0 05 04 01 21 11 20 66",
     "B0 05 04 02 21 12 20 63",

@@ -217,7 +217,7 @@ fn coefficients_are_refused_for_code_side_and_mode(rt: HostRuntime) -> Result<()
 }
 
 // Each write at each value of WRITE_PROTECT: 80h, 40h, 20h and 00h, whether it is taken.
-const PROTECTION: [(&str, [bool; 4]); 21] = [
+static PROTECTION: [(&str, [bool; 4]); 21] = [
     ("B0 00 01 ED", [false, true, true, true]),
     ("B0 01 40 38", [false, true, true, true]),
     ("B0 05 03 01 01 40 27", [false, true, true, true]),
@@ -250,7 +250,7 @@ fn is_allowed(rt: &impl Abort, protect: u16, row: &str, is_taken: bool) -> Resul
 
 #[test]
 fn write_protect_lets_through_what_its_value_allows(rt: HostRuntime) -> Result<(), Fail> {
-    for (row, allowed) in PROTECTION {
+    for &(row, allowed) in &PROTECTION {
         let [first, second, third, last] = allowed;
         is_allowed(&rt, 0x80, row, first)?;
         is_allowed(&rt, 0x40, row, second)?;

@@ -46,7 +46,7 @@ const TOLD_APART: Config = Config {
 };
 
 // The readings: READ_VIN and READ_TEMPERATURE_1 of the device, READ_VOUT and READ_IOUT of both outputs.
-const READINGS: [(u8, u8, u16); 6] = [
+static READINGS: [(u8, u8, u16); 6] = [
     (0, 0x88, 0x1A2B),
     (0, 0x8B, 0x2B3C),
     (1, 0x8B, 0x3C4D),
@@ -56,7 +56,7 @@ const READINGS: [(u8, u8, u16); 6] = [
 ];
 
 // Each code that is read and carried, of both outputs.
-const CARRIED: [&str; 36] = [
+static CARRIED: [&str; 36] = [
     "B0 06 02 00 01 / B1 01 A8 AB",
     "B0 06 02 01 01 / B1 01 40 5F",
     "B0 06 02 00 10 / B1 01 20 6B",
@@ -96,7 +96,7 @@ const CARRIED: [&str; 36] = [
 ];
 
 // Each code by itself, while PAGE is 0 and while it is 1.
-const PLAIN_0: [&str; 19] = [
+static PLAIN_0: [&str; 19] = [
     "B0 00 / B1 00 C2",
     "B0 01 / B1 A8 F8",
     "B0 10 / B1 20 80",
@@ -118,7 +118,7 @@ const PLAIN_0: [&str; 19] = [
     "B0 98 / B1 33 A3",
 ];
 
-const PLAIN_1: [&str; 19] = [
+static PLAIN_1: [&str; 19] = [
     "B0 00 / B1 01 C5",
     "B0 01 / B1 40 6E",
     "B0 10 / B1 20 80",
@@ -141,7 +141,7 @@ const PLAIN_1: [&str; 19] = [
 ];
 
 // The coefficients of each code of a voltage, for both sides.
-const COEFFICIENTS: [&str; 12] = [
+static COEFFICIENTS: [&str; 12] = [
     "B0 30 02 21 00 / B1 05 01 02 03 04 05 BC",
     "B0 30 02 21 01 / B1 05 01 02 03 04 05 AF",
     "B0 30 02 24 00 / B1 05 01 02 03 04 05 26",
@@ -218,7 +218,7 @@ fn readings_are_kept_by_a_restart(rt: HostRuntime) -> Result<(), Fail> {
 
 // Writes of VOUT_MIN over the base configuration, each alone: what output 0 commands then in 2^-12 volts, and
 // its STATUS_VOUT and STATUS_WORD.
-const LIMITS: [(&str, i128, &str, &str); 3] = [
+static LIMITS: [(&str, i128, &str, &str); 3] = [
     (
         "B0 05 04 00 2B 00 20 B5",
         8192,
@@ -254,7 +254,7 @@ fn is_limited(
 
 #[test]
 fn an_output_commands_no_less_than_its_vout_min(rt: HostRuntime) -> Result<(), Fail> {
-    for (write, wanted, vout, word) in LIMITS {
+    for &(write, wanted, vout, word) in &LIMITS {
         is_limited(&rt, write, wanted, vout, word)?;
     }
     Ok(())
@@ -262,7 +262,7 @@ fn an_output_commands_no_less_than_its_vout_min(rt: HostRuntime) -> Result<(), F
 
 // STATUS of an output whose VOUT_COMMAND is above its VOUT_MAX; then the coefficients of an output in
 // millivolts; then readings.
-const ABOVE: [&str; 6] = [
+static ABOVE: [&str; 6] = [
     "B0 05 04 00 21 00 50 65",
     "B0 06 02 00 78 / B1 01 01 69",
     "B0 06 02 00 79 / B1 02 01 80 4E",
@@ -271,7 +271,7 @@ const ABOVE: [&str; 6] = [
     "B0 7A / B1 08 1A",
 ];
 
-const MILLIVOLTS: [&str; 12] = [
+static MILLIVOLTS: [&str; 12] = [
     "B0 30 02 21 00 / B1 05 01 00 00 00 03 6B",
     "B0 30 02 21 01 / B1 05 01 00 00 00 03 78",
     "B0 30 02 24 00 / B1 05 01 00 00 00 03 F1",
@@ -287,7 +287,7 @@ const MILLIVOLTS: [&str; 12] = [
 ];
 
 // Before any reading was set.
-const UNMEASURED: [&str; 6] = [
+static UNMEASURED: [&str; 6] = [
     "B0 88 / B1 00 00 C1",
     "B0 8B / B1 00 00 FB",
     "B0 8C / B1 00 00 99",
@@ -296,7 +296,7 @@ const UNMEASURED: [&str; 6] = [
     "B0 06 02 01 8C / B1 02 00 00 1F",
 ];
 
-const MEASURED: [&str; 4] = [
+static MEASURED: [&str; 4] = [
     "B0 88 / B1 34 12 12",
     "B0 8D / B1 78 56 20",
     "B0 06 02 01 8C / B1 02 34 12 CC",

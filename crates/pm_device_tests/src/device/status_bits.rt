@@ -11,7 +11,7 @@ use std::test::Fail;
 const WRONG_PEC: DeviceFault = DeviceFault::Frame(FrameFault::WrongPec(7));
 
 // What latches each bit of STATUS_CML that can be.
-const LATCHES: [(u8, &str, DeviceFault); 4] = [
+static LATCHES: [(u8, &str, DeviceFault); 4] = [
     (0x80, "B0 03 /", DeviceFault::ReadOnly),
     (0x40, "B0 00 02 E4", DeviceFault::BadPage),
     (0x20, "B0 05 04 01 21 CD 34 5A", WRONG_PEC),
@@ -19,7 +19,7 @@ const LATCHES: [(u8, &str, DeviceFault); 4] = [
 ];
 
 // A byte with one bit, with none and with all, written to STATUS_CML plainly and carried.
-const CML_WRITES: [(u8, [&str; 2]); 10] = [
+static CML_WRITES: [(u8, [&str; 2]); 10] = [
     (0x80, ["B0 7E 80 17", "B0 05 03 01 7E 80 08"]),
     (0x40, ["B0 7E 40 59", "B0 05 03 01 7E 40 46"]),
     (0x20, ["B0 7E 20 7E", "B0 05 03 01 7E 20 61"]),
@@ -51,7 +51,7 @@ fn goes_with(
 // A converter in which all four are latched.
 fn latched(rt: &impl Abort) -> Result<Converter, Fail> {
     let mut all = base()?;
-    for (_, row, fault) in LATCHES {
+    for &(_, row, fault) in &LATCHES {
         hears_row(rt, &mut all, row, Some(fault));
     }
     assert_eq!(rt; all.status_cml(), 0xE2);
@@ -60,7 +60,7 @@ fn latched(rt: &impl Abort) -> Result<Converter, Fail> {
 
 // Each bit latched alone, and all four, against a byte: what is written as 1 goes, and nothing else.
 fn clears(rt: &impl Abort, byte: u8, write: &str) -> Result<(), Fail> {
-    for latch in LATCHES {
+    for &latch in &LATCHES {
         goes_with(rt, latch, byte, write)?;
     }
     let mut all = latched(rt)?;
@@ -71,7 +71,7 @@ fn clears(rt: &impl Abort, byte: u8, write: &str) -> Result<(), Fail> {
 
 #[test]
 fn a_bit_of_status_cml_goes_with_its_own(rt: HostRuntime) -> Result<(), Fail> {
-    for (byte, [plain, carried]) in CML_WRITES {
+    for &(byte, [plain, carried]) in &CML_WRITES {
         clears(&rt, byte, plain)?;
         clears(&rt, byte, carried)?;
     }
@@ -79,7 +79,7 @@ fn a_bit_of_status_cml_goes_with_its_own(rt: HostRuntime) -> Result<(), Fail> {
 }
 
 // VOUT_COMMAND of both outputs was above VOUT_MAX.
-const WERE_ABOVE: [&str; 4] = [
+static WERE_ABOVE: [&str; 4] = [
     "B0 05 04 00 21 00 50 65",
     "B0 05 04 00 21 00 10 A2",
     "B0 05 04 01 21 00 50 73",
@@ -91,7 +91,7 @@ const WARNED: (u16, u8) = (0x8001, 0x08);
 const CLEAN: (u16, u8) = (0x0000, 0x00);
 
 // A byte written to STATUS_VOUT of output 0, plainly and carried, and whether its warning goes.
-const VOUT_WRITES: [(&str, &str, bool); 11] = [
+static VOUT_WRITES: [(&str, &str, bool); 11] = [
     ("B0 7A 80 43", "B0 05 03 00 7A 80 37", false),
     ("B0 7A 40 0D", "B0 05 03 00 7A 40 79", false),
     ("B0 7A 20 2A", "B0 05 03 00 7A 20 5E", false),
@@ -115,7 +115,7 @@ fn shown(rt: &impl Abort, rows: &[&str]) -> Result<[(u16, u8); 2], Fail> {
 
 #[test]
 fn bit_3_written_clears_the_warning_of_one_output(rt: HostRuntime) -> Result<(), Fail> {
-    for (plain, carried, goes) in VOUT_WRITES {
+    for &(plain, carried, goes) in &VOUT_WRITES {
         let first = if goes { CLEAN } else { WARNED };
         for row in [plain, carried] {
             assert_eq!(rt; shown(&rt, &[row])?, [first, WARNED], "{row}");
@@ -134,7 +134,7 @@ fn bit_3_written_clears_the_warning_of_one_output(rt: HostRuntime) -> Result<(),
 
 // Writes of output 0 after which it is within its limits again, and whether it was outside them: by
 // VOUT_MAX, by VOUT_MIN, by OPERATION, by a margin that is selected, and not by one that isn't.
-const WARNINGS: [(&[&str], bool); 7] = [
+static WARNINGS: [(&[&str], bool); 7] = [
     (
         &["B0 05 04 00 2B 00 20 B5", "B0 05 04 00 2B 00 00 55"],
         true,
@@ -191,7 +191,7 @@ fn warns_after(rt: &impl Abort, rows: &[&str], warns: bool) -> Result<(), Fail> 
 
 #[test]
 fn what_was_outside_its_limits_warns_until_it_is_cleared(rt: HostRuntime) -> Result<(), Fail> {
-    for (rows, warns) in WARNINGS {
+    for &(rows, warns) in &WARNINGS {
         warns_after(&rt, rows, warns)?;
     }
     Ok(())

@@ -111,7 +111,7 @@ fn the_outputs_settings_are_stored_and_come_back(rt: HostRuntime) -> Result<(), 
 }
 
 // Each cell of both outputs gets another word; the store brings each back.
-const OTHERS: [&str; 12] = [
+static OTHERS: [&str; 12] = [
     "B0 05 03 00 01 40 4C",
     "B0 05 04 00 21 11 11 E7",
     "B0 05 04 00 24 44 44 C6",

@@ -9,7 +9,7 @@ use std::process::Abort;
 use std::test::Fail;
 
 // Carried writes of both outputs, then a plain one while PAGE is 1; each register is read back.
-const WRITES: [&str; 52] = [
+static WRITES: [&str; 52] = [
     "B0 00 01 ED",
     "B0 00 / B1 01 C5",
     "B0 05 03 00 01 A8 DA",

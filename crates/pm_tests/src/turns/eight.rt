@@ -51,7 +51,7 @@ fn eight() -> Config {
 }
 
 // The request of VOUT_MODE of each, and the write of 1 V in its format.
-const LEARNS: [(&str, &str); 8] = [
+static LEARNS: [(&str, &str); 8] = [
     ("B0 06 02 00 20", "B0 05 04 00 21 00 10 A2"),
     ("B0 06 02 01 20", "B0 05 04 01 21 00 08 FC"),
     ("B0 06 02 02 20", "B0 05 04 02 21 00 04 E2"),
@@ -65,12 +65,12 @@ const LEARNS: [(&str, &str); 8] = [
 #[test]
 fn each_of_eight_outputs_has_a_format_of_its_own(rt: HostRuntime) -> Result<(), SetupFault> {
     let mut world = begun(eight(), 1)?;
-    for (output, (request, _)) in (0..8).zip(LEARNS) {
+    for (output, (request, _)) in (0..8).zip(LEARNS.iter().copied()) {
         goes(&rt, &mut world, &Event::Learn(output), request);
         goes(&rt, &mut world, &READ, "");
         assert_eq!(rt; world.last_end(), Some(JobEnd::Learned));
     }
-    for (output, (_, write)) in (0..8).zip(LEARNS) {
+    for (output, (_, write)) in (0..8).zip(LEARNS.iter().copied()) {
         let volt = Event::OrderMicro(Cell::Out(output, Reg::VoutCommand), 1_000_000);
         goes(&rt, &mut world, &volt, write);
         takes(&rt, &mut world, &[NOT_ACKED, READ_LOST]);
