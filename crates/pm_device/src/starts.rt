@@ -40,5 +40,5 @@ fn rows(starts: &[OutputStart; 8]) -> [[u16; Reg::COUNT]; 8]
 fn row(start: &OutputStart) -> [u16; Reg::COUNT]
     ensures { result ≡ start_row start.now }
 {
-    Reg::ALL.map(|register| start.word(register))
+    std::array::from_fn(|place| start.word(Reg::ALL[place]))
 }

@@ -73,8 +73,8 @@ impl OrderMachine {
             Some(PendingJob::Order { cell, word }) => {
                 self.settings = self.settings.with(cell, word);
             }
-            Some(PendingJob::Store) => self.store = self.store.with_outputs(&self.settings),
-            Some(PendingJob::Restore) => self.settings = self.settings.with_outputs(&self.store),
+            Some(PendingJob::Store) => self.store.take_outputs(&self.settings),
+            Some(PendingJob::Restore) => self.settings.take_outputs(&self.store),
             None => {}
         }
     }

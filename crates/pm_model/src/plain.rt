@@ -137,17 +137,19 @@ impl Plain {
         changed
     }
 
-    /// The outputs' words of other settings; WRITE_PROTECT keeps its word. Asks that there are as many
-    /// outputs in both.
+    /// Gives the outputs their words of other settings; WRITE_PROTECT keeps its word. Asks that there are as
+    /// many outputs in both.
     #[tactic(auto, unfolding(crate::specs::Settings::with_outputs))]
-    pub fn with_outputs(&self, others: &Plain) -> Plain
-        requires { others.now.count ≡ self.now.count }
-        ensures { result ≡ record {
-          count = self.now.count;
-          words = spec_with_outputs self.now.words others.now.words;
+    pub fn take_outputs(&mut self, others: &Plain)
+        requires { others.now.count ≡ self.old.count }
+        ensures { self.new ≡ record {
+          count = self.old.count;
+          words = spec_with_outputs self.old.words others.now.words;
         } }
     {
-        others.with(Cell::Protect, self.get(Cell::Protect))
+        let protect = self.get(Cell::Protect);
+        self.words = others.words;
+        self.put(Cell::Protect, protect);
     }
 
     /// The voltage that an output which is there commands: the value of the word that OPERATION

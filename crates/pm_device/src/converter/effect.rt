@@ -49,7 +49,7 @@ impl Converter {
                 }
             }
             Act::ClearCml(byte) => self.faults.clear(byte),
-            Act::Store => self.store = self.store.with_outputs(&self.settings),
+            Act::Store => self.store.take_outputs(&self.settings),
             Act::Restore => self.restore(),
         }
     }
@@ -60,7 +60,7 @@ impl Converter {
     fn restore(&mut self)
         ensures { self.new ≡ after self.old (Heard (verdict.Takes act.Restore)) }
     {
-        self.settings = self.settings.with_outputs(&self.store);
+        self.settings.take_outputs(&self.store);
         self.cut = latch_each(self.cut, &self.config, &self.formats, &self.settings);
     }
 
