@@ -3,4 +3,5 @@ pub mod Joins
 pub mod LineLemmas
 pub mod PairLemmas
 pub mod ReadingLemmas
+pub mod WordLemmas
 pub mod Writing

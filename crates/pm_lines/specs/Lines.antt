@@ -1,5 +1,5 @@
 -- The lines of a text and the words of a line. The forms are this project's own choice.
-use Rattle.std.specs.Prelude.{ℕ, ◌-◌, Bool, true, false, ◌||◌, not, List, [], ◌∷◌, length, map, take, filter, if◌then◌else◌, ◌==◌, nat_eq, codes}
+use Rattle.std.specs.Prelude.{ℕ, ◌-◌, Bool, true, false, ◌&&◌, ◌||◌, not, List, [], ◌∷◌, length, map, take, filter, if◌then◌else◌, ◌==◌, nat_eq, bytes_eq, codes}
 use Rattle.std.specs.List.{slice_split, starts_with, ends_with, list_all, enumerate_from}
 
 -- the bytes that end a line, that part words, and that a line's end may have besides
@@ -54,6 +54,20 @@ unskipped_from first text = filter is_unskipped (enumerate_from first (lines_of 
 -- the words of a line: what stands between its spaces, where that isn't empty
 unfoldable pub words_of : List ℕ → List (List ℕ)
 words_of line = filter has_bytes (slice_split is_space line)
+
+-- a first byte that is a space
+abbrev pub has_space_first : List ℕ → Bool
+has_space_first [] = false
+has_space_first (byte ∷ bytes) = is_space byte
+
+-- a word alone: it isn't empty, and no byte of it is a space
+abbrev pub is_one_word : List ℕ → Bool
+is_one_word text = has_bytes text && list_all (λ byte. not (is_space byte)) text
+
+-- the next word is this one
+abbrev pub is_next : List ℕ → List (List ℕ) → Bool
+is_next word [] = false
+is_next word (next ∷ words) = bytes_eq next word
 
 -- what is left of a text that is read line by line: the lines that are not skipped, how many lines
 -- were passed, the skipped ones too, and how many the text has

@@ -1,6 +1,6 @@
-ghost use Rattle.std.specs.Prelude.{◌≡◌, [], ◌∷◌, IfNone, MatchOption, position};
+ghost use Rattle.std.specs.Prelude.{◌≡◌, ◌≢◌, true, false, [], ◌∷◌, IfNone, MatchBool, MatchOption, position};
 ghost use Rattle.std.specs.List.{before_first, after_first};
-ghost use Rattle.pm_lines.specs.Lines.{is_space, words_of};
+ghost use Rattle.pm_lines.specs.Lines.{has_space_first, is_next, is_one_word, is_space, words_of};
 
 use crate::line::Line;
 use std::marker::Model;
@@ -9,15 +9,19 @@ use std::marker::Model;
 #[derive(Debug, Drop)]
 pub struct Words<'a> {
     line: u64,
+    // From the next word on: no space stands before it.
     rest: &'a [u8],
 }
 
 impl<'a> Model for Words<'a> {
-    ghost use Rattle.pm_lines.specs.Lines.{WordsLeft, words_of};
+    ghost use Rattle.std.specs.Prelude.{◌≡◌, false};
+    ghost use Rattle.pm_lines.specs.Lines.{WordsLeft, has_space_first, words_of};
 
     ghost Value = { WordsLeft };
 
     ghost view = { λ w. record { line = w.line; words = words_of w.rest.now } };
+
+    ghost invariant = { λ w. has_space_first w.rest.now ≡ false };
 }
 
 impl<'a> Words<'a> {
@@ -28,7 +32,7 @@ impl<'a> Words<'a> {
     {
         Words {
             line: line.number,
-            rest: line.text,
+            rest: without_spaces(line.text),
         }
     }
 
@@ -46,15 +50,68 @@ impl<'a> Words<'a> {
         ensures end { IfNone result (self.new.words ≡ []) }
         ensures line { self.new.line ≡ self.old.line }
     {
-        'spaces: while !self.rest.is_empty() {
-            let (word, rest) = cut_at_space(self.rest);
-            self.rest = rest;
-            if !word.is_empty() {
-                return Some(word);
-            }
+        if self.rest.is_empty() {
+            return None;
         }
-        None
+        let (word, rest) = cut_at_space(self.rest);
+        self.rest = without_spaces(rest);
+        Some(word)
     }
+
+    /// Takes the next word where it is this one, and says whether it was. Any other stays. What is
+    /// asked for is a word: it isn't empty, and has no space.
+    pub fn take_word(&mut self, word: &[u8]) -> bool
+        requires { is_one_word word.now ≡ true }
+        ensures words { MatchBool result (self.old.words ≡ word.now ∷ self.new.words)
+            (is_next word.now self.old.words ≡ false) }
+        ensures kept { result ≡ false → self.new ≡ self.old }
+        ensures line { self.new.line ≡ self.old.line }
+    {
+        match behind_word(self.rest, word) {
+            Some(rest) => {
+                self.rest = without_spaces(rest);
+                true
+            }
+            None => false,
+        }
+    }
+}
+
+// What stands behind this word at the front of a text that begins with no space.
+fn behind_word<'a>(text: &'a [u8], word: &[u8]) -> Option<&'a [u8]>
+    requires word { is_one_word word.now ≡ true }
+    requires text { has_space_first text.now ≡ false }
+    ensures { MatchOption result (is_next word.now (words_of text.now) ≡ false)
+        (λ rest. words_of text.now ≡ word.now ∷ words_of rest.now) }
+{
+    match text.strip_prefix(word) {
+        Some(rest) => behind_space(rest),
+        None => None,
+    }
+}
+
+// What stands behind the space that a text begins with, or the end of the text.
+fn behind_space(text: &[u8]) -> Option<&[u8]>
+    ensures { MatchOption result (before_first is_space text.now ≢ [])
+        (λ rest. (before_first is_space text.now ≡ []) × (rest.now ≡ after_first is_space text.now)) }
+{
+    match text {
+        [] => Some(text),
+        [b' ', rest @ ..] => Some(rest),
+        _ => None,
+    }
+}
+
+// The text from its first byte on that is no space.
+fn without_spaces(text: &[u8]) -> &[u8]
+    ensures words { words_of result.now ≡ words_of text.now }
+    ensures first { has_space_first result.now ≡ false }
+{
+    let mut rest = text;
+    'spaces: while let [b' ', more @ ..] = rest {
+        rest = more;
+    }
+    rest
 }
 
 // What stands before the first space, and what follows it.

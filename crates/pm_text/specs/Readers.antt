@@ -1,7 +1,7 @@
 -- Readers of a scenario's words and lines. A reader takes from what is left, and gives what it read
 -- and what is left then, or the first fault. Words are taken in their order, and each is judged as
 -- what stands at its place. This project's own choice.
-use Rattle.std.specs.Prelude.{◌≡◌, ℕ, ◌+◌, List, [], ◌∷◌, Option, Some, None, Result, Ok, Err, bytes_eq, if◌then◌else◌}
+use Rattle.std.specs.Prelude.{◌≡◌, ℕ, ◌+◌, false, List, [], ◌∷◌, Option, Some, None, Result, Ok, Err, IfOk, bytes_eq, if◌then◌else◌}
 use Rattle.pm_lines.specs.Lines.{Numbered, WordsLeft, words_of}
 use Rattle.pm_text.specs.declared.scenario.fault.ScenarioFault.{ScenarioFault}
 use Rattle.pm_text.specs.declared.scenario.fault.ScenarioFault.TheVariants.{Syntax}
@@ -55,6 +55,10 @@ first_word line (text ∷ words) = Ok (text, record { line = line; words = words
 -- the next word; X1 where the line has no more
 unfoldable pub word : Field (List ℕ)
 word left = first_word left.line left.words
+
+-- the next word, where there is one, isn't this
+abbrev pub IsNotNext : List ℕ → WordsLeft → Type 0
+IsNotNext name left = IfOk (word left) (λ next. bytes_eq next.0 name ≡ false)
 
 -- a value, or the fault that stands for its absence
 abbrev pub or_fault : {A : Type 0} → Option A → ScenarioFault → WordsLeft → Result (A × WordsLeft) ScenarioFault

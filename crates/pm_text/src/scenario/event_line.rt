@@ -30,32 +30,35 @@ pub(crate) fn event_line(form: Form, line: Line<'_>, event: &mut Event) -> Resul
 fn read_event(form: Form, fields: &mut Fields<'_>, event: &mut Event) -> Result<(), ScenarioFault>
     ensures { ReadsTo result event.new fields.new (spec.event_line form fields.old) }
 {
-    let name = fields.word()?;
-    if name == b"order".as_slice() {
+    if fields.takes("order") {
         order(form, fields, event)
-    } else if name == b"volts".as_slice() {
+    } else if fields.takes("volts") {
         volts(form, fields, event)
-    } else if name == b"check".as_slice() {
+    } else if fields.takes("check") {
         check(form, fields, event)
-    } else if name == b"learn".as_slice() {
+    } else if fields.takes("learn") {
         learn(fields, event)
-    } else if name == b"clear".as_slice() {
+    } else if fields.takes("clear") {
         clear(fields, event)
-    } else if name == b"deliver".as_slice() {
+    } else if fields.takes("deliver") {
         deliver(fields, event)
-    } else if name == b"finish".as_slice() {
+    } else if fields.takes("finish") {
         finish(fields, event)
-    } else if name == b"exchange".as_slice() {
+    } else if fields.takes("exchange") {
         exchange(fields, event)
-    } else if name == b"restart".as_slice() {
+    } else if fields.takes("restart") {
         restart(fields, event)
-    } else if name == b"reading".as_slice() {
+    } else if fields.takes("reading") {
         reading(fields, event)
-    } else if let Some(asked) = store_event(form, name) {
-        *event = asked;
-        Ok(())
     } else {
-        Err(fields.syntax())
+        let name = fields.word()?;
+        match store_event(form, name) {
+            Some(asked) => {
+                *event = asked;
+                Ok(())
+            }
+            None => Err(fields.syntax()),
+        }
     }
 }
 
@@ -139,14 +142,14 @@ fn deliver(fields: &mut Fields<'_>, event: &mut Event) -> Result<(), ScenarioFau
 pub fn finish(fields: &mut Fields<'_>, event: &mut Event) -> Result<(), ScenarioFault>
     ensures { ReadsTo result event.new fields.new (spec.finish_rest fields.old) }
 {
-    let name = fields.word()?;
-    if name == b"ack".as_slice() {
+    if fields.takes("ack") {
         *event = Event::Finish(true);
         Ok(())
-    } else if name == b"nack".as_slice() {
+    } else if fields.takes("nack") {
         *event = Event::Finish(false);
         Ok(())
     } else {
+        fields.word()?;
         Err(fields.syntax())
     }
 }
@@ -167,14 +170,14 @@ fn exchange(fields: &mut Fields<'_>, event: &mut Event) -> Result<(), ScenarioFa
 fn restart(fields: &mut Fields<'_>, event: &mut Event) -> Result<(), ScenarioFault>
     ensures { ReadsTo result event.new fields.new (spec.restart_rest fields.old) }
 {
-    let name = fields.word()?;
-    if name == b"device".as_slice() {
+    if fields.takes("device") {
         *event = Event::RestartDevice;
         Ok(())
-    } else if name == b"host".as_slice() {
+    } else if fields.takes("host") {
         *event = Event::RestartHost;
         Ok(())
     } else {
+        fields.word()?;
         Err(fields.syntax())
     }
 }

@@ -1,9 +1,9 @@
 //! The words of a line, each read as what stands at its place.
-ghost use Rattle.std.specs.Prelude.{◌≡◌, Ok, Err, [], ◌∷◌, IfNone, MatchOption, MatchResult, List, ℕ};
+ghost use Rattle.std.specs.Prelude.{◌≡◌, true, false, Ok, Err, [], ◌∷◌, IfNone, MatchOption, MatchResult, List, ℕ};
 ghost use Rattle.pm_lines.specs.Digits.{hex_of, signed_of, small_of};
-ghost use Rattle.pm_lines.specs.Lines.{words_of};
+ghost use Rattle.pm_lines.specs.Lines.{is_one_word, words_of};
 ghost use Rattle.pm_text.specs.Kinds.{is_word, output_or_device};
-ghost use Rattle.pm_text.specs.Readers.{Reads, field, word as next_word};
+ghost use Rattle.pm_text.specs.Readers.{IsNotNext, Reads, field, word as next_word};
 ghost use Rattle.pm_text.specs.declared.scenario.fault.ScenarioFault.TheVariants.{Syntax, BadHex};
 
 use crate::scenario::fault::ScenarioFault;
@@ -57,6 +57,16 @@ impl<'a> Fields<'a> {
         ensures line { self.new.line ≡ self.old.line }
     {
         self.words.next_word()
+    }
+
+    /// Takes the next word where it is this one, and says whether it was. Any other stays.
+    pub fn takes(&mut self, name: &str) -> bool
+        requires { is_one_word name.now ≡ true }
+        ensures taken { result ≡ true → next_word self.old ≡ Ok (name.now, self.new) }
+        ensures other { result ≡ false → IsNotNext name.now self.old }
+        ensures kept { result ≡ false → self.new ≡ self.old }
+    {
+        self.words.take_word(name.as_bytes())
     }
 
     /// X1 for this line.

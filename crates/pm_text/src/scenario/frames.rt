@@ -17,17 +17,17 @@ use pm_world::{Arrival, Back};
 pub(crate) fn arrival(fields: &mut Fields<'_>) -> Result<Arrival, ScenarioFault>
     ensures { Reads result fields.new (arrival_field fields.old) }
 {
-    let name = fields.word()?;
-    if name == b"whole".as_slice() {
+    if fields.takes("whole") {
         Ok(Arrival::Whole)
-    } else if name == b"cut".as_slice() {
+    } else if fields.takes("cut") {
         let count = fields.small_number()?;
         Ok(Arrival::Cut(count))
-    } else if name == b"bytes".as_slice() {
+    } else if fields.takes("bytes") {
         let frame = frame(fields)?;
         let ending = ending(fields)?;
         Ok(Arrival::Bytes(frame, ending))
     } else {
+        fields.word()?;
         Err(fields.syntax())
     }
 }
@@ -37,16 +37,16 @@ pub(crate) fn arrival(fields: &mut Fields<'_>) -> Result<Arrival, ScenarioFault>
 pub(crate) fn back(fields: &mut Fields<'_>) -> Result<Back, ScenarioFault>
     ensures { Reads result fields.new (back_field fields.old) }
 {
-    let name = fields.word()?;
-    if name == b"whole".as_slice() {
+    if fields.takes("whole") {
         Ok(Back::Whole)
-    } else if name == b"cut".as_slice() {
+    } else if fields.takes("cut") {
         let count = fields.small_number()?;
         Ok(Back::Cut(count))
-    } else if name == b"bytes".as_slice() {
+    } else if fields.takes("bytes") {
         let frame = frame(fields)?;
         Ok(Back::Bytes(frame))
     } else {
+        fields.word()?;
         Err(fields.syntax())
     }
 }
@@ -55,12 +55,12 @@ pub(crate) fn back(fields: &mut Fields<'_>) -> Result<Back, ScenarioFault>
 fn ending(fields: &mut Fields<'_>) -> Result<Ending, ScenarioFault>
     ensures { Reads result fields.new (field Syntax ending_named fields.old) }
 {
-    let name = fields.word()?;
-    if name == b"stop".as_slice() {
+    if fields.takes("stop") {
         Ok(Ending::Stop)
-    } else if name == b"restart".as_slice() {
+    } else if fields.takes("restart") {
         Ok(Ending::Restart)
     } else {
+        fields.word()?;
         Err(fields.syntax())
     }
 }

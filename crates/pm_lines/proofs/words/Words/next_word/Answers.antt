@@ -1,23 +1,19 @@
-use Rattle.std.proofs.Common.{◌∙◌, sym}
-use Rattle.pm_lines.proofs.LineLemmas.{words-after_empty, words-after, words-end}
+use Rattle.std.proofs.Common.{◌∙◌, ap, sym}
+use Rattle.pm_lines.specs.Lines.{WordsLeft}
+use Rattle.pm_lines.proofs.LineLemmas.{words-end}
+use Rattle.pm_lines.proofs.WordLemmas.{word-first}
 use Rattle.pm_lines.proofs.words.Words.next_word.Goals as goal
 
-pub returns-then-not-is_empty-clause-words : goal.returns-then-not-is_empty-clause-words
-returns-then-not-is_empty-clause-words c =
-    c.spaces.invariant.words ∙ words-after c.spaces.self-inside.rest.now _ _ c.cut_at_space.ensures.before c.cut_at_space.ensures.after
-    (sym c.is_empty-in-spaces.ensures ∙ c.if-not-is_empty.true)
+pub returns-then-is_empty-clause-words : goal.returns-then-is_empty-clause-words
+returns-then-is_empty-clause-words c =
+    ap (λ (w : WordsLeft). w.words) (sym c.self.view_is) ∙ words-end c.self.inside.rest.now (sym c.is_empty.ensures ∙ c.if-is_empty.true)
 
-pub spaces-preserved : goal.spaces-preserved
-spaces-preserved c = record {
-  words =
-      c.spaces.invariant.words ∙ words-after_empty c.spaces.self-inside.rest.now _ _ c.cut_at_space.ensures.before
-      c.cut_at_space.ensures.after
-      (sym c.is_empty-in-spaces.ensures ∙ c.if-not-is_empty.false);
-  line = c.spaces.invariant.line;
-}
+pub returns-then-is_empty-clause-end : goal.returns-then-is_empty-clause-end
+returns-then-is_empty-clause-end c =
+    ap (λ (w : WordsLeft). w.words) (sym c.self.view_is) ∙ words-end c.self.inside.rest.now (sym c.is_empty.ensures ∙ c.if-is_empty.true)
 
 pub returns-clause-words : goal.returns-clause-words
-returns-clause-words c = c.spaces.invariant.words ∙ words-end c.spaces.self-inside.rest.now (sym c.is_empty.ensures ∙ c.spaces-test.false)
-
-pub returns-clause-end : goal.returns-clause-end
-returns-clause-end c = words-end c.spaces.self-inside.rest.now (sym c.is_empty.ensures ∙ c.spaces-test.false)
+returns-clause-words c =
+    ap (λ (w : WordsLeft). w.words) (sym c.self.view_is)
+    ∙ word-first c.self.inside.rest.now _ _ _ c.self.invariant (sym c.is_empty.ensures ∙ c.if-is_empty.false)
+    c.cut_at_space.ensures.before c.cut_at_space.ensures.after c.without_spaces-self-inside.ensures.words
