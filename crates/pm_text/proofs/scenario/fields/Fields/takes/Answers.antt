@@ -30,9 +30,9 @@ other before after text false words is = first before.words words
 pub returns-clause-taken : goal.returns-clause-taken
 returns-clause-taken c =
     rw (sym c.self.view_is, sym c.as_bytes.ensures.value)
-      (taken c.self.inside.words c.take_word.new.self _ c.take_word.result c.take_word.ensures.line c.take_word.ensures.words)
+    (taken c.self.inside.words c.take_word.new.self _ c.take_word.result c.take_word.ensures.line c.take_word.ensures.words)
 
 pub returns-clause-other : goal.returns-clause-other
 returns-clause-other c =
     rw (sym c.self.view_is, sym c.as_bytes.ensures.value)
-      (other c.self.inside.words c.take_word.new.self _ c.take_word.result c.take_word.ensures.words)
+    (other c.self.inside.words c.take_word.new.self _ c.take_word.result c.take_word.ensures.words)
