@@ -55,6 +55,14 @@ rounded-floor a (negsuc d) positive h is_b is_e is_r = absurd (omega (arith, int
 pub floor_from : (a d q : ℤ) → pos 0 <ℤ d → q ≡ int_div_euclid a d → IsFloor a d q
 floor_from a d q positive e = subst (λ (z : ℤ). IsFloor a d z) (sym e) (floor-int_div_euclid a d positive)
 
+-- The floor's multiple is at most the quotient; b, e and r are what the code computes.
+pub reached_from_floor : {b e q r : ℤ} (a : ℤ) (d : ℕ) → IsFloor b e q → b ≡ a → e ≡ pos d → r ≡ q → (r *ℤ pos d) ≤ℤ a
+reached_from_floor {b = b} {q = q} a d h is_b is_e is_r =
+    let f = subst (λ (z : ℤ). IsFloor b z q) is_e h in
+    let g = subst (λ (z : ℤ). IsFloor z (pos d) q) is_b f in
+    let k = subst (λ (z : ℤ). IsFloor a (pos d) z) (sym is_r) g in
+    k.reached
+
 -- No greater whole number than the floor is at most the quotient; b, e and r are what the code computes.
 pub greatest_from_floor : {b e q r : ℤ} (a k : ℤ) (d : ℕ) → IsFloor b e q → b ≡ a → e ≡ pos d → r ≡ q → (k *ℤ pos d) ≤ℤ a → k ≤ℤ r
 greatest_from_floor {b = b} {q = q} a k d h is_b is_e is_r le =
