@@ -1,3 +1,4 @@
+pub mod Compared
 pub mod Rounding
 pub mod SlopePlaces
 pub mod Spaced

@@ -197,9 +197,10 @@ pub fn registers_are_in_the_table()
 #[cfg(test)]
 mod tests {
     use super::*;
+    use crate::row::agrees;
 
     // The bytes of OPERATION that have a meaning: the bits that are fixed, and their values.
-    const OPERATIONS: [(u16, u16); 7] = [
+    static OPERATIONS: [(u16, u16); 7] = [
         (0b1100_0000, 0b0000_0000),
         (0b1100_0000, 0b0100_0000),
         (0b1111_0000, 0b1000_0000),
@@ -209,7 +210,7 @@ mod tests {
         (0b1111_1100, 0b1010_1000),
     ];
 
-    const REGISTERS: [(u8, Reg); 6] = [
+    static REGISTERS: [(u8, Reg); 6] = [
         (0x01, Reg::Operation),
         (0x21, Reg::VoutCommand),
         (0x24, Reg::VoutMax),
@@ -218,13 +219,18 @@ mod tests {
         (0x2B, Reg::VoutMin),
     ];
 
+    // Whether a cell takes this word.
+    fn takes(cell: Cell, word: u16) -> bool {
+        cell.accepts(word)
+    }
+
     #[test]
     fn operation_takes_the_bytes_that_have_a_meaning(rt: HostRuntime) {
         let cell = Cell::Out(1, Reg::Operation);
         for word in 0..=0x1FF {
             let means = |row: &(u16, u16)| word & row.0 == row.1;
             let wanted = word <= 0xFF && OPERATIONS.iter().any(means);
-            assert_eq!(rt; cell.accepts(word), wanted, "word {word:04X}");
+            agrees(&rt, usize::from(word), &takes(cell, word), &wanted);
         }
     }
 
@@ -232,83 +238,85 @@ mod tests {
     fn write_protect_takes_four_bytes(rt: HostRuntime) {
         for word in 0..=0x1FF {
             let wanted = [0x00, 0x20, 0x40, 0x80].contains(&word);
-            assert_eq!(rt; Cell::Protect.accepts(word), wanted, "word {word:04X}");
+            agrees(&rt, usize::from(word), &takes(Cell::Protect, word), &wanted);
         }
     }
 
+    static ABOVE_A_BYTE: [u16; 8] = [
+        0x0200, 0x0280, 0x1000, 0x4000, 0x8000, 0x8080, 0xFF80, 0xFFFF,
+    ];
+
+    // Cells, and whether they take a word above a byte.
+    static TAKERS: [(Cell, bool); 7] = [
+        (Cell::Out(0, Reg::Operation), false),
+        (Cell::Protect, false),
+        (Cell::Out(0, Reg::VoutCommand), true),
+        (Cell::Out(0, Reg::VoutMax), true),
+        (Cell::Out(0, Reg::MarginHigh), true),
+        (Cell::Out(0, Reg::MarginLow), true),
+        (Cell::Out(0, Reg::VoutMin), true),
+    ];
+
     #[test]
     fn a_word_above_a_byte_is_a_voltage_alone(rt: HostRuntime) {
-        for word in [
-            0x0200, 0x0280, 0x1000, 0x4000, 0x8000, 0x8080, 0xFF80, 0xFFFF,
-        ] {
-            assert!(rt;
-                !Cell::Out(0, Reg::Operation).accepts(word),
-                "word {word:04X}"
-            );
-            assert!(rt; !Cell::Protect.accepts(word), "word {word:04X}");
-            assert!(rt;
-                Cell::Out(0, Reg::VoutCommand).accepts(word),
-                "word {word:04X}"
-            );
-            assert!(rt; Cell::Out(0, Reg::VoutMax).accepts(word), "word {word:04X}");
-            assert!(rt;
-                Cell::Out(0, Reg::MarginHigh).accepts(word),
-                "word {word:04X}"
-            );
-            assert!(rt;
-                Cell::Out(0, Reg::MarginLow).accepts(word),
-                "word {word:04X}"
-            );
-            assert!(rt; Cell::Out(0, Reg::VoutMin).accepts(word), "word {word:04X}");
+        for word in &ABOVE_A_BYTE {
+            for (row, (cell, wanted)) in TAKERS.iter().enumerate() {
+                agrees(&rt, row, &takes(*cell, *word), wanted);
+            }
         }
     }
+
+    static VOLTAGES: [Cell; 5] = [
+        Cell::Out(0, Reg::VoutCommand),
+        Cell::Out(1, Reg::VoutMax),
+        Cell::Out(7, Reg::MarginHigh),
+        Cell::Out(255, Reg::MarginLow),
+        Cell::Out(2, Reg::VoutMin),
+    ];
 
     #[test]
     fn a_voltage_takes_every_word_of_a_byte(rt: HostRuntime) {
         for word in 0..=0x1FF {
-            assert!(rt;
-                Cell::Out(0, Reg::VoutCommand).accepts(word),
-                "word {word:04X}"
-            );
-            assert!(rt; Cell::Out(1, Reg::VoutMax).accepts(word), "word {word:04X}");
-            assert!(rt;
-                Cell::Out(7, Reg::MarginHigh).accepts(word),
-                "word {word:04X}"
-            );
-            assert!(rt;
-                Cell::Out(255, Reg::MarginLow).accepts(word),
-                "word {word:04X}"
-            );
-            assert!(rt; Cell::Out(2, Reg::VoutMin).accepts(word), "word {word:04X}");
+            for cell in &VOLTAGES {
+                agrees(&rt, usize::from(word), &takes(*cell, word), &true);
+            }
         }
+    }
+
+    // The cell of a code and an output, as the table has it.
+    fn row_of(code: u8, output: u8) -> Option<Cell> {
+        if code == 0x10 {
+            return Some(Cell::Protect);
+        }
+        let register = REGISTERS.iter().find(|row| row.0 == code).map(|row| row.1);
+        register.map(|register| Cell::Out(output, register))
+    }
+
+    // The cell of a code and an output.
+    fn cell_at(code: u8, output: u8) -> Option<Cell> {
+        cell_of(Code(code), output)
     }
 
     #[test]
     fn seven_codes_mean_a_cell_and_no_other_does(rt: HostRuntime) {
         for code in 0..=u8::MAX {
-            let register = REGISTERS.iter().find(|row| row.0 == code).map(|row| row.1);
-            let first = register.map(|register| Cell::Out(0, register));
-            let last = register.map(|register| Cell::Out(255, register));
-            let device = if code == 0x10 {
-                Some(Cell::Protect)
-            } else {
-                None
-            };
-            assert_eq!(rt; cell_of(Code(code), 0), device.or(first), "code {code:02X}");
-            assert_eq!(rt;
-                cell_of(Code(code), 255),
-                device.or(last),
-                "code {code:02X}"
-            );
+            agrees(&rt, usize::from(code), &cell_at(code, 0), &row_of(code, 0));
+            let last = row_of(code, 255);
+            agrees(&rt, usize::from(code), &cell_at(code, 255), &last);
         }
+    }
+
+    // The number of a cell's code.
+    fn code_of(cell: Cell) -> u8 {
+        cell.code().0
     }
 
     #[test]
     fn the_code_of_a_cell_is_the_one_that_leads_to_it(rt: HostRuntime) {
-        assert_eq!(rt; Cell::Protect.code(), Code(0x10));
-        for (code, register) in REGISTERS {
-            assert_eq!(rt; Cell::Out(0, register).code(), Code(code));
-            assert_eq!(rt; Cell::Out(255, register).code(), Code(code));
+        agrees(&rt, 0, &code_of(Cell::Protect), &0x10);
+        for (row, (code, register)) in REGISTERS.iter().enumerate() {
+            agrees(&rt, row, &code_of(Cell::Out(0, *register)), code);
+            agrees(&rt, row, &code_of(Cell::Out(255, *register)), code);
         }
     }
 }

@@ -39,22 +39,24 @@ impl TableFault {
 #[cfg(test)]
 mod tests {
     use super::*;
+    use crate::row::agrees;
     use std::alloc::AllocError;
+
+    static ROWS: [(TableFault, &str); 4] = [
+        (TableFault::VidMode, "a vid mode"),
+        (TableFault::HalfMode, "a half precision mode"),
+        (TableFault::RelativeMode, "a relative mode"),
+        (
+            TableFault::BadParameter,
+            "a parameter other than 0 of the direct mode",
+        ),
+    ];
 
     #[test]
     fn each_fault_has_its_message(rt: HostRuntime) -> Result<(), AllocError> {
-        let rows = [
-            (TableFault::VidMode, "a vid mode"),
-            (TableFault::HalfMode, "a half precision mode"),
-            (TableFault::RelativeMode, "a relative mode"),
-            (
-                TableFault::BadParameter,
-                "a parameter other than 0 of the direct mode",
-            ),
-        ];
-        for (fault, wanted) in rows {
+        for (row, (fault, wanted)) in ROWS.iter().enumerate() {
             let message = format!(in rt.alloc(); "{fault}")?;
-            assert_eq!(rt; message.as_str(), wanted);
+            agrees(&rt, row, &message.as_str(), wanted);
         }
         Ok(())
     }

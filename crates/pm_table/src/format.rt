@@ -26,9 +26,10 @@ pub fn format_of(mode: VoutMode, c: Coefficients) -> Result<AnyFormat, NumFault>
 #[cfg(test)]
 mod tests {
     use super::*;
+    use crate::row::agrees;
     use pm_num::NumFormat;
 
-    const ROWS: [((i16, i16, i8), Option<NumFault>); 8] = [
+    static ROWS: [((i16, i16, i8), Option<NumFault>); 8] = [
         ((1, 0, 3), None),
         ((-1, 5, 12), None),
         ((-32768, 32767, -12), None),
@@ -39,33 +40,43 @@ mod tests {
         ((-1, 0, 127), Some(NumFault::ExponentRange)),
     ];
 
+    // Why a mode has no format with these coefficients.
+    fn fault_of(mode: VoutMode, m: i16, b: i16, r: i8) -> Option<NumFault>
+        requires { IsMode mode }
+    {
+        format_of(mode, Coefficients { m, b, r }).err()
+    }
+
     #[test]
     fn a_direct_mode_takes_the_coefficients_and_a_linear_one_ignores_them(rt: HostRuntime) {
-        for ((m, b, r), fault) in ROWS {
-            let c = Coefficients { m, b, r };
-            let direct = format_of(VoutMode::Direct, c);
-            assert_eq!(rt; direct.err(), fault, "{c:?}");
-            assert!(rt; format_of(VoutMode::Linear(-12), c).is_ok(), "{c:?}");
+        for (row, ((m, b, r), fault)) in ROWS.iter().enumerate() {
+            agrees(&rt, row, &fault_of(VoutMode::Direct, *m, *b, *r), fault);
+            let linear = fault_of(VoutMode::Linear(-12), *m, *b, *r);
+            agrees(&rt, row, &linear, &None);
+        }
+    }
+
+    // The value of 34CDh in a mode, with millivolts for the direct one.
+    fn value_in(mode: VoutMode) -> Result<(i128, i128), NumFault>
+        requires { IsMode mode }
+    {
+        match format_of(mode, Coefficients { m: 1, b: 0, r: 3 }) {
+            Ok(format) => {
+                let value = format.value_of(0x34CD);
+                Ok((value.num(), value.den()))
+            }
+            Err(fault) => Err(fault),
         }
     }
 
     // 34CDh is 13517 * 2^-12, and 13517 millivolts.
     #[test]
     fn a_word_has_the_value_of_its_mode(rt: HostRuntime) {
-        let c = Coefficients { m: 1, b: 0, r: 3 };
-        let rows = [
-            (VoutMode::Linear(-12), (13_517, 4096)),
-            (VoutMode::Linear(15), (13_517 << 15, 1)),
-            (VoutMode::Direct, (13_517, 1000)),
-        ];
-        for (mode, (num, den)) in rows {
-            match format_of(mode, c) {
-                Ok(format) => {
-                    let value = format.value_of(0x34CD);
-                    assert_eq!(rt; (value.num(), value.den()), (num, den), "{mode:?}");
-                }
-                Err(fault) => panic!(&rt; "{mode:?} is {fault:?}"),
-            }
-        }
+        let fine = value_in(VoutMode::Linear(-12));
+        agrees(&rt, 0, &fine, &Ok((13_517, 4096)));
+        let coarse = value_in(VoutMode::Linear(15));
+        agrees(&rt, 1, &coarse, &Ok((13_517 << 15, 1)));
+        let direct = value_in(VoutMode::Direct);
+        agrees(&rt, 2, &direct, &Ok((13_517, 1000)));
     }
 }

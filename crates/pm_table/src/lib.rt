@@ -14,6 +14,8 @@ mod commands;
 mod fault;
 mod format;
 mod protection;
+#[cfg(test)]
+mod row;
 mod vout_mode;
 
 pub use address::address_ok;

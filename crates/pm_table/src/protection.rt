@@ -23,9 +23,11 @@ pub fn is_allowed(protect: u16, code: Code) -> bool
 #[cfg(test)]
 mod tests {
     use super::*;
+    use crate::row::agrees;
+    use std::process::Abort;
 
     // The codes that each value allows beside CLEAR_FAULTS.
-    const PROTECTED: [(u16, &[u8]); 5] = [
+    static PROTECTED: [(u16, &[u8]); 5] = [
         (0x80, &[0x10]),
         (0x40, &[0x10, 0x01, 0x00]),
         (0x20, &[0x10, 0x01, 0x00, 0x21]),
@@ -38,26 +40,32 @@ mod tests {
         (0x60, &[]),
     ];
 
+    static ABOVE_A_BYTE: [u16; 6] = [0x0100, 0x0120, 0x0140, 0x0180, 0x8000, 0xFFFF];
+
+    // Whether this value allows this code.
+    fn allows(protect: u16, code: u8) -> bool {
+        is_allowed(protect, Code(code))
+    }
+
+    // A value allows CLEAR_FAULTS and these codes, and no other; a row is a code here.
+    fn allows_only(rt: &impl Abort, protect: u16, allowed: &[u8]) {
+        for code in 0..=u8::MAX {
+            let wanted = code == 0x03 || allowed.contains(&code);
+            agrees(rt, usize::from(code), &allows(protect, code), &wanted);
+        }
+    }
+
     #[test]
     fn each_value_allows_its_codes_and_no_other(rt: HostRuntime) {
-        for (protect, allowed) in PROTECTED {
-            for code in 0..=u8::MAX {
-                let wanted = code == 0x03 || allowed.contains(&code);
-                assert_eq!(rt;
-                    is_allowed(protect, Code(code)),
-                    wanted,
-                    "code {code:02X} at {protect:02X}"
-                );
-            }
+        for (protect, allowed) in &PROTECTED {
+            allows_only(&rt, *protect, allowed);
         }
     }
 
     #[test]
     fn a_word_above_a_byte_allows_clear_faults_alone(rt: HostRuntime) {
-        for protect in [0x0100, 0x0120, 0x0140, 0x0180, 0x8000, 0xFFFF] {
-            for code in 0..=u8::MAX {
-                assert_eq!(rt; is_allowed(protect, Code(code)), code == 0x03);
-            }
+        for protect in &ABOVE_A_BYTE {
+            allows_only(&rt, *protect, &[]);
         }
     }
 }

@@ -3,10 +3,16 @@
 //! tried at the addresses 08h, 58h and 77h, and with another first byte, which is then the first
 //! fault.
 
+ghost use Rattle.std.specs.Prelude.{◌≡◌, true};
+ghost use Rattle.pm_table.specs.Address.{IsAddress};
+ghost use Rattle.pm_frame.specs.Layout.{fits_layout, is_read_message};
+
+use super::agrees;
 use super::framing::{ADDRESSES, Ends, answer_fault, framed, request_fault, sent, slow_pec};
 use crate::{FrameFault, Message, fits};
 use pm_table::address_ok;
 use std::alloc::{AllocError, Global};
+use std::process::Abort;
 
 static FAULTY_REQUESTS: [(&[u8], FrameFault); 32] = [
     (&[], FrameFault::Short(1)),
@@ -48,21 +54,31 @@ static FAULTY_REQUESTS: [(&[u8], FrameFault); 32] = [
     (&[0x10, 0x80, 0x34], FrameFault::Long(2)),
 ];
 
+// The fault of a request whose first byte is this one.
+fn request_from(rt: &impl Abort, addr: u8, first: u8, bytes: &[u8]) -> Option<FrameFault>
+    requires { IsAddress addr }
+{
+    let frame = framed(rt, 0, first, bytes, Ends::Bare);
+    request_fault(addr, frame.as_slice())
+}
+
+// Each row at an address, with its first byte and with another one.
+fn requests_fail(rt: &impl Abort, addr: u8) {
+    assert!(rt; address_ok(addr));
+    let ours = addr * 2;
+    let other = Some(FrameFault::NotOurs);
+    for (row, (bytes, fault)) in FAULTY_REQUESTS.iter().enumerate() {
+        agrees(rt, row, &request_from(rt, addr, ours, bytes), &Some(*fault));
+        agrees(rt, row, &request_from(rt, addr, ours + 1, bytes), &other);
+        agrees(rt, row, &request_from(rt, addr, addr ^ 1, bytes), &other);
+    }
+    agrees(rt, FAULTY_REQUESTS.len(), &request_fault(addr, &[]), &other);
+}
+
 #[test]
 fn a_faulty_request_has_its_first_fault(rt: HostRuntime) {
-    for addr in ADDRESSES {
-        assert!(rt; address_ok(addr));
-        for (bytes, fault) in &FAULTY_REQUESTS {
-            let frame = framed(&rt, 0, addr * 2, bytes, Ends::Bare);
-            let found = request_fault(addr, frame.as_slice());
-            assert_eq!(rt; found, Some(*fault), "{addr:02X} {bytes:?}");
-            for first in [addr * 2 + 1, addr ^ 1] {
-                let frame = framed(&rt, 0, first, bytes, Ends::Bare);
-                let found = request_fault(addr, frame.as_slice());
-                assert_eq!(rt; found, Some(FrameFault::NotOurs), "{addr:02X} {bytes:?}");
-            }
-        }
-        assert_eq!(rt; request_fault(addr, &[]), Some(FrameFault::NotOurs));
+    for addr in &ADDRESSES {
+        requests_fail(&rt, *addr);
     }
 }
 
@@ -152,35 +168,66 @@ static FAULTY_ANSWERS: [(Message, &[u8], Ends, FrameFault); 19] = [
     (PLAIN, &[0x14], Ends::OtherPec, FrameFault::WrongPec(2)),
 ];
 
+// The fault of an answer whose first byte is this one.
+fn answer_from(
+    rt: &impl Abort,
+    addr: u8,
+    first: u8,
+    request: &Message,
+    bytes: &[u8],
+    ends: Ends,
+) -> Option<FrameFault>
+    requires address { IsAddress addr }
+    requires read { is_read_message request.now ≡ true }
+    requires fits { fits_layout request.now ≡ true }
+{
+    let before = slow_pec(0, sent(addr, request).as_slice());
+    let frame = framed(rt, before, first, bytes, ends);
+    answer_fault(addr, request, frame.as_slice())
+}
+
+// Each row at an address, with its first byte and with another one.
+fn answers_fail(rt: &impl Abort, addr: u8) {
+    assert!(rt; address_ok(addr));
+    let ours = addr * 2 + 1;
+    let other = Some(FrameFault::NotOurs);
+    for (row, (request, bytes, ends, fault)) in FAULTY_ANSWERS.iter().enumerate() {
+        assert!(rt; request.is_read() && fits(request));
+        let found = answer_from(rt, addr, ours, request, bytes, *ends);
+        agrees(rt, row, &found, &Some(*fault));
+        let found = answer_from(rt, addr, ours - 1, request, bytes, *ends);
+        agrees(rt, row, &found, &other);
+        let found = answer_from(rt, addr, addr ^ 1, request, bytes, *ends);
+        agrees(rt, row, &found, &other);
+    }
+    assert!(rt; PLAIN.is_read() && fits(&PLAIN));
+    agrees(
+        rt,
+        FAULTY_ANSWERS.len(),
+        &answer_fault(addr, &PLAIN, &[]),
+        &other,
+    );
+}
+
 #[test]
 fn a_faulty_answer_has_its_first_fault(rt: HostRuntime) {
-    for addr in ADDRESSES {
-        assert!(rt; address_ok(addr));
-        for (request, bytes, ends, fault) in &FAULTY_ANSWERS {
-            assert!(rt; request.is_read() && fits(request));
-            let before = slow_pec(0, sent(addr, request).as_slice());
-            let frame = framed(&rt, before, addr * 2 + 1, bytes, *ends);
-            let found = answer_fault(addr, request, frame.as_slice());
-            assert_eq!(rt; found, Some(*fault), "{addr:02X} {bytes:?}");
-            for first in [addr * 2, addr ^ 1] {
-                let frame = framed(&rt, before, first, bytes, *ends);
-                let found = answer_fault(addr, request, frame.as_slice());
-                assert_eq!(rt; found, Some(FrameFault::NotOurs), "{addr:02X} {bytes:?}");
-            }
-        }
-        assert!(rt; PLAIN.is_read() && fits(&PLAIN));
-        assert_eq!(rt; answer_fault(addr, &PLAIN, &[]), Some(FrameFault::NotOurs));
+    for addr in &ADDRESSES {
+        answers_fail(&rt, *addr);
     }
 }
 
 // The PEC over the answer's own bytes alone, and over the request for another page.
+static OTHER_PECS: [&[u8]; 2] = [
+    &[0xB1, 0x02, 0xCD, 0x34, 0xD0],
+    &[0xB1, 0x02, 0xCD, 0x34, 0x90],
+];
+
 #[test]
 fn the_pec_of_an_answer_covers_the_request(rt: HostRuntime) {
     assert!(rt; PAGE_PLUS.is_read() && fits(&PAGE_PLUS));
-    for code in [0xD0, 0x90] {
-        let answer = [0xB1, 0x02, 0xCD, 0x34, code];
-        let found = answer_fault(0x58, &PAGE_PLUS, &answer);
-        assert_eq!(rt; found, Some(FrameFault::WrongPec(4)), "{code:02X}");
+    for (row, answer) in OTHER_PECS.iter().enumerate() {
+        let found = answer_fault(0x58, &PAGE_PLUS, answer);
+        agrees(&rt, row, &found, &Some(FrameFault::WrongPec(4)));
     }
 }
 
@@ -188,20 +235,18 @@ fn a_million_of(byte: u8, alloc: Global) -> Result<Vec<u8>, AllocError> {
     vec![in alloc; byte; 1_000_000]
 }
 
+static MILLIONS: [(Message, FrameFault); 2] = [
+    (PAGE_PLUS, FrameFault::Long(5)),
+    (PLAIN, FrameFault::Long(3)),
+];
+
 #[test]
 fn a_million_bytes_are_no_answer(rt: HostRuntime) -> Result<(), AllocError> {
-    let rows = [
-        (PAGE_PLUS, FrameFault::Long(5)),
-        (PLAIN, FrameFault::Long(3)),
-    ];
     let bytes = a_million_of(0xB1, rt.alloc())?;
-    for (request, fault) in rows {
-        assert!(rt; request.is_read() && fits(&request));
-        assert_eq!(rt;
-            answer_fault(0x58, &request, &bytes),
-            Some(fault),
-            "{request:?}"
-        );
+    for (row, (request, fault)) in MILLIONS.iter().enumerate() {
+        assert!(rt; request.is_read() && fits(request));
+        let found = answer_fault(0x58, request, &bytes);
+        agrees(&rt, row, &found, &Some(*fault));
     }
     Ok(())
 }

@@ -2,10 +2,14 @@
 //! them. Where two faults can stand in the same bytes, a row has both. Each row is tried at the
 //! addresses 08h, 58h and 77h, and with another first byte, which is then the first fault.
 
+ghost use Rattle.pm_table.specs.Address.{IsAddress};
+
+use super::agrees;
 use super::framing::{ADDRESSES, Ends, framed, request_fault, write_fault};
 use crate::FrameFault;
 use pm_table::address_ok;
-use std::alloc::AllocError;
+use std::alloc::{AllocError, Global};
+use std::process::Abort;
 
 static FAULTY_WRITES: [(&[u8], Ends, FrameFault); 64] = [
     // lengths of a plain code that is written
@@ -177,21 +181,46 @@ static FAULTY_WRITES: [(&[u8], Ends, FrameFault); 64] = [
     (&[0x05, 0x02, 0x00, 0x00], Ends::Pec, FrameFault::Nested(4)),
 ];
 
+// The fault of a write whose first byte is this one.
+fn write_from(rt: &impl Abort, addr: u8, first: u8, bytes: &[u8], ends: Ends) -> Option<FrameFault>
+    requires { IsAddress addr }
+{
+    let frame = framed(rt, 0, first, bytes, ends);
+    write_fault(addr, frame.as_slice())
+}
+
+// Each row at an address, with its first byte and with another one.
+fn writes_fail(rt: &impl Abort, addr: u8) {
+    assert!(rt; address_ok(addr));
+    let ours = addr * 2;
+    let other = Some(FrameFault::NotOurs);
+    for (row, (bytes, ends, fault)) in FAULTY_WRITES.iter().enumerate() {
+        agrees(
+            rt,
+            row,
+            &write_from(rt, addr, ours, bytes, *ends),
+            &Some(*fault),
+        );
+        agrees(
+            rt,
+            row,
+            &write_from(rt, addr, ours + 1, bytes, *ends),
+            &other,
+        );
+        agrees(
+            rt,
+            row,
+            &write_from(rt, addr, addr ^ 1, bytes, *ends),
+            &other,
+        );
+    }
+    agrees(rt, FAULTY_WRITES.len(), &write_fault(addr, &[]), &other);
+}
+
 #[test]
 fn a_faulty_write_has_its_first_fault(rt: HostRuntime) {
-    for addr in ADDRESSES {
-        assert!(rt; address_ok(addr));
-        for (bytes, ends, fault) in &FAULTY_WRITES {
-            let frame = framed(&rt, 0, addr * 2, bytes, *ends);
-            let found = write_fault(addr, frame.as_slice());
-            assert_eq!(rt; found, Some(*fault), "{addr:02X} {bytes:?}");
-            for first in [addr * 2 + 1, addr ^ 1] {
-                let frame = framed(&rt, 0, first, bytes, *ends);
-                let found = write_fault(addr, frame.as_slice());
-                assert_eq!(rt; found, Some(FrameFault::NotOurs), "{addr:02X} {bytes:?}");
-            }
-        }
-        assert_eq!(rt; write_fault(addr, &[]), Some(FrameFault::NotOurs));
+    for addr in &ADDRESSES {
+        writes_fail(&rt, *addr);
     }
 }
 
@@ -205,59 +234,64 @@ static COUNTS_BEFORE_CODES: [&[u8]; 3] = [
 
 #[test]
 fn a_count_below_two_comes_before_the_code_at_its_place(rt: HostRuntime) {
-    for bytes in &COUNTS_BEFORE_CODES {
+    for (row, bytes) in COUNTS_BEFORE_CODES.iter().enumerate() {
         let found = write_fault(0x58, bytes);
-        assert_eq!(rt; found, Some(FrameFault::WrongCount(2)), "{bytes:?}");
+        agrees(&rt, row, &found, &Some(FrameFault::WrongCount(2)));
     }
 }
 
+// These bytes and so many more of one value.
+fn lengthened(alloc: Global, front: &[u8], byte: u8, count: usize) -> Result<Vec<u8>, AllocError> {
+    let mut bytes = front.to_vec(alloc)?;
+    let rest = vec![in alloc; byte; count]?;
+    bytes.extend_from_slice(&rest)?;
+    Ok(bytes)
+}
+
+// The zeros after the first five bytes, and the fault.
+static LENGTHS: [(usize, FrameFault); 3] = [
+    (253, FrameFault::Short(258)),
+    (254, FrameFault::WrongCount(2)),
+    (255, FrameFault::Long(259)),
+];
+
 #[test]
 fn the_length_of_a_frame_is_that_of_its_count_up_to_255(rt: HostRuntime) -> Result<(), AllocError> {
-    let rows = [
-        (258, FrameFault::Short(258)),
-        (259, FrameFault::WrongCount(2)),
-        (260, FrameFault::Long(259)),
-    ];
-    for (length, fault) in rows {
-        let mut bytes = [0xB0, 0x05, 0xFF, 0x00, 0x21].to_vec(rt.alloc())?;
-        let zeros = vec![in rt.alloc(); 0; length - 5]?;
-        bytes.extend_from_slice(&zeros)?;
-        assert_eq!(rt; bytes.len(), length);
-        assert_eq!(rt; write_fault(0x58, &bytes), Some(fault));
+    for (row, (zeros, fault)) in LENGTHS.iter().enumerate() {
+        let bytes = lengthened(rt.alloc(), &[0xB0, 0x05, 0xFF, 0x00, 0x21], 0, *zeros)?;
+        agrees(&rt, row, &bytes.len(), &(*zeros).saturating_add(5));
+        agrees(&rt, row, &write_fault(0x58, &bytes), &Some(*fault));
     }
     Ok(())
 }
 
+// The first two bytes, and the faults as a write and as a request.
+static MILLIONS: [(&[u8], FrameFault, FrameFault); 5] = [
+    (&[0x05, 0x05], FrameFault::NotOurs, FrameFault::NotOurs),
+    (
+        &[0xB0, 0x05],
+        FrameFault::Long(9),
+        FrameFault::WrongDirection(1),
+    ),
+    (&[0xB0, 0x21], FrameFault::Long(5), FrameFault::Long(2)),
+    (
+        &[0xB0, 0x06],
+        FrameFault::WrongPec(999_999),
+        FrameFault::Long(5),
+    ),
+    (
+        &[0xB0, 0x99],
+        FrameFault::WrongPec(999_999),
+        FrameFault::UnknownCode(1),
+    ),
+];
+
 #[test]
 fn a_million_bytes_are_read(rt: HostRuntime) -> Result<(), AllocError> {
-    let rows = [
-        (0x05, 0x05, FrameFault::NotOurs, FrameFault::NotOurs),
-        (
-            0xB0,
-            0x05,
-            FrameFault::Long(9),
-            FrameFault::WrongDirection(1),
-        ),
-        (0xB0, 0x21, FrameFault::Long(5), FrameFault::Long(2)),
-        (
-            0xB0,
-            0x06,
-            FrameFault::WrongPec(999_999),
-            FrameFault::Long(5),
-        ),
-        (
-            0xB0,
-            0x99,
-            FrameFault::WrongPec(999_999),
-            FrameFault::UnknownCode(1),
-        ),
-    ];
-    for (first, second, in_write, in_request) in rows {
-        let mut bytes = [first, second].to_vec(rt.alloc())?;
-        let rest = vec![in rt.alloc(); 0x05; 999_998]?;
-        bytes.extend_from_slice(&rest)?;
-        assert_eq!(rt; write_fault(0x58, &bytes), Some(in_write));
-        assert_eq!(rt; request_fault(0x58, &bytes), Some(in_request));
+    for (row, (front, in_write, in_request)) in MILLIONS.iter().enumerate() {
+        let bytes = lengthened(rt.alloc(), front, 0x05, 999_998)?;
+        agrees(&rt, row, &write_fault(0x58, &bytes), &Some(*in_write));
+        agrees(&rt, row, &request_fault(0x58, &bytes), &Some(*in_request));
     }
     Ok(())
 }

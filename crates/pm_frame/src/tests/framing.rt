@@ -8,7 +8,7 @@ use crate::{Frame, FrameFault, Message, read_answer, read_request, read_write, w
 use std::process::Abort;
 
 /// The addresses that rows are tried at, the ends of the range among them.
-pub(crate) const ADDRESSES: [u8; 3] = [0x08, 0x58, 0x77];
+pub(crate) static ADDRESSES: [u8; 3] = [0x08, 0x58, 0x77];
 
 /// What stands after the bytes of a row.
 #[derive(Clone, Copy)]

@@ -1,3 +1,4 @@
+use super::agrees;
 use crate::{Message, Payload, fits};
 
 // The layouts by their codes alone: these fit, whatever byte, word, page and side they have.
@@ -95,10 +96,15 @@ static FITTING: [Message; 27] = [
     },
 ];
 
+// Whether a message's code fits its layout.
+fn is_fitting(message: &Message) -> bool {
+    fits(message)
+}
+
 #[test]
 fn a_code_fits_the_layout_of_its_direction_and_length(rt: HostRuntime) {
-    for message in &FITTING {
-        assert!(rt; fits(message), "{message:?}");
+    for (row, message) in FITTING.iter().enumerate() {
+        agrees(&rt, row, &is_fitting(message), &true);
     }
 }
 
@@ -233,7 +239,7 @@ static UNFITTING: [Message; 35] = [
 
 #[test]
 fn a_code_fits_no_other_layout(rt: HostRuntime) {
-    for message in &UNFITTING {
-        assert!(rt; !fits(message), "{message:?}");
+    for (row, message) in UNFITTING.iter().enumerate() {
+        agrees(&rt, row, &is_fitting(message), &false);
     }
 }

@@ -1,6 +1,6 @@
 //! The formats against a search of all words.
 
-use super::{slope, unsigned};
+use super::{agrees, encoded, slope, unsigned};
 use crate::{Linear11, NumFormat};
 use std::process::Abort;
 
@@ -103,11 +103,15 @@ fn search(plain: Plain, x: (i32, i32)) -> u16 {
     best.word
 }
 
+// The word for a number over a denominator is the one that the search finds.
+fn agree_at<F: NumFormat>(rt: &impl Abort, format: &F, plain: Plain, row: usize, x: (i32, i32)) {
+    let found = encoded(format, super::frac(rt, i128::from(x.0), i128::from(x.1)));
+    agrees(rt, row, &found, &Ok(search(plain, x)));
+}
+
 fn agree<F: NumFormat>(rt: &impl Abort, format: &F, plain: Plain, numbers: &[(i32, i32)]) {
-    for (num, den) in numbers {
-        let word = search(plain, (*num, *den));
-        let x = super::frac(rt, i128::from(*num), i128::from(*den));
-        assert_eq!(rt; format.nearest(x), Ok(word), "{num}/{den}");
+    for (row, x) in numbers.iter().enumerate() {
+        agree_at(rt, format, plain, row, *x);
     }
 }
 
@@ -120,16 +124,16 @@ fn agree_on_scattered<F: NumFormat>(
     den: i32,
 ) {
     let mut state = 1u64;
-    for _ in 0..8 {
+    for row in 0..8 {
         state = state
             .wrapping_mul(6_364_136_223_846_793_005)
             .wrapping_add(1_442_695_040_888_963_407);
         let num = ((state >> 44) as i32).wrapping_sub(center);
-        agree(rt, format, plain, &[(num, den)]);
+        agree_at(rt, format, plain, row, (num, den));
     }
 }
 
-const LINEAR11_TIES: [(i32, i32); 12] = [
+static LINEAR11_TIES: [(i32, i32); 12] = [
     (1, 131_072),
     (-1, 131_072),
     (3, 131_072),
@@ -144,7 +148,7 @@ const LINEAR11_TIES: [(i32, i32); 12] = [
     (-2051, 2),
 ];
 
-const LINEAR11_ENDS: [(i32, i32); 12] = [
+static LINEAR11_ENDS: [(i32, i32); 12] = [
     (0, 7),
     (33_521_664, 1),
     (33_521_663, 1),
@@ -168,74 +172,87 @@ fn linear11_agrees_with_a_search(rt: HostRuntime) {
     }
 }
 
+static FINE: Plain = Plain::Line {
+    signed: false,
+    scale: 1,
+    offset: 0,
+    den: 4096,
+};
+
+static FINE_NUMBERS: [(i32, i32); 8] = [
+    (0, 1),
+    (1, 8192),
+    (3, 8192),
+    (26_989, 8192),
+    (131_069, 8192),
+    (65_535, 4096),
+    (33, 10),
+    (1, 1_000_000),
+];
+
+static COARSE: Plain = Plain::Line {
+    signed: false,
+    scale: 8,
+    offset: 0,
+    den: 1,
+};
+
+static COARSE_NUMBERS: [(i32, i32); 6] = [
+    (4, 1),
+    (12, 1),
+    (5, 1),
+    (524_276, 1),
+    (524_280, 1),
+    (31, 8),
+];
+
 #[test]
 fn ulinear16_agrees_with_a_search(rt: HostRuntime) {
-    let fine = Plain::Line {
-        signed: false,
-        scale: 1,
-        offset: 0,
-        den: 4096,
-    };
-    let numbers = [
-        (0, 1),
-        (1, 8192),
-        (3, 8192),
-        (26_989, 8192),
-        (131_069, 8192),
-        (65_535, 4096),
-        (33, 10),
-        (1, 1_000_000),
-    ];
-    agree(&rt, &unsigned(&rt, -12), fine, &numbers);
-    agree_on_scattered(&rt, &unsigned(&rt, -12), fine, 0, 131_072);
-
-    let coarse = Plain::Line {
-        signed: false,
-        scale: 8,
-        offset: 0,
-        den: 1,
-    };
-    let numbers = [(4, 1), (12, 1), (5, 1), (524_276, 1), (524_280, 1), (31, 8)];
-    agree(&rt, &unsigned(&rt, 3), coarse, &numbers);
-    agree_on_scattered(&rt, &unsigned(&rt, 3), coarse, 0, 3);
+    agree(&rt, &unsigned(&rt, -12), FINE, &FINE_NUMBERS);
+    agree_on_scattered(&rt, &unsigned(&rt, -12), FINE, 0, 131_072);
+    agree(&rt, &unsigned(&rt, 3), COARSE, &COARSE_NUMBERS);
+    agree_on_scattered(&rt, &unsigned(&rt, 3), COARSE, 0, 3);
 }
+
+static FALLING: Plain = Plain::Line {
+    signed: true,
+    scale: -1,
+    offset: 5000,
+    den: 1000,
+};
+
+static FALLING_NUMBERS: [(i32, i32); 8] = [
+    (8001, 2000),
+    (-1, 2000),
+    (1, 2000),
+    (-27_767, 1000),
+    (37_768, 1000),
+    (75_535, 2000),
+    (4, 1),
+    (0, 1),
+];
+
+static STEEP: Plain = Plain::Line {
+    signed: true,
+    scale: 100,
+    offset: 3,
+    den: 7,
+};
+
+static STEEP_NUMBERS: [(i32, i32); 7] = [
+    (53, 7),
+    (153, 7),
+    (-47, 7),
+    (3_276_703, 7),
+    (-3_276_797, 7),
+    (3_276_653, 7),
+    (0, 1),
+];
 
 #[test]
 fn direct_agrees_with_a_search(rt: HostRuntime) {
-    let falling = Plain::Line {
-        signed: true,
-        scale: -1,
-        offset: 5000,
-        den: 1000,
-    };
-    let numbers = [
-        (8001, 2000),
-        (-1, 2000),
-        (1, 2000),
-        (-27_767, 1000),
-        (37_768, 1000),
-        (75_535, 2000),
-        (4, 1),
-        (0, 1),
-    ];
-    agree(&rt, &slope(&rt, -1, 5, 3), falling, &numbers);
-    agree_on_scattered(&rt, &slope(&rt, -1, 5, 3), falling, 524_288, 32_768);
-
-    let steep = Plain::Line {
-        signed: true,
-        scale: 100,
-        offset: 3,
-        den: 7,
-    };
-    let numbers = [
-        (53, 7),
-        (153, 7),
-        (-47, 7),
-        (3_276_703, 7),
-        (-3_276_797, 7),
-        (3_276_653, 7),
-        (0, 1),
-    ];
-    agree(&rt, &slope(&rt, 7, -3, -2), steep, &numbers);
-    agree_on_scattered(&rt, &slope(&rt, 7, -3, -2), steep, 524_288, 3);
+    agree(&rt, &slope(&rt, -1, 5, 3), FALLING, &FALLING_NUMBERS);
+    agree_on_scattered(&rt, &slope(&rt, -1, 5, 3), FALLING, 524_288, 32_768);
+    agree(&rt, &slope(&rt, 7, -3, -2), STEEP, &STEEP_NUMBERS);
+    agree_on_scattered(&rt, &slope(&rt, 7, -3, -2), STEEP, 524_288, 3);
 }

@@ -1,8 +1,9 @@
 use super::*;
+use crate::row::agrees;
 
 // The table as the standard's codes and this project's directions give it: code, name, bytes,
 // paged, read, written.
-const TABLE: [(u8, &str, u8, bool, bool, bool); 25] = [
+static TABLE: [(u8, &str, u8, bool, bool, bool); 25] = [
     (0x00, "PAGE", 1, false, true, true),
     (0x01, "OPERATION", 1, true, true, true),
     (0x03, "CLEAR_FAULTS", 0, true, false, true),
@@ -30,17 +31,26 @@ const TABLE: [(u8, &str, u8, bool, bool, bool); 25] = [
     (0x98, "PMBUS_REVISION", 1, false, true, false),
 ];
 
+// The line of the table with this code.
+fn line_of(code: u8) -> Option<Info> {
+    let row = TABLE.iter().find(|row| row.0 == code);
+    row.map(|&(_, name, length, paged, reads, writes)| Info {
+        name,
+        length,
+        paged,
+        reads,
+        writes,
+    })
+}
+
+// What is known of this code.
+fn known_of(code: u8) -> Option<Info> {
+    known(Code(code))
+}
+
 #[test]
 fn every_code_has_its_line_and_no_other_code_has_one(rt: HostRuntime) {
     for code in 0..=u8::MAX {
-        let row = TABLE.iter().find(|row| row.0 == code);
-        let wanted = row.map(|&(_, name, length, paged, reads, writes)| Info {
-            name,
-            length,
-            paged,
-            reads,
-            writes,
-        });
-        assert_eq!(rt; known(Code(code)), wanted, "code {code:02X}");
+        agrees(&rt, usize::from(code), &known_of(code), &line_of(code));
     }
 }

@@ -1,0 +1,9 @@
+//! A row of a test's table.
+
+use std::fmt::Debug;
+use std::process::Abort;
+
+/// Fails where what was found in this row is not what is wanted there.
+pub fn agrees<T: PartialEq + Debug>(rt: &impl Abort, row: usize, found: &T, wanted: &T) {
+    assert_eq!(rt; found, wanted, "row {row}");
+}
