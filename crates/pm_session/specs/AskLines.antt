@@ -7,7 +7,7 @@ use Rattle.pm_lines.specs.Bytes.{bytes_before}
 use Rattle.pm_lines.specs.Lines.{without_return}
 use Rattle.pm_text.specs.EventLines.{cell, order_rest, volts_rest, check_rest, learn_rest, clear_rest, finish_rest}
 use Rattle.pm_text.specs.Kinds.{frame_bytes}
-use Rattle.pm_text.specs.Readers.{◌>>=◌, Field, gives, line_as, one_of, or_fault}
+use Rattle.pm_text.specs.Readers.{◌>>=◌, Field, gives, line_as, named, one_of, or_fault}
 use Rattle.pm_text.specs.declared.form.Form.TheVariants.{Second}
 use Rattle.pm_text.specs.declared.scenario.fault.ScenarioFault.{ScenarioFault}
 use Rattle.pm_text.specs.declared.scenario.fault.ScenarioFault.TheVariants as fault
@@ -34,6 +34,11 @@ asking read = do
   event ← read
   asked_as event
 
+-- what a reader reads, where there is one; else X1
+abbrev pub or_syntax : Option (Field Ask) → Field Ask
+or_syntax (Some read) left = read left
+or_syntax None left = Err (fault.Syntax left.line)
+
 -- the bytes that came back, at most 16 of them
 abbrev pub as_answer : List ℕ → Option (List ℕ)
 as_answer bytes = if nat_le (length bytes) 16 then Some bytes else None
@@ -57,6 +62,19 @@ state_rest = do
   named ← cell Second
   gives (State named)
 
+-- the lines that ask for no job
+abbrev pub no_jobs : List (List ℕ × Field Ask)
+no_jobs =
+    (codes "got", got_rest) ∷
+    (codes "sending", gives Sending) ∷
+    (codes "restart", gives Restart) ∷
+    (codes "state", state_rest) ∷
+    (codes "seen", gives Seen) ∷ []
+
+-- the words that follow this first one, where that asks for no job
+abbrev pub no_job_rest : List ℕ → Field Ask
+no_job_rest name = or_syntax (named no_jobs name)
+
 -- a line: its first word, and the words that follow it
 unfoldable pub ask_line : Field Ask
 ask_line = one_of (
@@ -68,11 +86,7 @@ ask_line = one_of (
     (codes "store", asking (gives event.Store)) ∷
     (codes "restore", asking (gives event.Restore)) ∷
     (codes "finished", asking finish_rest) ∷
-    (codes "got", got_rest) ∷
-    (codes "sending", gives Sending) ∷
-    (codes "restart", gives Restart) ∷
-    (codes "state", state_rest) ∷
-    (codes "seen", gives Seen) ∷ [])
+    no_jobs)
 
 -- the most bytes that a line may have before its line feed
 abbrev pub max_line : ℕ

@@ -3,7 +3,8 @@ ghost use Rattle.std.specs.Prelude.{◌≡◌, ◌≤◌, length, option_map};
 ghost use Rattle.pm_text.specs.EventLines.{check_rest, clear_rest, finish_rest, learn_rest, order_rest, volts_rest};
 ghost use Rattle.pm_text.specs.Readers.{Reads, line_as};
 ghost use Rattle.pm_text.specs.declared.form.Form.TheVariants.{Second};
-ghost use Rattle.pm_session.specs.AskLines.{ask_line, ask_of, asked_as, asking, got_rest, state_rest};
+ghost use Rattle.pm_session.specs.AskLines.{ask_line, ask_of, asked_as, asking, got_rest};
+ghost use Rattle.pm_session.specs.AskLines.{no_job_rest, state_rest};
 
 use crate::ask::Ask;
 use crate::refusal::Refusal;
@@ -73,7 +74,16 @@ fn read_words(fields: &mut Fields<'_>) -> Result<Ask, ScenarioFault>
         asked(Event::Restore, fields)
     } else if name == b"finished".as_slice() {
         finished(fields)
-    } else if name == b"got".as_slice() {
+    } else {
+        read_no_job(name, fields)
+    }
+}
+
+// The words that follow the first one, where that asks for no job.
+fn read_no_job(name: &[u8], fields: &mut Fields<'_>) -> Result<Ask, ScenarioFault>
+    ensures { Reads result fields.new (no_job_rest name.now fields.old) }
+{
+    if name == b"got".as_slice() {
         got(fields)
     } else if name == b"sending".as_slice() {
         Ok(Ask::Sending)

@@ -23,6 +23,7 @@ pub(super) fn pmb_command<'a>(alloc: Global) -> Result<Command<'a>, AllocError>
         "pmb hear < FRAMES",
         helps::HEAR,
     );
+    let with_hear = top_command(alloc).subcommand(hearing)?;
     let replaying = text_command(
         alloc,
         (
@@ -32,16 +33,15 @@ pub(super) fn pmb_command<'a>(alloc: Global) -> Result<Command<'a>, AllocError>
         "pmb replay < SCENARIO",
         helps::REPLAY,
     );
+    let with_replay = with_hear.subcommand(replaying)?;
     let decoding = text_command(
         alloc,
         ("decode", "Tells what the packets of a bus trace say"),
         "pmb decode < TRACE",
         helps::DECODE,
     );
-    let numbers = number_command(alloc)?;
-    let with_hear = top_command(alloc).subcommand(hearing)?;
-    let with_replay = with_hear.subcommand(replaying)?;
     let with_decode = with_replay.subcommand(decoding)?;
+    let numbers = number_command(alloc)?;
     with_decode.subcommand(numbers)
 }
 
