@@ -118,3 +118,9 @@ ends_above (negsuc n) h = absurd (omega (arith, ints))
 -- A value at the word that the code took is that at the word that is meant.
 pub value_at_end : {v : Ratio} {u : ℕ} (m b r : ℤ) (e w : ℕ) → v ≡ direct_value m b r u → u ≡ w → e ≡ w → v ≡ direct_value m b r e
 value_at_end m b r e w h is_u is_e = h ∙ ap (direct_value m b r) (is_u ∙ sym is_e)
+
+-- A fraction of the numbers that are meant; p and q are what the code passed.
+pub ratio_at : {p q : ℤ} {v : Ratio} (n : ℤ) (d : ℕ) → v ≡ record { num = p; den = unsigned_abs q } → p ≡ n → q ≡ pos d
+    → v ≡ record { num = n; den = d }
+ratio_at {q = q} n d e f g = e ∙ ap (λ (z : ℤ). let r : Ratio = record { num = z; den = unsigned_abs q } in r) f
+    ∙ ap (λ (z : ℤ). let r : Ratio = record { num = n; den = unsigned_abs z } in r) g

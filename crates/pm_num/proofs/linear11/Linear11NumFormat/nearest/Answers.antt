@@ -49,3 +49,18 @@ returns-clause-inside c = (
       (c.in_ok-in_range.ensures.inside.0 refl),
   λ _. refl,
 )
+
+pub settled-requires-clause-room : goal.settled-requires-clause-room
+settled-requires-clause-room c =
+    let between = between_along c.least.result _ c.greatest.result _ c.args.x c.least.ensures c.greatest.ensures
+    (c.in_ok-in_range.ensures.inside.0 refl) in
+    λ e. grind (arith, ints)
+
+pub settled-requires-clause-bounded : goal.settled-requires-clause-bounded
+settled-requires-clause-bounded c = c.place_for-place.ensures.bounded
+
+pub mantissa_at-mantissa-requires : goal.mantissa_at-mantissa-requires
+mantissa_at-mantissa-requires c = c.place_for-place.ensures.bounded
+
+pub preferred-requires-clause-large : goal.preferred-requires-clause-large
+preferred-requires-clause-large c = c.settled.ensures.large
