@@ -1,6 +1,6 @@
 -- How a run ends, by what its calls did.
 use Rattle.std.proofs.Common.{◌≡◌, ◌≢◌, ◌∙◌, ◌++◌, ◌<◌, ◌≤◌, ◌↔◌, ◌⊎◌, ℕ, Bool, true, false, List, [], length, Option, Some, Result, Ok}
-use Rattle.std.proofs.Common.{Err, IsTrue, IsFalse, OnOk, OnErr, is_err, refl, sym, ap, subst, inl, inr, append-nil, codes, arith}
+use Rattle.std.proofs.Common.{Err, IsTrue, IsFalse, OnOk, OnErr, is_err, refl, sym, subst, inl, inr, append-nil, codes, arith}
 use Rattle.std.specs.Io.KnownBytes.{Appends, Consumes, Keeps}
 use Rattle.std.proofs.KnownBytes.{Appends-kept}
 use Rattle.clap.specs.declared.error.kind.ErrorKind.{ErrorKind}
@@ -24,7 +24,6 @@ use Rattle.pm_tool.specs.NumberText.{IsCommandLineFault, IsNumberText, IsOfNumbe
 use Rattle.pm_tool.specs.declared.numbers.fault.NumberFault.{NumberFault}
 use Rattle.pm_tool.specs.declared.numbers.fault.NumberFault.TheVariants.{OneOf, Format, Word, Micro, Num, Text as OfText}
 use Rattle.pm_tool.specs.declared.numbers.question.Question.{Question}
-use Rattle.pm_tool.specs.Script.{printed_text}
 use Rattle.pm_world.specs.declared.stop.SetupFault.{SetupFault}
 use Rattle.pm_trace.specs.Counts.{counts_of}
 use Rattle.pm_trace.specs.Decoding.{said as said_of}
