@@ -92,7 +92,7 @@ other false word text is else = refl
 other true word text is else =
     let same : before_first is_space text ≡ word = (bytes_eq-Decides (before_first is_space text) word).0 is in
     absurd (else (drop (position_or_len is_space text) text)
-      (sym (take-append-drop (position_or_len is_space text) text) ∙ ap (λ bytes. bytes ++ drop (position_or_len is_space text) text) same))
+    (sym (take-append-drop (position_or_len is_space text) text) ∙ ap (λ bytes. bytes ++ drop (position_or_len is_space text) text) same))
 
 -- the line doesn't begin with the word
 pub word-is_other : (word text : List ℕ) → has_space_first text ≡ false → ((rest : List ℕ) → text ≢ word ++ rest)
@@ -101,7 +101,7 @@ word-is_other word [] first else = rw words-nil refl
 word-is_other word (byte ∷ text) first else =
     let begins = before-passed byte text first in
     rw (words-first (byte ∷ text) byte (before_first is_space text) begins)
-      (ap (λ bytes. bytes_eq bytes word) (sym begins) ∙ other _ word (byte ∷ text) refl else)
+    (ap (λ bytes. bytes_eq bytes word) (sym begins) ∙ other _ word (byte ∷ text) refl else)
 
 -- the first word of what has bytes and begins with none that is a space, and what follows its space
 pub word-first : (text word rest left : List ℕ) → has_space_first text ≡ false → eqb (length text) 0 ≡ false
@@ -115,7 +115,7 @@ word-first (byte ∷ text) word rest left first some before after same =
 pub word-behind : (text word : List ℕ) (found : Option (Bor (List ℕ))) → is_one_word word ≡ true
     → (rest : List ℕ) → text ≡ word ++ rest
     → MatchOption found (before_first is_space rest ≢ [])
-      (λ left. (before_first is_space rest ≡ []) × (left.now ≡ after_first is_space rest))
+    (λ left. (before_first is_space rest ≡ []) × (left.now ≡ after_first is_space rest))
     → MatchOption found (is_next word (words_of text) ≡ false) (λ left. words_of text ≡ word ∷ words_of left.now)
 word-behind text word None one rest is more =
     ap (λ bytes. is_next word (words_of bytes)) is ∙ word-is_longer word rest one more
