@@ -1,5 +1,6 @@
 -- The word at a line's front: which it is, and what the line's words are behind it.
-use Rattle.std.proofs.Common.{◌≡◌, ◌≢◌, ◌≤◌, ℕ, suc, ◌+◌, ◌-◌, get_or, ◌&&◌, arith, eqb, Bool, true, false, List, [], ◌∷◌, ◌++◌, length, Option, Some, None, Bor, MatchOption, refl, sym, ap, ◌∙◌, not, take, drop}
+use Rattle.std.proofs.Common.{◌≡◌, ◌≢◌, ◌≤◌, ℕ, suc, ◌+◌, ◌-◌, get_or, ◌&&◌, arith, eqb, Bool, true, false, List}
+use Rattle.std.proofs.Common.{[], ◌∷◌, ◌++◌, length, Option, Some, None, Bor, MatchOption, refl, sym, ap, ◌∙◌, not, take, drop}
 use Rattle.std.specs.Str.{bytes_eq}
 use Rattle.std.specs.List.{before_first, after_first, list_all, position_or_len}
 use Rattle.std.proofs.lemmas.List.{append-nil, take-append-drop, take_rest}
@@ -104,12 +105,12 @@ word-is_other word (byte ∷ text) first else =
     (ap (λ bytes. bytes_eq bytes word) (sym begins) ∙ other _ word (byte ∷ text) refl else)
 
 -- the first word of what has bytes and begins with none that is a space, and what follows its space
-pub word-first : (text word rest left : List ℕ) → has_space_first text ≡ false → eqb (length text) 0 ≡ false
-    → word ≡ before_first is_space text → rest ≡ after_first is_space text → words_of left ≡ words_of rest
-    → words_of text ≡ word ∷ words_of left
-word-first [] word rest left first some before after same = absurd (cc)
-word-first (byte ∷ text) word rest left first some before after same =
-    words-after (byte ∷ text) word rest before after (rw (before, before-passed byte text first) (grind (arith, nat_tests))) ∙ ap (λ words. word ∷ words) (sym same)
+pub word-first : (text word rest : List ℕ) → has_space_first text ≡ false → eqb (length text) 0 ≡ false
+    → word ≡ before_first is_space text → rest ≡ after_first is_space text → words_of text ≡ word ∷ words_of rest
+word-first [] word rest first some before after = absurd (cc)
+word-first (byte ∷ text) word rest first some before after =
+    let begins = before-passed byte text first in
+    words-after (byte ∷ text) word rest before after (rw (before, begins) (grind (arith, nat_tests)))
 
 -- what a search for a word at the front gives, and then for the space or the end behind it
 pub word-behind : (text word : List ℕ) (found : Option (Bor (List ℕ))) → is_one_word word ≡ true

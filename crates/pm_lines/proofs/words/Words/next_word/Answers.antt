@@ -1,4 +1,4 @@
-use Rattle.std.proofs.Common.{◌∙◌, ap, sym}
+use Rattle.std.proofs.Common.{◌∙◌, ◌∷◌, ap, sym}
 use Rattle.pm_lines.specs.Lines.{WordsLeft}
 use Rattle.pm_lines.proofs.LineLemmas.{words-end}
 use Rattle.pm_lines.proofs.WordLemmas.{word-first}
@@ -15,5 +15,6 @@ returns-then-is_empty-clause-end c =
 pub returns-clause-words : goal.returns-clause-words
 returns-clause-words c =
     ap (λ (w : WordsLeft). w.words) (sym c.self.view_is)
-    ∙ word-first c.self.inside.rest.now _ _ _ c.self.invariant (sym c.is_empty.ensures ∙ c.if-is_empty.false)
-    c.cut_at_space.ensures.before c.cut_at_space.ensures.after c.without_spaces-self-inside.ensures.words
+    ∙ word-first c.self.inside.rest.now _ _ c.self.invariant (sym c.is_empty.ensures ∙ c.if-is_empty.false)
+    c.cut_at_space.ensures.before c.cut_at_space.ensures.after
+    ∙ ap (λ words. c.cut_at_space.result.0.now ∷ words) (sym c.without_spaces-self-inside.ensures.words)
