@@ -17,7 +17,7 @@ pub(crate) enum Engine {
 }
 
 /// Each engine, its worked text, what it writes of that, and whether it ends well.
-pub(crate) static WORKED: [(Engine, &str, &str, bool); 3] = [
+pub(crate) const WORKED: [(Engine, &str, &str, bool); 3] = [
     (Engine::Replay, SCENARIO, REPORT, true),
     (Engine::Decode, TRACE, LINES, false),
     (Engine::Hear, FRAME, TAKEN, true),

@@ -43,7 +43,7 @@ fn an_engine_reads_to_the_end_and_no_further(rt: HostRuntime) {
         (4096, [2, 2, 2]),
     ];
     for (piece, wanted) in rows {
-        for ((engine, input, _, _), calls) in WORKED.iter().copied().zip(wanted) {
+        for ((engine, input, _, _), calls) in WORKED.into_iter().zip(wanted) {
             let (made, _) = calls_made(rt.alloc(), engine, input, piece);
             assert_eq!(rt; made, calls, "{engine:?} {piece}");
         }
@@ -59,7 +59,7 @@ fn a_failed_read_ends_an_engine_at_once(rt: HostRuntime) {
         ErrorKind::UnexpectedEof,
         ErrorKind::Other,
     ];
-    for &(engine, input, text, _) in &WORKED {
+    for (engine, input, text, _) in WORKED {
         for piece in PIECES {
             let (calls, _) = calls_made(alloc, engine, input, piece);
             for fails_at in 1..=calls {
@@ -96,7 +96,7 @@ fn a_failed_read_ends_an_engine_at_once(rt: HostRuntime) {
 #[test]
 fn a_failed_write_ends_an_engine_at_once(rt: HostRuntime) {
     let alloc = rt.alloc();
-    for &(engine, input, text, _) in &WORKED {
+    for (engine, input, text, _) in WORKED {
         for piece in PIECES {
             let (_, calls) = calls_made(alloc, engine, input, piece);
             for fails_at in 1..=calls {
@@ -127,7 +127,7 @@ fn a_failed_write_ends_an_engine_at_once(rt: HostRuntime) {
 
 #[test]
 fn a_text_may_be_cut_anywhere(rt: HostRuntime) {
-    for &(engine, input, text, is_well) in &WORKED {
+    for (engine, input, text, is_well) in WORKED {
         for piece in PIECES {
             let (end, written) = engine.text_of(rt.alloc(), in_pieces(input.as_bytes(), piece));
             assert_eq!(rt; end, Ok(is_well), "{engine:?} {piece}");

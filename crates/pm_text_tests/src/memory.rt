@@ -31,7 +31,7 @@ fn expect_text(rt: &(impl Abort + AllocGlobal), engine: Engine, input: &str, tex
 
 #[test]
 fn an_engine_without_memory_writes_nothing_else(rt: HostRuntime) {
-    for &(engine, input, text, _) in &WORKED {
+    for (engine, input, text, _) in WORKED {
         expect_text(&rt, engine, input, text);
     }
     for (scenario, report) in REPORTS {

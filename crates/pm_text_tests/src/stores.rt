@@ -27,7 +27,7 @@ const START: &str =
 // last lines.
 type Row = (&'static str, &'static str, [&'static str; 2], &'static str);
 
-static ROWS: [Row; 9] = [
+const ROWS: [Row; 9] = [
     (
         "store\ndeliver whole\nfinish ack\nrestart device\n",
         "ran 8\n",
@@ -99,7 +99,7 @@ fn is_told(told: &str, first: &str, [held, said]: [&str; 2], last: &str) -> bool
 
 #[test]
 fn stored_words_come_back(rt: HostRuntime) -> Result<(), Fail> {
-    for &(events, first, output, last) in &ROWS {
+    for (events, first, output, last) in ROWS {
         let text = text_with(rt.alloc(), "00", events)?;
         let (end, written) = Engine::Replay.text_of(rt.alloc(), in_pieces(text.as_bytes(), 4096));
         assert_eq!(rt; end, Ok(!first.starts_with("stopped")), "{events}");
@@ -110,7 +110,7 @@ fn stored_words_come_back(rt: HostRuntime) -> Result<(), Fail> {
 }
 
 // WRITE_PROTECT at the start, events after the order, what WRITE_PROTECT then is and what the host says of it.
-static PROTECTED: [(&str, &str, &str); 4] = [
+const PROTECTED: [(&str, &str, &str); 4] = [
     // It isn't stored: a restore leaves it, and a restart gives its start word.
     (
         "20",
@@ -137,7 +137,7 @@ static PROTECTED: [(&str, &str, &str); 4] = [
 
 #[test]
 fn write_protect_is_not_stored(rt: HostRuntime) -> Result<(), Fail> {
-    for &(protect, events, first) in &PROTECTED {
+    for (protect, events, first) in PROTECTED {
         let text = text_with(rt.alloc(), protect, events)?;
         let (end, written) = Engine::Replay.text_of(rt.alloc(), in_pieces(text.as_bytes(), 4096));
         assert_eq!(rt; end, Ok(true), "{events}");
@@ -147,7 +147,7 @@ fn write_protect_is_not_stored(rt: HostRuntime) -> Result<(), Fail> {
 }
 
 // Texts of `hear` and of `decode`, and what is written.
-static HEARD: [(&str, &str, &str); 6] = [
+const HEARD: [(&str, &str, &str); 6] = [
     (
         "B0 10 20 5D\nB0 16 2D\n",
         "taken\nrefused K5 Protected\n",
@@ -184,7 +184,7 @@ static HEARD: [(&str, &str, &str); 6] = [
 
 #[test]
 fn hear_stores_and_restores(rt: HostRuntime) -> Result<(), Fail> {
-    for &(text, answers, word) in &HEARD {
+    for (text, answers, word) in HEARD {
         let (end, written) = Engine::Hear.text_of(rt.alloc(), in_pieces(text.as_bytes(), 4096));
         assert_eq!(rt; end, Ok(true), "{text}");
         let wanted = format!(in rt.alloc();

@@ -115,7 +115,7 @@ fn a_possible_byte_has_two_digits(rt: HostRuntime) -> Result<(), Fail> {
 }
 
 // An event of VOUT_MIN in version 2, and lines of the report.
-static ORDERED: [(&str, &str, &str, &str); 4] = [
+const ORDERED: [(&str, &str, &str, &str); 4] = [
     (
         "order 0 VOUT_MIN 2000",
         "output 0 on commanded 8192/4096 2000000 uV\n",
@@ -145,7 +145,7 @@ static ORDERED: [(&str, &str, &str, &str); 4] = [
 
 #[test]
 fn version_2_orders_vout_min(rt: HostRuntime) -> Result<(), Fail> {
-    for &(event, first, second, third) in &ORDERED {
+    for (event, first, second, third) in ORDERED {
         let events = format!(in rt.alloc();
             "{event}\ndeliver whole\nfinish ack\nexchange whole whole\n"
         )?;
@@ -162,7 +162,7 @@ fn version_2_orders_vout_min(rt: HostRuntime) -> Result<(), Fail> {
 
 // Frames that the converter hears from its base configuration, where VOUT_MIN is 0000h, and the lines before
 // the outputs'.
-static HEARD: [(&str, &str); 3] = [
+const HEARD: [(&str, &str); 3] = [
     (
         "B0 05 04 00 2B 00 20 B5\nB0 7A /\nB0 79 /\nB0 2B /\n",
         "taken\nanswer B1 08 1A\nanswer B1 01 80 48\nanswer B1 00 20 E4\n",
@@ -180,7 +180,7 @@ static HEARD: [(&str, &str); 3] = [
 #[test]
 fn hear_takes_vout_min_and_shows_what_it_cuts(rt: HostRuntime) -> Result<(), Fail> {
     let outputs = "output 0 VOUT_COMMAND 1000\noutput 1 VOUT_COMMAND 1000\n";
-    for &(text, answers) in &HEARD {
+    for (text, answers) in HEARD {
         let (end, written) = Engine::Hear.text_of(rt.alloc(), in_pieces(text.as_bytes(), 4096));
         assert_eq!(rt; end, Ok(true), "{text}");
         let wanted = format!(in rt.alloc(); "{answers}{outputs}")?;
@@ -190,7 +190,7 @@ fn hear_takes_vout_min_and_shows_what_it_cuts(rt: HostRuntime) -> Result<(), Fai
 }
 
 // The place of a line, counted from 0, a line that is faulty there, and the fault.
-static FAULTY: [(usize, &str, TextFault); 10] = [
+const FAULTY: [(usize, &str, TextFault); 10] = [
     (0, "scenario 3", TextFault::Syntax(1)),
     (0, "scenario 02", TextFault::Syntax(1)),
     (0, "scenario 2 2", TextFault::Syntax(1)),
@@ -222,7 +222,7 @@ static FAULTY: [(usize, &str, TextFault); 10] = [
 
 #[test]
 fn a_line_of_version_2_is_faulty_so(rt: HostRuntime) -> Result<(), Fail> {
-    for &(place, line, fault) in &FAULTY {
+    for (place, line, fault) in FAULTY {
         let text = text_with(rt.alloc(), place, line, "")?;
         let found = read_scenario(rt.alloc(), text.as_bytes()).err();
         assert_eq!(rt; found, Some(fault), "{line}");
@@ -247,7 +247,7 @@ fn no_event_of_version_1_names_vout_min(rt: HostRuntime) -> Result<(), Fail> {
 }
 
 // VOUT_MODE and m of a text of version 1, and VOUT_MIN then.
-static LEAST: [(&str, &str, u16); 8] = [
+const LEAST: [(&str, &str, u16); 8] = [
     ("14", "1", 0x0000),
     ("14", "-1", 0x0000),
     ("00", "-1", 0x0000),
@@ -261,7 +261,7 @@ static LEAST: [(&str, &str, u16); 8] = [
 #[test]
 fn version_1_has_the_least_vout_min(rt: HostRuntime) -> Result<(), Fail> {
     let alloc = rt.alloc();
-    for &(mode, m, wanted) in &LEAST {
+    for (mode, m, wanted) in LEAST {
         let text = format!(in alloc;
             "scenario 1\naddress 58\npasses 2\nprotect 00\ncoefficients {m} 5 3\noutput {mode} 80 1000 4000 1100 0F00\nbegin\n"
         )?;

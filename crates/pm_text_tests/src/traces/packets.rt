@@ -7,7 +7,7 @@ use std::process::Abort;
 use std::test::Fail;
 
 /// A line of each code in each layout, what it says, and the code that is counted for it.
-static ACCEPTED: [(&str, &str, &str); 61] = [
+const ACCEPTED: [(&str, &str, &str); 61] = [
     ("B0 03 46", "58 CLEAR_FAULTS send", "CLEAR_FAULTS"),
     ("B0 00 01 ED", "58 PAGE write 01", "PAGE"),
     ("B0 01 94 1A", "58 OPERATION write 94", "OPERATION"),
@@ -232,7 +232,7 @@ static ACCEPTED: [(&str, &str, &str); 61] = [
 ];
 
 /// A line of each fault at each of its places, and what it says.
-static FAULTY: [(&str, &str); 71] = [
+const FAULTY: [(&str, &str); 71] = [
     ("/", "-- write F1 NotOurs"),
     ("/ B1", "-- write F1 NotOurs"),
     ("B1 00", "-- write F1 NotOurs"),
@@ -319,7 +319,7 @@ static FAULTY: [(&str, &str); 71] = [
 ];
 
 /// Lines that are no packet, and what they say.
-static BAD: [(&str, &str, TextFault); 12] = [
+const BAD: [(&str, &str, TextFault); 12] = [
     ("B0 // B1", "X1 Syntax", TextFault::Syntax(1)),
     ("B0 / B1 / B2", "X1 Syntax", TextFault::Syntax(1)),
     ("B0 / B1 / B", "X2 BadHex", TextFault::BadHex(1)),
@@ -361,7 +361,7 @@ fn expect_said(
 
 #[test]
 fn each_line_says_its_packet(rt: HostRuntime) -> Result<(), Fail> {
-    for &(line, said, code) in &ACCEPTED {
+    for (line, said, code) in ACCEPTED {
         let counts = format!(in rt.alloc(); "count {code} 1\nlines 1 accepted 1 faults 0 bad 0")?;
         expect_said(&rt, line, said, counts.as_str())?;
     }
@@ -370,7 +370,7 @@ fn each_line_says_its_packet(rt: HostRuntime) -> Result<(), Fail> {
 
 #[test]
 fn each_line_says_its_fault(rt: HostRuntime) -> Result<(), Fail> {
-    for &(line, said) in &FAULTY {
+    for (line, said) in FAULTY {
         expect_said(&rt, line, said, "lines 1 accepted 0 faults 1 bad 0")?;
     }
     Ok(())
@@ -395,7 +395,7 @@ fn is_bad(
 
 #[test]
 fn each_bad_line_says_why(rt: HostRuntime) -> Result<(), Fail> {
-    for &(line, said, fault) in &BAD {
+    for (line, said, fault) in BAD {
         is_bad(&rt, line, said, fault)?;
     }
     Ok(())
