@@ -1,10 +1,12 @@
 mod calls;
+mod checks;
 
 use self::calls::{
     PACKET, check, clear, finished, format, got, host, learn, microvolts, nearest, new, order,
     order_micro, possible, read_request, read_write, restart, restart_seen, restore, sending,
     shown, standing, store, written,
 };
+use self::checks::{equal, is_true};
 use crate::desk::{
     Desk, OutputWords, Reply, pm_desk_commanded, pm_desk_hear, pm_desk_size, pm_desk_word,
 };
@@ -36,96 +38,125 @@ const DESK: Desk = Desk {
 
 #[test]
 fn sizes_are_those_of_the_header(rt: HostRuntime) {
-    assert_eq!(rt; (pm_host_size(), pm_desk_size()), (1926, 122));
-    assert_eq!(rt; pm_host_version(), 1);
+    equal(&rt, &(pm_host_size(), pm_desk_size()), &(1926, 122), &1);
+    equal(&rt, &pm_host_version(), &1, &2);
 }
 
 #[test]
 fn an_order_is_taken_though_its_acknowledgement_was_lost(rt: HostRuntime) {
     let mut image = host(2);
-    assert_eq!(rt; order(&mut image, 0, 0x21, 0x34CD), 0);
+    equal(&rt, &order(&mut image, 0, 0x21, 0x34CD), &0, &1);
     let write = [0xB0, 0x05, 0x04, 0x00, 0x21, 0xCD, 0x34, 0x5A];
-    assert_eq!(rt; shown(&image, &write), (1, 8, 0, true));
-    assert_eq!(rt; got(&mut image, &[]), (0xE2, 0));
-    assert_eq!(rt; finished(&mut image, 0), (0, 0));
-    assert_eq!(rt;
-        shown(&image, &[0xB0, 0x06, 0x02, 0x00, 0x21]),
-        (2, 5, 5, true)
+    equal(&rt, &shown(&image, &write), &(1, 8, 0, true), &2);
+    equal(&rt, &got(&mut image, &[]), &(0xE2, 0), &3);
+    equal(&rt, &finished(&mut image, 0), &(0, 0), &4);
+    equal(
+        &rt,
+        &shown(&image, &[0xB0, 0x06, 0x02, 0x00, 0x21]),
+        &(2, 5, 5, true),
+        &5,
     );
-    assert_eq!(rt; finished(&mut image, 1), (0xE2, 0));
-    assert_eq!(rt; got(&mut image, &[0xB1, 0x02, 0xCD, 0x34, 0xB9]), (1, 0));
-    assert_eq!(rt; shown(&image, &[]), (0, 0, 0, true));
-    assert_eq!(rt; standing(&image, 0, 0x21), (0, 1, 0x34CD));
-    assert_eq!(rt; possible(&image, 0, 0x21), (0, 1, 0x34CD));
+    equal(&rt, &finished(&mut image, 1), &(0xE2, 0), &6);
+    equal(
+        &rt,
+        &got(&mut image, &[0xB1, 0x02, 0xCD, 0x34, 0xB9]),
+        &(1, 0),
+        &7,
+    );
+    equal(&rt, &shown(&image, &[]), &(0, 0, 0, true), &8);
+    equal(&rt, &standing(&image, 0, 0x21), &(0, 1, 0x34CD), &9);
+    equal(&rt, &possible(&image, 0, 0x21), &(0, 1, 0x34CD), &10);
 }
 
 #[test]
 fn an_end_has_its_number(rt: HostRuntime) {
     let mut image = host(1);
-    assert_eq!(rt; order(&mut image, 0, 0x21, 0x1234), 0);
-    assert_eq!(rt; finished(&mut image, 1), (0, 0));
-    assert_eq!(rt;
-        got(&mut image, &[0xB1, 0x02, 0xCD, 0x34, 0xB9]),
-        (2, 0x34CD)
+    equal(&rt, &order(&mut image, 0, 0x21, 0x1234), &0, &1);
+    equal(&rt, &finished(&mut image, 1), &(0, 0), &2);
+    equal(
+        &rt,
+        &got(&mut image, &[0xB1, 0x02, 0xCD, 0x34, 0xB9]),
+        &(2, 0x34CD),
+        &3,
     );
-    assert_eq!(rt; check(&mut image, 0, 0x21), 0);
-    assert_eq!(rt; got(&mut image, &[]), (3, 0));
-    assert_eq!(rt; clear(&mut image, 1), 0);
-    assert_eq!(rt; finished(&mut image, 1), (1, 0));
-    assert_eq!(rt; learn(&mut image, 0), 0);
-    assert_eq!(rt; got(&mut image, &[0xB1, 0x01, 0x14, 0x4E]), (4, 0));
-    assert_eq!(rt; format(&image, 0), (0, 1, -12));
-    assert_eq!(rt; order_micro(&mut image, 0, 0x21, 3_300_000), 0);
+    equal(&rt, &check(&mut image, 0, 0x21), &0, &4);
+    equal(&rt, &got(&mut image, &[]), &(3, 0), &5);
+    equal(&rt, &clear(&mut image, 1), &0, &6);
+    equal(&rt, &finished(&mut image, 1), &(1, 0), &7);
+    equal(&rt, &learn(&mut image, 0), &0, &8);
+    equal(
+        &rt,
+        &got(&mut image, &[0xB1, 0x01, 0x14, 0x4E]),
+        &(4, 0),
+        &9,
+    );
+    equal(&rt, &format(&image, 0), &(0, 1, -12), &10);
+    equal(&rt, &order_micro(&mut image, 0, 0x21, 3_300_000), &0, &11);
     let write = [0xB0, 0x05, 0x04, 0x00, 0x21, 0xCD, 0x34, 0x5A];
-    assert_eq!(rt; shown(&image, &write), (1, 8, 0, true));
-    assert_eq!(rt; restart(&mut image), 0);
-    assert_eq!(rt; shown(&image, &[]), (0, 0, 0, true));
-    assert_eq!(rt; order_micro(&mut image, 0, 0x21, 3_300_000), 7);
+    equal(&rt, &shown(&image, &write), &(1, 8, 0, true), &12);
+    equal(&rt, &restart(&mut image), &0, &13);
+    equal(&rt, &shown(&image, &[]), &(0, 0, 0, true), &14);
+    equal(&rt, &order_micro(&mut image, 0, 0x21, 3_300_000), &7, &15);
 }
 
 #[test]
 fn a_restore_leaves_no_word_of_an_output_confirmed(rt: HostRuntime) {
     let mut image = host(2);
-    assert_eq!(rt; check(&mut image, 0, 0x21), 0);
-    assert_eq!(rt; got(&mut image, &[0xB1, 0x02, 0xCD, 0x34, 0xB9]), (1, 0));
-    assert_eq!(rt; check(&mut image, 0, 0x10), 0);
-    assert_eq!(rt; got(&mut image, &[0xB1, 0x40, 0xA7]), (1, 0));
-    assert_eq!(rt; store(&mut image), 0);
-    assert_eq!(rt; shown(&image, &[0xB0, 0x15, 0x24]), (1, 3, 0, true));
-    assert_eq!(rt; finished(&mut image, 1), (1, 0));
-    assert_eq!(rt; standing(&image, 0, 0x21), (0, 1, 0x34CD));
-    assert_eq!(rt; restore(&mut image), 0);
-    assert_eq!(rt; store(&mut image), 3);
-    assert_eq!(rt; shown(&image, &[0xB0, 0x16, 0x2D]), (1, 3, 0, true));
-    assert_eq!(rt; standing(&image, 0, 0x21).1, 0);
-    assert_eq!(rt; possible(&image, 0, 0x21).1, 0);
-    assert_eq!(rt; standing(&image, 0, 0x10), (0, 1, 0x40));
-    assert_eq!(rt; finished(&mut image, 0), (0, 0));
-    assert_eq!(rt; finished(&mut image, 0), (3, 0));
+    equal(&rt, &check(&mut image, 0, 0x21), &0, &1);
+    equal(
+        &rt,
+        &got(&mut image, &[0xB1, 0x02, 0xCD, 0x34, 0xB9]),
+        &(1, 0),
+        &2,
+    );
+    equal(&rt, &check(&mut image, 0, 0x10), &0, &3);
+    equal(&rt, &got(&mut image, &[0xB1, 0x40, 0xA7]), &(1, 0), &4);
+    equal(&rt, &store(&mut image), &0, &5);
+    equal(
+        &rt,
+        &shown(&image, &[0xB0, 0x15, 0x24]),
+        &(1, 3, 0, true),
+        &6,
+    );
+    equal(&rt, &finished(&mut image, 1), &(1, 0), &7);
+    equal(&rt, &standing(&image, 0, 0x21), &(0, 1, 0x34CD), &8);
+    equal(&rt, &restore(&mut image), &0, &9);
+    equal(&rt, &store(&mut image), &3, &10);
+    equal(
+        &rt,
+        &shown(&image, &[0xB0, 0x16, 0x2D]),
+        &(1, 3, 0, true),
+        &11,
+    );
+    equal(&rt, &standing(&image, 0, 0x21).1, &0, &12);
+    equal(&rt, &possible(&image, 0, 0x21).1, &0, &13);
+    equal(&rt, &standing(&image, 0, 0x10), &(0, 1, 0x40), &14);
+    equal(&rt, &finished(&mut image, 0), &(0, 0), &15);
+    equal(&rt, &finished(&mut image, 0), &(3, 0), &16);
 }
 
 #[test]
 fn a_refusal_has_its_number(rt: HostRuntime) {
     let mut image = Image::blank();
-    assert_eq!(rt; new(&mut image, 0x07, 2, 2), 0xE3);
-    assert_eq!(rt; new(&mut image, 0x78, 2, 2), 0xE3);
-    assert_eq!(rt; new(&mut image, 0x58, 0, 2), 1);
-    assert_eq!(rt; new(&mut image, 0x58, 9, 2), 1);
-    assert_eq!(rt; new(&mut image, 0x58, 8, 0), 2);
-    assert_eq!(rt; new(&mut image, 0x58, 8, 16), 2);
-    assert!(rt; is_refused(&mut image));
+    equal(&rt, &new(&mut image, 0x07, 2, 2), &0xE3, &1);
+    equal(&rt, &new(&mut image, 0x78, 2, 2), &0xE3, &2);
+    equal(&rt, &new(&mut image, 0x58, 0, 2), &1, &3);
+    equal(&rt, &new(&mut image, 0x58, 9, 2), &1, &4);
+    equal(&rt, &new(&mut image, 0x58, 8, 0), &2, &5);
+    equal(&rt, &new(&mut image, 0x58, 8, 16), &2, &6);
+    is_true(&rt, is_refused(&mut image), &7);
     let mut image = host(15);
-    assert_eq!(rt; order(&mut image, 0, 0x20, 0), 0xE1);
-    assert_eq!(rt; order(&mut image, 2, 0x21, 0), 4);
-    assert_eq!(rt; order(&mut image, 0, 0x01, 0xB0), 5);
-    assert_eq!(rt; order_micro(&mut image, 0, 0x01, 0), 5);
-    assert_eq!(rt; order_micro(&mut image, 0, 0x21, 0), 7);
-    assert_eq!(rt; standing(&image, 2, 0x21), (4, 7, 7));
-    assert_eq!(rt; possible(&image, 0, 0x22), (0xE1, 7, 7));
-    assert_eq!(rt; format(&image, 2), (4, 7, 7));
-    assert_eq!(rt; restart_seen(&image), 0);
-    assert_eq!(rt; learn(&mut image, 1), 0);
-    assert_eq!(rt; check(&mut image, 0, 0x21), 3);
+    equal(&rt, &order(&mut image, 0, 0x20, 0), &0xE1, &8);
+    equal(&rt, &order(&mut image, 2, 0x21, 0), &4, &9);
+    equal(&rt, &order(&mut image, 0, 0x01, 0xB0), &5, &10);
+    equal(&rt, &order_micro(&mut image, 0, 0x01, 0), &5, &11);
+    equal(&rt, &order_micro(&mut image, 0, 0x21, 0), &7, &12);
+    equal(&rt, &standing(&image, 2, 0x21), &(4, 7, 7), &13);
+    equal(&rt, &possible(&image, 0, 0x22), &(0xE1, 7, 7), &14);
+    equal(&rt, &format(&image, 2), &(4, 7, 7), &15);
+    equal(&rt, &restart_seen(&image), &0, &16);
+    equal(&rt, &learn(&mut image, 1), &0, &17);
+    equal(&rt, &check(&mut image, 0, 0x21), &3, &18);
 }
 
 // Whether each call of a host says that the memory holds none.
@@ -177,29 +208,31 @@ fn changed(change: u8) -> Image {
 
 #[test]
 fn memory_that_holds_no_host_is_refused(rt: HostRuntime) {
-    assert!(rt; is_refused(&mut Image::blank()), "zeros");
+    is_true(&rt, is_refused(&mut Image::blank()), &"zeros");
     for change in 0..11 {
-        assert!(rt; is_refused(&mut changed(change)), "change {change}");
+        is_true(&rt, is_refused(&mut changed(change)), &change);
     }
-    assert!(rt; !is_refused(&mut changed(11)), "no change");
+    is_true(&rt, !is_refused(&mut changed(11)), &"no change");
 }
 
 #[test]
 fn packets_stand_alone(rt: HostRuntime) {
     let bytes = [0xB0, 0x05, 0x04, 0x00, 0x21, 0xCD, 0x34, 0x5A];
-    assert_eq!(rt; pm_pec(&bytes[..7]), 0x5A);
+    equal(&rt, &pm_pec(&bytes[..7]), &0x5A, &1);
     let (number, packet) = read_write(0x58, &bytes);
-    assert_eq!(rt;
-        (number, packet.kind, packet.page, packet.code),
-        (0, 4, 0, 0x21)
+    equal(
+        &rt,
+        &(number, packet.kind, packet.page, packet.code),
+        &(0, 4, 0, 0x21),
+        &2,
     );
-    assert_eq!(rt; (packet.count, packet.word), (2, 0x34CD));
-    assert_eq!(rt; written(0x58, &packet, &bytes), (0, 8, true));
-    assert_eq!(rt; written(0x07, &packet, &bytes), (0xE3, 9, false));
-    assert_eq!(rt; written(0x58, &PACKET, &bytes), (0xE4, 9, false));
-    assert_eq!(rt; read_write(0x59, &bytes).0, 0x31);
-    assert_eq!(rt; read_write(0x58, &bytes[..7]).0, 0x32);
-    assert_eq!(rt; read_request(0x58, &bytes[..5]), 0x37);
+    equal(&rt, &(packet.count, packet.word), &(2, 0x34CD), &3);
+    equal(&rt, &written(0x58, &packet, &bytes), &(0, 8, true), &4);
+    equal(&rt, &written(0x07, &packet, &bytes), &(0xE3, 9, false), &5);
+    equal(&rt, &written(0x58, &PACKET, &bytes), &(0xE4, 9, false), &6);
+    equal(&rt, &read_write(0x59, &bytes).0, &0x31, &7);
+    equal(&rt, &read_write(0x58, &bytes[..7]).0, &0x32, &8);
+    equal(&rt, &read_request(0x58, &bytes[..5]), &0x37, &9);
 }
 
 #[test]
@@ -210,19 +243,24 @@ fn numbers_stand_alone(rt: HostRuntime) {
         m: 0,
         b: 0,
     };
-    assert_eq!(rt; microvolts(&format, 0x34CD), (0, 3_300_048));
-    assert_eq!(rt; nearest(&format, 3_300_000), (0, 0x34CD));
-    assert_eq!(rt; nearest(&format, -1), (0x13, 7));
-    assert_eq!(rt; nearest(&format, 16_000_000), (0x14, 7));
-    assert_eq!(rt; nearest(&format, 1_000_000_000_000_001), (0x15, 7));
+    equal(&rt, &microvolts(&format, 0x34CD), &(0, 3_300_048), &1);
+    equal(&rt, &nearest(&format, 3_300_000), &(0, 0x34CD), &2);
+    equal(&rt, &nearest(&format, -1), &(0x13, 7), &3);
+    equal(&rt, &nearest(&format, 16_000_000), &(0x14, 7), &4);
+    equal(
+        &rt,
+        &nearest(&format, 1_000_000_000_000_001),
+        &(0x15, 7),
+        &5,
+    );
     let none = FormatImage {
         kind: 2,
         exponent: 0,
         m: 0,
         b: 0,
     };
-    assert_eq!(rt; nearest(&none, 1), (7, 7));
-    assert_eq!(rt; microvolts(&none, 1), (7, 7));
+    equal(&rt, &nearest(&none, 1), &(7, 7), &6);
+    equal(&rt, &microvolts(&none, 1), &(7, 7), &7);
 }
 
 // What the desk says of a frame, and its answer.
@@ -287,11 +325,11 @@ fn no_confirmed_word_is_wrong_under_faults(rt: HostRuntime) {
         drawn = drawn.wrapping_mul(1_664_525).wrapping_add(1_013_904_223);
         let end = lived(&mut image, &mut desk, 0x1000 + job % 7, drawn >> 14);
         done = done.saturating_add(u16::from(end == 1));
-        assert!(rt; end != 0xE0, "job {job}");
-        assert!(rt; is_right(&image, &desk), "job {job}");
+        is_true(&rt, end != 0xE0, &job);
+        is_true(&rt, is_right(&image, &desk), &job);
     }
-    assert!(rt; done > 200, "{done} done");
+    is_true(&rt, done > 200, &done);
     let mut microvolts = 0;
-    assert_eq!(rt; pm_desk_commanded(&desk, 0, &mut microvolts), 0);
-    assert_eq!(rt; microvolts, 1_000_000);
+    equal(&rt, &pm_desk_commanded(&desk, 0, &mut microvolts), &0, &1);
+    equal(&rt, &microvolts, &1_000_000, &2);
 }

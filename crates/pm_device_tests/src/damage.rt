@@ -1,7 +1,8 @@
 //! Frames that are cut, changed in one bit, or very long.
 
+use crate::checks::{equal, is_true};
 use crate::fixtures::{CELLS, OUTPUT};
-use crate::frames::{base, frame, hear, made, word};
+use crate::frames::{base, frame, hear, made, page_of, status_cml, word};
 use pm_device::{Config, ConfigFault, Converter, DeviceFault, Ending, Heard, OutputStart};
 use pm_frame::{Frame, FrameFault, Message, fits, read_answer, read_request, read_write};
 use pm_table::Coefficients;
@@ -61,7 +62,7 @@ fn changed(rt: &impl Abort, whole: &Frame, place: usize, bits: u8) -> Frame {
     let mut other = Frame::new();
     for (at, byte) in whole.as_slice().iter().enumerate() {
         let byte = if at == place { *byte ^ bits } else { *byte };
-        assert!(rt; other.try_push(byte).is_ok());
+        is_true(rt, other.try_push(byte).is_ok(), &1);
     }
     other
 }
@@ -76,7 +77,7 @@ fn mixed() -> Result<Converter, ConfigFault> {
 // Every cell and PAGE are as at the start.
 fn is_at_start(converter: &Converter) -> Result<bool, ConfigFault> {
     let started = mixed()?;
-    let mut same = converter.page() == 0;
+    let mut same = page_of(converter) == 0;
     for cell in CELLS {
         same = same && word(converter, cell) == word(&started, cell);
     }
@@ -98,18 +99,18 @@ fn is_answer(sent: &Message, bytes: &[u8]) -> bool {
 
 // A write that is cut or changed in one bit is none, and takes no effect.
 fn is_no_write(rt: &impl Abort, bytes: &[u8]) -> Result<(), ConfigFault> {
-    assert!(rt; !is_write(bytes), "{bytes:?}");
+    is_true(rt, !is_write(bytes), &bytes);
     let mut converter = mixed()?;
     let heard = hear(&mut converter, bytes, Ending::Stop);
     let unheard = matches!(heard, Heard::Refused(_) | Heard::Silent);
-    assert!(rt; unheard, "{heard:?} for {bytes:?}");
-    assert!(rt; is_at_start(&converter)?, "{bytes:?}");
+    is_true(rt, unheard, &(heard, bytes));
+    is_true(rt, is_at_start(&converter)?, &bytes);
     Ok(())
 }
 
 // A write is none where it is cut at this place, or the byte there is changed in one bit.
 fn is_betrayed_write(rt: &impl Abort, whole: &Frame, place: usize) -> Result<(), ConfigFault> {
-    assert!(rt; place < whole.as_slice().len());
+    is_true(rt, place < whole.as_slice().len(), &1);
     is_no_write(rt, &whole.as_slice()[..place])?;
     for bits in BITS {
         is_no_write(rt, changed(rt, whole, place, bits).as_slice())?;
@@ -121,7 +122,7 @@ fn is_betrayed_write(rt: &impl Abort, whole: &Frame, place: usize) -> Result<(),
 fn a_damaged_write_is_none(rt: HostRuntime) -> Result<(), Fail> {
     for &text in &WRITES {
         let whole = frame(&rt, text);
-        assert!(rt; is_write(whole.as_slice()), "{text}");
+        is_true(&rt, is_write(whole.as_slice()), &text);
         for place in 0..whole.as_slice().len() {
             is_betrayed_write(&rt, &whole, place)?;
         }
@@ -137,9 +138,9 @@ fn is_another_request(rt: &impl Abort, sent: &Message, bytes: &[u8]) -> Result<(
         let heard = hear(&mut converter, bytes, ending);
         if let Heard::Answer(answer) = &heard {
             let is_good = is_answer(sent, answer.as_slice());
-            assert!(rt; !is_good, "{answer:?} for {bytes:?}");
+            is_true(rt, !is_good, &(answer, bytes));
         }
-        assert!(rt; is_at_start(&converter)?, "{bytes:?}");
+        is_true(rt, is_at_start(&converter)?, &bytes);
     }
     Ok(())
 }
@@ -151,9 +152,9 @@ fn is_betrayed_request(
     whole: &Frame,
     place: usize,
 ) -> Result<(), ConfigFault> {
-    assert!(rt; place < whole.as_slice().len());
+    is_true(rt, place < whole.as_slice().len(), &1);
     let cut = &whole.as_slice()[..place];
-    assert!(rt; !is_request(cut), "{cut:?}");
+    is_true(rt, !is_request(cut), &cut);
     is_another_request(rt, sent, cut)?;
     for bits in BITS {
         let other = changed(rt, whole, place, bits);
@@ -166,10 +167,11 @@ fn is_betrayed_request(
 fn a_damaged_request_gets_no_good_answer(rt: HostRuntime) -> Result<(), Fail> {
     for &(message, request, answer) in &READS {
         let whole = frame(&rt, request);
-        assert!(rt; is_request(whole.as_slice()), "{request}");
-        assert!(rt;
+        is_true(&rt, is_request(whole.as_slice()), &request);
+        is_true(
+            &rt,
             is_answer(&message, frame(&rt, answer).as_slice()),
-            "{answer}"
+            &answer,
         );
         for place in 0..whole.as_slice().len() {
             is_betrayed_request(&rt, &message, &whole, place)?;
@@ -180,12 +182,12 @@ fn a_damaged_request_gets_no_good_answer(rt: HostRuntime) -> Result<(), Fail> {
 
 // An answer is none where it is cut at this place, or the byte there is changed in one bit.
 fn is_betrayed_answer(rt: &impl Abort, sent: &Message, whole: &Frame, place: usize) {
-    assert!(rt; place < whole.as_slice().len());
+    is_true(rt, place < whole.as_slice().len(), &1);
     let cut = &whole.as_slice()[..place];
-    assert!(rt; !is_answer(sent, cut), "{cut:?}");
+    is_true(rt, !is_answer(sent, cut), &cut);
     for bits in BITS {
         let other = changed(rt, whole, place, bits);
-        assert!(rt; !is_answer(sent, other.as_slice()), "{other:?}");
+        is_true(rt, !is_answer(sent, other.as_slice()), &other);
     }
 }
 
@@ -198,7 +200,7 @@ fn is_answered(rt: &impl Abort, request: &str, whole: &Frame) -> Result<(), Conf
         Ending::Restart,
     );
     let same = matches!(&heard, Heard::Answer(got) if got.as_slice() == whole.as_slice());
-    assert!(rt; same, "{heard:?} for {request}");
+    is_true(rt, same, &(heard, request));
     Ok(())
 }
 
@@ -207,7 +209,7 @@ fn a_damaged_answer_is_none(rt: HostRuntime) -> Result<(), Fail> {
     for &(message, request, answer) in &READS {
         let whole = frame(&rt, answer);
         is_answered(&rt, request, &whole)?;
-        assert!(rt; is_answer(&message, whole.as_slice()), "{answer}");
+        is_true(&rt, is_answer(&message, whole.as_slice()), &answer);
         for place in 0..whole.as_slice().len() {
             is_betrayed_answer(&rt, &message, &whole, place);
         }
@@ -221,8 +223,8 @@ fn is_faulty(rt: &impl Abort, bytes: &[u8], fault: FrameFault) -> Result<(), Con
     let heard = hear(&mut converter, bytes, Ending::Stop);
     let wanted = DeviceFault::Frame(fault);
     let is_refused = matches!(&heard, Heard::Refused(found) if *found == wanted);
-    assert!(rt; is_refused, "{heard:?} for {fault:?}");
-    assert_eq!(rt; converter.status_cml(), 0x02);
+    is_true(rt, is_refused, &(heard, fault));
+    equal(rt, &status_cml(&converter), &0x02, &1);
     Ok(())
 }
 
@@ -242,8 +244,8 @@ fn very_long_frames_are_refused_or_not_heard(rt: HostRuntime) -> Result<(), Fail
     let million = vec![in rt.alloc(); 0x05; 1_000_000]?;
     for ending in [Ending::Stop, Ending::Restart] {
         let heard = hear(&mut converter, &million, ending);
-        assert!(rt; matches!(&heard, Heard::Silent), "{heard:?}");
+        is_true(&rt, matches!(&heard, Heard::Silent), &heard);
     }
-    assert_eq!(rt; converter.status_cml(), 0x00);
+    equal(&rt, &status_cml(&converter), &0x00, &1);
     Ok(())
 }

@@ -12,8 +12,9 @@ mod status_bits;
 mod store;
 mod writes;
 
+use crate::checks::{equal, is_true};
 use crate::fixtures::{BASE, CELLS, FIRST, OUTPUT, SECOND};
-use crate::frames::{base, frame, hear, made, word};
+use crate::frames::{base, frame, hear, made, page_of, reply, restart, status_cml, word};
 use pm_device::{Config, ConfigFault, Converter, DeviceFault, Ending, Heard, OutputStart};
 use pm_frame::{Frame, FrameFault};
 use pm_table::Coefficients;
@@ -66,10 +67,10 @@ fn hears(
     ending: Ending,
     wanted: Wanted<'_>,
 ) {
-    let told = converter.reply(bytes, ending);
-    assert!(rt; is_wanted(&told, wanted), "{told:?} for {bytes:?}");
+    let told = reply(converter, bytes, ending);
+    is_true(rt, is_wanted(&told, wanted), &(told, bytes));
     let heard = hear(converter, bytes, ending);
-    assert!(rt; is_wanted(&heard, wanted), "{heard:?} for {bytes:?}");
+    is_true(rt, is_wanted(&heard, wanted), &(heard, bytes));
 }
 
 // Hears a row: a write, "B0 21 CD 34 38", a request with its answer, "B0 79 / B1 01 80 48", or either
@@ -100,7 +101,12 @@ fn status(rt: &impl Abort, converter: &Converter, output: u8) -> (u16, u8) {
         return (0, 0);
     }
     let whole = converter.status_word(output);
-    assert_eq!(rt; u16::from(converter.status_byte(output)), whole % 256);
+    equal(
+        rt,
+        &u16::from(converter.status_byte(output)),
+        &(whole % 256),
+        &1,
+    );
     (whole, converter.status_vout(output))
 }
 
@@ -136,7 +142,7 @@ fn holds(rt: &impl Abort, converter: &Converter, words: [u16; 2]) -> Result<(), 
             SECOND => second,
             _ => word(&started, cell),
         };
-        assert_eq!(rt; word(converter, cell), wanted, "{cell:?}");
+        equal(rt, &word(converter, cell), &wanted, &cell);
     }
     Ok(())
 }
@@ -146,8 +152,8 @@ fn act(rt: &impl Abort, rows: &[&str], words: [u16; 2], page: u8) -> Result<(), 
     let mut converter = base()?;
     hears_rows(rt, &mut converter, rows);
     holds(rt, &converter, words)?;
-    assert_eq!(rt; converter.page(), page, "{rows:?}");
-    converter.restart();
+    equal(rt, &page_of(&converter), &page, &rows);
+    restart(&mut converter);
     hears_rows(rt, &mut converter, &["B0 21 CD 34 38"]);
     holds(rt, &converter, [0x34CD, 0x1000])
 }
@@ -169,8 +175,8 @@ fn is_short(rt: &impl Abort, cut: &[u8]) -> Result<(), ConfigFault> {
         _ => (Wanted::Refused(short), 0x02),
     };
     hears(rt, &mut converter, cut, Ending::Stop, wanted);
-    assert_eq!(rt; word(&converter, FIRST), 0x1000);
-    assert_eq!(rt; converter.status_cml(), cml, "cut to {cut:?}");
+    equal(rt, &word(&converter, FIRST), &0x1000, &1);
+    equal(rt, &status_cml(&converter), &cml, &cut);
     Ok(())
 }
 
@@ -202,8 +208,8 @@ fn write_protect_is_always_written(rt: HostRuntime) -> Result<(), Fail> {
         &mut converter,
         &["B0 10 40 7A", "B0 05 03 01 01 A8 B1"],
     );
-    assert_eq!(rt; commanded(&converter, 0), (13517, 4096));
-    assert_eq!(rt; commanded(&converter, 1), (4352, 4096));
+    equal(&rt, &commanded(&converter, 0), &(13517, 4096), &1);
+    equal(&rt, &commanded(&converter, 1), &(4352, 4096), &2);
     Ok(())
 }
 
@@ -217,10 +223,20 @@ fn shows(rt: &impl Abort, operation: u16) -> Result<[(u16, u8); 2], ConfigFault>
 #[test]
 fn an_output_that_is_off_shows_it(rt: HostRuntime) -> Result<(), Fail> {
     for operation in [0x80, 0xA8, 0x94] {
-        assert_eq!(rt; shows(&rt, operation)?, [(0x0000, 0x00), (0x0000, 0x00)]);
+        equal(
+            &rt,
+            &shows(&rt, operation)?,
+            &[(0x0000, 0x00), (0x0000, 0x00)],
+            &1,
+        );
     }
     for operation in [0x00, 0x28, 0x40] {
-        assert_eq!(rt; shows(&rt, operation)?, [(0x0000, 0x00), (0x0840, 0x00)]);
+        equal(
+            &rt,
+            &shows(&rt, operation)?,
+            &[(0x0000, 0x00), (0x0840, 0x00)],
+            &2,
+        );
     }
     Ok(())
 }
@@ -244,8 +260,8 @@ fn falling() -> Result<Converter, ConfigFault> {
 #[test]
 fn the_voltage_is_cut_by_value(rt: HostRuntime) -> Result<(), Fail> {
     let mut converter = falling()?;
-    assert_eq!(rt; commanded(&converter, 0), (2000, 1000));
-    assert_eq!(rt; status(&rt, &converter, 0), (0x8001, 0x08));
+    equal(&rt, &commanded(&converter, 0), &(2000, 1000), &1);
+    equal(&rt, &status(&rt, &converter, 0), &(0x8001, 0x08), &2);
     // m is FFFFh, b 0005h, and R 03h.
     let coefficients = "B0 30 02 21 00 / B1 05 FF FF 05 00 03 21";
     hears_rows(&rt, &mut converter, &[coefficients]);

@@ -5,10 +5,11 @@
 
 ghost use Rattle.std.specs.Prelude.{◌≡◌, ◌<◌};
 
+use crate::checks::is_true;
 use crate::fixtures::BASE;
 use pm_device::{Config, ConfigFault, Converter, Ending, Heard};
 use pm_frame::Frame;
-use pm_table::Cell;
+use pm_table::{Cell, Code};
 use std::process::Abort;
 
 /// The bytes that a text spells, as "B0 21 CD 34 38": at most 16.
@@ -16,11 +17,8 @@ pub(crate) fn frame(rt: &impl Abort, text: &str) -> Frame {
     let mut frame = Frame::new();
     for pair in text.split_whitespace() {
         let byte = u8::from_str_radix(pair, 16);
-        assert!(rt; byte.is_ok() && pair.len() == 2, "{pair:?} is a byte");
-        assert!(rt;
-            frame.try_push(byte.unwrap_or(0)).is_ok(),
-            "{text:?} is a frame"
-        );
+        is_true(rt, byte.is_ok() && pair.len() == 2, &pair);
+        is_true(rt, frame.try_push(byte.unwrap_or(0)).is_ok(), &text);
     }
     frame
 }
@@ -55,4 +53,29 @@ pub(crate) fn word(converter: &Converter, cell: Cell) -> u16 {
         Cell::Out(output, _) if output >= converter.count() => 0,
         _ => converter.word(cell),
     }
+}
+
+/// STATUS_CML.
+pub(crate) fn status_cml(converter: &Converter) -> u8 {
+    converter.status_cml()
+}
+
+/// What PAGE holds.
+pub(crate) fn page_of(converter: &Converter) -> u8 {
+    converter.page()
+}
+
+/// Restarts the converter.
+pub(crate) fn restart(converter: &mut Converter) {
+    converter.restart();
+}
+
+/// Whether a reading was set.
+pub(crate) fn set_reading(converter: &mut Converter, output: u8, code: u8, word: u16) -> bool {
+    converter.set_reading(output, Code(code), word)
+}
+
+/// What the converter would answer to bytes.
+pub(crate) fn reply(converter: &Converter, bytes: &[u8], ending: Ending) -> Heard {
+    converter.reply(bytes, ending)
 }

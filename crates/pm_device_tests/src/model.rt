@@ -2,6 +2,7 @@
 
 ghost use Rattle.std.specs.Prelude.{◌≡◌, ◌<◌};
 
+use crate::checks::{equal, is_true};
 use crate::fixtures::START;
 use pm_model::{Formats, Plain};
 use pm_num::{AnyFormat, Direct, NumFormat, Ulinear16};
@@ -27,13 +28,13 @@ fn base() -> Plain {
 
 fn with(rt: &impl Abort, cell: Cell, word: u16) -> Plain {
     let base = base();
-    assert!(rt; base.has(cell) && cell.accepts(word));
+    is_true(rt, base.has(cell) && cell.accepts(word), &1);
     base.with(cell, word)
 }
 
 fn has_word(rt: &impl Abort, plain: &Plain, cell: Cell, word: u16) {
-    assert!(rt; plain.has(cell));
-    assert_eq!(rt; plain.get(cell), word, "{cell:?}");
+    is_true(rt, plain.has(cell), &1);
+    equal(rt, &plain.get(cell), &word, &cell);
 }
 
 // A cell is set to a word, and each other has its start word.
@@ -51,7 +52,7 @@ fn is_set_alone(rt: &impl Abort, cell: Cell, word: u16) {
 
 #[test]
 fn each_cell_is_read_back_and_no_other_changes(rt: HostRuntime) {
-    assert!(rt; !base().has(Cell::Out(2, Reg::Operation)));
+    is_true(&rt, !base().has(Cell::Out(2, Reg::Operation)), &1);
     for (cell, before, after) in WORDS {
         has_word(&rt, &base(), cell, before);
         is_set_alone(&rt, cell, after);
@@ -176,7 +177,7 @@ static FALLING: [([u16; 6], (i128, i128, bool)); 6] = [
 ];
 
 fn does_command(rt: &impl Abort, format: AnyFormat, words: [u16; 6], wanted: (i128, i128, bool)) {
-    assert_eq!(rt; commands(format, words), wanted, "{words:?}");
+    equal(rt, &commands(format, words), &wanted, &words);
 }
 
 #[test]

@@ -1,11 +1,12 @@
 //! Lines and their answers, one after another at one host.
+use crate::checks::is_true;
 use pm_host::Host;
 use pm_session::{answer_line, text_of};
 use std::process::Abort;
 
 fn expect(rt: &impl Abort, host: &mut Host, line: &[u8], wanted: &str) {
     let reply = answer_line(host, line);
-    assert!(rt; text_of(&reply).as_slice() == wanted.as_bytes(), "{wanted}");
+    is_true(rt, text_of(&reply).as_slice() == wanted.as_bytes(), &wanted);
 }
 
 // An order whose first acknowledgement is lost and whose first answer doesn't come, beside what isn't

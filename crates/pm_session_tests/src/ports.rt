@@ -1,4 +1,5 @@
 //! In which order a port is used, and what is left where it fails.
+use crate::checks::{equal, is_true};
 use crate::fakes::{Drops, Log, Slip};
 use pm_host::Host;
 use pm_lines::{Sink, Source, TextFault};
@@ -31,7 +32,7 @@ fn letter_of(happening: Happening) -> (char, u8) {
 }
 
 fn expect_letter(rt: &impl Abort, happening: Happening, wanted: char, at: usize) {
-    assert_eq!(rt; letter_of(happening).0, wanted, "at {at}");
+    equal(rt, &letter_of(happening).0, &wanted, &at);
 }
 
 #[test]
@@ -42,10 +43,10 @@ fn an_answer_is_flushed_before_another_byte_is_read(rt: HostRuntime) {
         whole: true,
     };
     let result = converse(&mut host(&rt), &mut port);
-    assert_eq!(rt; result, Ok(()));
-    assert!(rt; port.whole);
+    equal(&rt, &result, &Ok(()), &1);
+    is_true(&rt, port.whole, &2);
     let wanted = "cccccwwwwwwwwfccccccce".chars().chain("wwwwwf".chars());
-    assert_eq!(rt; port.kept.len(), 28);
+    equal(&rt, &port.kept.len(), &28, &3);
     for ((at, happening), letter) in port.kept.iter().enumerate().zip(wanted) {
         expect_letter(&rt, *happening, letter, at);
     }
@@ -81,10 +82,11 @@ fn expect_talk(
     written: usize,
 ) {
     let (result, taken) = talked(rt, rt.alloc(), fails.0, fails.1);
-    assert_eq!(rt; result, wanted, "{} {}", fails.0, fails.1);
-    assert!(rt;
+    equal(rt, &result, &wanted, &(fails.0, fails.1));
+    is_true(
+        rt,
         ANSWERS.get(..written) == Some(taken.as_slice()),
-        "{written}"
+        &written,
     );
 }
 

@@ -1,6 +1,7 @@
 //! The statuses of the program and what it says, over streams.
 ghost use Rattle.std.specs.Prelude.{IsFalse};
 
+use crate::checks::{equal, is_true};
 use crate::fakes::{Drops, Slip};
 use pm_lines::{Sink, Source};
 use pm_session::{Streams, run};
@@ -43,9 +44,9 @@ fn ran(
 }
 
 fn expect_run(rt: &impl Abort, run: (u8, Vec<u8>, Vec<u8>), status: u8, written: &str, said: &str) {
-    assert_eq!(rt; run.0, status);
-    assert!(rt; run.1.as_slice() == written.as_bytes());
-    assert!(rt; run.2.as_slice() == said.as_bytes());
+    equal(rt, &run.0, &status, &1);
+    is_true(rt, run.1.as_slice() == written.as_bytes(), &2);
+    is_true(rt, run.2.as_slice() == said.as_bytes(), &3);
 }
 
 #[test]

@@ -1,6 +1,9 @@
 //! Each change within eight neighbouring bits of an order's frame.
 
-use crate::fixtures::{CELLS, FIRST, ORDER, WHOLE, after, base, base_converter, step, takes, word};
+use crate::checks::{equal, is_true};
+use crate::fixtures::{
+    CELLS, FIRST, ORDER, WHOLE, after, base, base_converter, device, step, takes, word,
+};
 use pm_device::{ConfigFault, Converter, Ending, Heard};
 use pm_frame::Frame;
 use pm_world::{Arrival, Event, World};
@@ -35,13 +38,13 @@ fn hear(converter: &mut Converter, bytes: &[u8]) -> Heard {
 // hears them too: no word changes.
 fn is_without_effect(rt: &impl Abort, world: &mut World, bytes: &[u8]) -> Result<(), Fail> {
     let delivered = step(world, &delivery(bytes)?);
-    assert!(rt; delivered.is_ok(), "{bytes:?} is a legal hearing");
-    assert!(rt; is_at_start(world.device())?, "{bytes:?} in a world");
+    is_true(rt, delivered.is_ok(), &bytes);
+    is_true(rt, is_at_start(device(world))?, &bytes);
     let mut converter = base_converter()?;
     let heard = hear(&mut converter, bytes);
     let unheard = matches!(heard, Heard::Refused(_) | Heard::Silent);
-    assert!(rt; unheard, "{heard:?} for {bytes:?}");
-    assert!(rt; is_at_start(&converter)?, "{bytes:?} alone");
+    is_true(rt, unheard, &(heard, bytes));
+    is_true(rt, is_at_start(&converter)?, &bytes);
     Ok(())
 }
 
@@ -56,8 +59,8 @@ fn short_bursts_change_no_word(rt: HostRuntime) -> Result<(), Fail> {
             tried = tried.saturating_add(1);
         }
     }
-    assert_eq!(rt; tried, 14_535);
+    equal(&rt, &tried, &14_535, &1);
     takes(&rt, &mut world, &[WHOLE]);
-    assert_eq!(rt; word(world.device(), FIRST), 0x34CD);
+    equal(&rt, &word(device(&world), FIRST), &0x34CD, &2);
     Ok(())
 }

@@ -1,8 +1,9 @@
 //! Why an event isn't taken, and which bytes are a legal hearing or a legal return.
 
+use crate::checks::{equal, is_true};
 use crate::fixtures::{
-    CELLS, CHECK, FIRST, ORDER, OUTPUT, after, arrival, back, base, begun, ran, sends, standing,
-    step, word,
+    CELLS, CHECK, FIRST, ORDER, OUTPUT, after, arrival, back, base, begun, device, last_end, ran,
+    sends, standing, status_cml, step, word,
 };
 use pm_device::{Config, ConfigFault, OutputStart};
 use pm_host::{HostFault, JobEnd, Standing};
@@ -70,7 +71,7 @@ static READING: [(Bus, Cause); 7] = [
 ];
 
 fn is_not_taken(rt: &impl Abort, world: &mut World, event: &Event, cause: Cause) {
-    assert_eq!(rt; step(world, event), Err(cause), "{event:?}");
+    equal(rt, &step(world, event), &Err(cause), &event);
 }
 
 // No event of the bus is taken, nor a further job where one is open; nothing changes.
@@ -87,9 +88,9 @@ fn stops(
     if !job.is_empty() {
         is_not_taken(rt, &mut world, &CHECK, S4_BUSY);
     }
-    assert!(rt; sends(rt, &world, sent));
-    assert_eq!(rt; world.last_end(), None);
-    assert_eq!(rt; world.device().status_cml(), 0x00);
+    is_true(rt, sends(rt, &world, sent), &1);
+    equal(rt, &last_end(&world), &None, &2);
+    equal(rt, &status_cml(&world), &0x00, &3);
     Ok(())
 }
 
@@ -130,7 +131,7 @@ fn holds(rt: &impl Abort, world: &World, held: u16) -> Result<(), SetupFault> {
     for cell in CELLS {
         let start = word(started.device(), cell);
         let wanted = if cell == FIRST { held } else { start };
-        assert_eq!(rt; word(world.device(), cell), wanted, "{cell:?}");
+        equal(rt, &word(device(world), cell), &wanted, &cell);
     }
     Ok(())
 }
@@ -147,9 +148,9 @@ fn arrives(
         Ok((held, cml)) => (None, held, cml),
         Err(cause) => (Some(cause), 0x1000, 0x00),
     };
-    assert_eq!(rt; taken.err(), cause, "{heard}");
-    assert_eq!(rt; world.device().status_cml(), cml, "{heard}");
-    assert_eq!(rt; standing(&world, FIRST), Some(Standing::Unknown));
+    equal(rt, &taken.err(), &cause, &heard);
+    equal(rt, &status_cml(&world), &cml, &heard);
+    equal(rt, &standing(&world, FIRST), &Some(Standing::Unknown), &1);
     holds(rt, &world, held)
 }
 
@@ -218,14 +219,14 @@ fn comes_back(rt: &impl Abort, heard: &str, came: &str, wanted: Outcome) -> Resu
         Ok((end, cml)) => (None, end, cml),
         Err(cause) => (Some(cause), None, 0x00),
     };
-    assert_eq!(rt; taken.err(), cause, "{heard}, {came}");
-    assert_eq!(rt; world.last_end(), end, "{heard}, {came}");
-    assert_eq!(rt; world.device().status_cml(), cml, "{heard}, {came}");
+    equal(rt, &taken.err(), &cause, &(heard, came));
+    equal(rt, &last_end(&world), &end, &(heard, came));
+    equal(rt, &status_cml(&world), &cml, &(heard, came));
     let stands = match end {
         Some(_) => Standing::Confirmed(0x1000),
         None => Standing::Unknown,
     };
-    assert_eq!(rt; standing(&world, FIRST), Some(stands), "{heard}, {came}");
+    equal(rt, &standing(&world, FIRST), &Some(stands), &(heard, came));
     Ok(())
 }
 
@@ -278,9 +279,9 @@ fn configured(row: Setup) -> (Config, Option<ConfigFault>) {
 
 // A world and a run of it have this fault, and no event is looked at.
 fn has_fault(rt: &impl Abort, config: Config, passes: u8, wanted: Option<SetupFault>) {
-    assert_eq!(rt; begun(config, passes).err(), wanted, "{passes} {config:?}");
+    equal(rt, &begun(config, passes).err(), &wanted, &(passes, config));
     let ran = ran(config, passes, &[CHECK, CHECK]).err();
-    assert_eq!(rt; ran, wanted, "{passes} {config:?}");
+    equal(rt, &ran, &wanted, &(passes, config));
 }
 
 // The converter's fault comes before that of the passes.

@@ -1,8 +1,9 @@
 //! What the host says of a cell after each event, and the word that the converter holds.
 
+use crate::checks::{equal, is_true};
 use crate::fixtures::{
     ACKED, CELLS, CHECK, FIRST, LOST, NOT_ACKED, ORDER, READ, READ_LOST, SECOND, WHOLE, base,
-    begun, may_hold, standing, step, takes, word,
+    begun, device, last_end, may_hold, restart_seen, standing, step, takes, word,
 };
 use pm_host::{JobEnd, Standing};
 use pm_table::Cell;
@@ -21,11 +22,11 @@ type Row = (Event, Standing, &'static [u16], u16, bool);
 
 fn follow_one(rt: &impl Abort, world: &mut World, at: usize, row: &Row) {
     let (event, stands, words, held, seen) = row;
-    assert_eq!(rt; step(world, event), Ok(()), "event {at}");
-    assert_eq!(rt; standing(world, FIRST), Some(*stands), "event {at}");
-    assert!(rt; may_hold(world, FIRST, words), "the words after event {at}");
-    assert_eq!(rt; word(world.device(), FIRST), *held, "event {at}");
-    assert_eq!(rt; world.host().restart_seen(), *seen, "event {at}");
+    equal(rt, &step(world, event), &Ok(()), &at);
+    equal(rt, &standing(world, FIRST), &Some(*stands), &at);
+    is_true(rt, may_hold(world, FIRST, words), &at);
+    equal(rt, &word(device(world), FIRST), held, &at);
+    equal(rt, &restart_seen(world), seen, &at);
 }
 
 fn follow(rt: &impl Abort, world: &mut World, rows: &[Row]) {
@@ -35,58 +36,64 @@ fn follow(rt: &impl Abort, world: &mut World, rows: &[Row]) {
 }
 
 // Both answers of an order are lost, and its second write.
-const ANSWERS_LOST: [Row; 9] = [
-    (CHECK, UNKNOWN, &[], 0x1000, false),
-    (READ, START, &[0x1000], 0x1000, false),
-    (ORDER, UNKNOWN, &[0x1000, 0x34CD], 0x1000, false),
-    (WHOLE, UNKNOWN, &[0x1000, 0x34CD], 0x34CD, false),
-    (NOT_ACKED, UNKNOWN, &[0x1000, 0x34CD], 0x34CD, false),
-    (READ_LOST, UNKNOWN, &[0x1000, 0x34CD], 0x34CD, false),
-    (LOST, UNKNOWN, &[0x1000, 0x34CD], 0x34CD, false),
-    (NOT_ACKED, UNKNOWN, &[0x1000, 0x34CD], 0x34CD, false),
-    (READ_LOST, UNKNOWN, &[0x1000, 0x34CD], 0x34CD, false),
-];
+fn answers_lost() -> [Row; 9] {
+    [
+        (CHECK, UNKNOWN, &[], 0x1000, false),
+        (READ, START, &[0x1000], 0x1000, false),
+        (ORDER, UNKNOWN, &[0x1000, 0x34CD], 0x1000, false),
+        (WHOLE, UNKNOWN, &[0x1000, 0x34CD], 0x34CD, false),
+        (NOT_ACKED, UNKNOWN, &[0x1000, 0x34CD], 0x34CD, false),
+        (READ_LOST, UNKNOWN, &[0x1000, 0x34CD], 0x34CD, false),
+        (LOST, UNKNOWN, &[0x1000, 0x34CD], 0x34CD, false),
+        (NOT_ACKED, UNKNOWN, &[0x1000, 0x34CD], 0x34CD, false),
+        (READ_LOST, UNKNOWN, &[0x1000, 0x34CD], 0x34CD, false),
+    ]
+}
 
 // A lost write is acknowledged; its answer has the old word, and a second pass goes through. Then the
 // converter restarts, which the next good answer shows.
-const FALSELY_ACKED: [Row; 12] = [
-    (CHECK, UNKNOWN, &[], 0x1000, false),
-    (READ, START, &[0x1000], 0x1000, false),
-    (ORDER, UNKNOWN, &[0x1000, 0x34CD], 0x1000, false),
-    (LOST, UNKNOWN, &[0x1000, 0x34CD], 0x1000, false),
-    (ACKED, UNKNOWN, &[0x1000, 0x34CD], 0x1000, false),
-    (READ, UNKNOWN, &[0x1000, 0x34CD], 0x1000, false),
-    (WHOLE, UNKNOWN, &[0x1000, 0x34CD], 0x34CD, false),
-    (ACKED, UNKNOWN, &[0x1000, 0x34CD], 0x34CD, false),
-    (READ, ORDERED, &[0x34CD], 0x34CD, false),
-    (Event::RestartDevice, ORDERED, &[0x34CD], 0x1000, false),
-    (CHECK, ORDERED, &[0x34CD], 0x1000, false),
-    (READ, START, &[0x1000], 0x1000, true),
-];
+fn falsely_acked() -> [Row; 12] {
+    [
+        (CHECK, UNKNOWN, &[], 0x1000, false),
+        (READ, START, &[0x1000], 0x1000, false),
+        (ORDER, UNKNOWN, &[0x1000, 0x34CD], 0x1000, false),
+        (LOST, UNKNOWN, &[0x1000, 0x34CD], 0x1000, false),
+        (ACKED, UNKNOWN, &[0x1000, 0x34CD], 0x1000, false),
+        (READ, UNKNOWN, &[0x1000, 0x34CD], 0x1000, false),
+        (WHOLE, UNKNOWN, &[0x1000, 0x34CD], 0x34CD, false),
+        (ACKED, UNKNOWN, &[0x1000, 0x34CD], 0x34CD, false),
+        (READ, ORDERED, &[0x34CD], 0x34CD, false),
+        (Event::RestartDevice, ORDERED, &[0x34CD], 0x1000, false),
+        (CHECK, ORDERED, &[0x34CD], 0x1000, false),
+        (READ, START, &[0x1000], 0x1000, true),
+    ]
+}
 
 // An order of another cell, and a check that nothing answers, change nothing; a host's restart drops
 // all.
-const AFTERWARDS: [Row; 8] = [
-    (Event::Order(SECOND, 0x2000), START, &[0x1000], 0x1000, true),
-    (WHOLE, START, &[0x1000], 0x1000, true),
-    (ACKED, START, &[0x1000], 0x1000, true),
-    (READ, START, &[0x1000], 0x1000, true),
-    (CHECK, START, &[0x1000], 0x1000, true),
-    (READ_LOST, START, &[0x1000], 0x1000, true),
-    (READ, START, &[0x1000], 0x1000, true),
-    (Event::RestartHost, UNKNOWN, &[], 0x1000, false),
-];
+fn afterwards() -> [Row; 8] {
+    [
+        (Event::Order(SECOND, 0x2000), START, &[0x1000], 0x1000, true),
+        (WHOLE, START, &[0x1000], 0x1000, true),
+        (ACKED, START, &[0x1000], 0x1000, true),
+        (READ, START, &[0x1000], 0x1000, true),
+        (CHECK, START, &[0x1000], 0x1000, true),
+        (READ_LOST, START, &[0x1000], 0x1000, true),
+        (READ, START, &[0x1000], 0x1000, true),
+        (Event::RestartHost, UNKNOWN, &[], 0x1000, false),
+    ]
+}
 
 fn is_told(rt: &impl Abort, world: &World, cell: Cell, words: &[u16]) {
-    assert!(rt; may_hold(world, cell, words), "{cell:?}");
+    is_true(rt, may_hold(world, cell, words), &cell);
 }
 
 #[test]
 fn the_host_says_what_it_can_know(rt: HostRuntime) -> Result<(), SetupFault> {
     let mut lost = begun(base(), 2)?;
-    follow(&rt, &mut lost, &ANSWERS_LOST);
+    follow(&rt, &mut lost, &answers_lost());
     let mut world = begun(base(), 2)?;
-    follow(&rt, &mut world, &FALSELY_ACKED);
+    follow(&rt, &mut world, &falsely_acked());
     for cell in CELLS {
         is_told(
             &rt,
@@ -95,7 +102,7 @@ fn the_host_says_what_it_can_know(rt: HostRuntime) -> Result<(), SetupFault> {
             if cell == FIRST { &[0x1000] } else { &[] },
         );
     }
-    follow(&rt, &mut world, &AFTERWARDS);
+    follow(&rt, &mut world, &afterwards());
     Ok(())
 }
 
@@ -114,7 +121,7 @@ const LAST_ANSWER_LOST: [Row; 7] = [
 fn an_order_differs_by_its_last_answer_alone(rt: HostRuntime) -> Result<(), SetupFault> {
     let mut world = begun(base(), 2)?;
     follow(&rt, &mut world, &LAST_ANSWER_LOST);
-    assert_eq!(rt; world.last_end(), Some(JobEnd::Unknown));
+    equal(&rt, &last_end(&world), &Some(JobEnd::Unknown), &1);
     Ok(())
 }
 
@@ -128,9 +135,9 @@ const OTHERS: [u16; 13] = [
 // may hold that word alone, each other any.
 fn are_confirmed(rt: &impl Abort, world: &World, seen_by: Cell) {
     for cell in CELLS {
-        let start = word(world.device(), cell);
+        let start = word(device(world), cell);
         let confirmed = Some(Standing::Confirmed(start));
-        assert_eq!(rt; standing(world, cell), confirmed, "{cell:?} by {seen_by:?}");
+        equal(rt, &standing(world, cell), &confirmed, &(cell, seen_by));
         let words = [start];
         is_told(rt, world, cell, if cell == seen_by { &words } else { &[] });
     }
@@ -139,7 +146,7 @@ fn are_confirmed(rt: &impl Abort, world: &World, seen_by: Cell) {
 // Nothing is said of any cell.
 fn are_unknown(rt: &impl Abort, world: &World) {
     for cell in CELLS {
-        assert_eq!(rt; standing(world, cell), Some(UNKNOWN), "{cell:?}");
+        equal(rt, &standing(world, cell), &Some(UNKNOWN), &cell);
         is_told(rt, world, cell, &[]);
     }
 }
@@ -152,14 +159,14 @@ fn confirmed(rt: &impl Abort, cell: Cell, other: u16) -> Result<World, SetupFaul
     }
     let order = Event::Order(cell, other);
     takes(rt, &mut world, &[order, WHOLE, ACKED, READ]);
-    assert!(rt; !world.host().restart_seen(), "{cell:?}");
+    is_true(rt, !restart_seen(&world), &cell);
     Ok(world)
 }
 
 // A restart is still seen after a job.
 fn is_seen_after(rt: &impl Abort, world: &mut World, events: &[Event]) {
     takes(rt, world, events);
-    assert!(rt; world.host().restart_seen(), "{events:?}");
+    is_true(rt, restart_seen(world), &events);
 }
 
 // A cell shows that the converter restarted.
@@ -172,7 +179,7 @@ fn shows(rt: &impl Abort, cell: Cell, other: u16) -> Result<(), SetupFault> {
     is_seen_after(rt, &mut world, &[Event::Learn(1), READ]);
     is_seen_after(rt, &mut world, &[CHECK, READ]);
     takes(rt, &mut world, &[Event::RestartHost]);
-    assert!(rt; !world.host().restart_seen(), "{cell:?}");
+    is_true(rt, !restart_seen(&world), &cell);
     are_unknown(rt, &world);
     Ok(())
 }
@@ -181,7 +188,7 @@ fn shows(rt: &impl Abort, cell: Cell, other: u16) -> Result<(), SetupFault> {
 // others stay confirmed, but may hold any word. No job but the host's own restart forgets what was seen.
 #[test]
 fn a_restart_that_is_seen_leaves_what_was_confirmed(rt: HostRuntime) -> Result<(), SetupFault> {
-    assert_eq!(rt; CELLS.len(), OTHERS.len());
+    equal(&rt, &CELLS.len(), &OTHERS.len(), &1);
     for (cell, other) in CELLS.into_iter().zip(OTHERS) {
         shows(&rt, cell, other)?;
     }

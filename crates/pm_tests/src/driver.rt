@@ -4,6 +4,7 @@
 ghost use Rattle.std.specs.Prelude.{◌≡◌, ◌≤◌, length};
 ghost use Rattle.pm_host.specs.Frames.{frames_left};
 
+use crate::checks::equal;
 use pm_host::{Host, HostFault, JobEnd, Standing, Step, Told, Turn};
 use pm_table::{Cell, Reg};
 
@@ -27,7 +28,7 @@ fn ordered() -> Result<Standing, HostFault> {
 
 #[test]
 fn the_example_of_the_root_runs(rt: HostRuntime) {
-    assert_eq!(rt; ordered(), Ok(Standing::Confirmed(0x34CD)));
+    equal(&rt, &ordered(), &Ok(Standing::Confirmed(0x34CD)), &1);
 }
 
 /// A bus of the caller's own.
@@ -111,18 +112,24 @@ fn carried_out(
 
 #[test]
 fn an_order_is_carried_out_over_a_bus_of_the_callers_own(rt: HostRuntime) {
-    assert_eq!(rt;
-        carried_out(&[&[0xB1, 0x02, 0xCD, 0x34, 0xB9]]),
-        Ok((Some(JobEnd::Done), Standing::Confirmed(0x34CD), 1))
+    equal(
+        &rt,
+        &carried_out(&[&[0xB1, 0x02, 0xCD, 0x34, 0xB9]]),
+        &Ok((Some(JobEnd::Done), Standing::Confirmed(0x34CD), 1)),
+        &1,
     );
     // The first answer was cut.
-    assert_eq!(rt;
-        carried_out(&[&[0xB1, 0x02, 0xCD], &[0xB1, 0x02, 0xCD, 0x34, 0xB9]]),
-        Ok((Some(JobEnd::Done), Standing::Confirmed(0x34CD), 2))
+    equal(
+        &rt,
+        &carried_out(&[&[0xB1, 0x02, 0xCD], &[0xB1, 0x02, 0xCD, 0x34, 0xB9]]),
+        &Ok((Some(JobEnd::Done), Standing::Confirmed(0x34CD), 2)),
+        &2,
     );
-    assert_eq!(rt;
-        carried_out(&[]),
-        Ok((Some(JobEnd::Unknown), Standing::Unknown, 2))
+    equal(
+        &rt,
+        &carried_out(&[]),
+        &Ok((Some(JobEnd::Unknown), Standing::Unknown, 2)),
+        &3,
     );
 }
 
@@ -134,8 +141,8 @@ fn an_idle_host_sends_nothing(rt: HostRuntime) {
         requests: 0,
     };
     match Host::new(0x58, 2, 2) {
-        Ok(mut host) => assert_eq!(rt; carry_out(&mut host, &mut bus), None),
+        Ok(mut host) => equal(&rt, &carry_out(&mut host, &mut bus), &None, &1),
         Err(fault) => panic!(rt; "{fault}"),
     }
-    assert_eq!(rt; (bus.packets, bus.requests), (0, 0));
+    equal(&rt, &(bus.packets, bus.requests), &(0, 0), &2);
 }

@@ -1,11 +1,14 @@
 //! The texts of errors, which no report and no trace uses.
 
+use crate::checks::equal;
 use pm_device::{ConfigFault, DeviceFault};
 use pm_frame::FrameFault;
 use pm_host::HostFault;
 use pm_num::NumFault;
 use pm_table::{Cell, Reg, TableFault};
 use pm_world::{Cause, SetupFault};
+use std::fmt::Display;
+use std::process::Abort;
 use std::test::Fail;
 
 static DEVICE: [(DeviceFault, &str); 10] = [
@@ -127,24 +130,26 @@ static SETUP: [(SetupFault, &str); 3] = [
     ),
 ];
 
-#[test]
-fn each_fault_has_its_text(rt: HostRuntime) -> Result<(), Fail> {
-    for (fault, text) in &DEVICE {
-        assert_eq!(rt; fault.to_string(rt.alloc())?.as_str(), *text);
-    }
-    for (fault, text) in &CONFIG {
-        assert_eq!(rt; fault.to_string(rt.alloc())?.as_str(), *text);
-    }
-    for (fault, text) in &HOST {
-        assert_eq!(rt; fault.to_string(rt.alloc())?.as_str(), *text);
-    }
-    // The one letter that no text shows: of a world the converter's fault comes first.
-    assert_eq!(rt; HostFault::OutputCount.words(), "H1 OutputCount");
-    for (cause, text) in &CAUSES {
-        assert_eq!(rt; cause.to_string(rt.alloc())?.as_str(), *text);
-    }
-    for (fault, text) in &SETUP {
-        assert_eq!(rt; fault.to_string(rt.alloc())?.as_str(), *text);
+// Each fault of a table is told by its text.
+fn are_told<T: Display>(rt: &(impl Abort + AllocGlobal), table: &[(T, &str)]) -> Result<(), Fail> {
+    for (fault, text) in table {
+        equal(rt, &fault.to_string(rt.alloc())?.as_str(), text, text);
     }
     Ok(())
+}
+
+#[test]
+fn each_fault_has_its_text(rt: HostRuntime) -> Result<(), Fail> {
+    are_told(&rt, &DEVICE)?;
+    are_told(&rt, &CONFIG)?;
+    are_told(&rt, &HOST)?;
+    are_told(&rt, &CAUSES)?;
+    are_told(&rt, &SETUP)
+}
+
+// The one letter that no text shows: of a world the converter's fault comes first.
+#[test]
+fn a_hosts_number_of_outputs_has_its_letter(rt: HostRuntime) {
+    let words = HostFault::OutputCount.words();
+    equal(&rt, &words, &"H1 OutputCount", &words);
 }

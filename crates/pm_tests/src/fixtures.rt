@@ -4,10 +4,11 @@
 
 ghost use Rattle.std.specs.Prelude.{◌≡◌, ◌<◌};
 
+use crate::checks::{equal, is_true};
 use pm_device::{Config, ConfigFault, Converter, Ending, Heard};
 pub(crate) use pm_device_tests::{BASE, CELLS, FIRST, OUTPUT, SECOND, START};
 use pm_frame::Frame;
-use pm_host::{Possible, Standing};
+use pm_host::{JobEnd, Possible, Standing};
 use pm_table::Cell;
 use pm_world::{Arrival, Back, Cause, Event, SetupFault, Stop, World};
 use std::process::Abort;
@@ -36,11 +37,8 @@ pub(crate) fn frame(rt: &impl Abort, text: &str) -> Frame {
     let mut frame = Frame::new();
     for pair in text.split_whitespace() {
         let byte = u8::from_str_radix(pair, 16);
-        assert!(rt; byte.is_ok() && pair.len() == 2, "{pair:?} is a byte");
-        assert!(rt;
-            frame.try_push(byte.unwrap_or(0)).is_ok(),
-            "{text:?} is a frame"
-        );
+        is_true(rt, byte.is_ok() && pair.len() == 2, &pair);
+        is_true(rt, frame.try_push(byte.unwrap_or(0)).is_ok(), &text);
     }
     frame
 }
@@ -65,7 +63,7 @@ pub(crate) fn arrival(rt: &impl Abort, text: &str) -> Arrival {
         return Arrival::Bytes(frame(rt, bytes), Ending::Stop);
     }
     let bytes = text.strip_prefix("restart: ");
-    assert!(rt; bytes.is_some(), "{text:?} is no arrival");
+    is_true(rt, bytes.is_some(), &text);
     Arrival::Bytes(frame(rt, bytes.unwrap_or("")), Ending::Restart)
 }
 
@@ -82,8 +80,27 @@ pub(crate) fn back(rt: &impl Abort, text: &str) -> Back {
 
 fn number(rt: &impl Abort, text: &str) -> u8 {
     let number = text.parse::<u8>();
-    assert!(rt; number.is_ok(), "{text:?} is a number");
+    is_true(rt, number.is_ok(), &text);
     number.unwrap_or(0)
+}
+
+/// A world's converter, and its STATUS_CML.
+pub(crate) fn device(world: &World) -> &Converter {
+    world.device()
+}
+
+pub(crate) fn status_cml(world: &World) -> u8 {
+    world.device().status_cml()
+}
+
+/// How the last job since the start of the host ended; nothing while it is open, and where there is none.
+pub(crate) fn last_end(world: &World) -> Option<JobEnd> {
+    world.last_end()
+}
+
+/// Whether the host saw a restart.
+pub(crate) fn restart_seen(world: &World) -> bool {
+    world.host().restart_seen()
 }
 
 /// What a world's converter answers to bytes.
@@ -113,7 +130,7 @@ pub(crate) fn step(world: &mut World, event: &Event) -> Result<(), Cause> {
 /// Lets events happen that are all taken.
 pub(crate) fn takes(rt: &impl Abort, world: &mut World, events: &[Event]) {
     for event in events {
-        assert_eq!(rt; step(world, event), Ok(()), "{event:?}");
+        equal(rt, &step(world, event), &Ok(()), &event);
     }
 }
 
@@ -139,7 +156,7 @@ pub(crate) fn after(
     events: &[Event],
 ) -> Result<World, SetupFault> {
     let (world, stop) = ran(config, passes, events)?;
-    assert_eq!(rt; stop, None);
+    equal(rt, &stop, &None, &1);
     Ok(world)
 }
 

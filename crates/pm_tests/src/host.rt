@@ -5,6 +5,7 @@ mod refusals;
 ghost use Rattle.std.specs.Prelude.{◌≡◌};
 ghost use Rattle.pm_table.specs.Cell.{IsCell};
 
+use crate::checks::{equal, is_true};
 use crate::fixtures::{FIRST, SECOND};
 use pm_frame::{Frame, Message, answer, fits, pec};
 use pm_host::{Host, HostFault, JobEnd, Possible, Standing, Step, Told, transcripts_are_followed};
@@ -138,80 +139,131 @@ fn answer_to(request: &Message, payload: &[u8]) -> Frame {
 fn an_order_is_done_by_a_good_answer_whatever_was_acknowledged(rt: HostRuntime) {
     for acked in [false, true] {
         let mut bench = Bench::new();
-        assert!(rt; bench.sends(&[]) && !bench.host.sending_reads());
-        assert_eq!(rt; bench.order(FIRST, 0x34CD), Ok(()));
-        assert!(rt; bench.sends(&[0xB0, 0x05, 0x04, 0x00, 0x21, 0xCD, 0x34, 0x5A]));
-        assert_eq!(rt; bench.finish(acked), NEXT);
-        assert_eq!(rt; bench.standing(FIRST), Standing::Unknown);
-        assert!(rt; bench.sends(&[0xB0, 0x06, 0x02, 0x00, 0x21]) && bench.host.sending_reads());
-        assert_eq!(rt; bench.got(&[0xB1, 0x02, 0xCD, 0x34, 0xB9]), DONE);
-        assert_eq!(rt; bench.standing(FIRST), Standing::Confirmed(0x34CD));
-        assert!(rt; bench.may_hold(FIRST, &[0x34CD]) && bench.may_hold(SECOND, &[]));
-        assert!(rt; bench.sends(&[]) && !bench.host.restart_seen());
+        is_true(&rt, bench.sends(&[]) && !bench.host.sending_reads(), &1);
+        equal(&rt, &bench.order(FIRST, 0x34CD), &Ok(()), &2);
+        is_true(
+            &rt,
+            bench.sends(&[0xB0, 0x05, 0x04, 0x00, 0x21, 0xCD, 0x34, 0x5A]),
+            &3,
+        );
+        equal(&rt, &bench.finish(acked), &NEXT, &4);
+        equal(&rt, &bench.standing(FIRST), &Standing::Unknown, &5);
+        is_true(
+            &rt,
+            bench.sends(&[0xB0, 0x06, 0x02, 0x00, 0x21]) && bench.host.sending_reads(),
+            &6,
+        );
+        equal(&rt, &bench.got(&[0xB1, 0x02, 0xCD, 0x34, 0xB9]), &DONE, &7);
+        equal(
+            &rt,
+            &bench.standing(FIRST),
+            &Standing::Confirmed(0x34CD),
+            &8,
+        );
+        is_true(
+            &rt,
+            bench.may_hold(FIRST, &[0x34CD]) && bench.may_hold(SECOND, &[]),
+            &9,
+        );
+        is_true(&rt, bench.sends(&[]) && !bench.host.restart_seen(), &10);
     }
 }
 
 #[test]
 fn a_pass_that_reads_the_old_word_is_followed_by_another(rt: HostRuntime) {
     let mut bench = Bench::new();
-    assert_eq!(rt; bench.check(FIRST), Ok(()));
-    assert_eq!(rt; bench.answered(READ_FIRST, &[0x00, 0x10]), DONE);
-    assert_eq!(rt; bench.order(FIRST, 0x34CD), Ok(()));
-    assert_eq!(rt; bench.finish(true), NEXT);
-    assert_eq!(rt; bench.standing(FIRST), Standing::Unknown);
-    assert_eq!(rt; bench.answered(READ_FIRST, &[0x00, 0x10]), NEXT);
-    assert_eq!(rt; bench.standing(FIRST), Standing::Unknown);
-    assert!(rt; !bench.host.restart_seen() && bench.may_hold(FIRST, &[0x1000, 0x34CD]));
-    assert_eq!(rt; bench.finish(true), NEXT);
-    assert_eq!(rt; bench.answered(READ_FIRST, &[0xCD, 0x34]), DONE);
-    assert_eq!(rt; bench.standing(FIRST), Standing::Confirmed(0x34CD));
-    assert!(rt; bench.may_hold(FIRST, &[0x34CD]) && !bench.host.restart_seen());
-    assert_eq!(rt; bench.order(FIRST, 0x2000), Ok(()));
-    assert_eq!(rt; bench.finish(true), NEXT);
-    assert_eq!(rt; bench.got(&[]), NEXT);
-    assert_eq!(rt; bench.finish(true), NEXT);
+    equal(&rt, &bench.check(FIRST), &Ok(()), &1);
+    equal(&rt, &bench.answered(READ_FIRST, &[0x00, 0x10]), &DONE, &2);
+    equal(&rt, &bench.order(FIRST, 0x34CD), &Ok(()), &3);
+    equal(&rt, &bench.finish(true), &NEXT, &4);
+    equal(&rt, &bench.standing(FIRST), &Standing::Unknown, &5);
+    equal(&rt, &bench.answered(READ_FIRST, &[0x00, 0x10]), &NEXT, &6);
+    equal(&rt, &bench.standing(FIRST), &Standing::Unknown, &7);
+    is_true(
+        &rt,
+        !bench.host.restart_seen() && bench.may_hold(FIRST, &[0x1000, 0x34CD]),
+        &8,
+    );
+    equal(&rt, &bench.finish(true), &NEXT, &9);
+    equal(&rt, &bench.answered(READ_FIRST, &[0xCD, 0x34]), &DONE, &10);
+    equal(
+        &rt,
+        &bench.standing(FIRST),
+        &Standing::Confirmed(0x34CD),
+        &11,
+    );
+    is_true(
+        &rt,
+        bench.may_hold(FIRST, &[0x34CD]) && !bench.host.restart_seen(),
+        &12,
+    );
+    equal(&rt, &bench.order(FIRST, 0x2000), &Ok(()), &13);
+    equal(&rt, &bench.finish(true), &NEXT, &14);
+    equal(&rt, &bench.got(&[]), &NEXT, &15);
+    equal(&rt, &bench.finish(true), &NEXT, &16);
     let differs = Some(Step::Ended(JobEnd::Differs(0x34CD)));
-    assert_eq!(rt; bench.answered(READ_FIRST, &[0xCD, 0x34]), differs);
-    assert_eq!(rt; bench.standing(FIRST), Standing::Confirmed(0x34CD));
+    equal(
+        &rt,
+        &bench.answered(READ_FIRST, &[0xCD, 0x34]),
+        &differs,
+        &17,
+    );
+    equal(
+        &rt,
+        &bench.standing(FIRST),
+        &Standing::Confirmed(0x34CD),
+        &18,
+    );
 }
 
 #[test]
 fn a_surprising_answer_shows_a_restart_of_the_device(rt: HostRuntime) {
     let mut bench = Bench::new();
     for (cell, request) in [(FIRST, READ_FIRST), (SECOND, READ_SECOND)] {
-        assert_eq!(rt; bench.check(cell), Ok(()));
-        assert_eq!(rt; bench.answered(request, &[0x00, 0x10]), DONE);
+        equal(&rt, &bench.check(cell), &Ok(()), &1);
+        equal(&rt, &bench.answered(request, &[0x00, 0x10]), &DONE, &2);
     }
-    assert_eq!(rt; bench.order(FIRST, 0x34CD), Ok(()));
-    assert_eq!(rt; bench.finish(true), NEXT);
-    assert_eq!(rt; bench.answered(READ_FIRST, &[0x77, 0x77]), NEXT);
-    assert!(rt; bench.host.restart_seen());
-    assert!(rt; bench.may_hold(FIRST, &[0x7777, 0x34CD]) && bench.may_hold(SECOND, &[]));
-    assert_eq!(rt; bench.standing(SECOND), Standing::Confirmed(0x1000));
-    assert_eq!(rt; bench.finish(true), NEXT);
-    assert_eq!(rt; bench.answered(READ_FIRST, &[0xCD, 0x34]), DONE);
-    assert!(rt; bench.host.restart_seen());
+    equal(&rt, &bench.order(FIRST, 0x34CD), &Ok(()), &3);
+    equal(&rt, &bench.finish(true), &NEXT, &4);
+    equal(&rt, &bench.answered(READ_FIRST, &[0x77, 0x77]), &NEXT, &5);
+    is_true(&rt, bench.host.restart_seen(), &6);
+    is_true(
+        &rt,
+        bench.may_hold(FIRST, &[0x7777, 0x34CD]) && bench.may_hold(SECOND, &[]),
+        &7,
+    );
+    equal(
+        &rt,
+        &bench.standing(SECOND),
+        &Standing::Confirmed(0x1000),
+        &8,
+    );
+    equal(&rt, &bench.finish(true), &NEXT, &9);
+    equal(&rt, &bench.answered(READ_FIRST, &[0xCD, 0x34]), &DONE, &10);
+    is_true(&rt, bench.host.restart_seen(), &11);
     bench.restart();
-    assert!(rt; !bench.host.restart_seen());
-    assert!(rt; bench.may_hold(FIRST, &[]));
-    assert_eq!(rt; bench.standing(FIRST), Standing::Unknown);
-    assert_eq!(rt; bench.standing(SECOND), Standing::Unknown);
+    is_true(&rt, !bench.host.restart_seen(), &12);
+    is_true(&rt, bench.may_hold(FIRST, &[]), &13);
+    equal(&rt, &bench.standing(FIRST), &Standing::Unknown, &14);
+    equal(&rt, &bench.standing(SECOND), &Standing::Unknown, &15);
 }
 
 #[test]
 fn a_restart_of_the_host_drops_the_job_and_the_formats(rt: HostRuntime) {
     let mut bench = Bench::new();
-    assert_eq!(rt; bench.learn(0), Ok(()));
-    assert_eq!(rt; bench.answered(READ_MODE, &[0x14]), LEARNED);
-    assert_eq!(rt; bench.order_micro(FIRST, 1_000_000), Ok(()));
+    equal(&rt, &bench.learn(0), &Ok(()), &1);
+    equal(&rt, &bench.answered(READ_MODE, &[0x14]), &LEARNED, &2);
+    equal(&rt, &bench.order_micro(FIRST, 1_000_000), &Ok(()), &3);
     bench.restart();
-    assert!(rt; bench.sends(&[]) && !bench.host.sending_reads());
-    assert_eq!(rt;
-        bench.order_micro(FIRST, 1_000_000),
-        Err(HostFault::FormatUnknown)
+    is_true(&rt, bench.sends(&[]) && !bench.host.sending_reads(), &4);
+    equal(
+        &rt,
+        &bench.order_micro(FIRST, 1_000_000),
+        &Err(HostFault::FormatUnknown),
+        &5,
     );
-    assert!(rt; bench.may_hold(FIRST, &[]));
-    assert_eq!(rt; bench.order(FIRST, 0x1000), Ok(()));
+    is_true(&rt, bench.may_hold(FIRST, &[]), &6);
+    equal(&rt, &bench.order(FIRST, 0x1000), &Ok(()), &7);
 }
 
 // What came back is judged over the host's own request: the answer that output 0 gives is none for
@@ -229,19 +281,19 @@ fn an_answer_to_another_request_is_no_good_answer(rt: HostRuntime) {
     ];
     for row in rows {
         let mut bench = Bench::new();
-        assert_eq!(rt; bench.check(SECOND), Ok(()));
-        assert_eq!(rt; bench.got(row), NEXT);
-        assert_eq!(rt; bench.got(row), UNKNOWN);
-        assert_eq!(rt; bench.standing(SECOND), Standing::Unknown);
-        assert!(rt; bench.may_hold(SECOND, &[]));
+        equal(&rt, &bench.check(SECOND), &Ok(()), &1);
+        equal(&rt, &bench.got(row), &NEXT, &2);
+        equal(&rt, &bench.got(row), &UNKNOWN, &3);
+        equal(&rt, &bench.standing(SECOND), &Standing::Unknown, &4);
+        is_true(&rt, bench.may_hold(SECOND, &[]), &5);
     }
     // An answer whose PEC leaves the request out.
     let payload = [0xB1, 0x02, 0x00, 0x10];
     let alone = [0xB1, 0x02, 0x00, 0x10, pec(&payload)];
     let mut bench = Bench::new();
-    assert_eq!(rt; bench.check(FIRST), Ok(()));
-    assert_eq!(rt; bench.got(&alone), NEXT);
-    assert_eq!(rt; bench.got(first.as_slice()), DONE);
+    equal(&rt, &bench.check(FIRST), &Ok(()), &6);
+    equal(&rt, &bench.got(&alone), &NEXT, &7);
+    equal(&rt, &bench.got(first.as_slice()), &DONE, &8);
 }
 
 // How many frames the open job sends, none of which is answered or acknowledged.
@@ -268,13 +320,13 @@ fn a_job_has_as_many_passes_as_were_asked_for(rt: HostRuntime) {
         let Ok(mut host) = Host::new(0x77, 8, passes) else {
             unreachable!()
         };
-        assert_eq!(rt; host.order(cell, 0xFFFF), Ok(()));
-        assert_eq!(rt; frames_in_vain(&mut host), 2 * passes);
-        assert_eq!(rt; host.check(cell), Ok(()));
-        assert_eq!(rt; frames_in_vain(&mut host), passes);
-        assert_eq!(rt; host.learn(7), Ok(()));
-        assert_eq!(rt; frames_in_vain(&mut host), passes);
-        assert_eq!(rt; host.clear(7), Ok(()));
-        assert_eq!(rt; frames_in_vain(&mut host), passes);
+        equal(&rt, &host.order(cell, 0xFFFF), &Ok(()), &1);
+        equal(&rt, &frames_in_vain(&mut host), &(2 * passes), &2);
+        equal(&rt, &host.check(cell), &Ok(()), &3);
+        equal(&rt, &frames_in_vain(&mut host), &passes, &4);
+        equal(&rt, &host.learn(7), &Ok(()), &5);
+        equal(&rt, &frames_in_vain(&mut host), &passes, &6);
+        equal(&rt, &host.clear(7), &Ok(()), &7);
+        equal(&rt, &frames_in_vain(&mut host), &passes, &8);
     }
 }

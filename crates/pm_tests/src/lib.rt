@@ -7,6 +7,8 @@ mod bursts;
 #[cfg(test)]
 mod causes;
 #[cfg(test)]
+mod checks;
+#[cfg(test)]
 mod confirmed;
 #[cfg(test)]
 mod driver;

@@ -2,8 +2,9 @@
 
 ghost use Rattle.std.specs.Prelude.{◌≡◌};
 
+use crate::checks::{equal, is_true};
 use crate::fixtures::{
-    ACKED, CELLS, FIRST, NOT_ACKED, READ, SECOND, START, WHOLE, base, begun, step, word,
+    ACKED, CELLS, FIRST, NOT_ACKED, READ, SECOND, START, WHOLE, base, begun, device, step, word,
 };
 use pm_model::{OrderMachine, PendingJob, Plain};
 use pm_table::Cell;
@@ -66,8 +67,8 @@ fn plain() -> OrderMachine {
 
 fn agrees(rt: &impl Abort, world: &World, machine: &OrderMachine, at: usize) {
     for cell in CELLS {
-        let held = word(world.device(), cell);
-        assert_eq!(rt; held, copied(machine, cell), "{cell:?} after event {at}");
+        let held = word(device(world), cell);
+        equal(rt, &held, &copied(machine, cell), &(cell, at));
     }
 }
 
@@ -76,8 +77,8 @@ fn follow(rt: &impl Abort, rows: &[(Event, Told)]) -> Result<(), SetupFault> {
     let mut world = begun(base(), 2)?;
     let mut machine = plain();
     for (at, (event, told)) in rows.iter().enumerate() {
-        assert!(rt; step(&mut world, event).is_ok(), "event {at} is taken");
-        assert!(rt; tell(&mut machine, *told), "event {at} is told");
+        is_true(rt, step(&mut world, event).is_ok(), &at);
+        is_true(rt, tell(&mut machine, *told), &at);
         agrees(rt, &world, &machine, at);
     }
     Ok(())

@@ -1,5 +1,6 @@
 //! Which of the host's refusals comes first, where a call can have two.
 
+use crate::checks::equal;
 use crate::fixtures::{
     ACKED, CHECK, FIRST, NOT_ACKED, READ, READ_LOST, SECOND, after, base, begun, step, takes,
 };
@@ -134,7 +135,7 @@ const FULL_OPERATION: [Row; 4] = [
 fn refuses(rt: &impl Abort, world: &mut World, rows: &[Row]) {
     for (event, fault) in rows {
         let refused = Err(Cause::Host(*fault));
-        assert_eq!(rt; step(world, event), refused, "{event:?}");
+        equal(rt, &step(world, event), &refused, &event);
     }
 }
 

@@ -3,9 +3,10 @@
 
 ghost use Rattle.std.specs.Prelude.{◌≡◌, ◌<◌};
 
+use crate::checks::{equal, is_true};
 use crate::fixtures::{
     ACKED, CELLS, CHECK, FIRST, LOST, NOT_ACKED, ORDER, READ, READ_LOST, SECOND, START, WHOLE,
-    arrival, base, begun, may_hold, ran, standing, with_protect, word,
+    arrival, base, begun, device, may_hold, ran, restart_seen, standing, with_protect, word,
 };
 use crate::watch::{Watch, are_ordered, happens};
 use pm_host::{Possible, Standing};
@@ -38,33 +39,24 @@ fn agrees(rt: &impl Abort, world: &World, watch: &Watch, at: usize) {
             _ => is_unknown(rt, world, cell, at),
         }
     }
-    let seen = world.host().restart_seen();
-    assert!(rt;
-        watch.since_start || !seen,
-        "a restart is seen after event {at}"
-    );
+    let seen = restart_seen(world);
+    is_true(rt, watch.since_start || !seen, &at);
 }
 
 // Where the converter didn't restart since the last good answer, what is said of a cell is true.
 fn is_known(rt: &impl Abort, world: &World, cell: Cell, restarted: bool, at: usize) {
-    let held = word(world.device(), cell);
+    let held = word(device(world), cell);
     let is_held = match standing(world, cell) {
         Some(Standing::Confirmed(told)) => told == held,
         _ => true,
     };
-    assert!(rt;
-        restarted || is_held,
-        "{cell:?} is confirmed after event {at}"
-    );
-    assert!(rt;
-        restarted || may_be(world, cell, held),
-        "{cell:?} after event {at}"
-    );
+    is_true(rt, restarted || is_held, &(cell, at));
+    is_true(rt, restarted || may_be(world, cell, held), &(cell, at));
 }
 
 fn is_unknown(rt: &impl Abort, world: &World, cell: Cell, at: usize) {
-    assert!(rt; may_hold(world, cell, &[]), "{cell:?} after event {at}");
-    assert_eq!(rt; standing(world, cell), Some(Standing::Unknown));
+    is_true(rt, may_hold(world, cell, &[]), &(cell, at));
+    equal(rt, &standing(world, cell), &Some(Standing::Unknown), &1);
 }
 
 // The events with one more before the one at this place.

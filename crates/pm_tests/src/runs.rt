@@ -1,9 +1,11 @@
 //! Whole runs of events: lost answers, a false acknowledgement, a restart, a write that is blocked, and
 //! damage that the PEC doesn't betray.
 
+use crate::checks::{equal, is_true};
 use crate::fixtures::{
     ACKED, CHECK, FIRST, LOST, NOT_ACKED, ORDER, READ, READ_LOST, SECOND, WHOLE, after, arrival,
-    base, begun, frame, ran, replied, standing, takes, with_protect, word,
+    base, begun, device, frame, last_end, ran, replied, restart_seen, standing, status_cml, takes,
+    with_protect, word,
 };
 use pm_device::{Config, Ending, Heard};
 use pm_host::{JobEnd, Standing};
@@ -22,31 +24,28 @@ fn ends(
     seen: bool,
 ) -> Result<World, SetupFault> {
     let world = after(rt, config, 2, events)?;
-    assert_eq!(rt; world.last_end(), Some(end));
+    equal(rt, &last_end(&world), &Some(end), &1);
     let (stands, held) = told;
-    assert_eq!(rt; standing(&world, FIRST), Some(stands));
-    assert_eq!(rt; word(world.device(), FIRST), held);
-    assert_eq!(rt; world.host().restart_seen(), seen);
+    equal(rt, &standing(&world, FIRST), &Some(stands), &2);
+    equal(rt, &word(device(&world), FIRST), &held, &3);
+    equal(rt, &restart_seen(&world), &seen, &4);
     Ok(world)
 }
 
-#[test]
-fn runs_end_as_their_events_say(rt: HostRuntime) -> Result<(), SetupFault> {
-    let answers_lost = [
+// Both answers of an order are lost; a lost write is acknowledged; the converter restarts after an order;
+// and an order is blocked by WRITE_PROTECT.
+fn answers_lost() -> [Event; 9] {
+    [
         CHECK, READ, ORDER, WHOLE, NOT_ACKED, READ_LOST, LOST, NOT_ACKED, READ_LOST,
-    ];
-    let unknown = (Standing::Unknown, 0x34CD);
-    ends(&rt, base(), &answers_lost, JobEnd::Unknown, unknown, false)?;
-    // The frame itself in its place, and a cut past its end, are heard whole.
-    let done = (Standing::Confirmed(0x34CD), 0x34CD);
-    for heard in ["stop: B0 05 04 00 21 CD 34 5A", "cut 8", "cut 200"] {
-        let delivered = Event::Deliver(arrival(&rt, heard));
-        let honest = [ORDER, delivered, ACKED, READ];
-        ends(&rt, base(), &honest, JobEnd::Done, done, false)?;
-    }
-    let falsely_acked = [CHECK, READ, ORDER, LOST, ACKED, READ, WHOLE, ACKED, READ];
-    ends(&rt, base(), &falsely_acked, JobEnd::Done, done, false)?;
-    let restarted = [
+    ]
+}
+
+fn falsely_acked() -> [Event; 9] {
+    [CHECK, READ, ORDER, LOST, ACKED, READ, WHOLE, ACKED, READ]
+}
+
+fn restarted() -> [Event; 9] {
+    [
         CHECK,
         READ,
         ORDER,
@@ -56,14 +55,49 @@ fn runs_end_as_their_events_say(rt: HostRuntime) -> Result<(), SetupFault> {
         Event::RestartDevice,
         CHECK,
         READ,
-    ];
-    let start = (Standing::Confirmed(0x1000), 0x1000);
-    ends(&rt, base(), &restarted, JobEnd::Done, start, true)?;
-    let blocked = [ORDER, WHOLE, ACKED, READ, WHOLE, ACKED, READ];
+    ]
+}
+
+fn blocked() -> [Event; 7] {
+    [ORDER, WHOLE, ACKED, READ, WHOLE, ACKED, READ]
+}
+
+const DONE: (Standing, u16) = (Standing::Confirmed(0x34CD), 0x34CD);
+
+const START: (Standing, u16) = (Standing::Confirmed(0x1000), 0x1000);
+
+#[test]
+fn runs_end_as_their_events_say(rt: HostRuntime) -> Result<(), SetupFault> {
+    let unknown = (Standing::Unknown, 0x34CD);
+    ends(
+        &rt,
+        base(),
+        &answers_lost(),
+        JobEnd::Unknown,
+        unknown,
+        false,
+    )?;
+    ends(&rt, base(), &falsely_acked(), JobEnd::Done, DONE, false)?;
+    ends(&rt, base(), &restarted(), JobEnd::Done, START, true)?;
     let differs = JobEnd::Differs(0x1000);
-    let world = ends(&rt, with_protect(0x40), &blocked, differs, start, false)?;
-    assert_eq!(rt; world.device().status_cml(), 0x80);
+    let world = ends(&rt, with_protect(0x40), &blocked(), differs, START, false)?;
+    equal(&rt, &status_cml(&world), &0x80, &1);
     Ok(())
+}
+
+fn is_heard_whole(rt: &impl Abort, heard: &str) -> Result<(), SetupFault> {
+    let delivered = Event::Deliver(arrival(rt, heard));
+    let honest = [ORDER, delivered, ACKED, READ];
+    ends(rt, base(), &honest, JobEnd::Done, DONE, false)?;
+    Ok(())
+}
+
+// The frame itself in its place, and a cut past its end, are heard whole.
+#[test]
+fn an_order_goes_through_by_its_bytes(rt: HostRuntime) -> Result<(), SetupFault> {
+    is_heard_whole(&rt, "stop: B0 05 04 00 21 CD 34 5A")?;
+    is_heard_whole(&rt, "cut 8")?;
+    is_heard_whole(&rt, "cut 200")
 }
 
 #[test]
@@ -72,11 +106,11 @@ fn damage_that_the_pec_does_not_betray_stops_a_run(rt: HostRuntime) -> Result<()
     let events = [ORDER, Event::Deliver(other), ACKED];
     let (world, stop) = ran(base(), 2, &events)?;
     let cause = Cause::NotBetrayed;
-    assert_eq!(rt; stop, Some(Stop { at: 1, cause }));
-    assert_eq!(rt; standing(&world, FIRST), Some(Standing::Unknown));
-    assert_eq!(rt; word(world.device(), FIRST), 0x1000);
-    assert_eq!(rt; word(world.device(), SECOND), 0x1000);
-    assert_eq!(rt; world.last_end(), None);
+    equal(&rt, &stop, &Some(Stop { at: 1, cause }), &1);
+    equal(&rt, &standing(&world, FIRST), &Some(Standing::Unknown), &2);
+    equal(&rt, &word(device(&world), FIRST), &0x1000, &3);
+    equal(&rt, &word(device(&world), SECOND), &0x1000, &4);
+    equal(&rt, &last_end(&world), &None, &5);
     Ok(())
 }
 
@@ -85,7 +119,7 @@ fn is_answered(rt: &impl Abort, world: &World, request: &str, answer: &str) {
     let reply = replied(world, frame(rt, request).as_slice(), Ending::Restart);
     let wanted = frame(rt, answer);
     let same = matches!(&reply, Heard::Answer(got) if got.as_slice() == wanted.as_slice());
-    assert!(rt; same, "{reply:?} for {request}");
+    is_true(rt, same, &(reply, request));
 }
 
 // Readings of the device and of each output are answered from then on; one of no output, and one of a

@@ -3,9 +3,11 @@
 
 ghost use Rattle.std.specs.Prelude.{◌≡◌, ◌<◌};
 
+use crate::checks::{equal, is_true};
 use crate::fixtures::{
     ACKED, CELLS, CHECK, FIRST, LOST, NOT_ACKED, ORDER, READ, READ_LOST, SECOND, START, WHOLE,
-    base, begun, may_hold, ran, sends, standing, step, takes, with_protect, word,
+    base, begun, device, last_end, may_hold, ran, restart_seen, sends, standing, step, takes,
+    with_protect, word,
 };
 use crate::watch::{Watch, are_ordered, happens};
 use pm_device::Config;
@@ -50,9 +52,9 @@ type End = (u16, Standing, Option<JobEnd>);
 fn ends(rt: &impl Abort, protect: u16, events: &[Event], end: End) -> Result<(), SetupFault> {
     let world = followed(rt, protect, events)?;
     let (held, stands, job) = end;
-    assert_eq!(rt; word(world.device(), FIRST), held, "{events:?}");
-    assert_eq!(rt; standing(&world, FIRST), Some(stands), "{events:?}");
-    assert_eq!(rt; world.last_end(), job, "{events:?}");
+    equal(rt, &word(device(&world), FIRST), &held, &events);
+    equal(rt, &standing(&world, FIRST), &Some(stands), &events);
+    equal(rt, &last_end(&world), &job, &events);
     Ok(())
 }
 
@@ -159,15 +161,11 @@ const RESTORED: [Said; 11] = [
 
 fn says(rt: &impl Abort, world: &mut World, at: usize, row: &Said) {
     let (event, stands, words, protect, protects) = row;
-    assert_eq!(rt; step(world, event), Ok(()), "event {at}");
-    assert_eq!(rt; standing(world, FIRST), Some(*stands), "event {at}");
-    assert!(rt; may_hold(world, FIRST, words), "the words after event {at}");
-    assert_eq!(rt;
-        standing(world, Cell::Protect),
-        Some(*protect),
-        "event {at}"
-    );
-    assert!(rt; may_hold(world, Cell::Protect, protects), "event {at}");
+    equal(rt, &step(world, event), &Ok(()), &at);
+    equal(rt, &standing(world, FIRST), &Some(*stands), &at);
+    is_true(rt, may_hold(world, FIRST, words), &at);
+    equal(rt, &standing(world, Cell::Protect), &Some(*protect), &at);
+    is_true(rt, may_hold(world, Cell::Protect, protects), &at);
 }
 
 #[test]
@@ -185,9 +183,9 @@ fn a_restart_stays_seen_over_a_restore(rt: HostRuntime) -> Result<(), SetupFault
     let mut world = begun(base(), 2)?;
     takes(&rt, &mut world, &[ORDER, WHOLE, ACKED, READ]);
     takes(&rt, &mut world, &[RESTARTED, CHECK, READ]);
-    assert!(rt; world.host().restart_seen());
+    is_true(&rt, restart_seen(&world), &1);
     takes(&rt, &mut world, &[RESTORE, WHOLE, ACKED, CHECK, READ]);
-    assert!(rt; world.host().restart_seen());
+    is_true(&rt, restart_seen(&world), &2);
     Ok(())
 }
 
@@ -196,17 +194,17 @@ fn a_restart_stays_seen_over_a_restore(rt: HostRuntime) -> Result<(), SetupFault
 fn a_store_and_a_restore_are_plain_send_bytes(rt: HostRuntime) -> Result<(), SetupFault> {
     let mut world = begun(base(), 2)?;
     takes(&rt, &mut world, &[STORE]);
-    assert!(rt; sends(&rt, &world, "B0 15 24"));
-    assert!(rt; step(&mut world, &RESTORE).is_err());
+    is_true(&rt, sends(&rt, &world, "B0 15 24"), &1);
+    is_true(&rt, step(&mut world, &RESTORE).is_err(), &2);
     takes(&rt, &mut world, &[NOT_ACKED]);
-    assert!(rt; sends(&rt, &world, "B0 15 24"));
+    is_true(&rt, sends(&rt, &world, "B0 15 24"), &3);
     takes(&rt, &mut world, &[NOT_ACKED]);
-    assert!(rt; sends(&rt, &world, ""));
+    is_true(&rt, sends(&rt, &world, ""), &4);
     takes(&rt, &mut world, &[RESTORE]);
-    assert!(rt; sends(&rt, &world, "B0 16 2D"));
-    assert!(rt; step(&mut world, &STORE).is_err());
+    is_true(&rt, sends(&rt, &world, "B0 16 2D"), &5);
+    is_true(&rt, step(&mut world, &STORE).is_err(), &6);
     takes(&rt, &mut world, &[ACKED]);
-    assert!(rt; sends(&rt, &world, ""));
+    is_true(&rt, sends(&rt, &world, ""), &7);
     Ok(())
 }
 
@@ -228,8 +226,8 @@ fn ordered(rt: &impl Abort, world: &mut World, first: u16) {
 
 fn has(rt: &impl Abort, world: &World, first: u16) {
     for output in 0..8 {
-        let held = word(world.device(), voltage(output));
-        assert_eq!(rt; held, first.saturating_add(u16::from(output)));
+        let held = word(device(world), voltage(output));
+        equal(rt, &held, &first.saturating_add(u16::from(output)), &1);
     }
 }
 
@@ -245,10 +243,10 @@ fn eight_outputs_are_stored(rt: HostRuntime) -> Result<(), SetupFault> {
     takes(&rt, &mut world, &[RESTARTED]);
     has(&rt, &world, 0x2000);
     for cell in CELLS {
-        assert!(rt; standing(&world, cell).is_some(), "{cell:?}");
+        is_true(&rt, standing(&world, cell).is_some(), &cell);
     }
     let (ran, stop) = ran(eight(), 1, &[STORE, WHOLE, ACKED, RESTORE, WHOLE, ACKED])?;
-    assert_eq!(rt; stop, None);
-    assert_eq!(rt; ran.last_end(), DONE);
+    equal(&rt, &stop, &None, &1);
+    equal(&rt, &ran.last_end(), &DONE, &2);
     Ok(())
 }

@@ -2,9 +2,10 @@
 
 mod eight;
 
+use crate::checks::{equal, is_true};
 use crate::fixtures::{
     ACKED, CHECK, FIRST, LOST, NOT_ACKED, ORDER, OUTPUT, READ, READ_LOST, SECOND, WHOLE, after,
-    base, begun, sends, standing, step, takes,
+    base, begun, last_end, sends, standing, step, takes,
 };
 use pm_device::{Config, OutputStart};
 use pm_host::{JobEnd, Standing, Turn};
@@ -113,8 +114,8 @@ static ORDERS: [(Cell, u16, &str, &str); 13] = [
 
 // An event is taken, and what the host sends then.
 fn goes(rt: &impl Abort, world: &mut World, event: &Event, text: &str) {
-    assert_eq!(rt; step(world, event), Ok(()), "{event:?}");
-    assert!(rt; sends(rt, world, text), "{event:?} is followed by {text:?}");
+    equal(rt, &step(world, event), &Ok(()), &event);
+    is_true(rt, sends(rt, world, text), &(event, text));
 }
 
 fn is_ordered_in_vain(
@@ -129,16 +130,16 @@ fn is_ordered_in_vain(
         goes(rt, world, &NOT_ACKED, request);
         goes(rt, world, &READ_LOST, next);
     }
-    assert_eq!(rt; world.last_end(), Some(JobEnd::Unknown));
+    equal(rt, &last_end(world), &Some(JobEnd::Unknown), &1);
 }
 
 fn is_checked_in_vain(rt: &impl Abort, world: &mut World, check: &Event, request: &str) {
     goes(rt, world, check, request);
-    assert_eq!(rt; world.last_end(), None);
+    equal(rt, &last_end(world), &None, &1);
     for next in [request, request, ""] {
         goes(rt, world, &READ_LOST, next);
     }
-    assert_eq!(rt; world.last_end(), Some(JobEnd::Unknown));
+    equal(rt, &last_end(world), &Some(JobEnd::Unknown), &2);
 }
 
 // Each pass of an order writes once and reads once, each try of a check reads once, all in vain; the host
@@ -167,8 +168,13 @@ fn is_confirmed(
     goes(rt, &mut world, &WHOLE, write);
     goes(rt, &mut world, &ACKED, request);
     goes(rt, &mut world, &READ, "");
-    assert_eq!(rt; world.last_end(), Some(JobEnd::Done));
-    assert_eq!(rt; standing(&world, cell), Some(Standing::Confirmed(word)));
+    equal(rt, &last_end(&world), &Some(JobEnd::Done), &1);
+    equal(
+        rt,
+        &standing(&world, cell),
+        &Some(Standing::Confirmed(word)),
+        &2,
+    );
     Ok(())
 }
 
@@ -186,11 +192,11 @@ fn is_cleared(rt: &impl Abort, world: &mut World, clear: &Event, frame: &str) {
     for next in [frame, frame, ""] {
         goes(rt, world, &NOT_ACKED, next);
     }
-    assert_eq!(rt; world.last_end(), Some(JobEnd::Unknown));
+    equal(rt, &last_end(world), &Some(JobEnd::Unknown), &1);
     goes(rt, world, clear, frame);
     goes(rt, world, &NOT_ACKED, frame);
     goes(rt, world, &ACKED, "");
-    assert_eq!(rt; world.last_end(), Some(JobEnd::Done));
+    equal(rt, &last_end(world), &Some(JobEnd::Done), &2);
 }
 
 #[test]
@@ -224,18 +230,18 @@ fn a_learn_reads_the_mode_and_then_the_coefficients(rt: HostRuntime) -> Result<(
     ] {
         goes(&rt, &mut world, &event, next);
     }
-    assert_eq!(rt; world.last_end(), Some(JobEnd::Learned));
+    equal(&rt, &last_end(&world), &Some(JobEnd::Learned), &1);
     goes(&rt, &mut world, &learn, MODE_1);
     for next in [MODE_1, MODE_1, ""] {
         goes(&rt, &mut world, &READ_LOST, next);
     }
-    assert_eq!(rt; world.last_end(), Some(JobEnd::Unknown));
+    equal(&rt, &last_end(&world), &Some(JobEnd::Unknown), &2);
     goes(&rt, &mut world, &learn, MODE_1);
     goes(&rt, &mut world, &READ, COEFFICIENTS);
     for next in [COEFFICIENTS, COEFFICIENTS, ""] {
         goes(&rt, &mut world, &READ_LOST, next);
     }
-    assert_eq!(rt; world.last_end(), Some(JobEnd::Unknown));
+    equal(&rt, &last_end(&world), &Some(JobEnd::Unknown), &3);
     // 3.3 V, as 3300 millivolts.
     let micro = Event::OrderMicro(SECOND, 3_300_000);
     goes(&rt, &mut world, &micro, "B0 05 04 01 21 E4 0C F7");
@@ -248,9 +254,9 @@ fn each_output_is_learned_by_itself(rt: HostRuntime) -> Result<(), SetupFault> {
     let mut world = begun(mixed(), PASSES)?;
     goes(&rt, &mut world, &Event::Learn(0), MODE_0);
     goes(&rt, &mut world, &READ, "");
-    assert_eq!(rt; world.last_end(), Some(JobEnd::Learned));
+    equal(&rt, &last_end(&world), &Some(JobEnd::Learned), &1);
     let second = Event::OrderMicro(SECOND, 3_300_000);
-    assert!(rt; step(&mut world, &second).is_err());
+    is_true(&rt, step(&mut world, &second).is_err(), &2);
     goes(&rt, &mut world, &Event::Learn(1), MODE_1);
     goes(&rt, &mut world, &READ, COEFFICIENTS);
     goes(&rt, &mut world, &READ, "");
@@ -285,8 +291,8 @@ fn a_request_says_how_many_bytes_its_answer_has(rt: HostRuntime) -> Result<(), S
     ];
     for (events, request, wanted) in rows {
         let world = after(&rt, mixed(), PASSES, events)?;
-        assert!(rt; sends(&rt, &world, request), "{request}");
-        assert_eq!(rt; answer_length(&world), Some(wanted), "{request}");
+        is_true(&rt, sends(&rt, &world, request), &request);
+        equal(&rt, &answer_length(&world), &Some(wanted), &request);
     }
     Ok(())
 }
@@ -298,8 +304,8 @@ fn has_end(
     stands: Standing,
 ) -> Result<(), SetupFault> {
     let world = after(rt, base(), 1, events)?;
-    assert_eq!(rt; world.last_end(), end, "{events:?}");
-    assert_eq!(rt; standing(&world, FIRST), Some(stands), "{events:?}");
+    equal(rt, &last_end(&world), &end, &events);
+    equal(rt, &standing(&world, FIRST), &Some(stands), &events);
     Ok(())
 }
 

@@ -2,9 +2,10 @@
 
 ghost use Rattle.std.specs.Prelude.{◌≡◌, ◌<◌};
 
+use crate::checks::{equal, is_true};
 use crate::fixtures::{
-    CHECK, FIRST, LOST, NOT_ACKED, ORDER, READ, READ_LOST, SECOND, WHOLE, base, begun, may_hold,
-    standing, takes, word,
+    CHECK, FIRST, LOST, NOT_ACKED, ORDER, READ, READ_LOST, SECOND, WHOLE, base, begun, device,
+    last_end, may_hold, restart_seen, standing, takes, word,
 };
 use pm_host::{JobEnd, Standing};
 use pm_world::{Event, SetupFault, World};
@@ -21,12 +22,12 @@ fn ordered(rt: &impl Abort, world: &mut World, check: Event, order: Event, is_he
 
 // The host says the same of a cell, whichever word it has.
 fn is_left(rt: &impl Abort, world: &World, words: (u16, u16)) {
-    assert_eq!(rt; word(world.device(), FIRST), words.0);
-    assert_eq!(rt; word(world.device(), SECOND), words.1);
-    assert_eq!(rt; world.last_end(), Some(JobEnd::Unknown));
-    assert_eq!(rt; standing(world, FIRST), Some(Standing::Unknown));
-    assert!(rt; may_hold(world, FIRST, &[0x1000, 0x34CD]));
-    assert!(rt; !world.host().restart_seen());
+    equal(rt, &word(device(world), FIRST), &words.0, &1);
+    equal(rt, &word(device(world), SECOND), &words.1, &2);
+    equal(rt, &last_end(world), &Some(JobEnd::Unknown), &3);
+    equal(rt, &standing(world, FIRST), &Some(Standing::Unknown), &4);
+    is_true(rt, may_hold(world, FIRST, &[0x1000, 0x34CD]), &5);
+    is_true(rt, !restart_seen(world), &6);
 }
 
 // The start word or the ordered one, by whether the write was heard.
@@ -40,7 +41,7 @@ fn two_lists_that_tell_the_same_leave_two_words(rt: HostRuntime) -> Result<(), S
         let mut world = begun(base(), 2)?;
         ordered(&rt, &mut world, CHECK, ORDER, is_heard);
         is_left(&rt, &world, (heard(is_heard), 0x1000));
-        assert!(rt; may_hold(&world, SECOND, &[]));
+        is_true(&rt, may_hold(&world, SECOND, &[]), &1);
     }
     Ok(())
 }
@@ -53,7 +54,7 @@ fn four_lists_that_tell_the_same_leave_four_pairs(rt: HostRuntime) -> Result<(),
         let (check, order) = (Event::Check(SECOND), Event::Order(SECOND, 0x34CD));
         ordered(&rt, &mut world, check, order, second);
         is_left(&rt, &world, (heard(first), heard(second)));
-        assert!(rt; may_hold(&world, SECOND, &[0x1000, 0x34CD]));
+        is_true(&rt, may_hold(&world, SECOND, &[0x1000, 0x34CD]), &1);
     }
     Ok(())
 }

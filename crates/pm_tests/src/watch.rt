@@ -3,7 +3,8 @@
 
 ghost use Rattle.std.specs.Prelude.{◌≡◌, ◌<◌};
 
-use crate::fixtures::{CELLS, replied, sends, step, word};
+use crate::checks::equal;
+use crate::fixtures::{CELLS, device, last_end, replied, sends, step, word};
 use pm_device::{Converter, Ending, Heard};
 use pm_model::{OrderMachine, PendingJob};
 use pm_table::Cell;
@@ -100,7 +101,7 @@ pub(crate) fn happens(rt: &impl Abort, world: &mut World, watch: &mut Watch, eve
         _ => None,
     };
     if step(world, event).is_ok() {
-        watch.sees(event, delivered, answered, world.last_end().is_some());
+        watch.sees(event, delivered, answered, last_end(world).is_some());
     }
 }
 
@@ -137,12 +138,8 @@ pub(crate) fn are_ordered(rt: &impl Abort, world: &World, machine: &OrderMachine
 }
 
 fn is_ordered(rt: &impl Abort, world: &World, machine: &OrderMachine, cell: Cell, at: usize) {
-    let held = word(world.device(), cell);
-    assert_eq!(rt; held, ordered(machine, cell), "{cell:?} after {at} events");
-    let kept = stored(world.device(), cell);
-    assert_eq!(rt;
-        kept,
-        in_store(machine, cell),
-        "{cell:?} in the store after {at} events"
-    );
+    let held = word(device(world), cell);
+    equal(rt, &held, &ordered(machine, cell), &(cell, at));
+    let kept = stored(device(world), cell);
+    equal(rt, &kept, &in_store(machine, cell), &(cell, at));
 }

@@ -1,5 +1,6 @@
 //! Configurations, and the first fault of each that applies.
 
+use crate::checks::equal;
 use crate::fixtures::OUTPUT;
 use crate::frames::made;
 use pm_device::{Config, ConfigFault, OutputStart};
@@ -198,7 +199,7 @@ fn configured(row: Row) -> (Config, Option<ConfigFault>) {
 
 fn has_fault(rt: &impl Abort, row: &Row) {
     let (config, wanted) = configured(*row);
-    assert_eq!(rt; made(config).err(), wanted, "{config:?}");
+    equal(rt, &made(config).err(), &wanted, &config);
 }
 
 #[test]

@@ -1,6 +1,7 @@
 //! All 256 bytes of OPERATION.
 
 use super::{Wanted, commanded, hears, with_operation};
+use crate::checks::{equal, is_true};
 use crate::frames::{base, word};
 use pm_device::{ConfigFault, Converter, DeviceFault, Ending};
 use pm_frame::pec;
@@ -37,13 +38,9 @@ fn is_on(converter: &Converter) -> bool {
 // What output 1 does with this byte as OPERATION.
 fn does(rt: &impl Abort, converter: &Converter, byte: u8, on: bool, volts: i128) {
     let held = word(converter, Cell::Out(1, Reg::Operation));
-    assert_eq!(rt; held, u16::from(byte));
-    assert_eq!(rt; is_on(converter), on, "OPERATION {byte:02X}");
-    assert_eq!(rt;
-        commanded(converter, 1),
-        (volts, 4096),
-        "OPERATION {byte:02X}"
-    );
+    equal(rt, &held, &u16::from(byte), &1);
+    equal(rt, &is_on(converter), &on, &byte);
+    equal(rt, &commanded(converter, 1), &(volts, 4096), &byte);
 }
 
 // A byte as the start word of output 1, and written to it.
@@ -59,12 +56,17 @@ fn means(rt: &impl Abort, byte: u8) -> Result<(), ConfigFault> {
             does(rt, &converter, byte, on, volts);
         }
         (None, Err(fault)) => {
-            assert_eq!(rt; fault, ConfigFault::BadStart(Cell::Out(1, Reg::Operation)));
+            equal(
+                rt,
+                &fault,
+                &ConfigFault::BadStart(Cell::Out(1, Reg::Operation)),
+                &1,
+            );
             let refused = Wanted::Refused(DeviceFault::UnsupportedData);
             hears(rt, &mut converter, &whole, Ending::Stop, refused);
             does(rt, &converter, 0x80, true, 0x1000);
         }
-        _ => assert!(rt; false, "OPERATION {byte:02X} as a start word"),
+        _ => is_true(rt, false, &byte),
     }
     Ok(())
 }

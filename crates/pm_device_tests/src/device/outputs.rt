@@ -1,8 +1,9 @@
 //! Each of eight outputs by itself, and the readings that each has.
 
 use super::{hears_rows, with_count};
+use crate::checks::is_true;
+use crate::frames::set_reading;
 use pm_device::Converter;
-use pm_table::Code;
 use std::process::Abort;
 use std::test::Fail;
 
@@ -53,7 +54,7 @@ fn each_of_eight_outputs_has_registers_of_its_own(rt: HostRuntime) -> Result<(),
     for output in 0..8u8 {
         for (code, first) in [(0x8B, 0x3000u16), (0x8C, 0x4000)] {
             let reading = first + u16::from(output);
-            assert!(rt; converter.set_reading(output, Code(code), reading));
+            is_true(&rt, set_reading(&mut converter, output, code, reading), &1);
         }
     }
     hears_rows(&rt, &mut converter, &EIGHT);
@@ -69,12 +70,12 @@ fn takes_readings(
     not_set: &[u8],
 ) {
     for code in set {
-        let is_set = converter.set_reading(output, Code(*code), 0x1234);
-        assert!(rt; is_set, "output {output}, code {code:02X}");
+        let is_set = set_reading(converter, output, *code, 0x1234);
+        is_true(rt, is_set, &(output, code));
     }
     for code in not_set {
-        let is_set = converter.set_reading(output, Code(*code), 0x1234);
-        assert!(rt; !is_set, "output {output}, code {code:02X}");
+        let is_set = set_reading(converter, output, *code, 0x1234);
+        is_true(rt, !is_set, &(output, code));
     }
 }
 

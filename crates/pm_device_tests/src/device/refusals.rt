@@ -1,8 +1,9 @@
 //! What is refused, for what, and which of two refusals comes first.
 
 use super::{Wanted, hears, hears_row, status, with_protect};
+use crate::checks::equal;
 use crate::fixtures::{BASE, CELLS, OUTPUT};
-use crate::frames::{base, frame, made, word};
+use crate::frames::{base, frame, made, page_of, status_cml, word};
 use pm_device::{Config, ConfigFault, Converter, DeviceFault, Ending, OutputStart};
 use pm_frame::FrameFault;
 use std::process::Abort;
@@ -129,14 +130,14 @@ fn is_refused(
     let started = with_protect(protect)?;
     let mut converter = with_protect(protect)?;
     hears_row(rt, &mut converter, row, Some(fault));
-    assert_eq!(rt; converter.status_cml(), cml, "{row}");
-    assert_eq!(rt; converter.page(), 0, "{row}");
+    equal(rt, &status_cml(&converter), &cml, &row);
+    equal(rt, &page_of(&converter), &0, &row);
     for output in [0, 1] {
-        assert_eq!(rt; status(rt, &converter, output), (0x0002, 0x00), "{row}");
+        equal(rt, &status(rt, &converter, output), &(0x0002, 0x00), &row);
     }
     for cell in CELLS {
         let wanted = word(&started, cell);
-        assert_eq!(rt; word(&converter, cell), wanted, "{cell:?} after {row}");
+        equal(rt, &word(&converter, cell), &wanted, &(cell, row));
     }
     Ok(())
 }
@@ -156,7 +157,7 @@ fn each_refusal_sets_its_own_bit_and_changes_no_word(rt: HostRuntime) -> Result<
 fn is_not_heard(rt: &impl Abort, converter: &mut Converter, text: &str, ending: Ending) {
     let bytes = frame(rt, text);
     hears(rt, converter, bytes.as_slice(), ending, Wanted::Silent);
-    assert_eq!(rt; converter.status_cml(), 0x00, "{text}");
+    equal(rt, &status_cml(converter), &0x00, &text);
 }
 
 // Frames to another device, and no bytes.

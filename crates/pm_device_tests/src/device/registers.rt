@@ -1,11 +1,12 @@
 //! What each code reads as, over the bus.
 
 use super::{commanded, hears_row, hears_rows};
+use crate::checks::{equal, is_true};
 use crate::fixtures::{BASE, OUTPUT};
-use crate::frames::{base, made};
+use crate::frames::{base, made, restart, set_reading};
 use pm_device::{Config, ConfigFault, Converter, DeviceFault, OutputStart};
 use pm_frame::FrameFault;
-use pm_table::{Code, Coefficients};
+use pm_table::Coefficients;
 use std::process::Abort;
 use std::test::Fail;
 
@@ -159,8 +160,8 @@ static COEFFICIENTS: [&str; 12] = [
 // Sets readings, each of an output and a code.
 fn reads(rt: &impl Abort, converter: &mut Converter, readings: &[(u8, u8, u16)]) {
     for (output, code, word) in readings {
-        let is_set = converter.set_reading(*output, Code(*code), *word);
-        assert!(rt; is_set, "{code:02X}");
+        let is_set = set_reading(converter, *output, *code, *word);
+        is_true(rt, is_set, &code);
     }
 }
 
@@ -199,7 +200,7 @@ fn each_code_reads_its_own_register(rt: HostRuntime) -> Result<(), Fail> {
 fn readings_are_kept_by_a_restart(rt: HostRuntime) -> Result<(), Fail> {
     let mut converter = told_apart(&rt)?;
     hears_rows(&rt, &mut converter, &["B0 21 CD 34 38", "B0 00 01 ED"]);
-    converter.restart();
+    restart(&mut converter);
     let kept = [
         "B0 00 / B1 00 C2",
         "B0 21 / B1 34 12 4B",
@@ -248,7 +249,7 @@ fn is_limited(
 ) -> Result<(), ConfigFault> {
     let mut converter = base()?;
     hears_rows(rt, &mut converter, &[write, vout, word]);
-    assert_eq!(rt; commanded(&converter, 0), (wanted, 4096), "{write}");
+    equal(rt, &commanded(&converter, 0), &(wanted, 4096), &write);
     Ok(())
 }
 
@@ -333,7 +334,7 @@ fn readings_are_zero_until_they_are_set(rt: HostRuntime) -> Result<(), Fail> {
     let readings = [(0, 0x88, 0x1234), (0, 0x8D, 0x5678), (1, 0x8C, 0x1234)];
     reads(&rt, &mut measured, &readings);
     hears_rows(&rt, &mut measured, &MEASURED);
-    measured.restart();
+    restart(&mut measured);
     hears_rows(&rt, &mut measured, &MEASURED);
     Ok(())
 }

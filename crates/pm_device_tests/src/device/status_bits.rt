@@ -1,7 +1,8 @@
 //! Latched status, bit by bit, and the bits by name.
 
 use super::{hears_row, hears_rows, status};
-use crate::frames::base;
+use crate::checks::equal;
+use crate::frames::{base, restart, status_cml};
 use bitflags::Flags;
 use pm_device::{Converter, DeviceFault, StatusByte, StatusCml, StatusVout, StatusWord};
 use pm_frame::FrameFault;
@@ -44,7 +45,7 @@ fn goes_with(
     hears_row(rt, &mut converter, row, Some(fault));
     hears_rows(rt, &mut converter, &[write]);
     let left = bit & !byte;
-    assert_eq!(rt; converter.status_cml(), left, "{bit:02X} by {byte:02X}");
+    equal(rt, &status_cml(&converter), &left, &(bit, byte));
     Ok(())
 }
 
@@ -54,7 +55,7 @@ fn latched(rt: &impl Abort) -> Result<Converter, Fail> {
     for &(_, row, fault) in &LATCHES {
         hears_row(rt, &mut all, row, Some(fault));
     }
-    assert_eq!(rt; all.status_cml(), 0xE2);
+    equal(rt, &status_cml(&all), &0xE2, &1);
     Ok(all)
 }
 
@@ -65,7 +66,7 @@ fn clears(rt: &impl Abort, byte: u8, write: &str) -> Result<(), Fail> {
     }
     let mut all = latched(rt)?;
     hears_rows(rt, &mut all, &[write]);
-    assert_eq!(rt; all.status_cml(), 0xE2 & !byte, "all by {byte:02X}");
+    equal(rt, &status_cml(&all), &(0xE2 & !byte), &byte);
     Ok(())
 }
 
@@ -118,16 +119,28 @@ fn bit_3_written_clears_the_warning_of_one_output(rt: HostRuntime) -> Result<(),
     for &(plain, carried, goes) in &VOUT_WRITES {
         let first = if goes { CLEAN } else { WARNED };
         for row in [plain, carried] {
-            assert_eq!(rt; shown(&rt, &[row])?, [first, WARNED], "{row}");
+            equal(&rt, &shown(&rt, &[row])?, &[first, WARNED], &row);
         }
     }
     // While PAGE is 1, a plain write of bit 3, a plain CLEAR_FAULTS, and one that is carried.
     let page_1 = "B0 00 01 ED";
-    assert_eq!(rt; shown(&rt, &[page_1, "B0 7A 08 F2"])?, [WARNED, CLEAN]);
-    assert_eq!(rt; shown(&rt, &[page_1, "B0 03 46"])?, [WARNED, CLEAN]);
-    assert_eq!(rt;
-        shown(&rt, &[page_1, "B0 05 02 00 03 50"])?,
-        [CLEAN, WARNED]
+    equal(
+        &rt,
+        &shown(&rt, &[page_1, "B0 7A 08 F2"])?,
+        &[WARNED, CLEAN],
+        &1,
+    );
+    equal(
+        &rt,
+        &shown(&rt, &[page_1, "B0 03 46"])?,
+        &[WARNED, CLEAN],
+        &2,
+    );
+    equal(
+        &rt,
+        &shown(&rt, &[page_1, "B0 05 02 00 03 50"])?,
+        &[CLEAN, WARNED],
+        &3,
     );
     Ok(())
 }
@@ -182,10 +195,10 @@ fn warns_after(rt: &impl Abort, rows: &[&str], warns: bool) -> Result<(), Fail> 
     let mut converter = base()?;
     hears_rows(rt, &mut converter, rows);
     let first = if warns { WARNED } else { CLEAN };
-    assert_eq!(rt; status(rt, &converter, 0), first, "{rows:?}");
-    assert_eq!(rt; status(rt, &converter, 1), CLEAN, "{rows:?}");
+    equal(rt, &status(rt, &converter, 0), &first, &rows);
+    equal(rt, &status(rt, &converter, 1), &CLEAN, &rows);
     hears_rows(rt, &mut converter, &["B0 05 02 00 03 50"]);
-    assert_eq!(rt; status(rt, &converter, 0), CLEAN, "{rows:?}");
+    equal(rt, &status(rt, &converter, 0), &CLEAN, &rows);
     Ok(())
 }
 
@@ -202,18 +215,18 @@ fn what_was_outside_its_limits_warns_until_it_is_cleared(rt: HostRuntime) -> Res
 fn leaves_what_holds(rt: &impl Abort, clear: &str) -> Result<(), Fail> {
     let mut converter = latched(rt)?;
     hears_rows(rt, &mut converter, &WERE_ABOVE);
-    assert_eq!(rt; status(rt, &converter, 0), (0x8003, 0x08));
+    equal(rt, &status(rt, &converter, 0), &(0x8003, 0x08), &1);
     hears_rows(rt, &mut converter, &[clear]);
-    assert_eq!(rt; converter.status_cml(), 0x00);
+    equal(rt, &status_cml(&converter), &0x00, &2);
     let after = [status(rt, &converter, 0), status(rt, &converter, 1)];
-    assert_eq!(rt; after, [CLEAN, WARNED]);
+    equal(rt, &after, &[CLEAN, WARNED], &3);
     hears_row(rt, &mut converter, "B0 03 /", Some(DeviceFault::ReadOnly));
-    converter.restart();
-    assert_eq!(rt; converter.status_cml(), 0x00);
-    assert_eq!(rt; status(rt, &converter, 1), CLEAN);
+    restart(&mut converter);
+    equal(rt, &status_cml(&converter), &0x00, &4);
+    equal(rt, &status(rt, &converter, 1), &CLEAN, &5);
     let holds = ["B0 05 04 00 21 00 50 65", clear, "B0 7A 08 F2"];
     hears_rows(rt, &mut converter, &holds);
-    assert_eq!(rt; status(rt, &converter, 0), WARNED);
+    equal(rt, &status(rt, &converter, 0), &WARNED, &6);
     Ok(())
 }
 
@@ -278,15 +291,15 @@ static WORD_BITS: [(StatusWord, u16); 16] = [
 #[test]
 fn the_bits_have_the_numbers_of_the_standard(rt: HostRuntime) {
     for (bit, number) in &BYTE_BITS {
-        assert_eq!(rt; bit.bits(), *number);
+        equal(&rt, &bit.bits(), number, &1);
     }
     for (bit, number) in &VOUT_BITS {
-        assert_eq!(rt; bit.bits(), *number);
+        equal(&rt, &bit.bits(), number, &2);
     }
     for (bit, number) in &CML_BITS {
-        assert_eq!(rt; bit.bits(), *number);
+        equal(&rt, &bit.bits(), number, &3);
     }
     for (bit, number) in &WORD_BITS {
-        assert_eq!(rt; bit.bits(), *number);
+        equal(&rt, &bit.bits(), number, &4);
     }
 }

@@ -1,8 +1,9 @@
 //! The user store: what STORE_USER_ALL and RESTORE_USER_ALL do, plain and carried, and what a restart loads.
 
 use super::{hears_row, hears_rows, status};
+use crate::checks::{equal, is_true};
 use crate::fixtures::{CELLS, FIRST, SECOND};
-use crate::frames::{base, frame, hear, stored, word};
+use crate::frames::{base, frame, hear, page_of, restart, status_cml, stored, word};
 use pm_device::{Converter, DeviceFault, Ending, Heard};
 use pm_frame::FrameFault;
 use pm_table::Cell;
@@ -86,10 +87,10 @@ static ROWS: [Row; 34] = [
 fn holds(rt: &impl Abort, converter: &Converter, row: &Row) {
     let (bytes, _, words, kept, protect) = row;
     let now = [word(converter, FIRST), word(converter, SECOND)];
-    assert_eq!(rt; now, *words, "after {bytes}");
+    equal(rt, &now, words, &bytes);
     let store = [stored(converter, FIRST), stored(converter, SECOND)];
-    assert_eq!(rt; store, *kept, "the store after {bytes}");
-    assert_eq!(rt; word(converter, Cell::Protect), *protect, "after {bytes}");
+    equal(rt, &store, kept, &bytes);
+    equal(rt, &word(converter, Cell::Protect), protect, &bytes);
 }
 
 fn follow(rt: &impl Abort, converter: &mut Converter, row: &Row) {
@@ -103,10 +104,10 @@ fn the_outputs_settings_are_stored_and_come_back(rt: HostRuntime) -> Result<(), 
     for row in &ROWS {
         follow(&rt, &mut converter, row);
     }
-    converter.restart();
+    restart(&mut converter);
     let row = ("a restart", None, BOTH, BOTH, 0x00);
     holds(&rt, &converter, &row);
-    assert_eq!(rt; converter.page(), 0);
+    equal(&rt, &page_of(&converter), &0, &1);
     Ok(())
 }
 
@@ -128,12 +129,12 @@ static OTHERS: [&str; 12] = [
 
 fn is_stored(rt: &impl Abort, converter: &Converter, cell: Cell) {
     if let Cell::Out(_, _) = cell {
-        assert_eq!(rt; stored(converter, cell), word(converter, cell), "{cell:?}");
+        equal(rt, &stored(converter, cell), &word(converter, cell), &cell);
     }
 }
 
 fn has(rt: &impl Abort, converter: &Converter, other: &Converter, cell: Cell) {
-    assert_eq!(rt; word(converter, cell), word(other, cell), "{cell:?}");
+    equal(rt, &word(converter, cell), &word(other, cell), &cell);
 }
 
 #[test]
@@ -150,7 +151,7 @@ fn each_cell_is_stored(rt: HostRuntime) -> Result<(), Fail> {
     for cell in CELLS {
         is_stored(&rt, &converter, cell);
     }
-    converter.restart();
+    restart(&mut converter);
     for cell in CELLS {
         has(&rt, &converter, &other, cell);
     }
@@ -165,7 +166,7 @@ fn a_restore_latches_and_clears_nothing(rt: HostRuntime) -> Result<(), Fail> {
     let below = "B0 05 04 01 21 00 10 B4";
     hears_rows(&rt, &mut converter, &[above, "B0 15 24", below]);
     hears_rows(&rt, &mut converter, &["B0 05 02 01 03 45"]);
-    assert_eq!(rt; status(&rt, &converter, 1), (0x0000, 0x00));
+    equal(&rt, &status(&rt, &converter, 1), &(0x0000, 0x00), &1);
     hears_row(
         &rt,
         &mut converter,
@@ -173,11 +174,11 @@ fn a_restore_latches_and_clears_nothing(rt: HostRuntime) -> Result<(), Fail> {
         Some(DeviceFault::UnsupportedCode),
     );
     hears_rows(&rt, &mut converter, &["B0 16 2D"]);
-    assert_eq!(rt; status(&rt, &converter, 1), (0x8003, 0x08));
-    assert_eq!(rt; status(&rt, &converter, 0), (0x0002, 0x00));
+    equal(&rt, &status(&rt, &converter, 1), &(0x8003, 0x08), &2);
+    equal(&rt, &status(&rt, &converter, 0), &(0x0002, 0x00), &3);
     hears_rows(&rt, &mut converter, &[below, "B0 15 24", "B0 16 2D"]);
-    assert_eq!(rt; status(&rt, &converter, 1), (0x8003, 0x08));
-    assert_eq!(rt; converter.status_cml(), 0x80);
+    equal(&rt, &status(&rt, &converter, 1), &(0x8003, 0x08), &4);
+    equal(&rt, &status_cml(&converter), &0x80, &5);
     Ok(())
 }
 
@@ -189,12 +190,13 @@ fn a_cut_store_is_no_store(rt: HostRuntime) -> Result<(), Fail> {
     for cut in ["B0 15", "B0 16", "B0 05 02 00 15", "B0 05 02 00 16"] {
         let bytes = frame(&rt, cut);
         let heard = hear(&mut converter, bytes.as_slice(), Ending::Stop);
-        assert!(rt;
+        is_true(
+            &rt,
             matches!(heard, Heard::Refused(DeviceFault::Frame(_))),
-            "{cut}"
+            &cut,
         );
-        assert_eq!(rt; word(&converter, FIRST), 0x34CD, "{cut}");
-        assert_eq!(rt; stored(&converter, FIRST), 0x1000, "{cut}");
+        equal(&rt, &word(&converter, FIRST), &0x34CD, &cut);
+        equal(&rt, &stored(&converter, FIRST), &0x1000, &cut);
     }
     Ok(())
 }

@@ -1,8 +1,9 @@
 //! What each code writes, over the bus.
 
 use super::hears_rows;
+use crate::checks::equal;
 use crate::fixtures::CELLS;
-use crate::frames::{base, word};
+use crate::frames::{base, page_of, restart, word};
 use pm_device::Converter;
 use pm_table::Cell;
 use std::process::Abort;
@@ -73,7 +74,7 @@ fn has_its_start(
     wanted: bool,
 ) {
     let same = word(converter, cell) == word(started, cell);
-    assert_eq!(rt; same, wanted, "{cell:?}");
+    equal(rt, &same, &wanted, &cell);
 }
 
 // Then every register of both outputs has another word, and PAGE is 1; a restart gives each its start
@@ -86,10 +87,10 @@ fn each_write_reaches_its_own_register(rt: HostRuntime) -> Result<(), Fail> {
     for cell in CELLS {
         has_its_start(&rt, &converter, &started, cell, false);
     }
-    converter.restart();
+    restart(&mut converter);
     for cell in CELLS {
         has_its_start(&rt, &converter, &started, cell, true);
     }
-    assert_eq!(rt; converter.page(), 0);
+    equal(&rt, &page_of(&converter), &0, &1);
     Ok(())
 }

@@ -1,4 +1,5 @@
 use super::*;
+use crate::checks::{equal, is_true};
 
 #[test]
 fn the_outputs_are_judged_before_the_passes(rt: HostRuntime) {
@@ -10,10 +11,11 @@ fn the_outputs_are_judged_before_the_passes(rt: HostRuntime) {
         (1, 1, None),
         (8, 15, None),
     ] {
-        assert_eq!(rt;
-            Host::new(0x08, outputs, passes).err(),
-            wanted,
-            "{outputs} {passes}"
+        equal(
+            &rt,
+            &Host::new(0x08, outputs, passes).err(),
+            &wanted,
+            &(outputs, passes),
         );
     }
 }
@@ -21,35 +23,49 @@ fn the_outputs_are_judged_before_the_passes(rt: HostRuntime) {
 #[test]
 fn a_learn_that_finds_nothing_leaves_the_format_from_before(rt: HostRuntime) {
     let mut bench = Bench::new();
-    assert_eq!(rt; bench.learn(0), Ok(()));
-    assert_eq!(rt; bench.got(&[0xB1]), NEXT);
-    assert_eq!(rt; bench.answered(READ_MODE, &[0x40]), NEXT);
-    assert!(rt; bench.sends(&[0xB0, 0x30, 0x02, 0x21, 0x00]) && bench.host.sending_reads());
-    assert_eq!(rt; bench.got(&[]), NEXT);
+    equal(&rt, &bench.learn(0), &Ok(()), &1);
+    equal(&rt, &bench.got(&[0xB1]), &NEXT, &2);
+    equal(&rt, &bench.answered(READ_MODE, &[0x40]), &NEXT, &3);
+    is_true(
+        &rt,
+        bench.sends(&[0xB0, 0x30, 0x02, 0x21, 0x00]) && bench.host.sending_reads(),
+        &4,
+    );
+    equal(&rt, &bench.got(&[]), &NEXT, &5);
     let millivolts = [0x01, 0x00, 0x00, 0x00, 0x03];
-    assert_eq!(rt; bench.answered(READ_COEFFICIENTS, &millivolts), LEARNED);
+    equal(
+        &rt,
+        &bench.answered(READ_COEFFICIENTS, &millivolts),
+        &LEARNED,
+        &6,
+    );
     // A mode without a format, coefficients without one, no answer to either read.
     let nothing: [u8; 5] = [0; 5];
     let far: [u8; 5] = [0x01, 0x00, 0x00, 0x00, 0x0D];
     for mode in [0x20, 0x41, 0x60, 0x94] {
-        assert_eq!(rt; bench.learn(0), Ok(()));
-        assert_eq!(rt; bench.answered(READ_MODE, &[mode]), UNKNOWN, "{mode:02X}");
+        equal(&rt, &bench.learn(0), &Ok(()), &7);
+        equal(&rt, &bench.answered(READ_MODE, &[mode]), &UNKNOWN, &mode);
     }
     for coefficients in [nothing, far] {
-        assert_eq!(rt; bench.learn(0), Ok(()));
-        assert_eq!(rt; bench.answered(READ_MODE, &[0x40]), NEXT);
-        assert_eq!(rt; bench.answered(READ_COEFFICIENTS, &coefficients), UNKNOWN);
+        equal(&rt, &bench.learn(0), &Ok(()), &8);
+        equal(&rt, &bench.answered(READ_MODE, &[0x40]), &NEXT, &9);
+        equal(
+            &rt,
+            &bench.answered(READ_COEFFICIENTS, &coefficients),
+            &UNKNOWN,
+            &10,
+        );
     }
-    assert_eq!(rt; bench.learn(0), Ok(()));
-    assert_eq!(rt; bench.got(&[]), NEXT);
-    assert_eq!(rt; bench.got(&[]), UNKNOWN);
-    assert_eq!(rt; bench.learn(0), Ok(()));
-    assert_eq!(rt; bench.answered(READ_MODE, &[0x40]), NEXT);
-    assert_eq!(rt; bench.got(&[]), NEXT);
-    assert_eq!(rt; bench.got(&[]), UNKNOWN);
+    equal(&rt, &bench.learn(0), &Ok(()), &11);
+    equal(&rt, &bench.got(&[]), &NEXT, &12);
+    equal(&rt, &bench.got(&[]), &UNKNOWN, &13);
+    equal(&rt, &bench.learn(0), &Ok(()), &14);
+    equal(&rt, &bench.answered(READ_MODE, &[0x40]), &NEXT, &15);
+    equal(&rt, &bench.got(&[]), &NEXT, &16);
+    equal(&rt, &bench.got(&[]), &UNKNOWN, &17);
     // 3300 millivolts.
-    assert_eq!(rt; bench.order_micro(FIRST, 3_300_000), Ok(()));
-    assert_eq!(rt; bench.finish(true), NEXT);
-    assert_eq!(rt; bench.answered(READ_FIRST, &[0xE4, 0x0C]), DONE);
-    assert_eq!(rt; bench.standing(FIRST), Standing::Confirmed(3300));
+    equal(&rt, &bench.order_micro(FIRST, 3_300_000), &Ok(()), &18);
+    equal(&rt, &bench.finish(true), &NEXT, &19);
+    equal(&rt, &bench.answered(READ_FIRST, &[0xE4, 0x0C]), &DONE, &20);
+    equal(&rt, &bench.standing(FIRST), &Standing::Confirmed(3300), &21);
 }

@@ -1,7 +1,8 @@
 //! Eight outputs, each with a format of its own.
 
 use super::goes;
-use crate::fixtures::{NOT_ACKED, OUTPUT, READ, READ_LOST, begun, step, takes};
+use crate::checks::equal;
+use crate::fixtures::{NOT_ACKED, OUTPUT, READ, READ_LOST, begun, last_end, step, takes};
 use pm_device::{Config, OutputStart};
 use pm_host::{HostFault, JobEnd};
 use pm_table::{Cell, Coefficients, Reg};
@@ -68,7 +69,7 @@ fn each_of_eight_outputs_has_a_format_of_its_own(rt: HostRuntime) -> Result<(), 
     for (output, (request, _)) in (0..8).zip(LEARNS.iter().copied()) {
         goes(&rt, &mut world, &Event::Learn(output), request);
         goes(&rt, &mut world, &READ, "");
-        assert_eq!(rt; world.last_end(), Some(JobEnd::Learned));
+        equal(&rt, &last_end(&world), &Some(JobEnd::Learned), &1);
     }
     for (output, (_, write)) in (0..8).zip(LEARNS.iter().copied()) {
         let volt = Event::OrderMicro(Cell::Out(output, Reg::VoutCommand), 1_000_000);
@@ -80,7 +81,7 @@ fn each_of_eight_outputs_has_a_format_of_its_own(rt: HostRuntime) -> Result<(), 
     for output in 0..8 {
         let volt = Event::OrderMicro(Cell::Out(output, Reg::VoutCommand), 1_000_000);
         let unknown = Err(Cause::Host(HostFault::FormatUnknown));
-        assert_eq!(rt; step(&mut world, &volt), unknown, "output {output}");
+        equal(&rt, &step(&mut world, &volt), &unknown, &output);
     }
     Ok(())
 }
