@@ -1,7 +1,7 @@
 //! The three engines that read a text and write one, as one call.
 ghost use Rattle.std.specs.Prelude.{IsFalse};
 
-use crate::fakes::Sheet;
+use crate::fakes::{Endless, Paper, Pieces, Sheet, blank_paper};
 use crate::worked::{FRAME, LINES, REPORT, SCENARIO, TAKEN, TRACE};
 use pm_text::{DecodeEnd, ReplayEnd, Sink, Source, TextFault, decode, replay};
 use pm_tool::hear;
@@ -17,16 +17,71 @@ pub(crate) enum Engine {
 }
 
 /// Each engine, its worked text, what it writes of that, and whether it ends well.
-pub(crate) const WORKED: [(Engine, &str, &str, bool); 3] = [
-    (Engine::Replay, SCENARIO, REPORT, true),
-    (Engine::Decode, TRACE, LINES, false),
-    (Engine::Hear, FRAME, TAKEN, true),
-];
+pub(crate) fn worked() -> [(Engine, &'static str, &'static str, bool); 3] {
+    [
+        (Engine::Replay, SCENARIO, REPORT, true),
+        (Engine::Decode, TRACE, LINES, false),
+        (Engine::Hear, FRAME, TAKEN, true),
+    ]
+}
+
+// Each engine by itself: whether it ended well.
+fn replayed<R: Read, W: Write>(
+    alloc: Global,
+    reader: &mut Source<R>,
+    writer: &mut Sink<W>,
+) -> Result<bool, TextFault>
+    requires readable { IsFalse reader.old.failed }
+    requires writable { IsFalse writer.old.failed }
+{
+    match replay(alloc, reader, writer) {
+        Ok(end) => Ok(end == ReplayEnd::Ran),
+        Err(fault) => Err(fault),
+    }
+}
+
+fn decoded<R: Read, W: Write>(
+    alloc: Global,
+    reader: &mut Source<R>,
+    writer: &mut Sink<W>,
+) -> Result<bool, TextFault>
+    requires readable { IsFalse reader.old.failed }
+    requires writable { IsFalse writer.old.failed }
+{
+    match decode(alloc, reader, writer) {
+        Ok(end) => Ok(end == DecodeEnd::Clean),
+        Err(fault) => Err(fault),
+    }
+}
+
+fn heard<R: Read, W: Write>(
+    alloc: Global,
+    reader: &mut Source<R>,
+    writer: &mut Sink<W>,
+) -> Result<bool, TextFault>
+    requires readable { IsFalse reader.old.failed }
+    requires writable { IsFalse writer.old.failed }
+{
+    match hear(alloc, reader, writer) {
+        Ok(()) => Ok(true),
+        Err(fault) => Err(fault),
+    }
+}
+
+/// What comes of a run: how it ended, whether reading and writing failed, and what was read and written.
+#[derive(Drop)]
+pub(crate) struct Ended<'a> {
+    pub(crate) end: Result<bool, TextFault>,
+    pub(crate) read_failed: bool,
+    pub(crate) write_failed: bool,
+    pub(crate) read: Pieces<'a>,
+    pub(crate) written: Paper,
+}
 
 impl Engine {
     /// Runs the engine: whether it ended well, which is a scenario that ran to its end, a trace without
     /// a bad line, and any text that was heard.
-    pub(crate) fn run<R: Read, W: Write>(
+    fn run<R: Read, W: Write>(
         self,
         alloc: Global,
         reader: &mut Source<R>,
@@ -36,19 +91,36 @@ impl Engine {
         requires writable { IsFalse writer.old.failed }
     {
         match self {
-            Engine::Replay => match replay(alloc, reader, writer) {
-                Ok(end) => Ok(end == ReplayEnd::Ran),
-                Err(fault) => Err(fault),
-            },
-            Engine::Decode => match decode(alloc, reader, writer) {
-                Ok(end) => Ok(end == DecodeEnd::Clean),
-                Err(fault) => Err(fault),
-            },
-            Engine::Hear => match hear(alloc, reader, writer) {
-                Ok(()) => Ok(true),
-                Err(fault) => Err(fault),
-            },
+            Engine::Replay => replayed(alloc, reader, writer),
+            Engine::Decode => decoded(alloc, reader, writer),
+            Engine::Hear => heard(alloc, reader, writer),
         }
+    }
+
+    /// Runs the engine from a reader of pieces to a writer of pieces.
+    pub(crate) fn over(self, alloc: Global, read: Pieces<'_>, written: Paper) -> Ended<'_> {
+        let mut reader = Source::new(read);
+        let mut writer = Sink::new(written);
+        let end = self.run(alloc, &mut reader, &mut writer);
+        Ended {
+            end,
+            read_failed: reader.failed(),
+            write_failed: writer.failed(),
+            read: reader.into_inner(),
+            written: writer.into_inner(),
+        }
+    }
+
+    /// Runs the engine over a reader without an end: how it ended, the calls of its reader, what it wrote.
+    pub(crate) fn over_endless(
+        self,
+        alloc: Global,
+        bytes: &[u8],
+    ) -> (Result<bool, TextFault>, usize, Paper) {
+        let mut reader = Source::new(Endless { bytes, calls: 0 });
+        let mut writer = Sink::new(blank_paper(alloc, 4096));
+        let end = self.run(alloc, &mut reader, &mut writer);
+        (end, reader.into_inner().calls, writer.into_inner())
     }
 
     /// Runs the engine from a reader to memory.

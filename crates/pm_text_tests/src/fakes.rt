@@ -98,7 +98,7 @@ pub(crate) enum Failure {
 }
 
 /// Each way in which a writer fails.
-pub(crate) const FAILURES: [Failure; 3] = [Failure::Error, Failure::Interrupted, Failure::Nothing];
+pub(crate) static FAILURES: [Failure; 3] = [Failure::Error, Failure::Interrupted, Failure::Nothing];
 
 /// A writer that takes this many bytes at a time. The call with this number fails, and the others
 /// don't; 0 for none. A flush is counted apart, and fails where it is said to.

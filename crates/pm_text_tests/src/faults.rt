@@ -1,5 +1,6 @@
 //! The faults of texts and of numbers: their words, what stands beside them, and their derived texts.
 
+use crate::checks::equal;
 use pm_device::ConfigFault;
 use pm_host::HostFault;
 use pm_num::NumFault;
@@ -10,11 +11,6 @@ use pm_world::SetupFault;
 use std::process::Abort;
 use std::test::Fail;
 
-// No world is made, for this fault of the configuration.
-fn device(fault: ConfigFault) -> TextFault {
-    TextFault::Setup(SetupFault::Device(fault))
-}
-
 // A fault's words, its line, if it has one, its derived text, and whether it has a setup's fault.
 fn is_told(
     rt: &(impl Abort + AllocGlobal),
@@ -23,81 +19,81 @@ fn is_told(
     line: Option<u64>,
     text: &str,
 ) -> Result<(), Fail> {
-    assert_eq!(rt; fault.words(), words);
-    assert_eq!(rt; fault.line(), line, "{text}");
+    equal(rt, &fault.words(), &words, &1);
+    equal(rt, &fault.line(), &line, &text);
     let derived = format!(in rt.alloc(); "{fault}")?;
-    assert_eq!(rt; derived.as_str(), text);
-    assert_eq!(rt; fault.setup().is_some(), words == "X7 Setup", "{text}");
+    equal(rt, &derived.as_str(), &text, &2);
+    equal(rt, &fault.setup().is_some(), &(words == "X7 Setup"), &text);
     Ok(())
 }
 
+static TEXT_FAULTS: [(TextFault, &str, Option<u64>, &str); 12] = [
+    (
+        TextFault::Syntax(2),
+        "X1 Syntax",
+        Some(2),
+        "an unexpected line 2",
+    ),
+    (
+        TextFault::BadHex(3),
+        "X2 BadHex",
+        Some(3),
+        "bad hexadecimal in line 3",
+    ),
+    (
+        TextFault::TooLong,
+        "X3 TooLong",
+        None,
+        "a text of more than 1048576 bytes",
+    ),
+    (TextFault::Read, "X4 Read", None, "a failed read"),
+    (TextFault::Write, "X5 Write", None, "a failed write"),
+    (TextFault::Memory, "X6 Memory", None, "want of memory"),
+    (
+        TextFault::Setup(SetupFault::Device(ConfigFault::OutputCount)),
+        "X7 Setup",
+        None,
+        "an impossible setup: the device: a number of outputs outside 1 to 8",
+    ),
+    (
+        TextFault::Setup(SetupFault::Device(ConfigFault::BadStart(Cell::Out(0, Reg::Operation)))),
+        "X7 Setup",
+        None,
+        "an impossible setup: the device: a start word that its cell doesn't accept",
+    ),
+    (
+        TextFault::Setup(SetupFault::Device(ConfigFault::Address)),
+        "X7 Setup",
+        None,
+        "an impossible setup: the device: a reserved address",
+    ),
+    (
+        TextFault::Setup(SetupFault::Device(ConfigFault::BadMode(7, TableFault::HalfMode))),
+        "X7 Setup",
+        None,
+        "an impossible setup: the device: an unsupported mode of output 7: a half precision mode",
+    ),
+    (
+        TextFault::Setup(SetupFault::Device(ConfigFault::BadCoefficients(NumFault::ZeroSlope))),
+        "X7 Setup",
+        None,
+        "an impossible setup: the device: unsupported coefficients: slope is zero",
+    ),
+    (
+        TextFault::Setup(SetupFault::Host(HostFault::Passes)),
+        "X7 Setup",
+        None,
+        "an impossible setup: the host: a number of passes other than 1 to 15",
+    ),
+];
+
 #[test]
 fn each_fault_of_a_text_has_its_words(rt: HostRuntime) -> Result<(), Fail> {
-    let start = ConfigFault::BadStart(Cell::Out(0, Reg::Operation));
-    let rows = [
-        (
-            TextFault::Syntax(2),
-            "X1 Syntax",
-            Some(2),
-            "an unexpected line 2",
-        ),
-        (
-            TextFault::BadHex(3),
-            "X2 BadHex",
-            Some(3),
-            "bad hexadecimal in line 3",
-        ),
-        (
-            TextFault::TooLong,
-            "X3 TooLong",
-            None,
-            "a text of more than 1048576 bytes",
-        ),
-        (TextFault::Read, "X4 Read", None, "a failed read"),
-        (TextFault::Write, "X5 Write", None, "a failed write"),
-        (TextFault::Memory, "X6 Memory", None, "want of memory"),
-        (
-            device(ConfigFault::OutputCount),
-            "X7 Setup",
-            None,
-            "an impossible setup: the device: a number of outputs outside 1 to 8",
-        ),
-        (
-            device(start),
-            "X7 Setup",
-            None,
-            "an impossible setup: the device: a start word that its cell doesn't accept",
-        ),
-        (
-            device(ConfigFault::Address),
-            "X7 Setup",
-            None,
-            "an impossible setup: the device: a reserved address",
-        ),
-        (
-            device(ConfigFault::BadMode(7, TableFault::HalfMode)),
-            "X7 Setup",
-            None,
-            "an impossible setup: the device: an unsupported mode of output 7: a half precision mode",
-        ),
-        (
-            device(ConfigFault::BadCoefficients(NumFault::ZeroSlope)),
-            "X7 Setup",
-            None,
-            "an impossible setup: the device: unsupported coefficients: slope is zero",
-        ),
-        (
-            TextFault::Setup(SetupFault::Host(HostFault::Passes)),
-            "X7 Setup",
-            None,
-            "an impossible setup: the host: a number of passes other than 1 to 15",
-        ),
-    ];
-    for (fault, words, line, text) in rows {
+    for &(fault, words, line, text) in &TEXT_FAULTS {
         is_told(&rt, fault, words, line, text)?;
     }
     let passes = SetupFault::Host(HostFault::Passes);
-    assert_eq!(rt; TextFault::Setup(passes).setup(), Some(passes));
+    equal(&rt, &TextFault::Setup(passes).setup(), &Some(passes), &1);
     Ok(())
 }
 
@@ -109,10 +105,10 @@ fn is_refused(
     status: u8,
     text: &str,
 ) -> Result<(), Fail> {
-    assert_eq!(rt; fault.words(), words);
-    assert_eq!(rt; fault.status(), status, "{words}");
+    equal(rt, &fault.words(), &words, &1);
+    equal(rt, &fault.status(), &status, &words);
     let derived = format!(in rt.alloc(); "{fault}")?;
-    assert_eq!(rt; derived.as_str(), text);
+    equal(rt, &derived.as_str(), &text, &2);
     Ok(())
 }
 

@@ -1,7 +1,8 @@
 //! The calls that take memory, where it is refused: want of memory or the right answer, and nothing else.
 //! Each test holds with ample memory too, and whichever allocation is refused: `rt try --test --fail-alloc N`.
 
-use crate::engine::{Engine, WORKED};
+use crate::checks::{equal, is_true};
+use crate::engine::{Engine, worked};
 use crate::fakes::{Sheet, in_pieces};
 use crate::reports::REPORTS;
 use crate::worked::{CODES, CODES_SAID};
@@ -20,18 +21,18 @@ fn expect_text(rt: &(impl Abort + AllocGlobal), engine: Engine, input: &str, tex
     let (end, sheet) = engine.sheet_of(rt.alloc(), in_pieces(input.as_bytes(), 512));
     let written = sheet.text();
     match end {
-        Ok(_) => assert!(rt; written == text.as_bytes(), "{input}"),
+        Ok(_) => is_true(rt, written == text.as_bytes(), &input),
         Err(fault) => {
-            assert_eq!(rt; fault, TextFault::Memory, "{input}");
-            assert!(rt; text.as_bytes().starts_with(written), "{input}");
-            assert!(rt; written.is_empty() || engine == Engine::Decode, "{input}");
+            equal(rt, &fault, &TextFault::Memory, &input);
+            is_true(rt, text.as_bytes().starts_with(written), &input);
+            is_true(rt, written.is_empty() || engine == Engine::Decode, &input);
         }
     }
 }
 
 #[test]
 fn an_engine_without_memory_writes_nothing_else(rt: HostRuntime) {
-    for (engine, input, text, _) in WORKED {
+    for (engine, input, text, _) in worked() {
         expect_text(&rt, engine, input, text);
     }
     for (scenario, report) in REPORTS {
@@ -56,11 +57,11 @@ fn a_decoder_without_memory_refuses_from_then_on(rt: HostRuntime) {
         match decoder.feed(rest) {
             Ok(fed) => {
                 rest = &rest[fed.taken..];
-                assert!(rt; decoder.line().is_some() == fed.ended);
+                is_true(&rt, decoder.line().is_some() == fed.ended, &1);
                 accepted = accepted.saturating_add(u64::from(fed.ended));
             }
             Err(fault) => {
-                assert_eq!(rt; fault, TextFault::Memory);
+                equal(&rt, &fault, &TextFault::Memory, &2);
                 is_refused = true;
                 break;
             }
@@ -73,13 +74,13 @@ fn a_decoder_without_memory_refuses_from_then_on(rt: HostRuntime) {
         decoder.finish()
     };
     match end {
-        Ok(true) if !is_refused => assert_eq!(rt; decoder.counts(), (23, 23, 0, 0)),
+        Ok(true) if !is_refused => equal(&rt, &decoder.counts(), &(23, 23, 0, 0), &3),
         _ => {
-            assert!(rt; decoder.line().is_none());
-            assert_eq!(rt; decoder.feed(b"x").err(), Some(TextFault::Memory));
-            assert_eq!(rt; decoder.feed(b"").err(), Some(TextFault::Memory));
-            assert_eq!(rt; decoder.finish(), Err(TextFault::Memory));
-            assert_eq!(rt; decoder.counts(), (accepted, accepted, 0, 0));
+            is_true(&rt, decoder.line().is_none(), &4);
+            equal(&rt, &decoder.feed(b"x").err(), &Some(TextFault::Memory), &5);
+            equal(&rt, &decoder.feed(b"").err(), &Some(TextFault::Memory), &6);
+            equal(&rt, &decoder.finish(), &Err(TextFault::Memory), &7);
+            equal(&rt, &decoder.counts(), &(accepted, accepted, 0, 0), &8);
         }
     }
 }
@@ -110,28 +111,29 @@ fn report_of(alloc: Global, text: &str) -> Result<String, TextFault> {
 // A text is this one, or memory was wanted.
 fn expect(rt: &impl Abort, found: Result<String, TextFault>, wanted: &str) {
     match found {
-        Ok(text) => assert!(rt; text.as_str() == wanted, "{wanted}"),
-        Err(fault) => assert_eq!(rt; fault, TextFault::Memory, "{wanted}"),
+        Ok(text) => is_true(rt, text.as_str() == wanted, &wanted),
+        Err(fault) => equal(rt, &fault, &TextFault::Memory, &wanted),
     }
 }
 
+static LINES_AND_REPORTS_ARE_WHOLE_OR_WANT_MEMORY: [(&str, &str); 3] = [
+    (
+        "B0 06 02 00 21 / B1 02 CD 34 B9",
+        "18446744073709551615 58 page 0 VOUT_COMMAND read 34CD",
+    ),
+    (
+        "B0 05 04 01 21 CD 34 5A",
+        "18446744073709551615 58 write F5 WrongPec 7",
+    ),
+    (
+        "B0 30 02 21 00 / B1 05 01 00 00 00 03 6B",
+        "18446744073709551615 58 COEFFICIENTS of 21 side 0 read m 1 b 0 r 3",
+    ),
+];
+
 #[test]
 fn lines_and_reports_are_whole_or_want_memory(rt: HostRuntime) {
-    let rows = [
-        (
-            "B0 06 02 00 21 / B1 02 CD 34 B9",
-            "18446744073709551615 58 page 0 VOUT_COMMAND read 34CD",
-        ),
-        (
-            "B0 05 04 01 21 CD 34 5A",
-            "18446744073709551615 58 write F5 WrongPec 7",
-        ),
-        (
-            "B0 30 02 21 00 / B1 05 01 00 00 00 03 6B",
-            "18446744073709551615 58 COEFFICIENTS of 21 side 0 read m 1 b 0 r 3",
-        ),
-    ];
-    for (line, wanted) in rows {
+    for &(line, wanted) in &LINES_AND_REPORTS_ARE_WHOLE_OR_WANT_MEMORY {
         expect(&rt, line_said(rt.alloc(), line), wanted);
     }
     for (scenario, report) in REPORTS {
@@ -159,10 +161,10 @@ fn a_number_is_written_whole_or_wants_memory(rt: HostRuntime) {
         let result = number(rt.alloc(), &mut sink, format, word, micro);
         let sheet = sink.into_inner();
         match result {
-            Ok(()) => assert!(rt; sheet.text() == line.as_bytes(), "{line}"),
+            Ok(()) => is_true(&rt, sheet.text() == line.as_bytes(), &line),
             Err(fault) => {
-                assert_eq!(rt; fault, NumberFault::Text(TextFault::Memory), "{line}");
-                assert!(rt; sheet.text().is_empty(), "{line}");
+                equal(&rt, &fault, &NumberFault::Text(TextFault::Memory), &line);
+                is_true(&rt, sheet.text().is_empty(), &line);
             }
         }
     }
@@ -184,7 +186,7 @@ fn expect_chosen<'a>(
             kind == ErrorKind::OutOfMemory || wanted.err() == Some(kind)
         }
     };
-    assert!(rt; is_right, "{words:?}");
+    is_true(rt, is_right, &words);
 }
 
 #[test]

@@ -1,24 +1,25 @@
 //! Each call that can answer want of memory, with ample memory at the far end of each of its dimensions:
 //! the codes that are counted, lines, events, outputs, the bytes of a line or of a part, digits, words.
 
+use crate::checks::{equal, is_true};
 use crate::engine::Engine;
 use crate::fakes::in_pieces;
 use crate::worked::{CODES, CODES_SAID, FRAME, REPORT, SCENARIO, TAKEN};
 use clap::error::ErrorKind;
-use pm_text::{TextFault, read_scenario, read_trace_line, render_line};
+use pm_text::{TextFault, TraceLine, read_scenario, read_trace_line, render_line};
 use pm_tool::{Chosen, chosen};
 use std::alloc::{AllocError, Global};
 use std::process::Abort;
 use std::test::Fail;
 
 /// A scenario's lines up to the events, with one output and with eight.
-const ONE: &str =
+static ONE: &str =
     "scenario 1\naddress 58\npasses 2\nprotect 00\ncoefficients 1 0 0\noutput 14 80 1000 4000 1100 0F00\nbegin\n";
 
-const EIGHT: &str =
+static EIGHT: &str =
     "scenario 1\naddress 58\npasses 2\nprotect 00\ncoefficients 1 0 0\noutput 14 80 1000 4000 1100 0F00\noutput 14 80 1000 4000 1100 0F00\noutput 14 80 1000 4000 1100 0F00\noutput 14 80 1000 4000 1100 0F00\noutput 14 80 1000 4000 1100 0F00\noutput 14 80 1000 4000 1100 0F00\noutput 14 80 1000 4000 1100 0F00\noutput 14 80 1000 4000 1100 0F00\nbegin\n";
 
-const OUTPUTS: &str = "output 0 VOUT_COMMAND 1000\noutput 1 VOUT_COMMAND 1000\n";
+static OUTPUTS: &str = "output 0 VOUT_COMMAND 1000\noutput 1 VOUT_COMMAND 1000\n";
 
 /// The end of a report of eight outputs.
 const OUTPUT_7: &str =
@@ -44,20 +45,31 @@ fn text_of(alloc: Global, long: Long) -> Result<Vec<u8>, AllocError> {
 /// How many lines are written, and how they begin and end.
 type Written = (usize, &'static str, &'static str);
 
-// An engine takes each text, and writes these lines.
+// An engine takes a text, and writes these lines.
+fn is_written(
+    rt: &(impl Abort + AllocGlobal),
+    engine: Engine,
+    long: Long,
+    written: Written,
+) -> Result<(), AllocError> {
+    let (lines, first, last) = written;
+    let text = text_of(rt.alloc(), long)?;
+    let (end, written) = engine.text_of(rt.alloc(), in_pieces(&text, 4096));
+    is_true(rt, end.is_ok(), &last);
+    let feeds = written.iter().filter(|byte| **byte == b'\n').count();
+    equal(rt, &feeds, &lines, &last);
+    is_true(rt, written.starts_with(first.as_bytes()), &first);
+    is_true(rt, written.ends_with(last.as_bytes()), &last);
+    Ok(())
+}
+
 fn expect_lines(
     rt: &(impl Abort + AllocGlobal),
     engine: Engine,
     rows: &[(Long, Written)],
 ) -> Result<(), AllocError> {
-    for (long, (lines, first, last)) in rows {
-        let text = text_of(rt.alloc(), *long)?;
-        let (end, written) = engine.text_of(rt.alloc(), in_pieces(&text, 4096));
-        assert!(rt; end.is_ok(), "{last}");
-        let feeds = written.iter().filter(|byte| **byte == b'\n').count();
-        assert_eq!(rt; feeds, *lines, "{last}");
-        assert!(rt; written.starts_with(first.as_bytes()), "{first}");
-        assert!(rt; written.ends_with(last.as_bytes()), "{last}");
+    for (long, written) in rows {
+        is_written(rt, engine, *long, *written)?;
     }
     Ok(())
 }
@@ -95,6 +107,15 @@ fn long_traces_are_decoded(rt: HostRuntime) -> Result<(), Fail> {
     Ok(())
 }
 
+// How many events a scenario has, and why a text is none.
+fn count_events(alloc: Global, text: &[u8]) -> Result<usize, TextFault> {
+    Ok(read_scenario(alloc, text)?.events.as_slice().len())
+}
+
+fn fault_of(alloc: Global, text: &[u8]) -> Option<TextFault> {
+    read_scenario(alloc, text).err()
+}
+
 #[test]
 fn long_scenarios_are_replayed(rt: HostRuntime) -> Result<(), Fail> {
     let rows: [(Long, Written); 5] = [
@@ -122,8 +143,7 @@ fn long_scenarios_are_replayed(rt: HostRuntime) -> Result<(), Fail> {
     ];
     expect_lines(&rt, Engine::Replay, &rows)?;
     let text = text_of(rt.alloc(), ([ONE, ""], "learn 0\n", 100_000, ""))?;
-    let scenario = read_scenario(rt.alloc(), &text)?;
-    assert_eq!(rt; scenario.events.as_slice().len(), 100_000);
+    equal(&rt, &count_events(rt.alloc(), &text)?, &100_000, &1);
     Ok(())
 }
 
@@ -168,6 +188,18 @@ fn long_texts_are_heard(rt: HostRuntime) -> Result<(), Fail> {
         ),
     ];
     expect_lines(&rt, Engine::Hear, &rows)?;
+    Ok(())
+}
+
+// `hear` refuses a text for this, and writes nothing.
+fn is_not_heard(rt: &(impl Abort + AllocGlobal), text: &[u8], fault: TextFault) {
+    let (end, written) = Engine::Hear.text_of(rt.alloc(), in_pieces(text, 4096));
+    equal(rt, &end, &Err(fault), &1);
+    is_true(rt, written.is_empty(), &2);
+}
+
+#[test]
+fn a_faulty_line_at_the_end_of_a_long_text_is_told(rt: HostRuntime) -> Result<(), Fail> {
     let faults: [(Long, TextFault); 3] = [
         (
             (["", ""], "\n", 1_048_575, "Z"),
@@ -183,17 +215,28 @@ fn long_texts_are_heard(rt: HostRuntime) -> Result<(), Fail> {
         ),
     ];
     for (long, fault) in faults {
-        let text = text_of(rt.alloc(), long)?;
-        let (end, written) = Engine::Hear.text_of(rt.alloc(), in_pieces(&text, 4096));
-        assert_eq!(rt; end, Err(fault));
-        assert!(rt; written.is_empty());
+        is_not_heard(&rt, &text_of(rt.alloc(), long)?, fault);
     }
     Ok(())
 }
 
+// An engine ends so and writes this; as a scenario the text is too long where it is for the engine.
+fn is_taken(
+    rt: &(impl Abort + AllocGlobal),
+    engine: Engine,
+    input: &[u8],
+    wanted: Result<bool, TextFault>,
+    text: &str,
+) {
+    let (end, written) = engine.text_of(rt.alloc(), in_pieces(input, 4096));
+    equal(rt, &end, &wanted, &engine);
+    equal(rt, &written.as_slice(), &text.as_bytes(), &engine);
+    let is_too_long = fault_of(rt.alloc(), input) == Some(TextFault::TooLong);
+    equal(rt, &is_too_long, &wanted.is_err(), &engine);
+}
+
 #[test]
 fn a_text_has_at_most_1048576_bytes(rt: HostRuntime) -> Result<(), Fail> {
-    let alloc = rt.alloc();
     // What stands before the spaces, what is written of it, and of that where there is a byte too many.
     let rows = [
         (Engine::Replay, SCENARIO, REPORT, ""),
@@ -206,24 +249,36 @@ fn a_text_has_at_most_1048576_bytes(rt: HostRuntime) -> Result<(), Fail> {
         (Engine::Hear, FRAME, TAKEN, ""),
     ];
     for (engine, head, text, front) in rows {
-        let mut input = Vec::from_slice(alloc, head.as_bytes())?;
+        let mut input = Vec::from_slice(rt.alloc(), head.as_bytes())?;
         input.resize(1_048_576, b' ')?;
-        let (end, written) = engine.text_of(alloc, in_pieces(&input, 4096));
-        assert_eq!(rt; end, Ok(true), "{engine:?}");
-        assert_eq!(rt; written.as_slice(), text.as_bytes(), "{engine:?}");
-        let fault = read_scenario(alloc, &input).err();
-        assert!(rt; fault != Some(TextFault::TooLong), "{engine:?}");
-        for last in [b' ', b'\n'] {
-            input.truncate(1_048_576);
-            input.push(last)?;
-            let (end, written) = engine.text_of(alloc, in_pieces(&input, 4096));
-            assert_eq!(rt; end, Err(TextFault::TooLong), "{engine:?}");
-            assert_eq!(rt; written.as_slice(), front.as_bytes(), "{engine:?}");
-            let fault = read_scenario(alloc, &input).err();
-            assert_eq!(rt; fault, Some(TextFault::TooLong), "{engine:?}");
-        }
+        is_taken(&rt, engine, &input, Ok(true), text);
+        input.push(b' ')?;
+        is_taken(&rt, engine, &input, Err(TextFault::TooLong), front);
+        input.truncate(1_048_576);
+        input.push(b'\n')?;
+        is_taken(&rt, engine, &input, Err(TextFault::TooLong), front);
     }
     Ok(())
+}
+
+// How many bytes the parts of a line have.
+fn sizes_of(parts: &TraceLine) -> (usize, Option<usize>) {
+    let read = match &parts.read {
+        Some(read) => Some(read.as_slice().len()),
+        None => None,
+    };
+    (parts.write.as_slice().len(), read)
+}
+
+// These, and what the line says with this number.
+fn rendered(
+    alloc: Global,
+    line: &[u8],
+    number: u64,
+) -> Result<((usize, Option<usize>), String), TextFault> {
+    let parts = read_trace_line(alloc, line)?;
+    let text = render_line(alloc, number, &parts)?;
+    Ok((sizes_of(&parts), text))
 }
 
 // A line has parts of this many bytes, and says this with that number.
@@ -234,24 +289,15 @@ fn is_rendered(
     number: u64,
     wanted: &str,
 ) -> Result<(), Fail> {
-    let (writes, reads) = sizes;
-    let parts = read_trace_line(rt.alloc(), line)?;
-    assert_eq!(rt; parts.write.as_slice().len(), writes, "{wanted}");
-    let read = match &parts.read {
-        Some(read) => Some(read.as_slice().len()),
-        None => None,
-    };
-    assert_eq!(rt; read, reads, "{wanted}");
-    let text = render_line(rt.alloc(), number, &parts)?;
-    assert_eq!(rt; text.as_str(), wanted);
+    let (found, text) = rendered(rt.alloc(), line, number)?;
+    equal(rt, &found, &sizes, &wanted);
+    equal(rt, &text.as_str(), &wanted, &1);
     Ok(())
 }
 
-#[test]
-fn long_parts_are_rendered_with_great_numbers(rt: HostRuntime) -> Result<(), Fail> {
-    let alloc = rt.alloc();
-    // The line, how many bytes its parts have, its number, and what it says.
-    let rows: [(Long, (usize, Option<usize>), u64, &str); 4] = [
+// The line, how many bytes its parts have, its number, and what it says.
+static LONG_PARTS_ARE_RENDERED_WITH_GREAT_NUMBERS: [(Long, (usize, Option<usize>), u64, &str); 4] =
+    [
         (
             (["B0", ""], " 05", 299, ""),
             (300, None),
@@ -277,14 +323,40 @@ fn long_parts_are_rendered_with_great_numbers(rt: HostRuntime) -> Result<(), Fai
             "1000000000000 58 COEFFICIENTS of FF side 255 read m -1 b -1 r -1",
         ),
     ];
-    for (long, parts, number, wanted) in rows {
+
+#[test]
+fn long_parts_are_rendered_with_great_numbers(rt: HostRuntime) -> Result<(), Fail> {
+    let alloc = rt.alloc();
+    for &(long, parts, number, wanted) in &LONG_PARTS_ARE_RENDERED_WITH_GREAT_NUMBERS {
         is_rendered(&rt, &text_of(alloc, long)?, parts, number, wanted)?;
     }
     Ok(())
 }
 
+// These words choose a `number` of this format and this word, with a micro of so many bytes.
+fn is_number(
+    rt: &(impl Abort + AllocGlobal),
+    words: &[&str],
+    wanted: (&str, &str, usize),
+) -> Result<(), Fail> {
+    let (wanted_format, wanted_word, bytes) = wanted;
+    match chosen(rt.alloc(), words)? {
+        Chosen::Number {
+            format,
+            word,
+            micro,
+        } => {
+            equal(rt, &format, &wanted_format, &1);
+            equal(rt, &word, &Some(wanted_word), &2);
+            equal(rt, &micro.map(|text| text.len()), &Some(bytes), &3);
+        }
+        _ => panic!(rt; "not number"),
+    }
+    Ok(())
+}
+
 #[test]
-fn many_words_and_long_words_are_chosen(rt: HostRuntime) -> Result<(), Fail> {
+fn a_long_word_is_chosen(rt: HostRuntime) -> Result<(), Fail> {
     let alloc = rt.alloc();
     let digits = text_of(alloc, (["--micro=", ""], "0", 1_000_000, "1"))?;
     let micro = String::from_utf8(digits)?;
@@ -297,31 +369,29 @@ fn many_words_and_long_words_are_chosen(rt: HostRuntime) -> Result<(), Fail> {
         "7FFF",
         micro.as_str(),
     ];
-    match chosen(alloc, &words)? {
-        Chosen::Number {
-            format,
-            word,
-            micro,
-        } => {
-            assert_eq!(rt; format, "direct:-32768:-32768:-12");
-            assert_eq!(rt; word, Some("7FFF"));
-            assert_eq!(rt; micro.map(|text| text.len()), Some(1_000_001));
-        }
-        _ => panic!(rt; "not number"),
-    }
-    for (command, kind) in [
-        ("hear", ErrorKind::UnknownArgument),
-        ("number", ErrorKind::UnknownArgument),
-        ("listen", ErrorKind::InvalidSubcommand),
-        ("--help", ErrorKind::DisplayHelp),
-    ] {
-        let mut words = vec![in alloc; "more"; 10_000]?;
-        words.insert(0, command)?;
-        words.insert(0, "pmb")?;
-        let found = chosen(alloc, words.as_slice())
-            .err()
-            .map(|error| error.kind());
-        assert_eq!(rt; found, Some(kind), "{command}");
-    }
+    is_number(&rt, &words, ("direct:-32768:-32768:-12", "7FFF", 1_000_001))
+}
+
+// A command and ten thousand words more are refused so.
+fn is_no_command(
+    rt: &(impl Abort + AllocGlobal),
+    command: &str,
+    kind: ErrorKind,
+) -> Result<(), Fail> {
+    let mut words = vec![in rt.alloc(); "more"; 10_000]?;
+    words.insert(0, command)?;
+    words.insert(0, "pmb")?;
+    let found = chosen(rt.alloc(), words.as_slice())
+        .err()
+        .map(|error| error.kind());
+    equal(rt, &found, &Some(kind), &command);
     Ok(())
+}
+
+#[test]
+fn many_words_are_no_command(rt: HostRuntime) -> Result<(), Fail> {
+    is_no_command(&rt, "hear", ErrorKind::UnknownArgument)?;
+    is_no_command(&rt, "number", ErrorKind::UnknownArgument)?;
+    is_no_command(&rt, "listen", ErrorKind::InvalidSubcommand)?;
+    is_no_command(&rt, "--help", ErrorKind::DisplayHelp)
 }

@@ -1,5 +1,6 @@
 //! The user store in texts: what is stored comes back by a restart and by a restore, in version 2 alone.
 
+use crate::checks::{equal, is_true};
 use crate::engine::Engine;
 use crate::fakes::in_pieces;
 use crate::worked::SCENARIO;
@@ -27,7 +28,7 @@ const START: &str =
 // last lines.
 type Row = (&'static str, &'static str, [&'static str; 2], &'static str);
 
-const ROWS: [Row; 9] = [
+static ROWS: [Row; 9] = [
     (
         "store\ndeliver whole\nfinish ack\nrestart device\n",
         "ran 8\n",
@@ -102,15 +103,15 @@ fn stored_words_come_back(rt: HostRuntime) -> Result<(), Fail> {
     for (events, first, output, last) in ROWS {
         let text = text_with(rt.alloc(), "00", events)?;
         let (end, written) = Engine::Replay.text_of(rt.alloc(), in_pieces(text.as_bytes(), 4096));
-        assert_eq!(rt; end, Ok(!first.starts_with("stopped")), "{events}");
+        equal(&rt, &end, &Ok(!first.starts_with("stopped")), &events);
         let told = std::str::from_utf8(&written)?;
-        assert!(rt; is_told(told, first, output, last), "{events}");
+        is_true(&rt, is_told(told, first, output, last), &events);
     }
     Ok(())
 }
 
 // WRITE_PROTECT at the start, events after the order, what WRITE_PROTECT then is and what the host says of it.
-const PROTECTED: [(&str, &str, &str); 4] = [
+static PROTECTED: [(&str, &str, &str); 4] = [
     // It isn't stored: a restore leaves it, and a restart gives its start word.
     (
         "20",
@@ -140,14 +141,14 @@ fn write_protect_is_not_stored(rt: HostRuntime) -> Result<(), Fail> {
     for (protect, events, first) in PROTECTED {
         let text = text_with(rt.alloc(), protect, events)?;
         let (end, written) = Engine::Replay.text_of(rt.alloc(), in_pieces(text.as_bytes(), 4096));
-        assert_eq!(rt; end, Ok(true), "{events}");
-        assert!(rt; written.starts_with(first.as_bytes()), "{events}");
+        equal(&rt, &end, &Ok(true), &events);
+        is_true(&rt, written.starts_with(first.as_bytes()), &events);
     }
     Ok(())
 }
 
 // Texts of `hear` and of `decode`, and what is written.
-const HEARD: [(&str, &str, &str); 6] = [
+static HEARD: [(&str, &str, &str); 6] = [
     (
         "B0 10 20 5D\nB0 16 2D\n",
         "taken\nrefused K5 Protected\n",
@@ -186,11 +187,11 @@ const HEARD: [(&str, &str, &str); 6] = [
 fn hear_stores_and_restores(rt: HostRuntime) -> Result<(), Fail> {
     for (text, answers, word) in HEARD {
         let (end, written) = Engine::Hear.text_of(rt.alloc(), in_pieces(text.as_bytes(), 4096));
-        assert_eq!(rt; end, Ok(true), "{text}");
+        equal(&rt, &end, &Ok(true), &text);
         let wanted = format!(in rt.alloc();
             "{answers}output 0 VOUT_COMMAND {word}\noutput 1 VOUT_COMMAND 1000\n"
         )?;
-        assert_eq!(rt; written.as_slice(), wanted.as_bytes(), "{text}");
+        equal(&rt, &written.as_slice(), &wanted.as_bytes(), &text);
     }
     Ok(())
 }
@@ -199,10 +200,10 @@ fn hear_stores_and_restores(rt: HostRuntime) -> Result<(), Fail> {
 fn a_trace_tells_both_codes(rt: HostRuntime) {
     let text = "B0 15 24\nB0 05 02 01 16 2E\nB0 05 02 01 15 27\nB0 16 /\n";
     let (end, written) = Engine::Decode.text_of(rt.alloc(), in_pieces(text.as_bytes(), 4096));
-    assert_eq!(rt; end, Ok(true));
+    equal(&rt, &end, &Ok(true), &1);
     let wanted =
         "1 58 STORE_USER_ALL send\n2 58 page 1 RESTORE_USER_ALL send\n3 58 page 1 STORE_USER_ALL send\n4 58 write F7 WrongDirection 1\ncount STORE_USER_ALL 2\ncount RESTORE_USER_ALL 1\nlines 4 accepted 3 faults 1 bad 0\n";
-    assert_eq!(rt; written.as_slice(), wanted.as_bytes());
+    equal(&rt, &written.as_slice(), &wanted.as_bytes(), &2);
 }
 
 // The events that a text of version 2 ends with, or the fault of its thirteenth line.
@@ -215,9 +216,9 @@ fn expect_event(
     match (read_scenario(rt.alloc(), text.as_bytes()), wanted) {
         (Ok(scenario), Ok(wanted)) => {
             let events = format!(in rt.alloc(); "{:?}", scenario.events.as_slice())?;
-            assert!(rt; events.as_str().ends_with(wanted), "{line}");
+            is_true(rt, events.as_str().ends_with(wanted), &line);
         }
-        (found, wanted) => assert_eq!(rt; found.err(), wanted.err(), "{line}"),
+        (found, wanted) => equal(rt, &found.err(), &wanted.err(), &line),
     }
     Ok(())
 }
@@ -244,14 +245,14 @@ fn version_1_knows_no_store(rt: HostRuntime) -> Result<(), Fail> {
     for event in ["store", "restore", "store 0", "restore ZZ"] {
         let text = format!(in rt.alloc(); "{SCENARIO}{event}\n")?;
         let found = read_scenario(rt.alloc(), text.as_bytes()).err();
-        assert_eq!(rt; found, Some(TextFault::Syntax(13)), "{event}");
+        equal(&rt, &found, &Some(TextFault::Syntax(13)), &event);
     }
     // What is heard is judged by the table all the same: a byte too many of a known code, and no wrong PEC.
     let text = format!(in rt.alloc();
         "{SCENARIO}order 0 VOUT_COMMAND 34CD\ndeliver bytes B0150000 stop\n"
     )?;
     let (end, written) = Engine::Replay.text_of(rt.alloc(), in_pieces(text.as_bytes(), 4096));
-    assert_eq!(rt; end, Ok(true));
-    assert!(rt; std::str::from_utf8(&written)?.contains("cml 02\n"));
+    equal(&rt, &end, &Ok(true), &1);
+    is_true(&rt, std::str::from_utf8(&written)?.contains("cml 02\n"), &2);
     Ok(())
 }

@@ -3,4 +3,5 @@ mod commandline;
 mod hear;
 mod numbers;
 mod run;
+mod setups;
 mod usage;

@@ -2,11 +2,13 @@
 
 mod packets;
 
+use crate::checks::{equal, is_true};
 use crate::engine::Engine;
 use crate::fakes::in_pieces;
 use crate::worked::TRACE;
 use pm_text::{Decoder, Shown, TextFault, read_trace_line, render_line};
 use std::alloc::{AllocError, Global};
+use std::process::Abort;
 use std::test::Fail;
 
 // Whether a trace has no bad line, and what `decode` writes of it.
@@ -14,53 +16,64 @@ fn decoded(alloc: Global, trace: &str) -> (Result<bool, TextFault>, Vec<u8>) {
     Engine::Decode.text_of(alloc, in_pieces(trace.as_bytes(), 4096))
 }
 
+// What `decode` writes of a trace, and whether it has no bad line.
+fn is_decoded(rt: &(impl Abort + AllocGlobal), trace: &str, text: &str, is_clean: bool) {
+    let (end, written) = decoded(rt.alloc(), trace);
+    equal(rt, &end, &Ok(is_clean), &trace);
+    equal(rt, &written.as_slice(), &text.as_bytes(), &trace);
+}
+
+static A_TRACE_IS_WRITTEN_LINE_BY_LINE: [(&str, &str, bool); 5] = [
+    ("", "lines 0 accepted 0 faults 0 bad 0\n", true),
+    (
+        "\n\r\n  \n# x\r\n",
+        "lines 0 accepted 0 faults 0 bad 0\n",
+        true,
+    ),
+    (
+        "b010 80 34\r",
+        "1 58 WRITE_PROTECT write 80\ncount WRITE_PROTECT 1\nlines 1 accepted 1 faults 0 bad 0\n",
+        true,
+    ),
+    (
+        "B0 7E / B1 80 00\nB0 20/B1 14 ED\n\nB0 03 47\nB0 20 / B1 14 ED\n",
+        "1 58 STATUS_CML read 80\n2 58 VOUT_MODE read 14\n4 58 write F5 WrongPec 2\n5 58 VOUT_MODE read 14\ncount STATUS_CML 1\ncount VOUT_MODE 2\nlines 4 accepted 3 faults 1 bad 0\n",
+        true,
+    ),
+    (
+        "  b010 8034  \nB0 1\r0 80 34\nb0\t10 80 34\nB 010 80 34\n#b0 10 80 34\nB0108034\n",
+        "1 58 WRITE_PROTECT write 80\n2 X2 BadHex\n3 X2 BadHex\n4 X2 BadHex\n6 58 WRITE_PROTECT write 80\ncount WRITE_PROTECT 2\nlines 5 accepted 2 faults 0 bad 3\n",
+        false,
+    ),
+];
+
 #[test]
 fn a_trace_is_written_line_by_line(rt: HostRuntime) {
-    let rows = [
-        ("", "lines 0 accepted 0 faults 0 bad 0\n", true),
-        (
-            "\n\r\n  \n# x\r\n",
-            "lines 0 accepted 0 faults 0 bad 0\n",
-            true,
-        ),
-        (
-            "b010 80 34\r",
-            "1 58 WRITE_PROTECT write 80\ncount WRITE_PROTECT 1\nlines 1 accepted 1 faults 0 bad 0\n",
-            true,
-        ),
-        (
-            "B0 7E / B1 80 00\nB0 20/B1 14 ED\n\nB0 03 47\nB0 20 / B1 14 ED\n",
-            "1 58 STATUS_CML read 80\n2 58 VOUT_MODE read 14\n4 58 write F5 WrongPec 2\n5 58 VOUT_MODE read 14\ncount STATUS_CML 1\ncount VOUT_MODE 2\nlines 4 accepted 3 faults 1 bad 0\n",
-            true,
-        ),
-        (
-            "  b010 8034  \nB0 1\r0 80 34\nb0\t10 80 34\nB 010 80 34\n#b0 10 80 34\nB0108034\n",
-            "1 58 WRITE_PROTECT write 80\n2 X2 BadHex\n3 X2 BadHex\n4 X2 BadHex\n6 58 WRITE_PROTECT write 80\ncount WRITE_PROTECT 2\nlines 5 accepted 2 faults 0 bad 3\n",
-            false,
-        ),
-    ];
-    for (trace, text, is_clean) in rows {
-        let (end, written) = decoded(rt.alloc(), trace);
-        assert_eq!(rt; end, Ok(is_clean), "{trace}");
-        assert_eq!(rt; written.as_slice(), text.as_bytes(), "{trace}");
+    for &(trace, text, is_clean) in &A_TRACE_IS_WRITTEN_LINE_BY_LINE {
+        is_decoded(&rt, trace, text, is_clean);
     }
+}
+
+// What a line says by itself, with this number.
+fn rendered(alloc: Global, line: &str, number: u64) -> Result<String, TextFault> {
+    let parts = read_trace_line(alloc, line.as_bytes())?;
+    render_line(alloc, number, &parts)
 }
 
 #[test]
 fn a_line_by_itself_is_never_skipped(rt: HostRuntime) -> Result<(), Fail> {
     for line in ["", "  "] {
-        let parts = read_trace_line(rt.alloc(), line.as_bytes())?;
-        let text = render_line(rt.alloc(), 300, &parts)?;
-        assert_eq!(rt; text.as_str(), "300 -- write F1 NotOurs");
+        let text = rendered(rt.alloc(), line, 300)?;
+        equal(&rt, &text.as_str(), &"300 -- write F1 NotOurs", &1);
     }
-    let comment = read_trace_line(rt.alloc(), b"# x").err();
-    assert_eq!(rt; comment, Some(TextFault::BadHex(1)));
+    let comment = rendered(rt.alloc(), "# x", 300).err();
+    equal(&rt, &comment, &Some(TextFault::BadHex(1)), &2);
     Ok(())
 }
 
 /// What a decoder shows of the worked trace: the number of a line, and the message and the payload of the
 /// answer, or the address, whether the fault is in the read part, and the fault.
-const SHOWN: &str =
+static SHOWN: &str =
     "1 58 PagePlusWrite { page: 0, code: 33, payload: Word(13517) } None\n2 58 PagePlusRead { page: 0, code: 33 } Some([205, 52])\n3 Some(88) false WrongPec(7)\n4 58 WriteByte { code: 16, byte: 128 } None\n5 BadHex\n";
 
 // Feeds a piece on until it is taken, and notes what is shown of each line.
@@ -72,22 +85,38 @@ fn feed_whole(
 ) -> Result<(), Fail> {
     let mut rest = piece;
     for _ in 0..piece.len() {
-        let fed = decoder.feed(rest)?;
+        let taken = decoder.feed(rest)?.taken;
         if let Some((number, shown)) = decoder.line() {
-            let line = match shown {
-                Shown::Accepted { addr, view, answer } => {
-                    format!(in alloc; "{number} {addr:02X} {:?} {answer:?}\n", view.message())?
-                }
-                Shown::Faulty { addr, read, fault } => {
-                    format!(in alloc; "{number} {addr:?} {read} {fault:?}\n")?
-                }
-                Shown::BadSyntax => format!(in alloc; "{number} BadSyntax\n")?,
-                Shown::BadHex => format!(in alloc; "{number} BadHex\n")?,
-            };
-            text.push_str(line.as_str())?;
+            text.push_str(line_shown(alloc, number, shown)?.as_str())?;
         }
-        rest = &rest[fed.taken..];
+        rest = &rest[taken..];
     }
+    Ok(())
+}
+
+// What a decoder shows of a line, in a line.
+fn line_shown(alloc: Global, number: u64, shown: Shown<'_>) -> Result<String, Fail> {
+    Ok(match shown {
+        Shown::Accepted { addr, view, answer } => {
+            format!(in alloc; "{number} {addr:02X} {:?} {answer:?}\n", view.message())?
+        }
+        Shown::Faulty { addr, read, fault } => {
+            format!(in alloc; "{number} {addr:?} {read} {fault:?}\n")?
+        }
+        Shown::BadSyntax => format!(in alloc; "{number} BadSyntax\n")?,
+        Shown::BadHex => format!(in alloc; "{number} BadHex\n")?,
+    })
+}
+
+// The worked trace in these two pieces.
+fn is_shown(rt: &(impl Abort + AllocGlobal), first: &[u8], second: &[u8]) -> Result<(), Fail> {
+    let mut decoder = Decoder::new(rt.alloc());
+    let mut text = String::new(rt.alloc());
+    feed_whole(rt.alloc(), &mut decoder, first, &mut text)?;
+    feed_whole(rt.alloc(), &mut decoder, second, &mut text)?;
+    equal(rt, &decoder.finish(), &Ok(false), &first.len());
+    equal(rt, &text.as_str(), &SHOWN, &first.len());
+    equal(rt, &decoder.counts(), &(5, 3, 1, 1), &first.len());
     Ok(())
 }
 
@@ -95,13 +124,7 @@ fn feed_whole(
 fn a_cut_shows_the_same_lines_wherever_it_is(rt: HostRuntime) -> Result<(), Fail> {
     let trace = TRACE.as_bytes();
     for cut in 0..=trace.len() {
-        let mut decoder = Decoder::new(rt.alloc());
-        let mut text = String::new(rt.alloc());
-        feed_whole(rt.alloc(), &mut decoder, &trace[..cut], &mut text)?;
-        feed_whole(rt.alloc(), &mut decoder, &trace[cut..], &mut text)?;
-        assert_eq!(rt; decoder.finish(), Ok(false), "cut {cut}");
-        assert_eq!(rt; text.as_str(), SHOWN, "cut {cut}");
-        assert_eq!(rt; decoder.counts(), (5, 3, 1, 1), "cut {cut}");
+        is_shown(&rt, &trace[..cut], &trace[cut..])?;
     }
     Ok(())
 }
@@ -115,9 +138,30 @@ fn part(alloc: Global, first: &str, bytes: usize) -> Result<String, AllocError> 
     Ok(part)
 }
 
+// A line of parts of so many bytes.
+fn line_of(
+    alloc: Global,
+    writes: usize,
+    middle: &str,
+    reads: usize,
+    end: &str,
+) -> Result<String, Fail> {
+    let write = part(alloc, "B0", writes)?;
+    let read = if reads == 0 {
+        String::new(alloc)
+    } else {
+        part(alloc, "B1", reads)?
+    };
+    Ok(format!(in alloc; "{write}{middle}{read}{end}")?)
+}
+
+fn begins_with(rt: &(impl Abort + AllocGlobal), line: &str, wanted: &str) {
+    let (_, written) = decoded(rt.alloc(), line);
+    is_true(rt, written.starts_with(wanted.as_bytes()), &wanted);
+}
+
 #[test]
 fn a_part_has_at_most_300_bytes(rt: HostRuntime) -> Result<(), Fail> {
-    let alloc = rt.alloc();
     // How many bytes the write part has and what follows it, the read part's bytes and what follows.
     let rows = [
         (300, "", 0, "", "1 58 write F3 Long 9\n"),
@@ -131,18 +175,8 @@ fn a_part_has_at_most_300_bytes(rt: HostRuntime) -> Result<(), Fail> {
         (1, "20 /", 301, "Z", "1 X2 BadHex\n"),
     ];
     for (writes, middle, reads, end, wanted) in rows {
-        let write = part(alloc, "B0", writes)?;
-        let read = if reads == 0 {
-            String::new(alloc)
-        } else {
-            part(alloc, "B1", reads)?
-        };
-        let line = format!(in alloc; "{write}{middle}{read}{end}")?;
-        let (_, written) = decoded(alloc, line.as_str());
-        assert!(rt;
-            written.starts_with(wanted.as_bytes()),
-            "{writes} {middle} {reads} {end}"
-        );
+        let line = line_of(rt.alloc(), writes, middle, reads, end)?;
+        begins_with(&rt, &line, wanted);
     }
     Ok(())
 }
@@ -151,16 +185,21 @@ fn a_part_has_at_most_300_bytes(rt: HostRuntime) -> Result<(), Fail> {
 fn a_decoder_that_failed_refuses_from_then_on(rt: HostRuntime) -> Result<(), Fail> {
     let mut decoder = Decoder::new(rt.alloc());
     let fed = decoder.feed(b"b0 10 80 34\n")?;
-    assert_eq!(rt; (fed.taken, fed.ended), (12, true));
+    equal(&rt, &(fed.taken, fed.ended), &(12, true), &1);
     let spaces = vec![in rt.alloc(); b' '; 1_048_576]?;
     let fed = decoder.feed(&spaces)?;
-    assert_eq!(rt; (fed.taken, fed.ended), (1_048_564, false));
-    assert_eq!(rt; decoder.feed(b"").err(), None);
-    assert_eq!(rt; decoder.feed(b"\n").err(), Some(TextFault::TooLong));
-    assert!(rt; decoder.line().is_none());
-    assert_eq!(rt; decoder.feed(b"").err(), Some(TextFault::TooLong));
-    assert_eq!(rt; decoder.finish(), Err(TextFault::TooLong));
-    assert_eq!(rt; decoder.counts(), (1, 1, 0, 0));
+    equal(&rt, &(fed.taken, fed.ended), &(1_048_564, false), &2);
+    equal(&rt, &decoder.feed(b"").err(), &None, &3);
+    equal(
+        &rt,
+        &decoder.feed(b"\n").err(),
+        &Some(TextFault::TooLong),
+        &4,
+    );
+    is_true(&rt, decoder.line().is_none(), &5);
+    equal(&rt, &decoder.feed(b"").err(), &Some(TextFault::TooLong), &6);
+    equal(&rt, &decoder.finish(), &Err(TextFault::TooLong), &7);
+    equal(&rt, &decoder.counts(), &(1, 1, 0, 0), &8);
     Ok(())
 }
 
@@ -168,13 +207,13 @@ fn a_decoder_that_failed_refuses_from_then_on(rt: HostRuntime) -> Result<(), Fai
 fn a_finished_decoder_takes_nothing(rt: HostRuntime) -> Result<(), Fail> {
     let mut decoder = Decoder::new(rt.alloc());
     let fed = decoder.feed(b"b0 10 80 34\r")?;
-    assert_eq!(rt; (fed.taken, fed.ended), (12, false));
-    assert_eq!(rt; decoder.finish(), Ok(true));
-    assert!(rt; decoder.line().is_some());
+    equal(&rt, &(fed.taken, fed.ended), &(12, false), &1);
+    equal(&rt, &decoder.finish(), &Ok(true), &2);
+    is_true(&rt, decoder.line().is_some(), &3);
     let fed = decoder.feed(b"b0 10 80 34\n")?;
-    assert_eq!(rt; (fed.taken, fed.ended), (0, false));
-    assert!(rt; decoder.line().is_none());
-    assert_eq!(rt; decoder.finish(), Ok(false));
-    assert_eq!(rt; decoder.counts(), (1, 1, 0, 0));
+    equal(&rt, &(fed.taken, fed.ended), &(0, false), &4);
+    is_true(&rt, decoder.line().is_none(), &5);
+    equal(&rt, &decoder.finish(), &Ok(false), &6);
+    equal(&rt, &decoder.counts(), &(1, 1, 0, 0), &7);
     Ok(())
 }

@@ -1,14 +1,16 @@
 //! Scenarios of both versions: VOUT_MIN stands in the second one, and the first is read and told as it was.
 
+use crate::checks::{equal, is_true};
 use crate::engine::Engine;
 use crate::fakes::in_pieces;
 use crate::worked::{REPORT, SCENARIO};
-use pm_text::{TextFault, read_scenario};
+use pm_text::{Scenario, TextFault, read_scenario};
 use std::alloc::Global;
+use std::process::Abort;
 use std::test::Fail;
 
 // The lines before the events, of version 2.
-const HEAD: [&str; 8] = [
+static HEAD: [&str; 8] = [
     "scenario 2",
     "address 58",
     "passes 2",
@@ -37,7 +39,7 @@ fn replayed(alloc: Global, text: &str) -> (Result<bool, TextFault>, Vec<u8>) {
 
 // The report of the second version, with a line for VOUT_MIN. Output 0 is cut to its floor of 0.5 V. Output
 // 1 is DIRECT, its words fall as volts rise: it asks for 2 V, and is cut to its floor of 3 V.
-const SECOND: &str = "ran 4
+static SECOND: &str = "ran 4
 protect 00 host unknown possible any
 output 0 on commanded 2048/4096 500000 uV
 OPERATION 80 host unknown possible any
@@ -65,13 +67,13 @@ fn a_report_of_version_2_tells_vout_min(rt: HostRuntime) -> Result<(), Fail> {
     let events = "order 0 VOUT_COMMAND 0400\ndeliver whole\nfinish ack\nexchange whole whole\n";
     let text = text_with(rt.alloc(), 8, "", events)?;
     let (end, written) = replayed(rt.alloc(), &text);
-    assert_eq!(rt; end, Ok(true));
-    assert_eq!(rt; written.as_slice(), SECOND.as_bytes());
+    equal(&rt, &end, &Ok(true), &1);
+    equal(&rt, &written.as_slice(), &SECOND.as_bytes(), &2);
     Ok(())
 }
 
 // Both answers of an order are lost; then a report of version 2 tells the two words that the cell may have.
-const LOST: &str = "check 0 VOUT_COMMAND
+static LOST: &str = "check 0 VOUT_COMMAND
 exchange whole whole
 order 0 VOUT_COMMAND 34CD
 deliver whole
@@ -86,7 +88,7 @@ exchange whole cut 0
 fn a_report_of_version_2_tells_the_possible_words(rt: HostRuntime) -> Result<(), Fail> {
     let text = text_with(rt.alloc(), 8, "", LOST)?;
     let (end, written) = replayed(rt.alloc(), &text);
-    assert_eq!(rt; end, Ok(true));
+    equal(&rt, &end, &Ok(true), &1);
     let told = std::str::from_utf8(&written)?;
     for line in [
         "ran 9\nprotect 00 host unknown possible any\n",
@@ -94,12 +96,16 @@ fn a_report_of_version_2_tells_the_possible_words(rt: HostRuntime) -> Result<(),
         "VOUT_COMMAND 0BB8 host unknown possible any\n",
         "job unknown\n",
     ] {
-        assert!(rt; told.contains(line), "{line}");
+        is_true(&rt, told.contains(line), &line);
     }
     let text = format!(in rt.alloc(); "{SCENARIO}{LOST}")?;
     let (end, written) = replayed(rt.alloc(), &text);
-    assert_eq!(rt; end, Ok(true));
-    assert!(rt; !std::str::from_utf8(&written)?.contains("possible"));
+    equal(&rt, &end, &Ok(true), &2);
+    is_true(
+        &rt,
+        !std::str::from_utf8(&written)?.contains("possible"),
+        &3,
+    );
     Ok(())
 }
 
@@ -110,12 +116,12 @@ fn a_possible_byte_has_two_digits(rt: HostRuntime) -> Result<(), Fail> {
     let text = text_with(rt.alloc(), 8, "", events)?;
     let (_, written) = replayed(rt.alloc(), &text);
     let line = "protect 00 host unknown possible 00 40\n";
-    assert!(rt; std::str::from_utf8(&written)?.contains(line));
+    is_true(&rt, std::str::from_utf8(&written)?.contains(line), &1);
     Ok(())
 }
 
 // An event of VOUT_MIN in version 2, and lines of the report.
-const ORDERED: [(&str, &str, &str, &str); 4] = [
+static ORDERED: [(&str, &str, &str, &str); 4] = [
     (
         "order 0 VOUT_MIN 2000",
         "output 0 on commanded 8192/4096 2000000 uV\n",
@@ -143,26 +149,37 @@ const ORDERED: [(&str, &str, &str, &str); 4] = [
     ),
 ];
 
+// The report after an event of version 2, which is carried out.
+fn report_after(rt: &(impl Abort + AllocGlobal), event: &str) -> Result<Vec<u8>, Fail> {
+    let events = format!(in rt.alloc();
+        "{event}\ndeliver whole\nfinish ack\nexchange whole whole\n"
+    )?;
+    let text = text_with(rt.alloc(), 8, "", &events)?;
+    let (end, written) = replayed(rt.alloc(), &text);
+    equal(rt, &end, &Ok(true), &event);
+    Ok(written)
+}
+
+// A text has each of these lines.
+fn tells(rt: &impl Abort, written: &[u8], lines: &[&str]) -> Result<(), Fail> {
+    let told = std::str::from_utf8(written)?;
+    for line in lines {
+        is_true(rt, told.contains(*line), &line);
+    }
+    Ok(())
+}
+
 #[test]
 fn version_2_orders_vout_min(rt: HostRuntime) -> Result<(), Fail> {
     for (event, first, second, third) in ORDERED {
-        let events = format!(in rt.alloc();
-            "{event}\ndeliver whole\nfinish ack\nexchange whole whole\n"
-        )?;
-        let text = text_with(rt.alloc(), 8, "", &events)?;
-        let (end, written) = replayed(rt.alloc(), &text);
-        assert_eq!(rt; end, Ok(true), "{event}");
-        let told = std::str::from_utf8(&written)?;
-        for line in [first, second, third] {
-            assert!(rt; told.contains(line), "{event} {line}");
-        }
+        tells(&rt, &report_after(&rt, event)?, &[first, second, third])?;
     }
     Ok(())
 }
 
 // Frames that the converter hears from its base configuration, where VOUT_MIN is 0000h, and the lines before
 // the outputs'.
-const HEARD: [(&str, &str); 3] = [
+static HEARD: [(&str, &str); 3] = [
     (
         "B0 05 04 00 2B 00 20 B5\nB0 7A /\nB0 79 /\nB0 2B /\n",
         "taken\nanswer B1 08 1A\nanswer B1 01 80 48\nanswer B1 00 20 E4\n",
@@ -177,20 +194,24 @@ const HEARD: [(&str, &str); 3] = [
     ),
 ];
 
+fn is_heard(rt: &(impl Abort + AllocGlobal), text: &str, wanted: &str) {
+    let (end, written) = Engine::Hear.text_of(rt.alloc(), in_pieces(text.as_bytes(), 4096));
+    equal(rt, &end, &Ok(true), &text);
+    equal(rt, &written.as_slice(), &wanted.as_bytes(), &text);
+}
+
 #[test]
 fn hear_takes_vout_min_and_shows_what_it_cuts(rt: HostRuntime) -> Result<(), Fail> {
     let outputs = "output 0 VOUT_COMMAND 1000\noutput 1 VOUT_COMMAND 1000\n";
     for (text, answers) in HEARD {
-        let (end, written) = Engine::Hear.text_of(rt.alloc(), in_pieces(text.as_bytes(), 4096));
-        assert_eq!(rt; end, Ok(true), "{text}");
         let wanted = format!(in rt.alloc(); "{answers}{outputs}")?;
-        assert_eq!(rt; written.as_slice(), wanted.as_bytes(), "{text}");
+        is_heard(&rt, text, &wanted);
     }
     Ok(())
 }
 
 // The place of a line, counted from 0, a line that is faulty there, and the fault.
-const FAULTY: [(usize, &str, TextFault); 10] = [
+static FAULTY: [(usize, &str, TextFault); 10] = [
     (0, "scenario 3", TextFault::Syntax(1)),
     (0, "scenario 02", TextFault::Syntax(1)),
     (0, "scenario 2 2", TextFault::Syntax(1)),
@@ -220,12 +241,22 @@ const FAULTY: [(usize, &str, TextFault); 10] = [
     (0, "scenario", TextFault::Syntax(1)),
 ];
 
+// A scenario, or why it is none: a function of its own, so that no test's proof carries what the call
+// promises.
+fn scenario_of(alloc: Global, text: &str) -> Result<Scenario, TextFault> {
+    read_scenario(alloc, text.as_bytes())
+}
+
+fn is_refused(rt: &(impl Abort + AllocGlobal), text: &str, fault: TextFault) {
+    let found = scenario_of(rt.alloc(), text).err();
+    equal(rt, &found, &Some(fault), &text);
+}
+
 #[test]
 fn a_line_of_version_2_is_faulty_so(rt: HostRuntime) -> Result<(), Fail> {
     for (place, line, fault) in FAULTY {
         let text = text_with(rt.alloc(), place, line, "")?;
-        let found = read_scenario(rt.alloc(), text.as_bytes()).err();
-        assert_eq!(rt; found, Some(fault), "{line}");
+        is_refused(&rt, &text, fault);
     }
     Ok(())
 }
@@ -240,14 +271,13 @@ fn no_event_of_version_1_names_vout_min(rt: HostRuntime) -> Result<(), Fail> {
     ];
     for event in events {
         let text = format!(in rt.alloc(); "{SCENARIO}{event}\n")?;
-        let found = read_scenario(rt.alloc(), text.as_bytes()).err();
-        assert_eq!(rt; found, Some(TextFault::Syntax(13)), "{event}");
+        is_refused(&rt, &text, TextFault::Syntax(13));
     }
     Ok(())
 }
 
 // VOUT_MODE and m of a text of version 1, and VOUT_MIN then.
-const LEAST: [(&str, &str, u16); 8] = [
+static LEAST: [(&str, &str, u16); 8] = [
     ("14", "1", 0x0000),
     ("14", "-1", 0x0000),
     ("00", "-1", 0x0000),
@@ -258,27 +288,43 @@ const LEAST: [(&str, &str, u16); 8] = [
     ("80", "-1", 0x0000),
 ];
 
+// The version of a scenario, and VOUT_MIN of its first and its second output.
+fn least(alloc: Global, text: &str) -> Result<(u8, u16, u16), TextFault> {
+    let scenario = scenario_of(alloc, text)?;
+    let [first, second, ..] = scenario.config.starts;
+    Ok((scenario.version, first.min, second.min))
+}
+
+fn has_least(
+    rt: &(impl Abort + AllocGlobal),
+    mode: &str,
+    m: &str,
+    wanted: u16,
+) -> Result<(), Fail> {
+    let text = format!(in rt.alloc();
+        "scenario 1\naddress 58\npasses 2\nprotect 00\ncoefficients {m} 5 3\noutput {mode} 80 1000 4000 1100 0F00\nbegin\n"
+    )?;
+    let (version, found, _) = least(rt.alloc(), &text)?;
+    equal(rt, &(version, found), &(1, wanted), &(mode, m));
+    Ok(())
+}
+
 #[test]
 fn version_1_has_the_least_vout_min(rt: HostRuntime) -> Result<(), Fail> {
-    let alloc = rt.alloc();
     for (mode, m, wanted) in LEAST {
-        let text = format!(in alloc;
-            "scenario 1\naddress 58\npasses 2\nprotect 00\ncoefficients {m} 5 3\noutput {mode} 80 1000 4000 1100 0F00\nbegin\n"
-        )?;
-        let scenario = read_scenario(alloc, text.as_bytes())?;
-        let [start, ..] = scenario.config.starts;
-        assert_eq!(rt; start.min, wanted, "{mode} {m}");
-        assert_eq!(rt; scenario.version, 1);
+        has_least(&rt, mode, m, wanted)?;
     }
+    Ok(())
+}
+
+#[test]
+fn version_2_has_vout_min_of_each_output(rt: HostRuntime) -> Result<(), Fail> {
+    let alloc = rt.alloc();
     let text = text_with(alloc, 8, "", "check 1 VOUT_MIN\n")?;
-    let scenario = read_scenario(alloc, text.as_bytes())?;
-    let [first, second, ..] = scenario.config.starts;
-    assert_eq!(rt;
-        (first.min, second.min, scenario.version),
-        (0x0800, 0x07D0, 2)
-    );
+    equal(&rt, &least(alloc, &text)?, &(2, 0x0800, 0x07D0), &1);
+    let scenario = scenario_of(alloc, &text)?;
     let events = format!(in alloc; "{:?}", scenario.events.as_slice())?;
-    assert_eq!(rt; events.as_str(), "[Check(Out(1, VoutMin))]");
+    equal(&rt, &events.as_str(), &"[Check(Out(1, VoutMin))]", &2);
     Ok(())
 }
 
@@ -289,11 +335,11 @@ fn bytes_of_vout_min_are_judged_by_the_table_in_version_1(rt: HostRuntime) -> Re
         "{SCENARIO}order 0 VOUT_COMMAND 34CD\ndeliver bytes B00503002BCD00 stop\n"
     )?;
     let (end, written) = replayed(rt.alloc(), &text);
-    assert_eq!(rt; end, Ok(true));
+    equal(&rt, &end, &Ok(true), &1);
     let told = std::str::from_utf8(&written)?;
-    assert!(rt; told.contains("cml 02\n"));
-    assert!(rt; !told.contains("VOUT_MIN"));
+    is_true(&rt, told.contains("cml 02\n"), &2);
+    is_true(&rt, !told.contains("VOUT_MIN"), &3);
     let (_, written) = replayed(rt.alloc(), SCENARIO);
-    assert_eq!(rt; written.as_slice(), REPORT.as_bytes());
+    equal(&rt, &written.as_slice(), &REPORT.as_bytes(), &4);
     Ok(())
 }

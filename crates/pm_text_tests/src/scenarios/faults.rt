@@ -1,233 +1,247 @@
 //! The faults of scenarios, and the numbers of their lines.
 
-use super::{fault_of, head_with, with_event};
+use super::{head_with, is_refused, with_event};
 use crate::worked::SCENARIO;
 use pm_text::TextFault;
+use std::alloc::{AllocError, Global};
+use std::process::Abort;
 use std::test::Fail;
+
+// The worked scenario with another line of this number.
+fn worked_with(alloc: Global, number: usize, line: &str) -> Result<String, AllocError> {
+    let mut text = String::new(alloc);
+    for (at, usual) in SCENARIO.split('\n').enumerate() {
+        text.push_str(if at.saturating_add(1) == number {
+            line
+        } else {
+            usual
+        })?;
+        text.push('\n')?;
+    }
+    Ok(text)
+}
+
+// An event line is refused for this.
+fn is_refused_event(
+    rt: &(impl Abort + AllocGlobal),
+    line: &str,
+    fault: TextFault,
+) -> Result<(), AllocError> {
+    let text = with_event(rt.alloc(), line)?;
+    is_refused(rt, &text, fault);
+    Ok(())
+}
+
+// The number of the line, and what stands there instead.
+static A_FAULTY_LINE_OF_THE_WORKED_SCENARIO_IS_TOLD: [(usize, &str, TextFault); 12] = [
+    (1, "scenario 3", TextFault::Syntax(1)),
+    (3, "passes 256", TextFault::Syntax(3)),
+    (4, "protect 0", TextFault::BadHex(4)),
+    (6, "output 14 8Z 1000", TextFault::BadHex(6)),
+    (7, "output 14 80 1000 4000 1100", TextFault::Syntax(7)),
+    (9, "order 0 OPERATION 34CD", TextFault::BadHex(9)),
+    (9, "order 0 WRITE_PROTECT 40", TextFault::Syntax(9)),
+    (9, "order - VOUT_COMMAND 34CD", TextFault::Syntax(9)),
+    (
+        9,
+        "volts 0 VOUT_COMMAND 9223372036854775808",
+        TextFault::Syntax(9),
+    ),
+    (10, "deliver bytes B0050 stop", TextFault::BadHex(10)),
+    (
+        10,
+        "deliver bytes 000102030405060708090A0B0C0D0E0F10 stop",
+        TextFault::BadHex(10),
+    ),
+    (11, "finish", TextFault::Syntax(11)),
+];
 
 #[test]
 fn a_faulty_line_of_the_worked_scenario_is_told(rt: HostRuntime) -> Result<(), Fail> {
-    // The number of the line, and what stands there instead.
-    let rows = [
-        (1, "scenario 3", TextFault::Syntax(1)),
-        (3, "passes 256", TextFault::Syntax(3)),
-        (4, "protect 0", TextFault::BadHex(4)),
-        (6, "output 14 8Z 1000", TextFault::BadHex(6)),
-        (7, "output 14 80 1000 4000 1100", TextFault::Syntax(7)),
-        (9, "order 0 OPERATION 34CD", TextFault::BadHex(9)),
-        (9, "order 0 WRITE_PROTECT 40", TextFault::Syntax(9)),
-        (9, "order - VOUT_COMMAND 34CD", TextFault::Syntax(9)),
-        (
-            9,
-            "volts 0 VOUT_COMMAND 9223372036854775808",
-            TextFault::Syntax(9),
-        ),
-        (10, "deliver bytes B0050 stop", TextFault::BadHex(10)),
-        (
-            10,
-            "deliver bytes 000102030405060708090A0B0C0D0E0F10 stop",
-            TextFault::BadHex(10),
-        ),
-        (11, "finish", TextFault::Syntax(11)),
-    ];
-    for (number, line, fault) in rows {
-        let mut text = String::new(rt.alloc());
-        for (at, usual) in SCENARIO.split('\n').enumerate() {
-            text.push_str(if at.saturating_add(1) == number {
-                line
-            } else {
-                usual
-            })?;
-            text.push('\n')?;
-        }
-        assert_eq!(rt; fault_of(rt.alloc(), &text), Some(fault), "{line}");
+    for &(number, line, fault) in &A_FAULTY_LINE_OF_THE_WORKED_SCENARIO_IS_TOLD {
+        let text = worked_with(rt.alloc(), number, line)?;
+        is_refused(&rt, &text, fault);
     }
     Ok(())
 }
+
+static A_WORD_THAT_IS_NOT_WHAT_STANDS_AT_ITS_PLACE_IS_A_FAULT: [&str; 68] = [
+    " # x",
+    "; learn 1",
+    "// learn 1",
+    "learn\t1",
+    "Learn 1",
+    "begin",
+    "wait",
+    "order",
+    "order 0 34CD",
+    "order 0 FOO ZZ",
+    "order 0 VOUT_COMMAND",
+    "order 0 VOUT_COMMAND 34CD 34CD",
+    "order 256 OPERATION 80",
+    "order -0 OPERATION 80",
+    "order +0 OPERATION 80",
+    "order - OPERATION 80",
+    "order 0 WRITE_PROTECT 80",
+    "order 0 READ_VOUT 80",
+    "volts - WRITE_PROTECT 5",
+    "volts 0 WRITE_PROTECT 5",
+    "volts 0 VOUT_COMMAND",
+    "volts 0 VOUT_COMMAND +1",
+    "volts 0 VOUT_COMMAND -",
+    "volts 0 VOUT_COMMAND 0x5",
+    "volts 0 VOUT_COMMAND -9223372036854775809",
+    "check",
+    "check -",
+    "check - VOUT_MAX",
+    "check - WRITE-PROTECT",
+    "check 0",
+    "check 0 VOUT_MAX 0",
+    "learn",
+    "learn -",
+    "learn 256",
+    "learn 1 1",
+    "clear",
+    "clear -1",
+    "clear 0 0",
+    "store",
+    "restore",
+    "deliver",
+    "deliver cut",
+    "deliver cut 256",
+    "deliver cut -0",
+    "deliver cut +1",
+    "deliver cut FF",
+    "deliver part",
+    "deliver whole stop",
+    "deliver bytes",
+    "deliver bytes B0",
+    "deliver bytes B0 begin",
+    "deliver bytes B0 stop stop",
+    "finish Ack",
+    "finish ack ack",
+    "exchange whole",
+    "exchange whole part",
+    "exchange whole cut 256",
+    "exchange whole bytes",
+    "exchange whole bytes B1 stop",
+    "exchange whole whole whole",
+    "restart",
+    "restart world",
+    "restart host host",
+    "reading 0 READ_VIN 0000",
+    "reading - READ_VOUT 0000",
+    "reading 0 VOUT_MODE 0000",
+    "reading - READ_VIN",
+    "reading - READ_VIN 0000 0",
+];
 
 #[test]
 fn a_word_that_is_not_what_stands_at_its_place_is_a_fault(rt: HostRuntime) -> Result<(), Fail> {
-    let rows = [
-        " # x",
-        "; learn 1",
-        "// learn 1",
-        "learn\t1",
-        "Learn 1",
-        "begin",
-        "wait",
-        "order",
-        "order 0 34CD",
-        "order 0 FOO ZZ",
-        "order 0 VOUT_COMMAND",
-        "order 0 VOUT_COMMAND 34CD 34CD",
-        "order 256 OPERATION 80",
-        "order -0 OPERATION 80",
-        "order +0 OPERATION 80",
-        "order - OPERATION 80",
-        "order 0 WRITE_PROTECT 80",
-        "order 0 READ_VOUT 80",
-        "volts - WRITE_PROTECT 5",
-        "volts 0 WRITE_PROTECT 5",
-        "volts 0 VOUT_COMMAND",
-        "volts 0 VOUT_COMMAND +1",
-        "volts 0 VOUT_COMMAND -",
-        "volts 0 VOUT_COMMAND 0x5",
-        "volts 0 VOUT_COMMAND -9223372036854775809",
-        "check",
-        "check -",
-        "check - VOUT_MAX",
-        "check - WRITE-PROTECT",
-        "check 0",
-        "check 0 VOUT_MAX 0",
-        "learn",
-        "learn -",
-        "learn 256",
-        "learn 1 1",
-        "clear",
-        "clear -1",
-        "clear 0 0",
-        "store",
-        "restore",
-        "deliver",
-        "deliver cut",
-        "deliver cut 256",
-        "deliver cut -0",
-        "deliver cut +1",
-        "deliver cut FF",
-        "deliver part",
-        "deliver whole stop",
-        "deliver bytes",
-        "deliver bytes B0",
-        "deliver bytes B0 begin",
-        "deliver bytes B0 stop stop",
-        "finish Ack",
-        "finish ack ack",
-        "exchange whole",
-        "exchange whole part",
-        "exchange whole cut 256",
-        "exchange whole bytes",
-        "exchange whole bytes B1 stop",
-        "exchange whole whole whole",
-        "restart",
-        "restart world",
-        "restart host host",
-        "reading 0 READ_VIN 0000",
-        "reading - READ_VOUT 0000",
-        "reading 0 VOUT_MODE 0000",
-        "reading - READ_VIN",
-        "reading - READ_VIN 0000 0",
-    ];
-    for line in rows {
-        let text = with_event(rt.alloc(), line)?;
-        assert_eq!(rt;
-            fault_of(rt.alloc(), &text),
-            Some(TextFault::Syntax(8)),
-            "{line}"
-        );
+    for &line in &A_WORD_THAT_IS_NOT_WHAT_STANDS_AT_ITS_PLACE_IS_A_FAULT {
+        is_refused_event(&rt, line, TextFault::Syntax(8))?;
     }
     Ok(())
 }
+
+static A_WORD_THAT_SHOULD_BE_HEXADECIMAL_AND_IS_NOT_IS_A_FAULT: [&str; 16] = [
+    "deliver bytes stop",
+    "deliver bytes B stop",
+    "deliver bytes B0B stop",
+    "deliver bytes ZZ x",
+    "deliver bytes +0 stop",
+    "exchange whole bytes B",
+    "exchange bytes - whole",
+    "order 0 VOUT_COMMAND ZZZZ x",
+    "order 0 VOUT_COMMAND 80",
+    "order 0 VOUT_COMMAND 034CD",
+    "order 0 VOUT_COMMAND +4CD",
+    "order 0 OPERATION 0080",
+    "order - WRITE_PROTECT 0080",
+    "order - WRITE_PROTECT 8",
+    "reading 0 READ_VOUT 00",
+    "reading - READ_VIN 0x00 0",
+];
 
 #[test]
 fn a_word_that_should_be_hexadecimal_and_is_not_is_a_fault(rt: HostRuntime) -> Result<(), Fail> {
-    let rows = [
-        "deliver bytes stop",
-        "deliver bytes B stop",
-        "deliver bytes B0B stop",
-        "deliver bytes ZZ x",
-        "deliver bytes +0 stop",
-        "exchange whole bytes B",
-        "exchange bytes - whole",
-        "order 0 VOUT_COMMAND ZZZZ x",
-        "order 0 VOUT_COMMAND 80",
-        "order 0 VOUT_COMMAND 034CD",
-        "order 0 VOUT_COMMAND +4CD",
-        "order 0 OPERATION 0080",
-        "order - WRITE_PROTECT 0080",
-        "order - WRITE_PROTECT 8",
-        "reading 0 READ_VOUT 00",
-        "reading - READ_VIN 0x00 0",
-    ];
-    for line in rows {
-        let text = with_event(rt.alloc(), line)?;
-        assert_eq!(rt;
-            fault_of(rt.alloc(), &text),
-            Some(TextFault::BadHex(8)),
-            "{line}"
-        );
+    for &line in &A_WORD_THAT_SHOULD_BE_HEXADECIMAL_AND_IS_NOT_IS_A_FAULT {
+        is_refused_event(&rt, line, TextFault::BadHex(8))?;
     }
     Ok(())
 }
+
+// The place of the line, counted from 0, and the line.
+static A_FAULTY_LINE_BEFORE_THE_EVENTS_IS_TOLD: [(usize, &str, TextFault); 28] = [
+    (0, "scenario 01", TextFault::Syntax(1)),
+    (0, "scenario 1 1", TextFault::Syntax(1)),
+    (0, "scenario", TextFault::Syntax(1)),
+    (0, " # x", TextFault::Syntax(1)),
+    (0, "address 58", TextFault::Syntax(1)),
+    (1, "address", TextFault::Syntax(2)),
+    (1, "address 58 58", TextFault::Syntax(2)),
+    (1, "address 058", TextFault::BadHex(2)),
+    (1, "address +8", TextFault::BadHex(2)),
+    (1, "address 5G 58", TextFault::BadHex(2)),
+    (2, "passes -0", TextFault::Syntax(3)),
+    (2, "passes +1", TextFault::Syntax(3)),
+    (2, "passes 1 1", TextFault::Syntax(3)),
+    (3, "protect 0000", TextFault::BadHex(4)),
+    (3, "protect", TextFault::Syntax(4)),
+    (4, "coefficients 1 0", TextFault::Syntax(5)),
+    (4, "coefficients 1 0 0 0", TextFault::Syntax(5)),
+    (4, "coefficients 32768 0 0", TextFault::Syntax(5)),
+    (4, "coefficients 1 -32769 0", TextFault::Syntax(5)),
+    (4, "coefficients 1 0 128", TextFault::Syntax(5)),
+    (4, "coefficients +1 0 0", TextFault::Syntax(5)),
+    (5, "output 14 80 begin", TextFault::BadHex(6)),
+    (
+        5,
+        "output 14 80 1000 4000 1100 0F00 0",
+        TextFault::Syntax(6),
+    ),
+    (
+        5,
+        "output 14 0080 1000 4000 1100 0F00",
+        TextFault::BadHex(6),
+    ),
+    (5, "output 14 80 10 4000 1100 0F00", TextFault::BadHex(6)),
+    (5, "learn 1", TextFault::Syntax(6)),
+    (6, "begin 1", TextFault::Syntax(7)),
+    (6, "learn 1", TextFault::Syntax(7)),
+];
 
 #[test]
 fn a_faulty_line_before_the_events_is_told(rt: HostRuntime) -> Result<(), Fail> {
-    // The place of the line, counted from 0, and the line.
-    let rows = [
-        (0, "scenario 01", TextFault::Syntax(1)),
-        (0, "scenario 1 1", TextFault::Syntax(1)),
-        (0, "scenario", TextFault::Syntax(1)),
-        (0, " # x", TextFault::Syntax(1)),
-        (0, "address 58", TextFault::Syntax(1)),
-        (1, "address", TextFault::Syntax(2)),
-        (1, "address 58 58", TextFault::Syntax(2)),
-        (1, "address 058", TextFault::BadHex(2)),
-        (1, "address +8", TextFault::BadHex(2)),
-        (1, "address 5G 58", TextFault::BadHex(2)),
-        (2, "passes -0", TextFault::Syntax(3)),
-        (2, "passes +1", TextFault::Syntax(3)),
-        (2, "passes 1 1", TextFault::Syntax(3)),
-        (3, "protect 0000", TextFault::BadHex(4)),
-        (3, "protect", TextFault::Syntax(4)),
-        (4, "coefficients 1 0", TextFault::Syntax(5)),
-        (4, "coefficients 1 0 0 0", TextFault::Syntax(5)),
-        (4, "coefficients 32768 0 0", TextFault::Syntax(5)),
-        (4, "coefficients 1 -32769 0", TextFault::Syntax(5)),
-        (4, "coefficients 1 0 128", TextFault::Syntax(5)),
-        (4, "coefficients +1 0 0", TextFault::Syntax(5)),
-        (5, "output 14 80 begin", TextFault::BadHex(6)),
-        (
-            5,
-            "output 14 80 1000 4000 1100 0F00 0",
-            TextFault::Syntax(6),
-        ),
-        (
-            5,
-            "output 14 0080 1000 4000 1100 0F00",
-            TextFault::BadHex(6),
-        ),
-        (5, "output 14 80 10 4000 1100 0F00", TextFault::BadHex(6)),
-        (5, "learn 1", TextFault::Syntax(6)),
-        (6, "begin 1", TextFault::Syntax(7)),
-        (6, "learn 1", TextFault::Syntax(7)),
-    ];
-    for (place, line, fault) in rows {
+    for &(place, line, fault) in &A_FAULTY_LINE_BEFORE_THE_EVENTS_IS_TOLD {
         let text = head_with(rt.alloc(), place, line)?;
-        assert_eq!(rt; fault_of(rt.alloc(), &text), Some(fault), "{line}");
+        is_refused(&rt, &text, fault);
     }
     Ok(())
 }
 
+static THE_FIRST_FAULTY_LINE_COUNTS: [(&str, TextFault); 9] = [
+    ("", TextFault::Syntax(1)),
+    ("\n\n# x", TextFault::Syntax(4)),
+    ("scenario 1", TextFault::Syntax(2)),
+    ("scenario 1\n", TextFault::Syntax(2)),
+    ("scenario 1\r", TextFault::Syntax(2)),
+    ("scenario 1\n\r", TextFault::Syntax(3)),
+    ("scenario 1\r\r\n", TextFault::Syntax(1)),
+    (
+        "scenario 1\r\n\r\n#\r\n  \r\naddress ZZ\r\npasses x",
+        TextFault::BadHex(5),
+    ),
+    (
+        "scenario 1\naddress 58\npasses x\nprotect ZZ",
+        TextFault::Syntax(3),
+    ),
+];
+
 #[test]
 fn the_first_faulty_line_counts(rt: HostRuntime) -> Result<(), Fail> {
-    let rows = [
-        ("", TextFault::Syntax(1)),
-        ("\n\n# x", TextFault::Syntax(4)),
-        ("scenario 1", TextFault::Syntax(2)),
-        ("scenario 1\n", TextFault::Syntax(2)),
-        ("scenario 1\r", TextFault::Syntax(2)),
-        ("scenario 1\n\r", TextFault::Syntax(3)),
-        ("scenario 1\r\r\n", TextFault::Syntax(1)),
-        (
-            "scenario 1\r\n\r\n#\r\n  \r\naddress ZZ\r\npasses x",
-            TextFault::BadHex(5),
-        ),
-        (
-            "scenario 1\naddress 58\npasses x\nprotect ZZ",
-            TextFault::Syntax(3),
-        ),
-    ];
-    for (text, fault) in rows {
-        assert_eq!(rt; fault_of(rt.alloc(), text), Some(fault), "{text}");
+    for &(text, fault) in &THE_FIRST_FAULTY_LINE_COUNTS {
+        is_refused(&rt, text, fault);
     }
     let events = [
         ("learn x\norder 0 OPERATION Z", TextFault::Syntax(8)),
@@ -235,8 +249,7 @@ fn the_first_faulty_line_counts(rt: HostRuntime) -> Result<(), Fail> {
         ("learn 1\r\n\n# x\nlearn x\nlearn y", TextFault::Syntax(11)),
     ];
     for (lines, fault) in events {
-        let text = with_event(rt.alloc(), lines)?;
-        assert_eq!(rt; fault_of(rt.alloc(), &text), Some(fault), "{lines}");
+        is_refused_event(&rt, lines, fault)?;
     }
     Ok(())
 }

@@ -1,57 +1,55 @@
+use crate::checks::is_true;
 use pm_tool::{Chosen, chosen};
+use std::process::Abort;
 use std::test::Fail;
 
-#[test]
-fn commands_are_chosen_by_their_names(rt: HostRuntime) -> Result<(), Fail> {
-    for (name, command) in [
-        ("hear", Chosen::Hear),
-        ("replay", Chosen::Replay),
-        ("decode", Chosen::Decode),
-    ] {
-        assert_eq!(rt; chosen(rt.alloc(), ["pmb", name].as_slice())?, command);
-    }
+// These words choose this command.
+fn is_chosen<'a>(
+    rt: &(impl Abort + AllocGlobal),
+    words: &'a [&'a str],
+    wanted: Chosen<'a>,
+) -> Result<(), Fail> {
+    let found = chosen(rt.alloc(), words)?;
+    is_true(rt, found == wanted, &words);
     Ok(())
 }
 
 #[test]
-fn number_is_chosen_with_its_texts(rt: HostRuntime) -> Result<(), Fail> {
-    let words = ["pmb", "number", "--format=linear11", "--word=87FF"];
-    let Chosen::Number {
-        format,
-        word,
-        micro,
-    } = chosen(rt.alloc(), words.as_slice())?
-    else {
-        panic!(rt; "not number");
-    };
-    assert!(rt; format == "linear11" && word == Some("87FF") && micro.is_none());
+fn commands_are_chosen_by_their_names(rt: HostRuntime) -> Result<(), Fail> {
+    is_chosen(&rt, &["pmb", "hear"], Chosen::Hear)?;
+    is_chosen(&rt, &["pmb", "replay"], Chosen::Replay)?;
+    is_chosen(&rt, &["pmb", "decode"], Chosen::Decode)
+}
 
+#[test]
+fn number_is_chosen_with_its_texts(rt: HostRuntime) -> Result<(), Fail> {
+    let word = Chosen::Number {
+        format: "linear11",
+        word: Some("87FF"),
+        micro: None,
+    };
+    is_chosen(
+        &rt,
+        &["pmb", "number", "--format=linear11", "--word=87FF"],
+        word,
+    )?;
+    let micro = Chosen::Number {
+        format: "ulinear16:-12",
+        word: None,
+        micro: Some("-3300000"),
+    };
     let words = [
         "pmb",
         "number",
         "--micro=-3300000",
         "--format=ulinear16:-12",
     ];
-    let Chosen::Number {
-        format,
-        word,
-        micro,
-    } = chosen(rt.alloc(), words.as_slice())?
-    else {
-        panic!(rt; "not number");
-    };
-    assert!(rt; format == "ulinear16:-12" && word.is_none() && micro == Some("-3300000"));
-
+    is_chosen(&rt, &words, micro)?;
     // Without `=`, and with neither a format nor a micro.
-    let words = ["pmb", "number", "--word", "0001"];
-    let Chosen::Number {
-        format,
-        word,
-        micro,
-    } = chosen(rt.alloc(), words.as_slice())?
-    else {
-        panic!(rt; "not number");
+    let alone = Chosen::Number {
+        format: "",
+        word: Some("0001"),
+        micro: None,
     };
-    assert!(rt; format.is_empty() && word == Some("0001") && micro.is_none());
-    Ok(())
+    is_chosen(&rt, &["pmb", "number", "--word", "0001"], alone)
 }

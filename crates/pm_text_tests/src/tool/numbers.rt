@@ -1,4 +1,5 @@
 //! Lines and refusals of `number`, over a writer with little room.
+use crate::checks::{equal, is_true};
 use crate::fakes::Sheet;
 use pm_num::NumFault;
 use pm_tool::{NumberFault, Sink, TextFault, number};
@@ -23,8 +24,8 @@ fn expect_line(
     line: &str,
 ) {
     let (result, sheet) = asked(rt.alloc(), format, asked_for.0, asked_for.1);
-    assert_eq!(rt; result, Ok(()), "{format}: {line}");
-    assert!(rt; sheet.text() == line.as_bytes(), "{format}: {line}");
+    equal(rt, &result, &Ok(()), &(format, line));
+    is_true(rt, sheet.text() == line.as_bytes(), &(format, line));
 }
 
 #[test]
@@ -153,8 +154,8 @@ fn expect_fault(
     fault: NumberFault,
 ) {
     let (result, sheet) = asked(rt.alloc(), format, asked_for.0, asked_for.1);
-    assert_eq!(rt; result, Err(fault), "{format}");
-    assert!(rt; sheet.text().is_empty(), "{format}");
+    equal(rt, &result, &Err(fault), &format);
+    is_true(rt, sheet.text().is_empty(), &format);
 }
 
 #[test]
@@ -251,24 +252,28 @@ fn numbers_without_a_word_are_refused(rt: HostRuntime) {
     );
 }
 
+// What a writer with such room has of the line of 87FF, and whether it failed.
+fn written(alloc: Global, room: u8) -> (Result<(), NumberFault>, bool, Sheet) {
+    let mut sink = Sink::new(Sheet::new(usize::from(room)));
+    let result = number(alloc, &mut sink, "linear11", Some("87FF"), None);
+    let failed = sink.failed();
+    (result, failed, sink.into_inner())
+}
+
 #[test]
 fn a_full_writer_has_a_front_of_the_line(rt: HostRuntime) {
     let line = "word 87FF value -1/65536 micro -16\n".as_bytes();
     for room in 0..50 {
-        let mut sink = Sink::new(Sheet::new(room));
-        let result = number(rt.alloc(), &mut sink, "linear11", Some("87FF"), None);
+        let (result, failed, sheet) = written(rt.alloc(), room);
+        let room = usize::from(room);
         let fits = line.len() <= room;
-        assert_eq!(rt; sink.failed(), !fits, "room {room}");
+        equal(&rt, &failed, &!fits, &room);
         let wanted = if fits {
             Ok(())
         } else {
             Err(NumberFault::Text(TextFault::Write))
         };
-        assert_eq!(rt; result, wanted, "room {room}");
-        let sheet = sink.into_inner();
-        assert!(rt;
-            sheet.text() == &line[..room.min(line.len())],
-            "room {room}"
-        );
+        equal(&rt, &result, &wanted, &room);
+        is_true(&rt, sheet.text() == &line[..room.min(line.len())], &room);
     }
 }

@@ -1,6 +1,7 @@
 ghost use Rattle.std.specs.Prelude.{IsFalse};
 
-use crate::fakes::{FAILURES, Paper, Pieces, blank_paper, in_pieces};
+use crate::checks::{equal, is_true};
+use crate::fakes::{FAILURES, Failure, Paper, Pieces, blank_paper, in_pieces};
 use crate::worked::{FRAME, LINES, REPORT, SCENARIO, TAKEN, TRACE};
 use pm_tool::{Sink, Source, run};
 use std::alloc::Global;
@@ -57,17 +58,45 @@ pub(super) fn run_on(alloc: Global, words: &[&str], text: &str) -> Ran {
     )
 }
 
+// A run on a text ends so.
+fn ends(
+    rt: &(impl Abort + AllocGlobal),
+    words: &[&str],
+    text: &str,
+    status: u8,
+    said: (&str, &str),
+) {
+    let (output, errors) = said;
+    let found = run_on(rt.alloc(), words, text);
+    is_true(rt, found.is(status, output, errors), &(words, text));
+}
+
+// Words that aren't there are refused so, and nothing is read.
+fn ends_unread(rt: &(impl Abort + AllocGlobal), kind: ErrorKind, status: u8, errors: &str) {
+    let mut input = Source::new(in_pieces(FRAME.as_bytes(), 7));
+    let found = run_with(
+        rt.alloc(),
+        Err(kind),
+        &mut input,
+        blank_paper(rt.alloc(), 1),
+        blank_paper(rt.alloc(), 1),
+    );
+    is_true(rt, found.is(status, "", errors), &errors);
+    equal(rt, &input.into_inner().calls, &0, &1);
+}
+
 #[test]
 fn every_status_has_its_texts(rt: HostRuntime) {
     let hear = ["pmb", "hear"];
-    for (text, status, output, errors) in [
-        (FRAME, 0, TAKEN, ""),
-        ("/ /", 1, "", "pmb: X1 Syntax line 1\n"),
-        ("\n\nB0 0", 1, "", "pmb: X2 BadHex line 3\n"),
-    ] {
-        let found = run_on(rt.alloc(), &hear, text);
-        assert!(rt; found.is(status, output, errors), "{text}");
-    }
+    ends(&rt, &hear, FRAME, 0, (TAKEN, ""));
+    ends(&rt, &hear, "/ /", 1, ("", "pmb: X1 Syntax line 1\n"));
+    ends(&rt, &hear, "\n\nB0 0", 1, ("", "pmb: X2 BadHex line 3\n"));
+    ends_unread(&rt, ErrorKind::OutOfMemory, 1, "pmb: X6 Memory\n");
+    ends_unread(&rt, ErrorKind::InvalidData, 2, "pmb: bad arguments\n");
+}
+
+#[test]
+fn every_status_of_number_has_its_texts(rt: HostRuntime) {
     for (option, status, output, errors) in [
         ("--word=87FF", 0, "word 87FF value -1/65536 micro -16\n", ""),
         ("--word=1", 2, "", "pmb: bad word\n"),
@@ -75,247 +104,129 @@ fn every_status_has_its_texts(rt: HostRuntime) {
         ("--micro=33521664000001", 1, "", "pmb: N4 AboveGreatest\n"),
         ("--micro=-33554432000001", 1, "", "pmb: N3 BelowLeast\n"),
         ("--micro=1000000000000001", 1, "", "pmb: N5 TooLarge\n"),
-        (
-            "--format=linear11",
-            2,
-            "",
-            "pmb: give one of --word and --micro\n",
-        ),
     ] {
         let words = ["pmb", "number", "--format=linear11", option];
-        let found = if option.starts_with("--format") {
-            run_on(rt.alloc(), &["pmb", "number", option], FRAME)
-        } else {
-            run_on(rt.alloc(), &words, FRAME)
-        };
-        assert!(rt; found.is(status, output, errors), "{option}");
+        ends(&rt, &words, FRAME, status, (output, errors));
     }
+    let words = ["pmb", "number", "--format=linear11"];
+    let errors = "pmb: give one of --word and --micro\n";
+    ends(&rt, &words, FRAME, 2, ("", errors));
     for (format, status, errors) in [
         ("--format=direct:0:5:3", 1, "pmb: N1 ZeroSlope\n"),
         ("--format=direct:1:5:13", 1, "pmb: N2 ExponentRange\n"),
         ("--format=float", 2, "pmb: bad format\n"),
     ] {
-        let found = run_on(rt.alloc(), &["pmb", "number", format, "--word=0001"], "");
-        assert!(rt; found.is(status, "", errors), "{format}");
-    }
-    for (kind, status, errors) in [
-        (ErrorKind::OutOfMemory, 1, "pmb: X6 Memory\n"),
-        (ErrorKind::InvalidData, 2, "pmb: bad arguments\n"),
-    ] {
-        let mut input = Source::new(in_pieces(FRAME.as_bytes(), 7));
-        let alloc = rt.alloc();
-        let found = run_with(
-            alloc,
-            Err(kind),
-            &mut input,
-            blank_paper(alloc, 1),
-            blank_paper(alloc, 1),
-        );
-        assert!(rt; found.is(status, "", errors), "{errors}");
-        assert_eq!(rt; input.into_inner().calls, 0);
+        let words = ["pmb", "number", format, "--word=0001"];
+        ends(&rt, &words, "", status, ("", errors));
     }
 }
 
-// A scenario that begins so and has these outputs is refused with these words.
-fn is_refused_setup(
+// A run over such a reader ends with these words on standard error, after so many calls.
+fn ends_reading(
     rt: &(impl Abort + AllocGlobal),
-    head: String,
-    outputs: &[&str],
-    words: &str,
-) -> Result<(), Fail> {
-    let mut text = head;
-    for output in outputs {
-        text.push_str("output ")?;
-        text.push_str(output)?;
-        text.push_str("\n")?;
-    }
-    text.push_str("begin\n")?;
-    let errors = format!(in rt.alloc(); "pmb: X7 Setup {words}\n")?;
-    let found = run_on(rt.alloc(), &["pmb", "replay"], text.as_str());
-    assert!(rt; found.is(1, "", errors.as_str()), "{words}");
-    Ok(())
+    command: &str,
+    reader: Pieces<'_>,
+    errors: &str,
+) -> usize {
+    let mut input = Source::new(reader);
+    let words = ["pmb", command];
+    let found = run_with(
+        rt.alloc(),
+        Ok(&words),
+        &mut input,
+        blank_paper(rt.alloc(), 1),
+        blank_paper(rt.alloc(), 1),
+    );
+    is_true(rt, found.is(1, "", errors), &command);
+    input.into_inner().calls
 }
 
-#[test]
-fn a_refused_setup_is_told(rt: HostRuntime) -> Result<(), Fail> {
-    let usual = "14 80 1000 4000 1100 0F00";
-    let vid = "21 80 1000 4000 1100 0F00";
-    let half = "60 80 1000 4000 1100 0F00";
-    let relative = "94 80 1000 4000 1100 0F00";
-    let parameter = "41 80 1000 4000 1100 0F00";
-    let direct = "40 80 1000 4000 1100 0F00";
-    let undefined = "14 B0 1000 4000 1100 0F00";
-    // The address, the passes, the protection, the coefficients and the outputs, and what is said.
-    let rows: [(&str, &str, &str, &str, &[&str], &str); 15] = [
-        ("58", "2", "00", "1 0 0", &[], "V1 OutputCount"),
-        ("58", "2", "00", "1 0 0", &[usual; 9], "V1 OutputCount"),
-        (
-            "58",
-            "2",
-            "00",
-            "1 0 0",
-            &[undefined],
-            "V2 BadStart 0 OPERATION",
-        ),
-        (
-            "58",
-            "2",
-            "00",
-            "1 0 0",
-            &[usual, usual, usual, usual, usual, usual, usual, undefined],
-            "V2 BadStart 7 OPERATION",
-        ),
-        (
-            "58",
-            "2",
-            "10",
-            "1 0 0",
-            &[usual],
-            "V2 BadStart WRITE_PROTECT",
-        ),
-        ("07", "2", "00", "1 0 0", &[usual], "V3 Address"),
-        ("78", "2", "00", "1 0 0", &[usual], "V3 Address"),
-        ("58", "2", "00", "1 0 0", &[vid], "V4 BadMode 0 C1 VidMode"),
-        (
-            "58",
-            "2",
-            "00",
-            "1 0 0",
-            &[usual, half],
-            "V4 BadMode 1 C2 HalfMode",
-        ),
-        (
-            "58",
-            "2",
-            "00",
-            "1 0 0",
-            &[relative],
-            "V4 BadMode 0 C3 RelativeMode",
-        ),
-        (
-            "58",
-            "2",
-            "00",
-            "1 0 0",
-            &[usual, usual, parameter],
-            "V4 BadMode 2 C4 BadParameter",
-        ),
-        (
-            "58",
-            "2",
-            "00",
-            "0 0 0",
-            &[direct],
-            "V5 BadCoefficients N1 ZeroSlope",
-        ),
-        (
-            "58",
-            "2",
-            "00",
-            "1 0 13",
-            &[direct],
-            "V5 BadCoefficients N2 ExponentRange",
-        ),
-        ("58", "0", "00", "1 0 0", &[usual], "H2 Passes"),
-        ("58", "16", "00", "1 0 0", &[usual], "H2 Passes"),
-    ];
-    for (address, passes, protect, coefficients, outputs, words) in rows {
-        let text = format!(in rt.alloc();
-            "scenario 1\naddress {address}\npasses {passes}\nprotect {protect}\ncoefficients {coefficients}\n"
-        )?;
-        is_refused_setup(&rt, text, outputs, words)?;
-    }
-    Ok(())
+fn ends_at_read(rt: &(impl Abort + AllocGlobal), command: &str, fails_at: usize) {
+    let reader = Pieces {
+        fails_at,
+        ..in_pieces(FRAME.as_bytes(), 7)
+    };
+    let calls = ends_reading(rt, command, reader, "pmb: X4 Read\n");
+    equal(rt, &calls, &fails_at, &command);
 }
 
 #[test]
 fn a_failed_reader_and_a_long_text_are_told(rt: HostRuntime) -> Result<(), Fail> {
-    let alloc = rt.alloc();
-    let long = vec![in alloc; b'#'; 1_048_577]?;
+    let long = vec![in rt.alloc(); b'#'; 1_048_577]?;
     for command in ["hear", "replay", "decode"] {
-        let words = ["pmb", command];
         for fails_at in 1..=5 {
-            let mut input = Source::new(Pieces {
-                fails_at,
-                ..in_pieces(FRAME.as_bytes(), 7)
-            });
-            let found = run_with(
-                alloc,
-                Ok(&words),
-                &mut input,
-                blank_paper(alloc, 1),
-                blank_paper(alloc, 1),
-            );
-            assert!(rt;
-                found.is(1, "", "pmb: X4 Read\n"),
-                "{command} at {fails_at}"
-            );
-            assert_eq!(rt; input.into_inner().calls, fails_at, "{command}");
+            ends_at_read(&rt, command, fails_at);
         }
-        let mut input = Source::new(in_pieces(&long, 4096));
-        let found = run_with(
-            alloc,
-            Ok(&words),
-            &mut input,
-            blank_paper(alloc, 1),
-            blank_paper(alloc, 1),
-        );
-        assert!(rt; found.is(1, "", "pmb: X3 TooLong\n"), "{command}");
+        ends_reading(&rt, command, in_pieces(&long, 4096), "pmb: X3 TooLong\n");
     }
     Ok(())
 }
 
+// What comes of a run on the worked frame over such an output.
+fn run_into(alloc: Global, words: &[&str], output: Paper) -> Ran {
+    let mut input = Source::new(in_pieces(FRAME.as_bytes(), 7));
+    run_with(
+        alloc,
+        Ok(words),
+        &mut input,
+        output,
+        blank_paper(alloc, 4096),
+    )
+}
+
+// An output that fails at this call has a front of the text, and the failure is told.
+fn ends_at_write(
+    rt: &(impl Abort + AllocGlobal),
+    words: &[&str],
+    text: &str,
+    fails_at: usize,
+    failure: Failure,
+) {
+    let output = Paper {
+        fails_at,
+        failure,
+        ..blank_paper(rt.alloc(), 1)
+    };
+    let found = run_into(rt.alloc(), words, output);
+    equal(rt, &found.output.calls, &fails_at, &words);
+    let front = &text.as_bytes()[..fails_at.saturating_sub(1).min(text.len())];
+    equal(rt, &found.output.taken.as_slice(), &front, &fails_at);
+    has_ended(rt, &found, 1, "pmb: X5 Write\n");
+}
+
+fn has_ended(rt: &impl Abort, found: &Ran, status: u8, errors: &str) {
+    equal(rt, &found.status, &status, &errors);
+    let written = found.errors.taken.as_slice();
+    equal(rt, &written, &errors.as_bytes(), &errors);
+}
+
+// Each call of an output fails in each way, and its flush.
+fn holds_a_front(rt: &(impl Abort + AllocGlobal), words: &[&str], text: &str) {
+    for fails_at in 1..=text.len() {
+        for failure in FAILURES {
+            ends_at_write(rt, words, text, fails_at, failure);
+        }
+    }
+    let output = Paper {
+        flush_fails: true,
+        ..blank_paper(rt.alloc(), 1)
+    };
+    let found = run_into(rt.alloc(), words, output);
+    is_true(rt, found.is(1, text, "pmb: X5 Write\n"), &1);
+}
+
 #[test]
 fn a_failed_output_is_told_and_holds_a_front(rt: HostRuntime) {
-    let alloc = rt.alloc();
+    holds_a_front(&rt, &["pmb", "hear"], TAKEN);
     let number = ["pmb", "number", "--format=linear11", "--word=87FF"];
-    let line = "word 87FF value -1/65536 micro -16\n";
-    for (words, text) in [
-        (["pmb", "hear"].as_slice(), TAKEN),
-        (number.as_slice(), line),
-    ] {
-        for fails_at in 1..=text.len() {
-            for failure in FAILURES {
-                let mut input = Source::new(in_pieces(FRAME.as_bytes(), 7));
-                let mut output = blank_paper(alloc, 1);
-                output.fails_at = fails_at;
-                output.failure = failure;
-                let found = run_with(
-                    alloc,
-                    Ok(words),
-                    &mut input,
-                    output,
-                    blank_paper(alloc, 4096),
-                );
-                assert!(rt;
-                    found.status == 1 && found.output.calls == fails_at,
-                    "at {fails_at}"
-                );
-                let front = &text.as_bytes()[..fails_at - 1];
-                assert_eq!(rt; found.output.taken.as_slice(), front, "at {fails_at}");
-                let errors = found.errors.taken.as_slice();
-                assert_eq!(rt; errors, b"pmb: X5 Write\n".as_slice(), "at {fails_at}");
-            }
-        }
-        let mut input = Source::new(in_pieces(FRAME.as_bytes(), 7));
-        let mut output = blank_paper(alloc, 1);
-        output.flush_fails = true;
-        let found = run_with(
-            alloc,
-            Ok(words),
-            &mut input,
-            output,
-            blank_paper(alloc, 4096),
-        );
-        assert!(rt; found.is(1, text, "pmb: X5 Write\n"));
-    }
+    holds_a_front(&rt, &number, "word 87FF value -1/65536 micro -16\n");
 }
 
 /// A replay that stops, and its report.
-const STOPPED: &str =
+static STOPPED: &str =
     "scenario 1\naddress 58\npasses 2\nprotect 00\ncoefficients 1 0 0\noutput 14 80 1000 4000 1100 0F00\nbegin\nfinish ack\n";
 
-const STOPPED_REPORT: &str =
+static STOPPED_REPORT: &str =
     "stopped 0 S2 NothingSent\nprotect 00 host unknown\noutput 0 on commanded 4096/4096 1000000 uV\nOPERATION 80 host unknown\nVOUT_COMMAND 1000 host unknown\nVOUT_MAX 4000 host unknown\nVOUT_MARGIN_HIGH 1100 host unknown\nVOUT_MARGIN_LOW 0F00 host unknown\nstatus 00 0000 00\ncml 00\nrestart seen no\njob none\n";
 
 // A run over an output whose flush fails, or not.
@@ -363,43 +274,75 @@ fn what_is_printed_is_handed_on_once_whatever_the_status(rt: HostRuntime) {
         ("number", "", 2, "", "pmb: give one of --word and --micro\n"),
     ];
     for (command, text, status, output, errors) in rows {
-        let words = ["pmb", command];
-        let found = flushed(rt.alloc(), &words, text, false);
-        assert!(rt; found.is(status, output, errors), "{command} {text}");
-        let printed = usize::from(!output.is_empty());
-        assert_eq!(rt; found.output.flushes, printed, "{command} {text}");
-        assert_eq!(rt; found.output.calls > 0, printed > 0, "{command} {text}");
-        assert_eq!(rt; found.errors.flushes, 0, "{command} {text}");
-        if printed > 0 {
-            let failed = flushed(rt.alloc(), &words, text, true);
-            assert!(rt; failed.is(1, output, "pmb: X5 Write\n"), "{command} {text}");
-        }
+        is_handed_on(&rt, command, text, status, (output, errors));
     }
+}
+
+// What is printed is flushed once, and a flush that fails is told.
+fn is_handed_on(
+    rt: &(impl Abort + AllocGlobal),
+    command: &str,
+    text: &str,
+    status: u8,
+    said: (&str, &str),
+) {
+    let (output, errors) = said;
+    let words = ["pmb", command];
+    let found = flushed(rt.alloc(), &words, text, false);
+    is_true(rt, found.is(status, output, errors), &(command, text));
+    let printed = usize::from(!output.is_empty());
+    equal(rt, &found.output.flushes, &printed, &(command, text));
+    equal(
+        rt,
+        &(found.output.calls > 0),
+        &(printed > 0),
+        &(command, text),
+    );
+    equal(rt, &found.errors.flushes, &0, &(command, text));
+    if printed > 0 {
+        let failed = flushed(rt.alloc(), &words, text, true);
+        is_true(
+            rt,
+            failed.is(1, output, "pmb: X5 Write\n"),
+            &(command, text),
+        );
+    }
+}
+
+// A run on no frame, over a standard error that fails at this call, has this status all the same.
+fn keeps_status(
+    rt: &(impl Abort + AllocGlobal),
+    command: &str,
+    status: u8,
+    text: &str,
+    fails_at: usize,
+) {
+    let mut input = Source::new(in_pieces(b"ZZ", 7));
+    let errors = Paper {
+        fails_at,
+        ..blank_paper(rt.alloc(), 1)
+    };
+    let output = blank_paper(rt.alloc(), 1);
+    let words = ["pmb", command];
+    let found = run_with(rt.alloc(), Ok(&words), &mut input, output, errors);
+    is_true(
+        rt,
+        found.status == status && found.output.taken.is_empty(),
+        &fails_at,
+    );
+    equal(rt, &found.errors.calls, &fails_at, &1);
+    let front = &text.as_bytes()[..fails_at.saturating_sub(1).min(text.len())];
+    equal(rt, &found.errors.taken.as_slice(), &front, &fails_at);
 }
 
 #[test]
 fn a_failed_standard_error_leaves_the_status(rt: HostRuntime) {
-    let alloc = rt.alloc();
-    for (words, status, text) in [
-        (["pmb", "hear"].as_slice(), 1, "pmb: X2 BadHex line 1\n"),
-        (
-            ["pmb", "number"].as_slice(),
-            2,
-            "pmb: give one of --word and --micro\n",
-        ),
-    ] {
-        for fails_at in 1..=text.len() {
-            let mut input = Source::new(in_pieces(b"ZZ", 7));
-            let mut errors = blank_paper(alloc, 1);
-            errors.fails_at = fails_at;
-            let found = run_with(alloc, Ok(words), &mut input, blank_paper(alloc, 1), errors);
-            assert!(rt;
-                found.status == status && found.output.taken.is_empty(),
-                "at {fails_at}"
-            );
-            assert_eq!(rt; found.errors.calls, fails_at);
-            let front = &text.as_bytes()[..fails_at - 1];
-            assert_eq!(rt; found.errors.taken.as_slice(), front, "at {fails_at}");
-        }
+    let hear = "pmb: X2 BadHex line 1\n";
+    for fails_at in 1..=hear.len() {
+        keeps_status(&rt, "hear", 1, hear, fails_at);
+    }
+    let number = "pmb: give one of --word and --micro\n";
+    for fails_at in 1..=number.len() {
+        keeps_status(&rt, "number", 2, number, fails_at);
     }
 }

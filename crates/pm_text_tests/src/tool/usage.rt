@@ -1,8 +1,10 @@
 //! The parser's own texts: of a faulty command line on standard error, and of help on the output.
 
 use super::run::{run_on, run_with};
+use crate::checks::is_true;
 use crate::fakes::{blank_paper, in_pieces};
 use pm_tool::Source;
+use std::process::Abort;
 
 static MISSING: &str = "error: 'pmb' requires a subcommand but one was not provided
   [subcommands: hear, replay, decode, number]
@@ -208,6 +210,17 @@ Status 1 and a line on standard error: bad format, bad word, bad micro, X5 Write
   N5 TooLarge        beyond 10^15 millionths in size
 ";
 
+fn is_said(
+    rt: &(impl Abort + AllocGlobal),
+    words: &[&str],
+    status: u8,
+    output: &str,
+    errors: &str,
+) {
+    let found = run_on(rt.alloc(), words, "");
+    is_true(rt, found.is(status, output, errors), &words);
+}
+
 #[test]
 fn the_parsers_texts_go_where_they_belong(rt: HostRuntime) {
     for (words, status, output, errors) in [
@@ -232,14 +245,17 @@ fn the_parsers_texts_go_where_they_belong(rt: HostRuntime) {
         (["pmb", "decode", "--help"].as_slice(), 0, DECODE_HELP, ""),
         (["pmb", "number", "--help"].as_slice(), 0, NUMBER_HELP, ""),
     ] {
-        let found = run_on(rt.alloc(), words, "");
-        assert!(rt; found.is(status, output, errors), "{words:?}");
+        is_said(&rt, words, status, output, errors);
     }
+}
+
+#[test]
+fn a_failed_output_of_help_is_told(rt: HostRuntime) {
     let alloc = rt.alloc();
     let mut input = Source::new(in_pieces(b"", 1));
     let mut output = blank_paper(alloc, 1);
     output.fails_at = 3;
     let words = ["pmb", "--help"];
     let found = run_with(alloc, Ok(&words), &mut input, output, blank_paper(alloc, 1));
-    assert!(rt; found.is(1, "PM", "pmb: X5 Write\n"));
+    is_true(&rt, found.is(1, "PM", "pmb: X5 Write\n"), &1);
 }

@@ -1,13 +1,13 @@
 //! A line of each packet and of each fault of a packet, and what it says.
 
-use super::decoded;
-use pm_text::{TextFault, read_trace_line, render_line};
-use std::alloc::Global;
+use super::{decoded, rendered};
+use crate::checks::{equal, is_true};
+use pm_text::TextFault;
 use std::process::Abort;
 use std::test::Fail;
 
 /// A line of each code in each layout, what it says, and the code that is counted for it.
-const ACCEPTED: [(&str, &str, &str); 61] = [
+static ACCEPTED: [(&str, &str, &str); 61] = [
     ("B0 03 46", "58 CLEAR_FAULTS send", "CLEAR_FAULTS"),
     ("B0 00 01 ED", "58 PAGE write 01", "PAGE"),
     ("B0 01 94 1A", "58 OPERATION write 94", "OPERATION"),
@@ -232,7 +232,7 @@ const ACCEPTED: [(&str, &str, &str); 61] = [
 ];
 
 /// A line of each fault at each of its places, and what it says.
-const FAULTY: [(&str, &str); 71] = [
+static FAULTY: [(&str, &str); 71] = [
     ("/", "-- write F1 NotOurs"),
     ("/ B1", "-- write F1 NotOurs"),
     ("B1 00", "-- write F1 NotOurs"),
@@ -319,7 +319,7 @@ const FAULTY: [(&str, &str); 71] = [
 ];
 
 /// Lines that are no packet, and what they say.
-const BAD: [(&str, &str, TextFault); 12] = [
+static BAD: [(&str, &str, TextFault); 12] = [
     ("B0 // B1", "X1 Syntax", TextFault::Syntax(1)),
     ("B0 / B1 / B2", "X1 Syntax", TextFault::Syntax(1)),
     ("B0 / B1 / B", "X2 BadHex", TextFault::BadHex(1)),
@@ -334,10 +334,10 @@ const BAD: [(&str, &str, TextFault); 12] = [
     ("B0108034 Z", "X2 BadHex", TextFault::BadHex(1)),
 ];
 
-// What a line says by itself, with its number.
-fn rendered(alloc: Global, line: &str) -> Result<String, TextFault> {
-    let parts = read_trace_line(alloc, line.as_bytes())?;
-    render_line(alloc, 1, &parts)
+// `decode` writes this of a line.
+fn is_written(rt: &(impl Abort + AllocGlobal), line: &str, text: &str) {
+    let (_, written) = decoded(rt.alloc(), line);
+    equal(rt, &written.as_slice(), &text.as_bytes(), &line);
 }
 
 // A trace of one line says this of it, with its number, and these counts; the line by itself says the same.
@@ -348,14 +348,10 @@ fn expect_said(
     counts: &str,
 ) -> Result<(), Fail> {
     let text = format!(in rt.alloc(); "1 {said}\n{counts}\n")?;
-    assert_eq!(rt;
-        decoded(rt.alloc(), line).1.as_slice(),
-        text.as_bytes(),
-        "{line}"
-    );
-    let alone = rendered(rt.alloc(), line)?;
-    assert!(rt; text.as_str().starts_with(alone.as_str()), "{line}");
-    assert_eq!(rt; alone.len(), said.len().saturating_add(2), "{line}");
+    is_written(rt, line, &text);
+    let alone = rendered(rt.alloc(), line, 1)?;
+    is_true(rt, text.as_str().starts_with(alone.as_str()), &line);
+    equal(rt, &alone.len(), &said.len().saturating_add(2), &line);
     Ok(())
 }
 
@@ -384,12 +380,9 @@ fn is_bad(
     fault: TextFault,
 ) -> Result<(), Fail> {
     let text = format!(in rt.alloc(); "1 {said}\nlines 1 accepted 0 faults 0 bad 1\n")?;
-    assert_eq!(rt;
-        decoded(rt.alloc(), line).1.as_slice(),
-        text.as_bytes(),
-        "{line}"
-    );
-    assert_eq!(rt; rendered(rt.alloc(), line).err(), Some(fault), "{line}");
+    is_written(rt, line, &text);
+    let alone = rendered(rt.alloc(), line, 1).err();
+    equal(rt, &alone, &Some(fault), &line);
     Ok(())
 }
 
