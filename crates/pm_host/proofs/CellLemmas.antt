@@ -14,6 +14,7 @@ use Rattle.pm_host.specs.Cells.{table}
 number-below : (register : Reg) → register_number register < register_count
 number-below register = grind arith
 
+-- the other way round
 register_at-number : (register : Reg) → register_at (register_number register) ≡ register
 register_at-number register = grind arith
 

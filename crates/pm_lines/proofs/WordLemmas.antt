@@ -18,13 +18,14 @@ record Behind (word rest : List ℕ) : Type 0 where
   before : before_first is_space (word ++ rest) ≡ word ++ before_first is_space rest
   after : after_first is_space (word ++ rest) ≡ after_first is_space rest
 
--- one more is taken or dropped
+-- one more is taken
 take_next : (n byte : ℕ) (bytes : List ℕ) → take (1 + n) (byte ∷ bytes) ≡ byte ∷ take n bytes
 take_next n byte bytes = ap (λ k. take k (byte ∷ bytes)) (next n)
   where
     next : (n : ℕ) → 1 + n ≡ suc n
     next n = omega arith
 
+-- one more is dropped
 drop_next : (n byte : ℕ) (bytes : List ℕ) → drop ((1 + n) + 1) (byte ∷ bytes) ≡ drop (n + 1) bytes
 drop_next n byte bytes = ap (λ k. drop k (byte ∷ bytes)) (next n)
   where
@@ -36,6 +37,7 @@ before-passed : (byte : ℕ) (bytes : List ℕ) → is_space byte ≡ false
     → before_first is_space (byte ∷ bytes) ≡ byte ∷ before_first is_space bytes
 before-passed byte bytes is = rw is (take_next (position_or_len is_space bytes) byte bytes)
 
+-- and what stands behind the first space is the same
 after-passed : (byte : ℕ) (bytes : List ℕ) → is_space byte ≡ false
     → after_first is_space (byte ∷ bytes) ≡ after_first is_space bytes
 after-passed byte bytes is = rw is (drop_next (position_or_len is_space bytes) byte bytes)

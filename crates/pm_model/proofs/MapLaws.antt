@@ -44,6 +44,7 @@ unfolding with_outputs
 outputs-from stand told words others output register full here =
     word_at-with_word stand told others Protect (Out output register) (word_at words Protect) (full, tt, here)
 
+-- WRITE_PROTECT stays its own word when the outputs take other words
 pub protect-own : CellsHavePlaces → CellsAreToldApart → (words others : Words) → AreWords others →
     word_at (with_outputs words others) Protect ≡ word_at words Protect
 unfolding with_outputs

@@ -19,6 +19,7 @@ got_bad left none =
     ap (λ (o : Option (List ℕ)). or_fault {A = Ask} (option_map (λ bytes. Got (record { items = bytes })) o) (BadHex left.line)
     (record { line = left.line; words = [] })) none
 
+-- words that are bytes
 pub got_good : (left : WordsLeft) (bytes : List ℕ) → got_bytes left.words ≡ Some bytes
     → got_rest left ≡ Ok (Got (record { items = bytes }), record { line = left.line; words = [] })
 unfolding got_rest
@@ -30,6 +31,7 @@ got_good left bytes some =
 too_long : (bytes : List ℕ) → 16 < length bytes → as_answer bytes ≡ None
 too_long bytes long = grind (arith, nat_tests)
 
+-- no more bytes than an answer may have
 short : (bytes : List ℕ) → length bytes ≤ 16 → as_answer bytes ≡ Some bytes
 short bytes few = grind (arith, nat_tests)
 

@@ -57,6 +57,7 @@ pub after-more : (s : Summary) (lines : List (List ℕ)) (line : List ℕ)
 after-more s [] line = refl
 after-more s (first ∷ lines) line = after-more (answer_to s first).after lines line
 
+-- what happens for one line more
 pub talk-more : (s : Summary) (lines : List (List ℕ)) (line : List ℕ)
     → talk s (lines ++ line ∷ []) ≡ talk s lines ++ turn (after_lines s lines) line
 talk-more s [] line = append-nil (turn s line)
@@ -64,10 +65,12 @@ talk-more s (first ∷ lines) line =
     ap (λ things. turn s first ++ things) (talk-more (answer_to s first).after lines line)
     ∙ sym (append_assoc (turn s first) (talk (answer_to s first).after lines) (turn (after_lines (answer_to s first).after lines) line))
 
+-- each of the lines is one, with one more
 pub lines-more : (lines : List (List ℕ)) (line : List ℕ) → list_all is_line lines ≡ true → is_line line ≡ true
     → list_all is_line (lines ++ line ∷ []) ≡ true
 lines-more lines line before this = list_all-append is_line lines (line ∷ []) ∙ ap₂ (λ a b. a && b) before (ap (λ b. b && true) this)
 
+-- the text of an answer by a line's first 257 bytes
 pub kept_text : (s : Summary) (line : List ℕ) → answer_text s (take 257 line) ≡ answer_text s line
 unfolding answer_text
 kept_text s line = ap (λ (a : Answered). reply_text a.reply) (kept_answers s line)

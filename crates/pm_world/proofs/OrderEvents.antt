@@ -72,13 +72,14 @@ kept_taken held job = record (kept_in held) {
 abbrev pub Reaches : Held → Option PendingJob → Kept → Type 0
 Reaches held job after = (after ≡ kept_in held) ⊎ (IsSome job × (after ≡ kept_taken held job))
 
--- a store, and a restore, that WRITE_PROTECT allows or not
+-- a store that WRITE_PROTECT allows or not
 stored : (held : Held) (b : Bool) (after : Kept) →
     after ≡ record (kept_in held) { store = cond b (with_outputs held.store held.words) held.store } →
     Reaches held (Some pending.Store) after
 stored held true after e = inr (refl, e)
 stored held false after e = inl e
 
+-- a restore likewise
 restored : (held : Held) (b : Bool) (after : Kept) →
     after ≡ record (kept_in held) { words = cond b (with_outputs held.words held.store) held.words } →
     Reaches held (Some pending.Restore) after
@@ -135,6 +136,7 @@ heard-words : (held : Held) (bytes : List ℕ) (ending : Ending) →
 unfolding device_next device_by
 heard-words held bytes ending = refl
 
+-- and so is the store
 heard-store : (held : Held) (bytes : List ℕ) (ending : Ending) →
     (device_next held (Hearing bytes ending)).store ≡ (kept_after held (Hearing bytes ending)).store
 unfolding device_next device_by

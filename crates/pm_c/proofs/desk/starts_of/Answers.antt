@@ -4,6 +4,7 @@ use Rattle.pm_c.specs.declared.desk.OutputWords.{OutputWords}
 use Rattle.pm_c.specs.Desk.{output_start}
 use Rattle.pm_c.proofs.desk.starts_of.Goals as goal
 
+-- an output all of whose numbers are 0
 blank : OutputWords
 blank = record { mode = 0; unused = 0; operation = 0; command = 0; max = 0; high = 0; low = 0; min = 0 }
 

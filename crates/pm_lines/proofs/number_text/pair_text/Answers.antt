@@ -33,13 +33,14 @@ ascii-all (b ∷ bs) e = go (nat_lt b 128) refl e (ascii-all bs) where
 boundary : (place : ℕ) → place ≤ 512 → IsCharBoundary pairs place
 boundary place h = IsCharBoundary-from_ascii pairs place (ascii-all pairs refl) h
 
--- the digit at an even place, and at an odd one
+-- the digit at an even place
 digit-even : (byte : ℕ) → digit_at (2 * byte) ≡ digit_glyph true (byte / 16)
 digit-even byte =
     let even : (2 * byte % 2 == 0) ≡ true = grind (arith, nat_tests) in
     let high : 2 * byte / 32 ≡ byte / 16 = omega arith in
     rw (even, high) refl
 
+-- the digit at an odd place
 digit-odd : (byte : ℕ) → digit_at (2 * byte + 1) ≡ digit_glyph true (byte % 16)
 digit-odd byte =
     let odd : ((2 * byte + 1) % 2 == 0) ≡ false = grind (arith, nat_tests) in

@@ -16,6 +16,7 @@ place-below : (output number : ℕ) → output < 8 → number < register_count �
     output * register_count + number < protect_place
 place-below output number here below = omega (arith, here, below)
 
+-- the place of a register is found in its output's row
 row-of_place : (words : List (List ℕ)) (output number : ℕ) → number < register_count →
     get_or (get_or words ((output * register_count + number) / register_count) [])
     ((output * register_count + number) % register_count) 0
