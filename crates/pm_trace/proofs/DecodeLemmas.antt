@@ -152,17 +152,18 @@ pushed_front {old = old} {mid = mid} front rest split some pushes refused same =
 
 -- ---- what was read and written
 
--- a prefix of what is written after what was written
-AppendsFront-behind : (a b c : Option (List ℕ)) (before part later all : List ℕ) → Appends a b before → AppendsFront b c part
-    → all ≡ before ++ (part ++ later) → AppendsFront a c all
-AppendsFront-behind a b c before part later all written (front, rest, split, some, appended) is = (
-  before ++ front,
-  rest ++ later,
-  is ∙ ap (λ l. before ++ (l ++ later)) split ∙ ap (λ l. before ++ l) (append_assoc front rest later)
-      ∙ sym (append_assoc before front (rest ++ later)),
-  omega (arith, some, length-append rest later),
-  Appends-trans a b c before front written appended,
-)
+module _ (a b c : Option (List ℕ)) where
+  -- a prefix of what is written after what was written
+  AppendsFront-behind : (before part later all : List ℕ) → Appends a b before → AppendsFront b c part
+      → all ≡ before ++ (part ++ later) → AppendsFront a c all
+  AppendsFront-behind before part later all written (front, rest, split, some, appended) is = (
+    before ++ front,
+    rest ++ later,
+    is ∙ ap (λ l. before ++ (l ++ later)) split ∙ ap (λ l. before ++ l) (append_assoc front rest later)
+        ∙ sym (append_assoc before front (rest ++ later)),
+    omega (arith, some, length-append rest later),
+    Appends-trans a b c before front written appended,
+  )
 
 -- what the lines of more bytes say
 pub lines-append : (bytes piece : List ℕ)

@@ -100,11 +100,11 @@ first_ended (x ∷ xs) more plain = by (is_line_feed x) refl (first_ended xs mor
     by false is rest = rw is (ap (λ l. x ∷ l) (rest (rw is at plain)))
 
 -- what the line took of the bytes is what is taken of them, with a line feed that is left
-pub takes_bytes : (old : Gathered) (bytes rest : List ℕ) (line : OpenLine) (ended : Bool) (one : ℕ) → Passes old.line bytes rest line
+pub takes_bytes : {bytes rest : List ℕ} {line : OpenLine} → (old : Gathered) (ended : Bool) (one : ℕ) → Passes old.line bytes rest line
     → IsAtLineFeed rest → ended ≡ not (eqb (length rest) 0) → (ended ≡ true → one ≡ 1) → (ended ≡ false → one ≡ 0)
     → Takes old bytes (record { taken = length bytes - length rest + one; ended = ended })
     (record old { taken = old.taken + (length bytes - length rest + one); line = line })
-takes_bytes old bytes [] line ended one passes at is yes' no' =
+takes_bytes {bytes = bytes} {rest = []} {line = line} old ended one passes at is yes' no' =
     let all : bytes ≡ passes.front = passes.split ∙ append-nil passes.front in
     let whole : first_line bytes ≡ passes.front = ap first_line all ∙ first_open passes.front passes.plain in
     record {
@@ -115,7 +115,7 @@ takes_bytes old bytes [] line ended one passes at is yes' no' =
       within = omega (arith, no' is);
       gathered = λ i. record old { taken = old.taken + (length bytes - 0 + one); line = passes.line i };
     }
-takes_bytes old bytes (x ∷ xs) line ended one passes at is yes' no' =
+takes_bytes {bytes = bytes} {rest = x ∷ xs} {line = line} old ended one passes at is yes' no' =
     let some : eqb (length (x ∷ xs)) 0 ≡ false = grind (arith, nat_tests) in
     let here : ended ≡ true = is ∙ ap not some in
     let all : bytes ≡ passes.front ++ 10 ∷ xs = passes.split ∙ ap (λ y. passes.front ++ y ∷ xs) at in

@@ -281,10 +281,10 @@ pub passes_none : (line : OpenLine) (bytes : List ℕ) → Passes line bytes byt
 passes_none line bytes = record { front = []; split = refl; plain = refl; line = refl }
 
 -- one more, which is no line feed
-pub passes_one : (old : OpenLine) (bytes rest : List ℕ) (mid new : OpenLine) → Passes old bytes rest mid → 1 ≤ length rest
+pub passes_one : {old mid : OpenLine} {bytes : List ℕ} → (rest : List ℕ) (new : OpenLine) → Passes old bytes rest mid → 1 ≤ length rest
     → (get_or rest 0 0 ≡ 10 → ⊥) → new ≡ line_takes mid (get_or rest 0 0) → Passes old bytes (take (length rest - 1) (drop 1 rest)) new
-passes_one old bytes [] mid new passes some other is = absurd (omega arith)
-passes_one old bytes (x ∷ xs) mid new passes some other is =
+passes_one {old = old} {mid = mid} {bytes = bytes} [] new passes some other is = absurd (omega arith)
+passes_one {old = old} {mid = mid} {bytes = bytes} (x ∷ xs) new passes some other is =
     let one_less : length (x ∷ xs) - 1 ≡ length xs = omega arith in
     let left : take (length (x ∷ xs) - 1) xs ≡ xs = ap (λ n. take n xs) one_less ∙ take_all (length xs) xs (omega arith) in
     record {

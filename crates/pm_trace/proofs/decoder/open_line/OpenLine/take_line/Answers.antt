@@ -6,5 +6,5 @@ returns-then-first-eq10-clause-passes c = passes_more _ _ _ _ _ _ c.bytes.invari
 
 pub bytes-preserved : goal.bytes-preserved
 bytes-preserved c =
-    passes_one _ _ c.take_pairs-rest.result.now _ _ (passes_more _ _ _ _ _ _ c.bytes.invariant c.take_pairs-rest.ensures)
+    passes_one c.take_pairs-rest.result.now _ (passes_more _ _ _ _ _ _ c.bytes.invariant c.take_pairs-rest.ensures)
     c.in-len1-up.len_at_least c.if-first-eq10.false c.take.ensures
