@@ -116,7 +116,7 @@ fn expect(rt: &impl Abort, found: Result<String, TextFault>, wanted: &str) {
     }
 }
 
-static LINES_AND_REPORTS_ARE_WHOLE_OR_WANT_MEMORY: [(&str, &str); 3] = [
+static LINES: [(&str, &str); 3] = [
     (
         "B0 06 02 00 21 / B1 02 CD 34 B9",
         "18446744073709551615 58 page 0 VOUT_COMMAND read 34CD",
@@ -133,7 +133,7 @@ static LINES_AND_REPORTS_ARE_WHOLE_OR_WANT_MEMORY: [(&str, &str); 3] = [
 
 #[test]
 fn lines_and_reports_are_whole_or_want_memory(rt: HostRuntime) {
-    for &(line, wanted) in &LINES_AND_REPORTS_ARE_WHOLE_OR_WANT_MEMORY {
+    for &(line, wanted) in &LINES {
         expect(&rt, line_said(rt.alloc(), line), wanted);
     }
     for (scenario, report) in REPORTS {

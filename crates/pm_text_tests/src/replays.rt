@@ -70,7 +70,7 @@ fn is_reported(rt: &(impl Abort + AllocGlobal), events: &str, said: Said) -> Res
     Ok(())
 }
 
-static A_REPLAY_GOES_ON_TO_THE_FIRST_EVENT_THAT_IS_NOT_TAKEN: [(&str, Said); 19] = [
+static STOPS: [(&str, Said); 19] = [
     ("", ("ran 0", START, UNKNOWN, "none")),
     (
         "order 0 VOUT_COMMAND 34CD\nfinish ack\nexchange whole whole\nfinish ack\nexchange whole whole\n",
@@ -159,7 +159,7 @@ static A_REPLAY_GOES_ON_TO_THE_FIRST_EVENT_THAT_IS_NOT_TAKEN: [(&str, Said); 19]
 
 #[test]
 fn a_replay_goes_on_to_the_first_event_that_is_not_taken(rt: HostRuntime) -> Result<(), Fail> {
-    for &(events, said) in &A_REPLAY_GOES_ON_TO_THE_FIRST_EVENT_THAT_IS_NOT_TAKEN {
+    for &(events, said) in &STOPS {
         is_reported(&rt, events, said)?;
     }
     Ok(())
@@ -189,7 +189,7 @@ fn with_restart(alloc: Global, end: &str, place: usize) -> Result<String, Fail> 
 }
 
 // What starts again, and before which event of the order; 4 is after the last.
-static A_RESTART_OF_EITHER_END_AT_EACH_PLACE_OF_AN_ORDER: [(&str, usize, Said); 10] = [
+static RESTARTS: [(&str, usize, Said); 10] = [
     ("device", 0, ("ran 5", HELD, CONFIRMED, "done")),
     ("device", 1, ("ran 5", HELD, CONFIRMED, "done")),
     ("device", 2, ("ran 5", START, UNKNOWN, "pending")),
@@ -230,7 +230,7 @@ static A_RESTART_OF_EITHER_END_AT_EACH_PLACE_OF_AN_ORDER: [(&str, usize, Said); 
 
 #[test]
 fn a_restart_of_either_end_at_each_place_of_an_order(rt: HostRuntime) -> Result<(), Fail> {
-    for &(end, place, said) in &A_RESTART_OF_EITHER_END_AT_EACH_PLACE_OF_AN_ORDER {
+    for &(end, place, said) in &RESTARTS {
         is_reported(&rt, &with_restart(rt.alloc(), end, place)?, said)?;
     }
     Ok(())

@@ -115,7 +115,7 @@ fn is_read(rt: &(impl Abort + AllocGlobal), line: &str, wanted: &str) -> Result<
     Ok(())
 }
 
-static EACH_EVENT_LINE_IS_READ: [(&str, &str); 29] = [
+static EVENT_LINES: [(&str, &str); 29] = [
     (
         "order 0 VOUT_COMMAND 34CD",
         "[Order(Out(0, VoutCommand), 13517)]",
@@ -176,7 +176,7 @@ static EACH_EVENT_LINE_IS_READ: [(&str, &str); 29] = [
 
 #[test]
 fn each_event_line_is_read(rt: HostRuntime) -> Result<(), Fail> {
-    for &(line, wanted) in &EACH_EVENT_LINE_IS_READ {
+    for &(line, wanted) in &EVENT_LINES {
         is_read(&rt, line, wanted)?;
     }
     Ok(())

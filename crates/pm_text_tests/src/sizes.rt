@@ -296,38 +296,37 @@ fn is_rendered(
 }
 
 // The line, how many bytes its parts have, its number, and what it says.
-static LONG_PARTS_ARE_RENDERED_WITH_GREAT_NUMBERS: [(Long, (usize, Option<usize>), u64, &str); 4] =
-    [
-        (
-            (["B0", ""], " 05", 299, ""),
-            (300, None),
-            u64::MAX,
-            "18446744073709551615 58 write F3 Long 9",
-        ),
-        (
-            (["B0 20 /", ""], " B1", 300, ""),
-            (2, Some(300)),
-            4_294_967_296,
-            "4294967296 58 read F3 Long 3",
-        ),
-        (
-            (["B0", "0"], "0", 597, "/"),
-            (300, Some(0)),
-            256,
-            "256 58 write F3 Long 2",
-        ),
-        (
-            (["B0 30 02 FF FF / B1 05", ""], " FF", 5, " 47"),
-            (5, Some(8)),
-            1_000_000_000_000,
-            "1000000000000 58 COEFFICIENTS of FF side 255 read m -1 b -1 r -1",
-        ),
-    ];
+static LONG_PARTS: [(Long, (usize, Option<usize>), u64, &str); 4] = [
+    (
+        (["B0", ""], " 05", 299, ""),
+        (300, None),
+        u64::MAX,
+        "18446744073709551615 58 write F3 Long 9",
+    ),
+    (
+        (["B0 20 /", ""], " B1", 300, ""),
+        (2, Some(300)),
+        4_294_967_296,
+        "4294967296 58 read F3 Long 3",
+    ),
+    (
+        (["B0", "0"], "0", 597, "/"),
+        (300, Some(0)),
+        256,
+        "256 58 write F3 Long 2",
+    ),
+    (
+        (["B0 30 02 FF FF / B1 05", ""], " FF", 5, " 47"),
+        (5, Some(8)),
+        1_000_000_000_000,
+        "1000000000000 58 COEFFICIENTS of FF side 255 read m -1 b -1 r -1",
+    ),
+];
 
 #[test]
 fn long_parts_are_rendered_with_great_numbers(rt: HostRuntime) -> Result<(), Fail> {
     let alloc = rt.alloc();
-    for &(long, parts, number, wanted) in &LONG_PARTS_ARE_RENDERED_WITH_GREAT_NUMBERS {
+    for &(long, parts, number, wanted) in &LONG_PARTS {
         is_rendered(&rt, &text_of(alloc, long)?, parts, number, wanted)?;
     }
     Ok(())

@@ -135,28 +135,35 @@ fn a_sink_flushes_when_it_is_asked(rt: HostRuntime) {
     is_flushed(&rt, true);
 }
 
-static LINES_ARE_NUMBERED_AND_WORDS_ARE_PARTED_BY_SPACES: [(u64, &[u8], [Option<&[u8]>; 3]); 5] = [
-    (4, b" a  b", [Some(b"a"), Some(b"b"), None]),
-    (5, b"\t", [Some(b"\t"), None, None]),
-    (6, b"\r", [Some(b"\r"), None, None]),
-    (7, b" # x", [Some(b"#"), Some(b"x"), None]),
-    (8, b"last", [Some(b"last"), None, None]),
+// The number of each line that isn't skipped, its text, and its words.
+static NUMBERED: [(u64, &[u8], &[&[u8]]); 5] = [
+    (4, b" a  b", &[b"a", b"b"]),
+    (5, b"\t", &[b"\t"]),
+    (6, b"\r", &[b"\r"]),
+    (7, b" # x", &[b"#", b"x"]),
+    (8, b"last", &[b"last"]),
 ];
+
+// A line has this number, this text and these words, and no further one.
+fn is_line(rt: &impl Abort, line: Line<'_>, number: u64, text: &[u8], words: &[&[u8]]) {
+    equal(rt, &line.number, &number, &text);
+    equal(rt, &line.text, &text, &number);
+    let mut found = Words::new(line);
+    equal(rt, &found.line(), &number, &text);
+    for word in words {
+        equal(rt, &found.next_word(), &Some(*word), &number);
+    }
+    equal(rt, &found.next_word(), &None, &number);
+}
 
 #[test]
 fn lines_are_numbered_and_words_are_parted_by_spaces(rt: HostRuntime) {
     let mut lines = Lines::new(b"\n# c\r\n  \n a  b\r\n\t\n\r\r\n # x\nlast\r");
-    for &(number, text, words) in &LINES_ARE_NUMBERED_AND_WORDS_ARE_PARTED_BY_SPACES {
+    for &(number, text, words) in &NUMBERED {
         let Some(line) = lines.next_line() else {
             panic!(rt; "no line {number}");
         };
-        equal(&rt, &line.number, &number, &1);
-        equal(&rt, &line.text, &text, &number);
-        let mut found = Words::new(line);
-        equal(&rt, &found.line(), &number, &2);
-        for word in words {
-            equal(&rt, &found.next_word(), &word, &number);
-        }
+        is_line(&rt, line, number, text, words);
     }
     is_true(
         &rt,
@@ -179,7 +186,7 @@ fn lines_are_numbered_and_words_are_parted_by_spaces(rt: HostRuntime) {
     );
 }
 
-static BYTES_ARE_READ_IN_WORDS_OF_ANY_LENGTH: [(&[u8], Option<&[u8]>); 8] = [
+static BYTES: [(&[u8], Option<&[u8]>); 8] = [
     (b"", Some(b"")),
     (b" 0a  FF ", Some(b"\x0A\xFF")),
     (b"0aFf00", Some(b"\x0A\xFF\x00")),
@@ -190,43 +197,51 @@ static BYTES_ARE_READ_IN_WORDS_OF_ANY_LENGTH: [(&[u8], Option<&[u8]>); 8] = [
     (b"0a 0A 0x", None),
 ];
 
-#[test]
-fn bytes_are_read_in_words_of_any_length(rt: HostRuntime) -> Result<(), Fail> {
-    let alloc = rt.alloc();
-    for &(text, wanted) in &BYTES_ARE_READ_IN_WORDS_OF_ANY_LENGTH {
-        let mut bytes = b"\x55".to_vec(alloc)?;
-        let result = push_bytes(Line { number: 300, text }, &mut bytes);
-        match wanted {
-            Some(wanted) => {
-                equal(&rt, &result, &Ok(()), &text);
-                is_true(&rt, bytes.as_slice().starts_with(b"\x55"), &text);
-                equal(
-                    &rt,
-                    &&bytes.as_slice()[1.min(bytes.len())..],
-                    &wanted,
-                    &text,
-                );
-            }
-            None => {
-                equal(&rt, &result, &Err(TextFault::BadHex(300)), &text);
-                equal(&rt, &bytes.as_slice(), &b"\x55".as_slice(), &text);
-            }
+// The bytes of a line stand behind what was there, or nothing is added.
+fn are_pushed(
+    rt: &(impl Abort + AllocGlobal),
+    text: &[u8],
+    wanted: Option<&[u8]>,
+) -> Result<(), Fail> {
+    let mut bytes = b"\x55".to_vec(rt.alloc())?;
+    let result = push_bytes(Line { number: 300, text }, &mut bytes);
+    match wanted {
+        Some(wanted) => {
+            equal(rt, &result, &Ok(()), &text);
+            is_true(rt, bytes.as_slice().starts_with(b"\x55"), &text);
+            equal(rt, &&bytes.as_slice()[1.min(bytes.len())..], &wanted, &text);
         }
-    }
-    // One word of half a million bytes, and as many words of one byte.
-    for word in ["a5", "a5 "] {
-        let mut text = Vec::new(alloc);
-        for _ in 0..500_000 {
-            text.extend_from_slice(word.as_bytes())?;
+        None => {
+            equal(rt, &result, &Err(TextFault::BadHex(300)), &text);
+            equal(rt, &bytes.as_slice(), &b"\x55".as_slice(), &text);
         }
-        let mut bytes = Vec::new(alloc);
-        let line = Line {
-            number: 1,
-            text: &text,
-        };
-        equal(&rt, &push_bytes(line, &mut bytes), &Ok(()), &1);
-        equal(&rt, &bytes.len(), &500_000, &2);
-        is_true(&rt, bytes.iter().all(|byte| *byte == 0xA5), &3);
     }
     Ok(())
+}
+
+// Half a million bytes A5h, each written so.
+fn are_many(rt: &(impl Abort + AllocGlobal), word: &str) -> Result<(), Fail> {
+    let mut text = Vec::new(rt.alloc());
+    for _ in 0..500_000 {
+        text.extend_from_slice(word.as_bytes())?;
+    }
+    let mut bytes = Vec::new(rt.alloc());
+    let line = Line {
+        number: 1,
+        text: &text,
+    };
+    equal(rt, &push_bytes(line, &mut bytes), &Ok(()), &word);
+    equal(rt, &bytes.len(), &500_000, &word);
+    is_true(rt, bytes.iter().all(|byte| *byte == 0xA5), &word);
+    Ok(())
+}
+
+// One word of half a million bytes, and as many words of one byte, among them.
+#[test]
+fn bytes_are_read_in_words_of_any_length(rt: HostRuntime) -> Result<(), Fail> {
+    for &(text, wanted) in &BYTES {
+        are_pushed(&rt, text, wanted)?;
+    }
+    are_many(&rt, "a5")?;
+    are_many(&rt, "a5 ")
 }

@@ -23,7 +23,7 @@ fn is_decoded(rt: &(impl Abort + AllocGlobal), trace: &str, text: &str, is_clean
     equal(rt, &written.as_slice(), &text.as_bytes(), &trace);
 }
 
-static A_TRACE_IS_WRITTEN_LINE_BY_LINE: [(&str, &str, bool); 5] = [
+static SAID: [(&str, &str, bool); 5] = [
     ("", "lines 0 accepted 0 faults 0 bad 0\n", true),
     (
         "\n\r\n  \n# x\r\n",
@@ -49,7 +49,7 @@ static A_TRACE_IS_WRITTEN_LINE_BY_LINE: [(&str, &str, bool); 5] = [
 
 #[test]
 fn a_trace_is_written_line_by_line(rt: HostRuntime) {
-    for &(trace, text, is_clean) in &A_TRACE_IS_WRITTEN_LINE_BY_LINE {
+    for &(trace, text, is_clean) in &SAID {
         is_decoded(&rt, trace, text, is_clean);
     }
 }

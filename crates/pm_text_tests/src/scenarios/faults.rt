@@ -33,7 +33,7 @@ fn is_refused_event(
 }
 
 // The number of the line, and what stands there instead.
-static A_FAULTY_LINE_OF_THE_WORKED_SCENARIO_IS_TOLD: [(usize, &str, TextFault); 12] = [
+static FAULTY_LINES: [(usize, &str, TextFault); 12] = [
     (1, "scenario 3", TextFault::Syntax(1)),
     (3, "passes 256", TextFault::Syntax(3)),
     (4, "protect 0", TextFault::BadHex(4)),
@@ -58,14 +58,14 @@ static A_FAULTY_LINE_OF_THE_WORKED_SCENARIO_IS_TOLD: [(usize, &str, TextFault); 
 
 #[test]
 fn a_faulty_line_of_the_worked_scenario_is_told(rt: HostRuntime) -> Result<(), Fail> {
-    for &(number, line, fault) in &A_FAULTY_LINE_OF_THE_WORKED_SCENARIO_IS_TOLD {
+    for &(number, line, fault) in &FAULTY_LINES {
         let text = worked_with(rt.alloc(), number, line)?;
         is_refused(&rt, &text, fault);
     }
     Ok(())
 }
 
-static A_WORD_THAT_IS_NOT_WHAT_STANDS_AT_ITS_PLACE_IS_A_FAULT: [&str; 68] = [
+static FAULTY_WORDS: [&str; 68] = [
     " # x",
     "; learn 1",
     "// learn 1",
@@ -138,13 +138,13 @@ static A_WORD_THAT_IS_NOT_WHAT_STANDS_AT_ITS_PLACE_IS_A_FAULT: [&str; 68] = [
 
 #[test]
 fn a_word_that_is_not_what_stands_at_its_place_is_a_fault(rt: HostRuntime) -> Result<(), Fail> {
-    for &line in &A_WORD_THAT_IS_NOT_WHAT_STANDS_AT_ITS_PLACE_IS_A_FAULT {
+    for &line in &FAULTY_WORDS {
         is_refused_event(&rt, line, TextFault::Syntax(8))?;
     }
     Ok(())
 }
 
-static A_WORD_THAT_SHOULD_BE_HEXADECIMAL_AND_IS_NOT_IS_A_FAULT: [&str; 16] = [
+static BAD_HEXADECIMAL: [&str; 16] = [
     "deliver bytes stop",
     "deliver bytes B stop",
     "deliver bytes B0B stop",
@@ -165,14 +165,14 @@ static A_WORD_THAT_SHOULD_BE_HEXADECIMAL_AND_IS_NOT_IS_A_FAULT: [&str; 16] = [
 
 #[test]
 fn a_word_that_should_be_hexadecimal_and_is_not_is_a_fault(rt: HostRuntime) -> Result<(), Fail> {
-    for &line in &A_WORD_THAT_SHOULD_BE_HEXADECIMAL_AND_IS_NOT_IS_A_FAULT {
+    for &line in &BAD_HEXADECIMAL {
         is_refused_event(&rt, line, TextFault::BadHex(8))?;
     }
     Ok(())
 }
 
 // The place of the line, counted from 0, and the line.
-static A_FAULTY_LINE_BEFORE_THE_EVENTS_IS_TOLD: [(usize, &str, TextFault); 28] = [
+static FAULTY_HEADS: [(usize, &str, TextFault); 28] = [
     (0, "scenario 01", TextFault::Syntax(1)),
     (0, "scenario 1 1", TextFault::Syntax(1)),
     (0, "scenario", TextFault::Syntax(1)),
@@ -213,14 +213,14 @@ static A_FAULTY_LINE_BEFORE_THE_EVENTS_IS_TOLD: [(usize, &str, TextFault); 28] =
 
 #[test]
 fn a_faulty_line_before_the_events_is_told(rt: HostRuntime) -> Result<(), Fail> {
-    for &(place, line, fault) in &A_FAULTY_LINE_BEFORE_THE_EVENTS_IS_TOLD {
+    for &(place, line, fault) in &FAULTY_HEADS {
         let text = head_with(rt.alloc(), place, line)?;
         is_refused(&rt, &text, fault);
     }
     Ok(())
 }
 
-static THE_FIRST_FAULTY_LINE_COUNTS: [(&str, TextFault); 9] = [
+static FIRST_FAULTS: [(&str, TextFault); 9] = [
     ("", TextFault::Syntax(1)),
     ("\n\n# x", TextFault::Syntax(4)),
     ("scenario 1", TextFault::Syntax(2)),
@@ -240,7 +240,7 @@ static THE_FIRST_FAULTY_LINE_COUNTS: [(&str, TextFault); 9] = [
 
 #[test]
 fn the_first_faulty_line_counts(rt: HostRuntime) -> Result<(), Fail> {
-    for &(text, fault) in &THE_FIRST_FAULTY_LINE_COUNTS {
+    for &(text, fault) in &FIRST_FAULTS {
         is_refused(&rt, text, fault);
     }
     let events = [

@@ -113,7 +113,7 @@ fn each_line_is_answered_and_the_outputs_follow(rt: HostRuntime) {
     }
 }
 
-static A_FRAME_LINE_IS_HEARD_HOWEVER_IT_IS_WRITTEN: [&str; 9] = [
+static SPELLINGS: [&str; 9] = [
     "B0 05 04 00 21 CD 34 5A\n",
     "B0 05 04 00 21 CD 34 5A\r\n",
     "B0 05 04 00 21 CD 34 5A\r",
@@ -127,7 +127,7 @@ static A_FRAME_LINE_IS_HEARD_HOWEVER_IT_IS_WRITTEN: [&str; 9] = [
 
 #[test]
 fn a_frame_line_is_heard_however_it_is_written(rt: HostRuntime) {
-    for &text in &A_FRAME_LINE_IS_HEARD_HOWEVER_IT_IS_WRITTEN {
+    for &text in &SPELLINGS {
         for piece in PIECES {
             is_heard(&rt, text, piece, "", TAKEN);
         }
@@ -141,7 +141,7 @@ fn is_refused(rt: &(impl Abort + AllocGlobal), text: &str, piece: usize, fault: 
     is_true(rt, written.is_empty(), &(text, piece));
 }
 
-static THE_FIRST_FAULTY_LINE_IS_NAMED: [(&str, TextFault); 27] = [
+static FAULTY_TEXTS: [(&str, TextFault); 27] = [
     // Not hexadecimal.
     ("a comment\n\r", TextFault::BadHex(1)),
     (" # x", TextFault::BadHex(1)),
@@ -177,7 +177,7 @@ static THE_FIRST_FAULTY_LINE_IS_NAMED: [(&str, TextFault); 27] = [
 
 #[test]
 fn the_first_faulty_line_is_named(rt: HostRuntime) {
-    for &(text, fault) in &THE_FIRST_FAULTY_LINE_IS_NAMED {
+    for &(text, fault) in &FAULTY_TEXTS {
         for piece in PIECES {
             is_refused(&rt, text, piece, fault);
         }
