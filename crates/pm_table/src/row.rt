@@ -4,6 +4,6 @@ use std::fmt::Debug;
 use std::process::Abort;
 
 /// Fails where what was found in this row is not what is wanted there.
-pub fn agrees<T: PartialEq + Debug>(rt: &impl Abort, row: usize, found: &T, wanted: &T) {
+pub(crate) fn agrees<T: PartialEq + Debug>(rt: &impl Abort, row: usize, found: &T, wanted: &T) {
     assert_eq!(rt; found, wanted, "row {row}");
 }
