@@ -244,7 +244,11 @@ fn are_counted(rt: &(impl Abort + AllocGlobal), lines: usize, count: u8) -> Resu
         let wanted = if place < lines { START } else { NO_START };
         equal(rt, start, &wanted, &(lines, place));
     }
-    is_refused(rt, &faulty, TextFault::BadHex(lines as u64 + 6));
+    is_refused(
+        rt,
+        &faulty,
+        TextFault::BadHex((lines as u64).saturating_add(6)),
+    );
     Ok(())
 }
 
