@@ -5,7 +5,7 @@ import subprocess
 import sys
 import tempfile
 
-TESTS = ("pm_device_tests", "pm_tests", "pm_text_tests")
+TESTS = ("pm_frame_tests", "pm_device_tests", "pm_tests", "pm_text_tests")
 
 
 def run(folder, *words):

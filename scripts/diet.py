@@ -77,10 +77,10 @@ def left_text(text, names):
 def put(home, name, text):
     """Writes a file, or removes it where it has no text."""
     path = os.path.join(home, name)
-    if text is None:
-        os.remove(path)
-    else:
+    if text is not None:
         write(path, text)
+    elif os.path.exists(path):
+        os.remove(path)
 
 
 def confirmed(copy, spare):
@@ -129,7 +129,23 @@ def uncited(home):
             return found, texts
         for name, lemma in reversed(spare):
             texts[name] = without(texts[name], lemma)
+        gone = {lemma.name for _, lemma in spare}
+        texts = {name: unimported(text, gone) for name, text in texts.items()}
         found += [(name, lemma.name) for name, lemma in spare]
+
+
+def unimported(text, gone):
+    """The text whose imports don't name these lemmas, which nothing cites."""
+    lines = []
+    for line in text.split("\n"):
+        named = re.match(r"((?:pub )?use [^{]*\{)(.*)\}$", line)
+        if named:
+            names = [name for name in named.group(2).split(", ") if name not in gone]
+            if not names:
+                continue
+            line = named.group(1) + ", ".join(names) + "}"
+        lines.append(line)
+    return "\n".join(lines)
 
 
 def cited(text, name):
@@ -138,9 +154,9 @@ def cited(text, name):
 
 
 def imports(texts, name):
-    """How often the files' imports have this name."""
+    """How often the files' imports have this name, for use under it: another name is a citation."""
     lines = "\n".join(line for text in texts.values() for line in text.split("\n") if line.startswith("use "))
-    return cited(lines, name)
+    return cited(lines, name) - lines.count("{%s as " % name) - lines.count(" %s as " % name)
 
 
 def diet(crate, jobs, apply):

@@ -23,8 +23,6 @@ mod received;
 mod row;
 mod rules;
 mod sent;
-#[cfg(test)]
-mod tests;
 mod view;
 
 use arrayvec::ArrayVec;
@@ -35,7 +33,7 @@ pub use laws::{
     damage_is_refused, few_changes_are_betrayed, requests_are_exact, writes_are_exact,
 };
 pub use message::{Message, Payload, fits};
-pub use packet_error_code::pec;
+pub use packet_error_code::{pec, pec_after};
 pub use received::{read_answer, read_request, read_write};
 pub use sent::{answer, write_part};
 pub use view::FrameView;

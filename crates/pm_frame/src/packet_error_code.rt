@@ -35,9 +35,10 @@ pub fn pec(bytes: &[u8]) -> u8
     pec_after(0, bytes)
 }
 
-/// The PEC of what came before, carried on over further bytes of the same message: sixteen of them
-/// at a step as one number of 128 bits, and the last ones byte by byte.
-pub(crate) fn pec_after(so_far: u8, bytes: &[u8]) -> u8
+/// The PEC of what came before, carried on over further bytes of the same message, as that of a
+/// request is over the bytes of its answer: sixteen of them at a step as one number of 128 bits, and the
+/// last ones byte by byte.
+pub fn pec_after(so_far: u8, bytes: &[u8]) -> u8
     ensures { (front : List ℕ) → so_far ≡ pec_of front → result ≡ pec_of (front ++ bytes.now) }
 {
     if bytes.len() < BLOCK {
@@ -116,86 +117,4 @@ fn below_16(number: u128) -> u128
 {
     let upper = number >> 16;
     (upper << 4) ^ (upper << 2) ^ upper ^ number % (1 << 16)
-}
-
-#[cfg(test)]
-mod tests {
-    use super::*;
-    use crate::tests::agrees;
-    use crate::tests::framing::slow_pec;
-
-    // The PEC of a message.
-    fn found(message: &[u8]) -> u8 {
-        pec(message)
-    }
-
-    // The PEC carried on over a further part.
-    fn found_after(before: u8, part: &[u8]) -> u8 {
-        pec_after(before, part)
-    }
-
-    static MESSAGES: [(&[u8], u8); 4] = [
-        (b"123456789", 0xF4),
-        (&[0xB0, 0x05, 0x04, 0x00, 0x21, 0xCD, 0x34], 0x5A),
-        (&[0xB0, 0x10, 0x80], 0x34),
-        (&[], 0x00),
-    ];
-
-    #[test]
-    fn pec_of_known_messages(rt: HostRuntime) {
-        for (row, (message, code)) in MESSAGES.iter().enumerate() {
-            agrees(&rt, row, &found(message), code);
-        }
-    }
-
-    static BITS: [(u8, u8); 8] = [
-        (0x01, 0x07),
-        (0x02, 0x0E),
-        (0x04, 0x1C),
-        (0x08, 0x38),
-        (0x10, 0x70),
-        (0x20, 0xE0),
-        (0x40, 0xC7),
-        (0x80, 0x89),
-    ];
-
-    #[test]
-    fn pec_of_each_single_bit(rt: HostRuntime) {
-        for (row, (byte, code)) in BITS.iter().enumerate() {
-            agrees(&rt, row, &found(&[*byte]), code);
-        }
-    }
-
-    // The bytes 0, 7, 14 and so on: up to five blocks and a tail of each length.
-    #[test]
-    fn pec_in_blocks_is_pec_bit_by_bit(rt: HostRuntime) {
-        let mut bytes = [0u8; 80];
-        for (place, byte) in bytes.iter_mut().enumerate() {
-            *byte = (place % 256) as u8;
-            *byte = byte.wrapping_mul(7);
-        }
-        for length in 0..=bytes.len() {
-            let message = &bytes[..length];
-            agrees(&rt, length, &found(message), &slow_pec(0, message));
-            let wanted = slow_pec(0x5A, message);
-            agrees(&rt, length, &found_after(0x5A, message), &wanted);
-        }
-    }
-
-    // The first and the last bit of sixteen bytes are 127 apart, and change the code alike.
-    #[test]
-    fn two_bits_127_apart_change_nothing(rt: HostRuntime) {
-        let mut bytes = [0u8; 16];
-        agrees(&rt, 0, &found(&bytes), &0x00);
-        bytes[0] = 0x80;
-        bytes[15] = 0x01;
-        agrees(&rt, 1, &found(&bytes), &0x00);
-    }
-
-    #[test]
-    fn pec_carries_on_over_the_parts_of_a_message(rt: HostRuntime) {
-        let front = found(&[0xB0, 0x05, 0x04]);
-        let whole = found_after(front, &[0x00, 0x21, 0xCD, 0x34]);
-        agrees(&rt, 0, &whole, &0x5A);
-    }
 }

@@ -1,7 +1,7 @@
 -- Floors and rounded quotients of whole numbers.
-use Rattle.std.proofs.Common.{◌≡◌, ℕ, ◌*◌, ◌<◌, ◌≤◌, ℤ, pos, negsuc, ◌+ℤ◌, ◌-ℤ◌, ◌*ℤ◌, ◌<ℤ◌, ◌≤ℤ◌, unsigned_abs, ap, ◌∙◌, subst, sym, arith}
+use Rattle.std.proofs.Common.{◌≡◌, ℕ, ◌<◌, ◌≤◌, ℤ, pos, negsuc, ◌+ℤ◌, ◌-ℤ◌, ◌*ℤ◌, ◌<ℤ◌, ◌≤ℤ◌, unsigned_abs, ap, ◌∙◌, subst, sym, arith}
 use Rattle.std.specs.Int.{int_div_euclid}
-use Rattle.std.proofs.lemmas.Int.{ints, by_lt_z, to_z-of_z, unsigned_abs-mul}
+use Rattle.std.proofs.lemmas.Int.{ints, by_lt_z, to_z-of_z}
 use mir.Syntax.{w128}
 use mir.Val.{SFits, to_z, of_z}
 use Rattle.pm_num.specs.Steps.{IsFloor, IsRounded}
@@ -55,14 +55,6 @@ rounded-floor a (negsuc d) positive h is_b is_e is_r = absurd (omega (arith, int
 pub floor_from : (a d q : ℤ) → pos 0 <ℤ d → q ≡ int_div_euclid a d → IsFloor a d q
 floor_from a d q positive e = subst (λ (z : ℤ). IsFloor a d z) (sym e) (floor-int_div_euclid a d positive)
 
--- The floor's multiple is at most the quotient; b, e and r are what the code computes.
-pub reached_from_floor : {b e q r : ℤ} (a : ℤ) (d : ℕ) → IsFloor b e q → b ≡ a → e ≡ pos d → r ≡ q → (r *ℤ pos d) ≤ℤ a
-reached_from_floor {b = b} {q = q} a d h is_b is_e is_r =
-    let f = subst (λ (z : ℤ). IsFloor b z q) is_e h in
-    let g = subst (λ (z : ℤ). IsFloor z (pos d) q) is_b f in
-    let k = subst (λ (z : ℤ). IsFloor a (pos d) z) (sym is_r) g in
-    k.reached
-
 -- No greater whole number than the floor is at most the quotient; b, e and r are what the code computes.
 pub greatest_from_floor : {b e q r : ℤ} (a k : ℤ) (d : ℕ) → IsFloor b e q → b ≡ a → e ≡ pos d → r ≡ q → (k *ℤ pos d) ≤ℤ a → k ≤ℤ r
 greatest_from_floor {b = b} {q = q} a k d h is_b is_e is_r le =
@@ -75,22 +67,10 @@ pub same_product : {p q r : ℤ} (a b : ℤ) → SFits w128 p → SFits w128 q �
     → r ≡ a *ℤ b
 same_product a b fits_p fits_q e is_p is_q = let f = simp to_z-of_z at e in cc
 
--- The same where the casts are known to keep the numbers; s is what the code goes on with.
-pub product_at : {p q r s : ℤ} (a b : ℤ) → r ≡ p *ℤ q → p ≡ a → q ≡ b → s ≡ r → s ≡ a *ℤ b
-product_at {q = q} a b e is_p is_q is_s = is_s ∙ e ∙ ap (λ (z : ℤ). z *ℤ q) is_p ∙ ap (λ (z : ℤ). a *ℤ z) is_q
-
--- A product of numbers that their casts keep fits,
-pub product_fits : {p q : ℤ} (a b : ℤ) → p ≡ a → q ≡ b → SFits w128 (a *ℤ b) → SFits w128 (p *ℤ q)
-product_fits {q = q} a b e f h = subst (λ (z : ℤ). SFits w128 (z *ℤ q)) (sym e) (subst (λ (z : ℤ). SFits w128 (a *ℤ z)) (sym f) h)
-
 -- and is kept by its own.
 pub product_kept : {p q : ℤ} (a b : ℤ) → p ≡ a → q ≡ b → SFits w128 (a *ℤ b) → to_z w128 (of_z w128 (p *ℤ q)) ≡ a *ℤ b
 product_kept {p} {q} a b e f h = ap (λ (z : ℤ). to_z w128 (of_z w128 (z *ℤ q))) e ∙ ap (λ (z : ℤ). to_z w128 (of_z w128 (a *ℤ z))) f
     ∙ to_z-of_z w128 (a *ℤ b) h
-
--- The size of a product.
-pub product_size : {r : ℤ} (a b : ℤ) → r ≡ a *ℤ b → unsigned_abs r ≡ unsigned_abs a * unsigned_abs b
-product_size a b e = ap unsigned_abs e ∙ unsigned_abs-mul a b
 
 -- The rounded quotient of the numbers that are meant; b, e and r are what the code computes.
 pub rounded_at : {b e q r : ℤ} (a d : ℤ) → IsRounded b e q → b ≡ a → e ≡ d → r ≡ q → IsRounded a d r

@@ -1,9 +1,8 @@
 -- DIRECT's words on their grid.
-use Rattle.std.proofs.Common.{◌≡◌, ℕ, ◌+◌, ◌*◌, ◌^◌, ◌<◌, ◌≤◌, suc, ℤ, pos, negsuc, neg_ℤ, ◌-ℤ◌, ◌*ℤ◌, ◌<ℤ◌, ◌≤ℤ◌}
-use Rattle.std.proofs.Common.{unsigned_abs, ap, ◌∙◌, subst, refl, sym, arith}
+use Rattle.std.proofs.Common.{◌≡◌, ℕ, ◌+◌, ◌*◌, ◌^◌, ◌<◌, ◌≤◌, suc, ℤ, pos, negsuc, neg_ℤ, ◌-ℤ◌, ◌*ℤ◌, ◌≤ℤ◌}
+use Rattle.std.proofs.Common.{unsigned_abs, ap, ◌∙◌, subst, arith}
 use Rattle.std.proofs.lemmas.Int.{ints}
 use Rattle.std.proofs.Math.Nat.{pow-le-pow_right}
-use Rattle.std.proofs.lemmas.Nat.{mul-le}
 use borrow.Author.Differences.{product_is}
 use Rattle.pm_num.specs.Ratio.{Ratio, AtMost, IsBetween}
 use Rattle.pm_num.specs.Value.{upper, lower, sign, signed, direct_value, direct_least, direct_greatest}
@@ -90,10 +89,6 @@ direct-nearest {x} {q} {w} m b r den is_s place word is =
     nearest_word (λ u. sign m *ℤ signed 16 u) (direct_spacing m b r) (λ u _. direct-at_place m b r u) den word
     (sign_back m (signed 16 w) q is) h.nearest h.lowest
 
--- A coefficient times a part of a power of ten is in bounds.
-pub coefficient_times_ten : (a b : ℕ) → a ≤ 2 ^ 15 → b ≤ 10 ^ 12 → a * b ≤ 2 ^ 55
-coefficient_times_ten a b h k = omega (arith, mul-le a b (2 ^ 15) (10 ^ 12) h k)
-
 -- The two parts of a numerator are not both large.
 pub parts_small : (r : ℤ) → IsDecimal r → 2 ^ 15 * lower 10 r + 2 ^ 15 * upper 10 r ≤ 2 ^ 55
 parts_small (pos n) h =
@@ -104,23 +99,3 @@ parts_small (negsuc n) h =
     let le : suc n ≤ 12 = omega (arith, ints, h.above) in
     let k : 10 ^ suc n ≤ 10 ^ 12 = pow-le-pow_right (omega arith) le in
     omega arith
-
--- The words of the ends, as the code takes them: for a slope below 0,
-pub ends_below : (m : ℤ) → m <ℤ pos 0 → (direct_least m ≡ 0x7FFF) × (direct_greatest m ≡ 0x8000)
-ends_below (pos n) h = absurd (omega (arith, ints))
-ends_below (negsuc n) h = (refl, refl)
-
--- and for one from 0 on.
-pub ends_above : (m : ℤ) → pos 0 ≤ℤ m → (direct_least m ≡ 0x8000) × (direct_greatest m ≡ 0x7FFF)
-ends_above (pos n) h = (refl, refl)
-ends_above (negsuc n) h = absurd (omega (arith, ints))
-
--- A value at the word that the code took is that at the word that is meant.
-pub value_at_end : {v : Ratio} {u : ℕ} (m b r : ℤ) (e w : ℕ) → v ≡ direct_value m b r u → u ≡ w → e ≡ w → v ≡ direct_value m b r e
-value_at_end m b r e w h is_u is_e = h ∙ ap (direct_value m b r) (is_u ∙ sym is_e)
-
--- A fraction of the numbers that are meant; p and q are what the code passed.
-pub ratio_at : {p q : ℤ} {v : Ratio} (n : ℤ) (d : ℕ) → v ≡ record { num = p; den = unsigned_abs q } → p ≡ n → q ≡ pos d
-    → v ≡ record { num = n; den = d }
-ratio_at {q = q} n d e f g = e ∙ ap (λ (z : ℤ). let r : Ratio = record { num = z; den = unsigned_abs q } in r) f
-    ∙ ap (λ (z : ℤ). let r : Ratio = record { num = n; den = unsigned_abs z } in r) g

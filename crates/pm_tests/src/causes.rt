@@ -260,42 +260,49 @@ const V4: Option<ConfigFault> = Some(ConfigFault::BadMode(0, TableFault::VidMode
 const V5: Option<ConfigFault> = Some(ConfigFault::BadCoefficients(NumFault::ZeroSlope));
 
 // The configuration of a row.
-fn configured(row: Setup) -> (Config, Option<ConfigFault>) {
-    let (count, operation, protect, addr, mode, m, fault) = row;
+fn configured(row: Setup) -> Config {
+    let (count, operation, protect, addr, mode, m, _) = row;
     let start = OutputStart {
         mode,
         operation,
         ..OUTPUT
     };
-    let config = Config {
+    Config {
         addr,
         count,
         starts: [start; 8],
         protect,
         coefficients: Coefficients { m, b: 0, r: 0 },
-    };
-    (config, fault)
+    }
 }
 
-// A world and a run of it have this fault, and no event is looked at.
-fn has_fault(rt: &impl Abort, config: Config, passes: u8, wanted: Option<SetupFault>) {
-    equal(rt, &begun(config, passes).err(), &wanted, &(passes, config));
-    let ran = ran(config, passes, &[CHECK, CHECK]).err();
-    equal(rt, &ran, &wanted, &(passes, config));
+// The fault of a world, and that of a run, which looks at no event.
+fn fault_of_world(config: Config, passes: u8) -> Option<SetupFault> {
+    begun(config, passes).err()
+}
+
+fn fault_of_run(config: Config, passes: u8) -> Option<SetupFault> {
+    ran(config, passes, &[CHECK, CHECK]).err()
+}
+
+fn has_fault(rt: &impl Abort, row: Setup, passes: u8, wanted: Option<SetupFault>) {
+    let config = configured(row);
+    equal(rt, &fault_of_world(config, passes), &wanted, &(passes, row));
+    equal(rt, &fault_of_run(config, passes), &wanted, &(passes, row));
 }
 
 // The converter's fault comes before that of the passes.
 #[test]
 fn a_world_has_the_converters_fault_before_the_hosts(rt: HostRuntime) {
     for row in &SETUPS {
-        let (config, fault) = configured(*row);
+        let (_, _, _, _, _, _, fault) = *row;
         let fault = fault.map(SetupFault::Device);
         let passes = Some(SetupFault::Host(HostFault::Passes));
         for good in [1, 15] {
-            has_fault(&rt, config, good, fault);
+            has_fault(&rt, *row, good, fault);
         }
         for bad in [0, 16, 255] {
-            has_fault(&rt, config, bad, fault.or(passes));
+            has_fault(&rt, *row, bad, fault.or(passes));
         }
     }
 }

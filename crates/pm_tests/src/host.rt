@@ -2,14 +2,12 @@
 
 mod refusals;
 
-ghost use Rattle.std.specs.Prelude.{◌≡◌};
-ghost use Rattle.pm_table.specs.Cell.{IsCell};
-
 use crate::checks::{equal, is_true};
 use crate::fixtures::{FIRST, SECOND};
 use pm_frame::{Frame, Message, answer, fits, pec};
-use pm_host::{Host, HostFault, JobEnd, Possible, Standing, Step, Told, transcripts_are_followed};
+use pm_host::{Host, HostFault, JobEnd, Possible, Standing, Step, Told};
 use pm_table::{Cell, Reg};
+use std::process::Abort;
 
 const READ_FIRST: Message = Message::PagePlusRead {
     page: 0,
@@ -31,100 +29,66 @@ const READ_COEFFICIENTS: Message = Message::ReadCoefficients {
     side: 0x00,
 };
 
-const DONE: Option<Step> = Some(Step::Ended(JobEnd::Done));
-
-const UNKNOWN: Option<Step> = Some(Step::Ended(JobEnd::Unknown));
-
-const LEARNED: Option<Step> = Some(Step::Ended(JobEnd::Learned));
-
-const NEXT: Option<Step> = Some(Step::Next);
-
-// A host at address 58h with two outputs and two passes.
-#[derive(Drop)]
-struct Bench {
-    host: Host,
-    ghost two: { host.setup.outputs ≡ 2 },
+// A call: a job, how the write that is sent ended, the bytes that came back, or those of the device's answer
+// to a request with this payload.
+#[derive(Clone, Copy, Debug)]
+enum Call<'a> {
+    Order(Cell, u16),
+    OrderMicro(Cell, i64),
+    Check(Cell),
+    Learn(u8),
+    Finish(bool),
+    Got(&'a [u8]),
+    Answered(Message, &'a [u8]),
 }
 
-impl Bench {
-    fn new() -> Bench {
-        match Host::new(0x58, 2, 2) {
-            Ok(host) => Bench { host },
-            Err(_) => unreachable!(),
-        }
-    }
+use Call::{Answered, Check, Finish, Got, Learn, Order, OrderMicro};
 
-    fn order(&mut self, cell: Cell, word: u16) -> Result<(), HostFault> {
-        transcripts_are_followed();
-        self.host.order(cell, word)
-    }
+// What a call answers: nothing where it begins a job, and where no such frame is being sent.
+type Answer = Result<Option<Step>, HostFault>;
 
-    fn order_micro(&mut self, cell: Cell, x: i64) -> Result<(), HostFault> {
-        transcripts_are_followed();
-        self.host.order_micro(cell, x)
-    }
+const BEGUN: Answer = Ok(None);
 
-    fn check(&mut self, cell: Cell) -> Result<(), HostFault> {
-        transcripts_are_followed();
-        self.host.check(cell)
-    }
+const NEXT: Answer = Ok(Some(Step::Next));
 
-    fn learn(&mut self, output: u8) -> Result<(), HostFault> {
-        transcripts_are_followed();
-        self.host.learn(output)
-    }
+const DONE: Answer = Ok(Some(Step::Ended(JobEnd::Done)));
 
-    fn restart(&mut self) {
-        transcripts_are_followed();
-        self.host.restart();
-    }
+const LEARNED: Answer = Ok(Some(Step::Ended(JobEnd::Learned)));
 
-    // The write that is being sent has ended; `None` where none is.
-    fn finish(&mut self, acked: bool) -> Option<Step> {
-        if self.host.sending().is_none() || self.host.sending_reads() {
-            return None;
-        }
-        transcripts_are_followed();
-        Some(self.host.told(Told::Finished { acked }))
-    }
+const UNKNOWN: Answer = Ok(Some(Step::Ended(JobEnd::Unknown)));
 
-    // What came back for the request that is being sent; `None` where none is.
-    fn got(&mut self, bytes: &[u8]) -> Option<Step> {
-        if !self.host.sending_reads() {
-            return None;
-        }
-        transcripts_are_followed();
-        Some(self.host.told(Told::Got(bytes)))
-    }
+const NO_FORMAT: Answer = Err(HostFault::FormatUnknown);
 
-    // What came back is the answer to this request with this payload.
-    fn answered(&mut self, request: Message, payload: &[u8]) -> Option<Step> {
-        self.got(answer_to(&request, payload).as_slice())
+// A host at address 58h with two outputs and two passes.
+fn new_host() -> Host {
+    match Host::new(0x58, 2, 2) {
+        Ok(host) => host,
+        Err(_) => unreachable!(),
     }
+}
 
-    // These bytes are being sent: none where no frame is.
-    fn sends(&self, bytes: &[u8]) -> bool {
-        match self.host.sending() {
-            Some(frame) => frame.as_slice() == bytes,
-            None => bytes.is_empty(),
-        }
+fn begins(host: &mut Host, call: &Call<'_>) -> Result<(), HostFault> {
+    match *call {
+        Order(cell, word) => host.order(cell, word),
+        OrderMicro(cell, x) => host.order_micro(cell, x),
+        Check(cell) => host.check(cell),
+        Learn(output) => host.learn(output),
+        Finish(_) | Got(_) | Answered(_, _) => Ok(()),
     }
+}
 
-    fn standing(&self, cell: Cell) -> Standing
-        requires { IsCell 2 cell }
-    {
-        self.host.standing(cell)
+fn finish(host: &mut Host, acked: bool) -> Option<Step> {
+    if host.sending().is_none() || host.sending_reads() {
+        return None;
     }
+    Some(host.told(Told::Finished { acked }))
+}
 
-    // The cell may hold exactly these words, in this order; any word where none is given.
-    fn may_hold(&self, cell: Cell, wanted: &[u16]) -> bool
-        requires { IsCell 2 cell }
-    {
-        match self.host.possible(cell) {
-            Possible::Any => wanted.is_empty(),
-            Possible::Words(words) => !wanted.is_empty() && words.as_slice() == wanted,
-        }
+fn got(host: &mut Host, bytes: &[u8]) -> Option<Step> {
+    if !host.sending_reads() {
+        return None;
     }
+    Some(host.told(Told::Got(bytes)))
 }
 
 // The answer of the device at 58h to a request with this payload; no bytes where that is none.
@@ -135,165 +99,217 @@ fn answer_to(request: &Message, payload: &[u8]) -> Frame {
     answer(0x58, request, payload)
 }
 
-#[test]
-fn an_order_is_done_by_a_good_answer_whatever_was_acknowledged(rt: HostRuntime) {
-    for acked in [false, true] {
-        let mut bench = Bench::new();
-        is_true(&rt, bench.sends(&[]) && !bench.host.sending_reads(), &1);
-        equal(&rt, &bench.order(FIRST, 0x34CD), &Ok(()), &2);
-        is_true(
-            &rt,
-            bench.sends(&[0xB0, 0x05, 0x04, 0x00, 0x21, 0xCD, 0x34, 0x5A]),
-            &3,
-        );
-        equal(&rt, &bench.finish(acked), &NEXT, &4);
-        equal(&rt, &bench.standing(FIRST), &Standing::Unknown, &5);
-        is_true(
-            &rt,
-            bench.sends(&[0xB0, 0x06, 0x02, 0x00, 0x21]) && bench.host.sending_reads(),
-            &6,
-        );
-        equal(&rt, &bench.got(&[0xB1, 0x02, 0xCD, 0x34, 0xB9]), &DONE, &7);
-        equal(
-            &rt,
-            &bench.standing(FIRST),
-            &Standing::Confirmed(0x34CD),
-            &8,
-        );
-        is_true(
-            &rt,
-            bench.may_hold(FIRST, &[0x34CD]) && bench.may_hold(SECOND, &[]),
-            &9,
-        );
-        is_true(&rt, bench.sends(&[]) && !bench.host.restart_seen(), &10);
+fn answered(host: &mut Host, call: &Call<'_>) -> Answer {
+    match call {
+        Finish(acked) => Ok(finish(host, *acked)),
+        Got(bytes) => Ok(got(host, bytes)),
+        Answered(request, payload) => Ok(got(host, answer_to(request, payload).as_slice())),
+        _ => match begins(host, call) {
+            Ok(()) => BEGUN,
+            Err(fault) => Err(fault),
+        },
     }
 }
+
+// Calls, each with what it answers.
+fn goes(rt: &impl Abort, host: &mut Host, rows: &[(Call<'_>, Answer)]) {
+    for (at, (call, wanted)) in rows.iter().enumerate() {
+        equal(rt, &answered(host, call), wanted, &(at, call));
+    }
+}
+
+// These bytes are being sent, of a request or of a write: none where no frame is.
+fn sends(rt: &impl Abort, host: &Host, bytes: &[u8], is_read: bool) {
+    let same = match host.sending() {
+        Some(frame) => frame.as_slice() == bytes,
+        None => bytes.is_empty(),
+    };
+    is_true(rt, same, &bytes);
+    equal(rt, &host.sending_reads(), &is_read, &bytes);
+}
+
+fn standing(host: &Host, cell: Cell) -> Option<Standing> {
+    match cell {
+        Cell::Out(output, _) if output >= host.outputs() => None,
+        _ => Some(host.standing(cell)),
+    }
+}
+
+fn possible(host: &Host, cell: Cell) -> Possible {
+    match cell {
+        Cell::Out(output, _) if output >= host.outputs() => Possible::Any,
+        _ => host.possible(cell),
+    }
+}
+
+// A cell may hold exactly these words, in this order, any word where none is given; a restart was seen or not.
+fn knows(rt: &impl Abort, host: &Host, cell: Cell, words: &[u16], seen: bool) {
+    let same = match possible(host, cell) {
+        Possible::Any => words.is_empty(),
+        Possible::Words(listed) => !words.is_empty() && listed.as_slice() == words,
+    };
+    is_true(rt, same, &(cell, words));
+    equal(rt, &host.restart_seen(), &seen, &(cell, words));
+}
+
+fn stands(rt: &impl Abort, host: &Host, cell: Cell, wanted: Standing) {
+    equal(rt, &standing(host, cell), &Some(wanted), &cell);
+}
+
+const ORDERED: Standing = Standing::Confirmed(0x34CD);
+
+const STARTED: Standing = Standing::Confirmed(0x1000);
+
+// An order is done by a good answer, whatever was acknowledged.
+fn is_done(rt: &impl Abort, acked: bool) {
+    let mut host = new_host();
+    sends(rt, &host, &[], false);
+    goes(rt, &mut host, &[(Order(FIRST, 0x34CD), BEGUN)]);
+    sends(rt, &host, &[0xB0, 0x05, 0x04, 0x00, 0x21, 0xCD, 0x34, 0x5A], false);
+    goes(rt, &mut host, &[(Finish(acked), NEXT)]);
+    stands(rt, &host, FIRST, Standing::Unknown);
+    sends(rt, &host, &[0xB0, 0x06, 0x02, 0x00, 0x21], true);
+    goes(rt, &mut host, &[(Got(&[0xB1, 0x02, 0xCD, 0x34, 0xB9]), DONE)]);
+    stands(rt, &host, FIRST, ORDERED);
+    knows(rt, &host, FIRST, &[0x34CD], false);
+    knows(rt, &host, SECOND, &[], false);
+    sends(rt, &host, &[], false);
+}
+
+#[test]
+fn an_order_is_done_by_a_good_answer_whatever_was_acknowledged(rt: HostRuntime) {
+    is_done(&rt, false);
+    is_done(&rt, true);
+}
+
+static CHECKED_AND_WRITTEN: [(Call<'static>, Answer); 4] = [
+    (Check(FIRST), BEGUN),
+    (Answered(READ_FIRST, &[0x00, 0x10]), DONE),
+    (Order(FIRST, 0x34CD), BEGUN),
+    (Finish(true), NEXT),
+];
+
+// A word that no pass reads back.
+static IN_VAIN: [(Call<'static>, Answer); 5] = [
+    (Order(FIRST, 0x2000), BEGUN),
+    (Finish(true), NEXT),
+    (Got(&[]), NEXT),
+    (Finish(true), NEXT),
+    (
+        Answered(READ_FIRST, &[0xCD, 0x34]),
+        Ok(Some(Step::Ended(JobEnd::Differs(0x34CD)))),
+    ),
+];
+
+static ANOTHER_PASS: [(Call<'static>, Answer); 2] = [
+    (Finish(true), NEXT),
+    (Answered(READ_FIRST, &[0xCD, 0x34]), DONE),
+];
 
 #[test]
 fn a_pass_that_reads_the_old_word_is_followed_by_another(rt: HostRuntime) {
-    let mut bench = Bench::new();
-    equal(&rt, &bench.check(FIRST), &Ok(()), &1);
-    equal(&rt, &bench.answered(READ_FIRST, &[0x00, 0x10]), &DONE, &2);
-    equal(&rt, &bench.order(FIRST, 0x34CD), &Ok(()), &3);
-    equal(&rt, &bench.finish(true), &NEXT, &4);
-    equal(&rt, &bench.standing(FIRST), &Standing::Unknown, &5);
-    equal(&rt, &bench.answered(READ_FIRST, &[0x00, 0x10]), &NEXT, &6);
-    equal(&rt, &bench.standing(FIRST), &Standing::Unknown, &7);
-    is_true(
-        &rt,
-        !bench.host.restart_seen() && bench.may_hold(FIRST, &[0x1000, 0x34CD]),
-        &8,
-    );
-    equal(&rt, &bench.finish(true), &NEXT, &9);
-    equal(&rt, &bench.answered(READ_FIRST, &[0xCD, 0x34]), &DONE, &10);
-    equal(
-        &rt,
-        &bench.standing(FIRST),
-        &Standing::Confirmed(0x34CD),
-        &11,
-    );
-    is_true(
-        &rt,
-        bench.may_hold(FIRST, &[0x34CD]) && !bench.host.restart_seen(),
-        &12,
-    );
-    equal(&rt, &bench.order(FIRST, 0x2000), &Ok(()), &13);
-    equal(&rt, &bench.finish(true), &NEXT, &14);
-    equal(&rt, &bench.got(&[]), &NEXT, &15);
-    equal(&rt, &bench.finish(true), &NEXT, &16);
-    let differs = Some(Step::Ended(JobEnd::Differs(0x34CD)));
-    equal(
-        &rt,
-        &bench.answered(READ_FIRST, &[0xCD, 0x34]),
-        &differs,
-        &17,
-    );
-    equal(
-        &rt,
-        &bench.standing(FIRST),
-        &Standing::Confirmed(0x34CD),
-        &18,
-    );
+    let mut host = new_host();
+    goes(&rt, &mut host, &CHECKED_AND_WRITTEN);
+    stands(&rt, &host, FIRST, Standing::Unknown);
+    goes(&rt, &mut host, &[(Answered(READ_FIRST, &[0x00, 0x10]), NEXT)]);
+    stands(&rt, &host, FIRST, Standing::Unknown);
+    knows(&rt, &host, FIRST, &[0x1000, 0x34CD], false);
+    goes(&rt, &mut host, &ANOTHER_PASS);
+    stands(&rt, &host, FIRST, ORDERED);
+    knows(&rt, &host, FIRST, &[0x34CD], false);
+    goes(&rt, &mut host, &IN_VAIN);
+    stands(&rt, &host, FIRST, ORDERED);
 }
+
+static SECOND_CHECKED: [(Call<'static>, Answer); 2] = [
+    (Check(SECOND), BEGUN),
+    (Answered(READ_SECOND, &[0x00, 0x10]), DONE),
+];
 
 #[test]
 fn a_surprising_answer_shows_a_restart_of_the_device(rt: HostRuntime) {
-    let mut bench = Bench::new();
-    for (cell, request) in [(FIRST, READ_FIRST), (SECOND, READ_SECOND)] {
-        equal(&rt, &bench.check(cell), &Ok(()), &1);
-        equal(&rt, &bench.answered(request, &[0x00, 0x10]), &DONE, &2);
-    }
-    equal(&rt, &bench.order(FIRST, 0x34CD), &Ok(()), &3);
-    equal(&rt, &bench.finish(true), &NEXT, &4);
-    equal(&rt, &bench.answered(READ_FIRST, &[0x77, 0x77]), &NEXT, &5);
-    is_true(&rt, bench.host.restart_seen(), &6);
-    is_true(
-        &rt,
-        bench.may_hold(FIRST, &[0x7777, 0x34CD]) && bench.may_hold(SECOND, &[]),
-        &7,
-    );
-    equal(
-        &rt,
-        &bench.standing(SECOND),
-        &Standing::Confirmed(0x1000),
-        &8,
-    );
-    equal(&rt, &bench.finish(true), &NEXT, &9);
-    equal(&rt, &bench.answered(READ_FIRST, &[0xCD, 0x34]), &DONE, &10);
-    is_true(&rt, bench.host.restart_seen(), &11);
-    bench.restart();
-    is_true(&rt, !bench.host.restart_seen(), &12);
-    is_true(&rt, bench.may_hold(FIRST, &[]), &13);
-    equal(&rt, &bench.standing(FIRST), &Standing::Unknown, &14);
-    equal(&rt, &bench.standing(SECOND), &Standing::Unknown, &15);
+    let mut host = new_host();
+    goes(&rt, &mut host, &SECOND_CHECKED);
+    goes(&rt, &mut host, &CHECKED_AND_WRITTEN);
+    goes(&rt, &mut host, &[(Answered(READ_FIRST, &[0x77, 0x77]), NEXT)]);
+    knows(&rt, &host, FIRST, &[0x7777, 0x34CD], true);
+    knows(&rt, &host, SECOND, &[], true);
+    stands(&rt, &host, SECOND, STARTED);
+    goes(&rt, &mut host, &ANOTHER_PASS);
+    knows(&rt, &host, FIRST, &[0x34CD], true);
+    host.restart();
+    knows(&rt, &host, FIRST, &[], false);
+    stands(&rt, &host, FIRST, Standing::Unknown);
+    stands(&rt, &host, SECOND, Standing::Unknown);
 }
+
+static VOLT_ORDERED: [(Call<'static>, Answer); 3] = [
+    (Learn(0), BEGUN),
+    (Answered(READ_MODE, &[0x14]), LEARNED),
+    (OrderMicro(FIRST, 1_000_000), BEGUN),
+];
+
+static FORGOTTEN: [(Call<'static>, Answer); 2] = [
+    (OrderMicro(FIRST, 1_000_000), NO_FORMAT),
+    (Order(FIRST, 0x1000), BEGUN),
+];
 
 #[test]
 fn a_restart_of_the_host_drops_the_job_and_the_formats(rt: HostRuntime) {
-    let mut bench = Bench::new();
-    equal(&rt, &bench.learn(0), &Ok(()), &1);
-    equal(&rt, &bench.answered(READ_MODE, &[0x14]), &LEARNED, &2);
-    equal(&rt, &bench.order_micro(FIRST, 1_000_000), &Ok(()), &3);
-    bench.restart();
-    is_true(&rt, bench.sends(&[]) && !bench.host.sending_reads(), &4);
-    equal(
-        &rt,
-        &bench.order_micro(FIRST, 1_000_000),
-        &Err(HostFault::FormatUnknown),
-        &5,
-    );
-    is_true(&rt, bench.may_hold(FIRST, &[]), &6);
-    equal(&rt, &bench.order(FIRST, 0x1000), &Ok(()), &7);
+    let mut host = new_host();
+    goes(&rt, &mut host, &VOLT_ORDERED);
+    host.restart();
+    sends(&rt, &host, &[], false);
+    knows(&rt, &host, FIRST, &[], false);
+    goes(&rt, &mut host, &FORGOTTEN);
 }
 
+// Twice these bytes come back for a check of the second output: no good answer.
+fn is_no_answer(rt: &impl Abort, row: &[u8]) {
+    let mut host = new_host();
+    goes(
+        rt,
+        &mut host,
+        &[
+            (Check(SECOND), BEGUN),
+            (Got(row), NEXT),
+            (Got(row), UNKNOWN),
+        ],
+    );
+    stands(rt, &host, SECOND, Standing::Unknown);
+    knows(rt, &host, SECOND, &[], false);
+}
+
+// The answer of the first output; then another length, no PEC, a wrong PEC, a wrong count and a wrong address.
+static NO_ANSWERS: [&[u8]; 6] = [
+    &[0xB1, 0x02, 0x00, 0x10, 0x41],
+    &[],
+    &[0xB1, 0x02, 0x00, 0x10],
+    &[0xB1, 0x02, 0x00, 0x10, 0x00],
+    &[0xB1, 0x01, 0x00, 0x10, 0x00, 0x00],
+    &[0xB0, 0x02, 0x00, 0x10, 0x00],
+];
+
 // What came back is judged over the host's own request: the answer that output 0 gives is none for
-// output 1, nor is one with another PEC, another length or another address.
+// output 1, nor is one with another PEC, another length or another address, nor one whose PEC leaves the
+// request out.
 #[test]
 fn an_answer_to_another_request_is_no_good_answer(rt: HostRuntime) {
-    let first = answer_to(&READ_FIRST, &[0x00, 0x10]);
-    let rows: [&[u8]; 6] = [
-        first.as_slice(),
-        &[],
-        &[0xB1, 0x02, 0x00, 0x10],
-        &[0xB1, 0x02, 0x00, 0x10, 0x00],
-        &[0xB1, 0x01, 0x00, 0x10, 0x00, 0x00],
-        &[0xB0, 0x02, 0x00, 0x10, 0x00],
-    ];
-    for row in rows {
-        let mut bench = Bench::new();
-        equal(&rt, &bench.check(SECOND), &Ok(()), &1);
-        equal(&rt, &bench.got(row), &NEXT, &2);
-        equal(&rt, &bench.got(row), &UNKNOWN, &3);
-        equal(&rt, &bench.standing(SECOND), &Standing::Unknown, &4);
-        is_true(&rt, bench.may_hold(SECOND, &[]), &5);
+    for row in NO_ANSWERS {
+        is_no_answer(&rt, row);
     }
-    // An answer whose PEC leaves the request out.
     let payload = [0xB1, 0x02, 0x00, 0x10];
     let alone = [0xB1, 0x02, 0x00, 0x10, pec(&payload)];
-    let mut bench = Bench::new();
-    equal(&rt, &bench.check(FIRST), &Ok(()), &6);
-    equal(&rt, &bench.got(&alone), &NEXT, &7);
-    equal(&rt, &bench.got(first.as_slice()), &DONE, &8);
+    let mut host = new_host();
+    goes(
+        &rt,
+        &mut host,
+        &[
+            (Check(FIRST), BEGUN),
+            (Got(&alone), NEXT),
+            (Got(&[0xB1, 0x02, 0x00, 0x10, 0x41]), DONE),
+        ],
+    );
 }
 
 // How many frames the open job sends, none of which is answered or acknowledged.

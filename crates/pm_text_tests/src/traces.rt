@@ -108,15 +108,45 @@ fn line_shown(alloc: Global, number: u64, shown: Shown<'_>) -> Result<String, Fa
     })
 }
 
+// A decoder's calls, of whose contracts the tests need nothing.
+fn fed(decoder: &mut Decoder, bytes: &[u8]) -> Result<(usize, bool), TextFault> {
+    let fed = decoder.feed(bytes)?;
+    Ok((fed.taken, fed.ended))
+}
+
+fn finished(decoder: &mut Decoder) -> Result<bool, TextFault> {
+    decoder.finish()
+}
+
+// The bytes that it takes of these, and whether a line ends there.
+fn is_fed(
+    rt: &impl Abort,
+    decoder: &mut Decoder,
+    bytes: &[u8],
+    wanted: Result<(usize, bool), TextFault>,
+) {
+    equal(rt, &fed(decoder, bytes), &wanted, &bytes.len());
+}
+
+fn is_finished(rt: &impl Abort, decoder: &mut Decoder, wanted: Result<bool, TextFault>) {
+    equal(rt, &finished(decoder), &wanted, &wanted);
+}
+
+// Its counts, and whether it shows a line.
+fn stands_at(rt: &impl Abort, decoder: &Decoder, counts: (u64, u64, u64, u64), has_line: bool) {
+    equal(rt, &decoder.counts(), &counts, &has_line);
+    equal(rt, &decoder.line().is_some(), &has_line, &counts);
+}
+
 // The worked trace in these two pieces.
 fn is_shown(rt: &(impl Abort + AllocGlobal), first: &[u8], second: &[u8]) -> Result<(), Fail> {
     let mut decoder = Decoder::new(rt.alloc());
     let mut text = String::new(rt.alloc());
     feed_whole(rt.alloc(), &mut decoder, first, &mut text)?;
     feed_whole(rt.alloc(), &mut decoder, second, &mut text)?;
-    equal(rt, &decoder.finish(), &Ok(false), &first.len());
+    is_finished(rt, &mut decoder, Ok(false));
     equal(rt, &text.as_str(), &SHOWN, &first.len());
-    equal(rt, &decoder.counts(), &(5, 3, 1, 1), &first.len());
+    stands_at(rt, &decoder, (5, 3, 1, 1), false);
     Ok(())
 }
 
@@ -184,36 +214,24 @@ fn a_part_has_at_most_300_bytes(rt: HostRuntime) -> Result<(), Fail> {
 #[test]
 fn a_decoder_that_failed_refuses_from_then_on(rt: HostRuntime) -> Result<(), Fail> {
     let mut decoder = Decoder::new(rt.alloc());
-    let fed = decoder.feed(b"b0 10 80 34\n")?;
-    equal(&rt, &(fed.taken, fed.ended), &(12, true), &1);
     let spaces = vec![in rt.alloc(); b' '; 1_048_576]?;
-    let fed = decoder.feed(&spaces)?;
-    equal(&rt, &(fed.taken, fed.ended), &(1_048_564, false), &2);
-    equal(&rt, &decoder.feed(b"").err(), &None, &3);
-    equal(
-        &rt,
-        &decoder.feed(b"\n").err(),
-        &Some(TextFault::TooLong),
-        &4,
-    );
-    is_true(&rt, decoder.line().is_none(), &5);
-    equal(&rt, &decoder.feed(b"").err(), &Some(TextFault::TooLong), &6);
-    equal(&rt, &decoder.finish(), &Err(TextFault::TooLong), &7);
-    equal(&rt, &decoder.counts(), &(1, 1, 0, 0), &8);
+    is_fed(&rt, &mut decoder, b"b0 10 80 34\n", Ok((12, true)));
+    is_fed(&rt, &mut decoder, &spaces, Ok((1_048_564, false)));
+    is_fed(&rt, &mut decoder, b"", Ok((0, false)));
+    is_fed(&rt, &mut decoder, b"\n", Err(TextFault::TooLong));
+    is_fed(&rt, &mut decoder, b"", Err(TextFault::TooLong));
+    is_finished(&rt, &mut decoder, Err(TextFault::TooLong));
+    stands_at(&rt, &decoder, (1, 1, 0, 0), false);
     Ok(())
 }
 
 #[test]
-fn a_finished_decoder_takes_nothing(rt: HostRuntime) -> Result<(), Fail> {
+fn a_finished_decoder_takes_nothing(rt: HostRuntime) {
     let mut decoder = Decoder::new(rt.alloc());
-    let fed = decoder.feed(b"b0 10 80 34\r")?;
-    equal(&rt, &(fed.taken, fed.ended), &(12, false), &1);
-    equal(&rt, &decoder.finish(), &Ok(true), &2);
-    is_true(&rt, decoder.line().is_some(), &3);
-    let fed = decoder.feed(b"b0 10 80 34\n")?;
-    equal(&rt, &(fed.taken, fed.ended), &(0, false), &4);
-    is_true(&rt, decoder.line().is_none(), &5);
-    equal(&rt, &decoder.finish(), &Ok(false), &6);
-    equal(&rt, &decoder.counts(), &(1, 1, 0, 0), &7);
-    Ok(())
+    is_fed(&rt, &mut decoder, b"b0 10 80 34\r", Ok((12, false)));
+    is_finished(&rt, &mut decoder, Ok(true));
+    stands_at(&rt, &decoder, (1, 1, 0, 0), true);
+    is_fed(&rt, &mut decoder, b"b0 10 80 34\n", Ok((0, false)));
+    is_finished(&rt, &mut decoder, Ok(false));
+    stands_at(&rt, &decoder, (1, 1, 0, 0), false);
 }

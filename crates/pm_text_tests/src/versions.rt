@@ -84,28 +84,37 @@ finish nack
 exchange whole cut 0
 ";
 
+static LOST_TOLD: [&str; 4] = [
+    "ran 9\nprotect 00 host unknown possible any\n",
+    "VOUT_COMMAND 34CD host unknown possible 1000 34CD\n",
+    "VOUT_COMMAND 0BB8 host unknown possible any\n",
+    "job unknown\n",
+];
+
+// A text is replayed to its end, and its report has each of these pieces.
+fn tells(rt: &(impl Abort + AllocGlobal), text: &str, pieces: &[&str]) -> Result<(), Fail> {
+    let (end, written) = replayed(rt.alloc(), text);
+    equal(rt, &end, &Ok(true), &text);
+    let told = std::str::from_utf8(&written)?;
+    for piece in pieces {
+        is_true(rt, told.contains(*piece), piece);
+    }
+    Ok(())
+}
+
 #[test]
 fn a_report_of_version_2_tells_the_possible_words(rt: HostRuntime) -> Result<(), Fail> {
     let text = text_with(rt.alloc(), 8, "", LOST)?;
+    tells(&rt, &text, &LOST_TOLD)
+}
+
+#[test]
+fn a_report_of_version_1_tells_no_possible_words(rt: HostRuntime) -> Result<(), Fail> {
+    let text = format!(in rt.alloc(); "{SCENARIO}{LOST}")?;
     let (end, written) = replayed(rt.alloc(), &text);
     equal(&rt, &end, &Ok(true), &1);
     let told = std::str::from_utf8(&written)?;
-    for line in [
-        "ran 9\nprotect 00 host unknown possible any\n",
-        "VOUT_COMMAND 34CD host unknown possible 1000 34CD\n",
-        "VOUT_COMMAND 0BB8 host unknown possible any\n",
-        "job unknown\n",
-    ] {
-        is_true(&rt, told.contains(line), &line);
-    }
-    let text = format!(in rt.alloc(); "{SCENARIO}{LOST}")?;
-    let (end, written) = replayed(rt.alloc(), &text);
-    equal(&rt, &end, &Ok(true), &2);
-    is_true(
-        &rt,
-        !std::str::from_utf8(&written)?.contains("possible"),
-        &3,
-    );
+    is_true(&rt, !told.contains("possible"), &2);
     Ok(())
 }
 

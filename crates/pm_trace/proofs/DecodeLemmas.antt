@@ -4,7 +4,7 @@ use Rattle.std.proofs.Common.{Option, Some, None, refl, sym, ap, subst, ◌∙�
 use Rattle.std.proofs.Common.{take-append-drop}
 use Rattle.std.proofs.lemmas.Bool.Decides.{nat_tests}
 use Rattle.std.proofs.lemmas.Grind.{flat_map-append}
-use Rattle.std.proofs.lemmas.List.{length-take, nil_from_length}
+use Rattle.std.proofs.lemmas.List.{length-take}
 use Rattle.std.proofs.lemmas.List.Sums.{fold-append}
 use Rattle.pm_trace.specs.declared.decode_end.DecodeEnd.{DecodeEnd}
 use Rattle.pm_trace.specs.declared.fed.Fed.{Fed}
@@ -85,15 +85,6 @@ room_none old piece open' refused = by (has_bytes piece) (leb max_text old.kept.
     by true false is yes' = absurd (cc)
     by false full is yes' = absurd (cc)
 
--- no bytes
-pub pushes_none : (text : List ℕ) (old : Holding) → old.standing ≡ Open → old.kept.taken ≤ max_text → Pushes text text old old []
-pushes_none text old open' room = record {
-  text_is = sym (append-nil text);
-  kept = refl;
-  standing = open';
-  room = room;
-}
-
 -- a call more
 pub pushes_more : {text mid_text new_text : List ℕ} {old mid new : Holding} {front rest : List ℕ} {fed : Fed}
     → Pushes text mid_text old mid front → Feeds mid rest fed new → new.kept.taken ≤ max_text
@@ -120,18 +111,6 @@ split_more {piece} {rest} {mid} {fed} front open' split feeds =
     let taken : take fed.taken rest ≡ taken_of mid rest = front_taken (taken_of mid rest) rest left fed.taken whole feeds.taken in
     split ∙ ap (λ l. front ++ l) (sym (take-append-drop fed.taken rest) ∙ ap (λ l. l ++ drop fed.taken rest) taken)
     ∙ sym (append_assoc front (taken_of mid rest) (drop fed.taken rest))
-
--- a piece that was taken whole
-pub pushed_whole : {text new_text : List ℕ} {old new : Holding} {piece : List ℕ} (front rest : List ℕ)
-    → piece ≡ front ++ rest → length rest ≡ 0 → Pushes text new_text old new front → PushesFront text new_text old new piece true
-pushed_whole front rest split none pushes = record {
-  front = front;
-  rest = rest;
-  split = split;
-  text_is = pushes.text_is;
-  whole = λ _. (nil_from_length rest none, pushes);
-  too_many = λ is. absurd (cc);
-}
 
 -- a piece with a byte too many
 pub pushed_front : {text mid_text new_text : List ℕ} {old mid new : Holding} {piece : List ℕ} (front rest : List ℕ)

@@ -1,16 +1,16 @@
 -- What a call that takes bytes leaves, by the first line of these bytes.
 use Rattle.std.proofs.Common.{◌≡◌, ℕ, ◌+◌, Bool, true, false, cond, List, [], ◌∷◌, ◌++◌, length, refl, sym, ap, subst, ◌∙◌, arith}
 use Rattle.std.proofs.Common.{append-nil, length-append, None, not, eqb, ◌-◌}
-use Rattle.std.specs.List.{fold, list_any}
+use Rattle.std.specs.List.{list_any}
 use Rattle.std.proofs.lemmas.Bool.Decides.{nat_tests}
 use Rattle.std.proofs.lemmas.List.Folds.{list_any-append}
 use Rattle.pm_lines.specs.Lines.{is_line_feed}
 use Rattle.pm_trace.specs.declared.decoder.gathered.Gathered.{Gathered}
 use Rattle.pm_trace.specs.declared.fed.Fed.{Fed}
 use Rattle.pm_trace.specs.Counts.{Counts, IsNewCode}
-use Rattle.pm_trace.specs.Decoding.{Kept, next, told, some_told, first_line, line_ended, line_told, CarriesNew}
+use Rattle.pm_trace.specs.Decoding.{next, told, some_told, first_line, line_ended, line_told, CarriesNew}
 use Rattle.pm_trace.specs.Gathered.{kept_in, shown_in, Takes, TakesLine}
-use Rattle.pm_trace.specs.OpenLines.{line_takes, Passes, IsAtLineFeed}
+use Rattle.pm_trace.specs.OpenLines.{Passes, IsAtLineFeed}
 use Rattle.pm_trace.specs.declared.decoder.open_line.OpenLine.{OpenLine}
 use Rattle.pm_trace.proofs.RunLemmas.{kept_with, next_plain, next_ended, told_plain, told_ended}
 

@@ -1,6 +1,6 @@
 -- What is kept of a line where pairs of digits come, with spaces between them.
-use Rattle.std.proofs.Common.{◌≡◌, ℕ, ◌≤◌, eqb, Bool, true, false, cond, not, ◌&&◌, ◌||◌, List, [], ◌∷◌, ◌++◌, length, Option, Some, None}
-use Rattle.std.proofs.Common.{refl, sym, ap, ◌∙◌, arith, append_assoc, length-append, take, drop, get_or, ne_eqb, ◌-◌}
+use Rattle.std.proofs.Common.{◌≡◌, ℕ, ◌≤◌, eqb, Bool, true, false, cond, ◌&&◌, ◌||◌, List, [], ◌∷◌, ◌++◌, length, Option, Some, None}
+use Rattle.std.proofs.Common.{refl, sym, ap, ◌∙◌, arith, append_assoc, take, drop, get_or, ne_eqb, ◌-◌}
 use Rattle.std.specs.Prelude.{is_some}
 use Rattle.std.specs.List.{fold, list_any}
 use Rattle.std.proofs.Math.Bool.{or-false}
@@ -303,7 +303,3 @@ passes_more old bytes mid_rest rest mid new one two = record {
   plain = list_any-append is_line_feed one.front two.front ∙ rw (one.plain, two.plain) refl;
   line = two.line ∙ ap (λ l. fold line_takes l two.front) one.line ∙ sym (fold-append line_takes old one.front two.front);
 }
-
--- what is left is no longer than all
-pub passes_fewer : (old : OpenLine) (bytes rest : List ℕ) (new : OpenLine) → Passes old bytes rest new → length rest ≤ length bytes
-passes_fewer old bytes rest new passes = omega (arith, ap length passes.split, length-append passes.front rest)

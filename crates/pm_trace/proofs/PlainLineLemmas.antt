@@ -17,7 +17,6 @@ use Rattle.pm_trace.specs.Trace.{is_slash, is_separator, unpaired, word_bytes, i
 use Rattle.pm_trace.specs.Parts.{Collected, part_of, part_takes}
 use Rattle.pm_trace.specs.OpenLines.{kind_of, kind_takes, slashes_of, one_slash_more, has_slash, has_more_slashes, plain_line}
 use Rattle.pm_trace.specs.OpenLines.{plain_takes, word_ends, word_goes_on}
-use Rattle.pm_trace.specs.declared.decoder.slashes.Slashes.{Slashes}
 use Rattle.pm_trace.specs.declared.decoder.slashes.Slashes.TheVariants as slash
 use Rattle.pm_trace.specs.declared.decoder.line_kind.LineKind.TheVariants.{Blank, Comment, Packet}
 use Rattle.pm_trace.proofs.MarkLemmas.{before_none, after_none, ended-mark, ended-other, since-mark, since-other, split-ended}

@@ -19,7 +19,7 @@ use Rattle.pm_trace.specs.Trace.{is_long, is_misshapen, part_bytes, parts_of, li
 use Rattle.pm_trace.specs.Trace.{max_part}
 use Rattle.pm_trace.specs.Counts.{counts_of, counts_with, one_counted, one_more, counted, code_told, is_accepted, is_faulty, is_bad}
 use Rattle.pm_trace.specs.Parts.{part_of}
-use Rattle.pm_trace.specs.OpenLines.{kind_of, is_skipped_kind, is_empty_kind, slashes_of, has_slash, plain_line, open_read, open_judged}
+use Rattle.pm_trace.specs.OpenLines.{kind_of, is_skipped_kind, is_empty_kind, plain_line, open_read, open_judged}
 use Rattle.pm_trace.specs.OpenLines.{line_of, line_takes, is_begun}
 use Rattle.pm_trace.specs.Decoding.{now, said, kept_takes, next, told, some_told, line_told, line_ended, told_at_end}
 use Rattle.pm_trace.specs.declared.line_fault.LineFault.TheVariants as fault

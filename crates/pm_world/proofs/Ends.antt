@@ -6,7 +6,7 @@ use Rattle.pm_host.specs.Summary.{Summary, next as host_next, step_of}
 use Rattle.pm_host.specs.declared.step.Step.TheVariants.{Next}
 use Rattle.pm_host.specs.Transcript.{Entry, Accepted, Job, Order}
 use Rattle.pm_world.specs.declared.event.Event.{Event}
-use Rattle.pm_world.specs.State.{State, Share, host_after, Acts, HasWord, asked, event_cause, shared, tells, end_by}
+use Rattle.pm_world.specs.State.{State, Acts, HasWord, asked, event_cause, shared, tells, end_by}
 use Rattle.pm_world.proofs.Causes.{asked-share}
 
 -- the parts of a world, put together
@@ -46,11 +46,3 @@ begun s inside event job new view b =
           (sym (ap end_by (begun-next inside.host job)))
           ∙ ap (shared inside) (sym (asked-share inside event job b.asks)),
     )
-
--- no event changes what a host was made with
-pub event-kept : ((s : Summary) (entry : Entry) → (host_next s entry).setup ≡ s.setup) → (s : State) (share : Share) →
-    (shared s share).host.setup ≡ s.host.setup
-event-kept kept s share = go share.told where
-  go : (told : Option Entry) → (host_after s.host told).setup ≡ s.host.setup
-  go None = refl
-  go (Some entry) = kept s.host entry

@@ -1,5 +1,5 @@
 use super::*;
-use crate::checks::{equal, is_true};
+use crate::checks::equal;
 
 #[test]
 fn the_outputs_are_judged_before_the_passes(rt: HostRuntime) {
@@ -20,52 +20,63 @@ fn the_outputs_are_judged_before_the_passes(rt: HostRuntime) {
     }
 }
 
+// A learn over two reads, the first answers of which are no good.
+static LEARNED_LATE: [(Call<'static>, Answer); 5] = [
+    (Learn(0), BEGUN),
+    (Got(&[0xB1]), NEXT),
+    (Answered(READ_MODE, &[0x40]), NEXT),
+    (Got(&[]), NEXT),
+    (
+        Answered(READ_COEFFICIENTS, &[0x01, 0x00, 0x00, 0x00, 0x03]),
+        LEARNED,
+    ),
+];
+
+// Modes without a format, coefficients without one, no answer to either read.
+static NOTHING_LEARNED: [(Call<'static>, Answer); 21] = [
+    (Learn(0), BEGUN),
+    (Answered(READ_MODE, &[0x20]), UNKNOWN),
+    (Learn(0), BEGUN),
+    (Answered(READ_MODE, &[0x41]), UNKNOWN),
+    (Learn(0), BEGUN),
+    (Answered(READ_MODE, &[0x60]), UNKNOWN),
+    (Learn(0), BEGUN),
+    (Answered(READ_MODE, &[0x94]), UNKNOWN),
+    (Learn(0), BEGUN),
+    (Answered(READ_MODE, &[0x40]), NEXT),
+    (
+        Answered(READ_COEFFICIENTS, &[0x00, 0x00, 0x00, 0x00, 0x00]),
+        UNKNOWN,
+    ),
+    (Learn(0), BEGUN),
+    (Answered(READ_MODE, &[0x40]), NEXT),
+    (
+        Answered(READ_COEFFICIENTS, &[0x01, 0x00, 0x00, 0x00, 0x0D]),
+        UNKNOWN,
+    ),
+    (Learn(0), BEGUN),
+    (Got(&[]), NEXT),
+    (Got(&[]), UNKNOWN),
+    (Learn(0), BEGUN),
+    (Answered(READ_MODE, &[0x40]), NEXT),
+    (Got(&[]), NEXT),
+    (Got(&[]), UNKNOWN),
+];
+
+// 3300 millivolts.
+static ORDERED_IN_MILLIVOLTS: [(Call<'static>, Answer); 3] = [
+    (OrderMicro(FIRST, 3_300_000), BEGUN),
+    (Finish(true), NEXT),
+    (Answered(READ_FIRST, &[0xE4, 0x0C]), DONE),
+];
+
 #[test]
 fn a_learn_that_finds_nothing_leaves_the_format_from_before(rt: HostRuntime) {
-    let mut bench = Bench::new();
-    equal(&rt, &bench.learn(0), &Ok(()), &1);
-    equal(&rt, &bench.got(&[0xB1]), &NEXT, &2);
-    equal(&rt, &bench.answered(READ_MODE, &[0x40]), &NEXT, &3);
-    is_true(
-        &rt,
-        bench.sends(&[0xB0, 0x30, 0x02, 0x21, 0x00]) && bench.host.sending_reads(),
-        &4,
-    );
-    equal(&rt, &bench.got(&[]), &NEXT, &5);
-    let millivolts = [0x01, 0x00, 0x00, 0x00, 0x03];
-    equal(
-        &rt,
-        &bench.answered(READ_COEFFICIENTS, &millivolts),
-        &LEARNED,
-        &6,
-    );
-    // A mode without a format, coefficients without one, no answer to either read.
-    let nothing: [u8; 5] = [0; 5];
-    let far: [u8; 5] = [0x01, 0x00, 0x00, 0x00, 0x0D];
-    for mode in [0x20, 0x41, 0x60, 0x94] {
-        equal(&rt, &bench.learn(0), &Ok(()), &7);
-        equal(&rt, &bench.answered(READ_MODE, &[mode]), &UNKNOWN, &mode);
-    }
-    for coefficients in [nothing, far] {
-        equal(&rt, &bench.learn(0), &Ok(()), &8);
-        equal(&rt, &bench.answered(READ_MODE, &[0x40]), &NEXT, &9);
-        equal(
-            &rt,
-            &bench.answered(READ_COEFFICIENTS, &coefficients),
-            &UNKNOWN,
-            &10,
-        );
-    }
-    equal(&rt, &bench.learn(0), &Ok(()), &11);
-    equal(&rt, &bench.got(&[]), &NEXT, &12);
-    equal(&rt, &bench.got(&[]), &UNKNOWN, &13);
-    equal(&rt, &bench.learn(0), &Ok(()), &14);
-    equal(&rt, &bench.answered(READ_MODE, &[0x40]), &NEXT, &15);
-    equal(&rt, &bench.got(&[]), &NEXT, &16);
-    equal(&rt, &bench.got(&[]), &UNKNOWN, &17);
-    // 3300 millivolts.
-    equal(&rt, &bench.order_micro(FIRST, 3_300_000), &Ok(()), &18);
-    equal(&rt, &bench.finish(true), &NEXT, &19);
-    equal(&rt, &bench.answered(READ_FIRST, &[0xE4, 0x0C]), &DONE, &20);
-    equal(&rt, &bench.standing(FIRST), &Standing::Confirmed(3300), &21);
+    let mut host = new_host();
+    goes(&rt, &mut host, &LEARNED_LATE[..3]);
+    sends(&rt, &host, &[0xB0, 0x30, 0x02, 0x21, 0x00], true);
+    goes(&rt, &mut host, &LEARNED_LATE[3..]);
+    goes(&rt, &mut host, &NOTHING_LEARNED);
+    goes(&rt, &mut host, &ORDERED_IN_MILLIVOLTS);
+    stands(&rt, &host, FIRST, Standing::Confirmed(3300));
 }

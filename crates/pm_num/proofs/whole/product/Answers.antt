@@ -9,12 +9,6 @@ use Rattle.pm_num.proofs.whole.product.Goals as goal
 fits : (c : goal.Start) → FitsSigned w128 (c.args.a *ℤ c.args.b)
 fits c = fits_signed_mul w128 c.args.a c.args.b (2 ^ 55) (2 ^ 55) c.requires.left c.requires.right (lit< tt)
 
-pub overflow_mul-result : goal.overflow_mul-result
-overflow_mul-result c =
-    let fits_a = c.ranges.a in
-    let fits_b = c.ranges.b in
-    simp to_z-of_z (fits c)
-
 pub returns-clause-value : goal.returns-clause-value
 returns-clause-value c =
     let fits_a = c.ranges.a in
@@ -29,10 +23,3 @@ returns-clause-small c =
     let fits_product = fits c in
     let small = mul-le (unsigned_abs c.args.a) (unsigned_abs c.args.b) (2 ^ 55) (2 ^ 55) c.requires.left c.requires.right in
     simp to_z-of_z (omega (arith, unsigned_abs-mul c.args.a c.args.b))
-
-pub returns-clause-size : goal.returns-clause-size
-returns-clause-size c =
-    let fits_a = c.ranges.a in
-    let fits_b = c.ranges.b in
-    let fits_product = fits c in
-    simp to_z-of_z (unsigned_abs-mul c.args.a c.args.b)

@@ -3,14 +3,8 @@ use Rattle.std.proofs.lemmas.List.{length-drop}
 use Rattle.std.proofs.lemmas.Bool.Decides.{nat_tests}
 use Rattle.pm_trace.specs.Decoding.{taken_of, refusal_of}
 use Rattle.pm_lines.specs.declared.fault.TextFault.TheVariants.{TooLong}
-use Rattle.pm_trace.proofs.DecodeLemmas.{some_taken, pushes_more, split_more, pushed_whole, pushed_front}
+use Rattle.pm_trace.proofs.DecodeLemmas.{some_taken, pushes_more, split_more, pushed_front}
 use Rattle.pm_trace.proofs.traces.push_lines.Goals as goal
-
-pub returns-clause-pushed : goal.returns-clause-pushed
-returns-clause-pushed c =
-    let (front, split, pushes) = c.pieces.invariant in
-    let none : length c.pieces.rest.now ≡ 0 = grind (arith, nat_tests) in
-    pushed_whole front c.pieces.rest.now split none pushes
 
 pub returns-in-Err-TooLong-clause-pushed : goal.returns-in-Err-TooLong-clause-pushed
 returns-in-Err-TooLong-clause-pushed c =

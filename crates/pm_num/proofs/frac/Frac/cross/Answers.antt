@@ -2,7 +2,7 @@ use Rattle.std.proofs.Common.{◌≡◌, ◌^◌, ◌*ℤ◌, pos, to_z, of_z, l
 use Rattle.std.specs.Int.{w128}
 use Rattle.std.specs.Prelude.{FitsSigned}
 use Rattle.std.proofs.lemmas.Int.{ints, fits_signed_mul}
-use Rattle.pm_num.proofs.Rounding.{product_fits, product_kept}
+use Rattle.pm_num.proofs.Rounding.{product_kept}
 use Rattle.pm_num.proofs.frac.Frac.cross.Goals as goal
 
 -- The product of the parts fits,
@@ -18,9 +18,6 @@ left c = omega (arith, ints)
 -- and so is the denominator.
 right : (c : goal.After-den) → to_z w128 (of_z w128 c.den.result) ≡ pos c.args.o.now.den
 right c = omega (arith, ints)
-
-pub overflow_mul-result : goal.overflow_mul-result
-overflow_mul-result c = product_fits c.args.self.now.num (pos c.args.o.now.den) (left c) (right c) (fits c)
 
 pub returns : goal.returns
 returns c = product_kept c.args.self.now.num (pos c.args.o.now.den) (left c) (right c) (fits c)

@@ -1,21 +1,11 @@
-use Rattle.std.proofs.Common.{◌<◌, ◌^◌, sym, ap, ◌∙◌, subst, below_more, arith}
+use Rattle.std.proofs.Common.{◌<◌, ◌^◌, sym, subst, below_more}
 use Rattle.std.proofs.Math.ListN.{get_or-map}
-use Rattle.pm_table.specs.Coefficients.{coefficients_of}
 use Rattle.pm_device.specs.declared.config.OutputStart.{OutputStart}
 use Rattle.pm_device.specs.Start.{no_start}
 use Rattle.pm_world.proofs.laws.formats.spell.Goals as goal
-
-pub loop-start-init : goal.loop-start-init
-loop-start-init c = λ k below. absurd (omega arith)
 
 pub loop-start-preserved : goal.loop-start-preserved
 loop-start-preserved c =
     below_more _ _ c.loop-start.invariant
     (subst (λ n. n < 2 ^ 8) (sym (get_or-map (λ (start : OutputStart). start.mode) c.args.c.starts c.loop-start.start-index no_start))
     c.spell_byte.ensures)
-
-pub returns : goal.returns
-returns c = record {
-  modes = λ output below. c.loop-start.invariant output (omega arith);
-  coefficients = ap coefficients_of (sym c.bytes.ensures.bytes) ∙ c.bytes.ensures.again;
-}

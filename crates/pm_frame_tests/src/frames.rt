@@ -1,6 +1,6 @@
 //! Frames to the addresses 08h, 58h and 77h, the ends of the range among them.
 
-use crate::{Message, Payload};
+use pm_frame::{Message, Payload};
 
 /// A packet that writes.
 pub(crate) struct WriteRow {

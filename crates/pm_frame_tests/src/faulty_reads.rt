@@ -7,9 +7,9 @@ ghost use Rattle.std.specs.Prelude.{◌≡◌, true};
 ghost use Rattle.pm_table.specs.Address.{IsAddress};
 ghost use Rattle.pm_frame.specs.Layout.{fits_layout, is_read_message};
 
-use super::agrees;
-use super::framing::{ADDRESSES, Ends, answer_fault, framed, request_fault, sent, slow_pec};
-use crate::{FrameFault, Message, fits};
+use crate::checks::agrees;
+use crate::framing::{ADDRESSES, Ends, answer_fault, framed, request_fault, sent, slow_pec};
+use pm_frame::{FrameFault, Message, fits};
 use pm_table::address_ok;
 use std::alloc::{AllocError, Global};
 use std::process::Abort;

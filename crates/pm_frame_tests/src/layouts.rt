@@ -1,5 +1,5 @@
-use super::agrees;
-use crate::{Message, Payload, fits};
+use crate::checks::agrees;
+use pm_frame::{Message, Payload, fits};
 
 // The layouts by their codes alone: these fit, whatever byte, word, page and side they have.
 static FITTING: [Message; 27] = [

@@ -1,94 +1,14 @@
-//! Tests that go through several calls.
+//! Packets that are put on the wire and read again, and what is left of them where they are cut.
 
-ghost use Rattle.std.specs.Prelude.{◌≡◌, true, length};
-ghost use Rattle.pm_table.specs.Address.{IsAddress};
-ghost use Rattle.pm_frame.specs.Layout.{answer_length, fits_layout, is_read_message};
-
-mod faulty_reads;
-mod faulty_writes;
-mod frames;
-pub(crate) mod framing;
-mod layouts;
-
-use crate::{
-    Frame, FrameFault, Message, answer, fits, is_betrayed, read_answer, read_request, read_write,
+use crate::calls::{
+    answer_carries, answered, betrayed, request_carries, request_shown, whole_answer, write_carries,
+    write_shown,
 };
-use frames::{READS, WRITES};
-use framing::{answer_fault, request_fault, sent, write_fault};
+use crate::checks::agrees;
+use crate::frames::{READS, WRITES};
+use crate::framing::{answer_fault, request_fault, sent, write_fault};
+use pm_frame::{FrameFault, fits};
 use pm_table::address_ok;
-use std::fmt::Debug;
-use std::process::Abort;
-
-/// Fails where what was found in this row of a table is not what is wanted there.
-pub(crate) fn agrees<T: PartialEq + Debug>(rt: &impl Abort, row: usize, found: &T, wanted: &T) {
-    assert_eq!(rt; found, wanted, "row {row}");
-}
-
-// Calls with long contracts, of which the rows need nothing.
-
-// The message, the page, the code and the payload that a write shows.
-fn write_shown(addr: u8, bytes: &[u8]) -> Result<(Message, Option<u8>, u8), FrameFault>
-    requires { IsAddress addr }
-{
-    let view = read_write(addr, bytes)?;
-    Ok((view.message(), view.page(), view.code()))
-}
-
-// Whether it shows this payload.
-fn write_carries(addr: u8, bytes: &[u8], payload: &[u8]) -> bool
-    requires { IsAddress addr }
-{
-    match read_write(addr, bytes) {
-        Ok(view) => view.payload() == payload,
-        Err(_) => false,
-    }
-}
-
-// The same of a request.
-fn request_shown(addr: u8, bytes: &[u8]) -> Result<(Message, Option<u8>, u8), FrameFault>
-    requires { IsAddress addr }
-{
-    let view = read_request(addr, bytes)?;
-    Ok((view.message(), view.page(), view.code()))
-}
-
-fn request_carries(addr: u8, bytes: &[u8], payload: &[u8]) -> bool
-    requires { IsAddress addr }
-{
-    match read_request(addr, bytes) {
-        Ok(view) => view.payload() == payload,
-        Err(_) => false,
-    }
-}
-
-// What is put on the wire as the answer.
-fn answered(addr: u8, request: &Message, payload: &[u8]) -> Frame
-    requires address { IsAddress addr }
-    requires read { is_read_message request.now ≡ true }
-    requires fits { fits_layout request.now ≡ true }
-    requires counted { length payload.now ≡ answer_length request.now }
-{
-    answer(addr, request, payload)
-}
-
-// Whether an answer is read as this payload.
-fn answer_carries(addr: u8, request: &Message, bytes: &[u8], payload: &[u8]) -> bool
-    requires address { IsAddress addr }
-    requires read { is_read_message request.now ≡ true }
-    requires fits { fits_layout request.now ≡ true }
-{
-    read_answer(addr, request, bytes) == Ok(payload)
-}
-
-// Whether the bytes are no frame after these.
-fn betrayed(before: &[u8], bytes: &[u8]) -> bool {
-    is_betrayed(before, bytes)
-}
-
-// How long an answer to a message is, with all its bytes.
-fn whole_answer(request: &Message) -> usize {
-    request.whole_answer()
-}
 
 #[test]
 fn a_write_is_put_on_the_wire_and_read_again(rt: HostRuntime) {

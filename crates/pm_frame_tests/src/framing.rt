@@ -4,7 +4,7 @@ ghost use Rattle.std.specs.Prelude.{◌≡◌, true};
 ghost use Rattle.pm_table.specs.Address.{IsAddress};
 ghost use Rattle.pm_frame.specs.Layout.{fits_layout, is_read_message};
 
-use crate::{Frame, FrameFault, Message, read_answer, read_request, read_write, write_part};
+use pm_frame::{Frame, FrameFault, Message, read_answer, read_request, read_write, write_part};
 use std::process::Abort;
 
 /// The addresses that rows are tried at, the ends of the range among them.

@@ -4,9 +4,9 @@
 
 ghost use Rattle.pm_table.specs.Address.{IsAddress};
 
-use super::agrees;
-use super::framing::{ADDRESSES, Ends, framed, request_fault, write_fault};
-use crate::FrameFault;
+use crate::checks::agrees;
+use crate::framing::{ADDRESSES, Ends, framed, request_fault, write_fault};
+use pm_frame::FrameFault;
 use pm_table::address_ok;
 use std::alloc::{AllocError, Global};
 use std::process::Abort;
