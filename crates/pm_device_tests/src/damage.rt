@@ -78,7 +78,7 @@ fn mixed() -> Result<Converter, ConfigFault> {
 fn is_at_start(converter: &Converter) -> Result<bool, ConfigFault> {
     let started = mixed()?;
     let mut same = page_of(converter) == 0;
-    for cell in CELLS {
+    for &cell in &CELLS {
         same = same && word(converter, cell) == word(&started, cell);
     }
     Ok(same)
@@ -112,7 +112,7 @@ fn is_no_write(rt: &impl Abort, bytes: &[u8]) -> Result<(), ConfigFault> {
 fn is_betrayed_write(rt: &impl Abort, whole: &Frame, place: usize) -> Result<(), ConfigFault> {
     is_true(rt, place < whole.as_slice().len(), &1);
     is_no_write(rt, &whole.as_slice()[..place])?;
-    for bits in BITS {
+    for &bits in &BITS {
         is_no_write(rt, changed(rt, whole, place, bits).as_slice())?;
     }
     Ok(())
@@ -156,7 +156,7 @@ fn is_betrayed_request(
     let cut = &whole.as_slice()[..place];
     is_true(rt, !is_request(cut), &cut);
     is_another_request(rt, sent, cut)?;
-    for bits in BITS {
+    for &bits in &BITS {
         let other = changed(rt, whole, place, bits);
         is_another_request(rt, sent, other.as_slice())?;
     }
@@ -185,7 +185,7 @@ fn is_betrayed_answer(rt: &impl Abort, sent: &Message, whole: &Frame, place: usi
     is_true(rt, place < whole.as_slice().len(), &1);
     let cut = &whole.as_slice()[..place];
     is_true(rt, !is_answer(sent, cut), &cut);
-    for bits in BITS {
+    for &bits in &BITS {
         let other = changed(rt, whole, place, bits);
         is_true(rt, !is_answer(sent, other.as_slice()), &other);
     }

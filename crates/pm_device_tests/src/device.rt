@@ -136,7 +136,7 @@ static WRITES: [(&[&str], [u16; 2], u8); 5] = [
 fn holds(rt: &impl Abort, converter: &Converter, words: [u16; 2]) -> Result<(), ConfigFault> {
     let started = base()?;
     let [first, second] = words;
-    for cell in CELLS {
+    for &cell in &CELLS {
         let wanted = match cell {
             FIRST => first,
             SECOND => second,

@@ -40,7 +40,7 @@ fn has_word(rt: &impl Abort, plain: &Plain, cell: Cell, word: u16) {
 // A cell is set to a word, and each other has its start word.
 fn is_set_alone(rt: &impl Abort, cell: Cell, word: u16) {
     let changed = with(rt, cell, word);
-    for (other, start, _) in WORDS {
+    for &(other, start, _) in &WORDS {
         has_word(
             rt,
             &changed,
@@ -53,7 +53,7 @@ fn is_set_alone(rt: &impl Abort, cell: Cell, word: u16) {
 #[test]
 fn each_cell_is_read_back_and_no_other_changes(rt: HostRuntime) {
     is_true(&rt, !base().has(Cell::Out(2, Reg::Operation)), &1);
-    for (cell, before, after) in WORDS {
+    for &(cell, before, after) in &WORDS {
         has_word(&rt, &base(), cell, before);
         is_set_alone(&rt, cell, after);
     }

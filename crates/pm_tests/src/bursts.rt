@@ -15,7 +15,7 @@ const ORDER_BYTES: u64 = 0xB005_0400_21CD_345A;
 // Whether each cell of both outputs and of the device has its start word.
 fn is_at_start(converter: &Converter, started: &Converter) -> bool {
     let mut same = true;
-    for cell in CELLS {
+    for &cell in &CELLS {
         same = same && word(converter, cell) == word(started, cell);
     }
     same

@@ -128,7 +128,7 @@ static HEARINGS: [(&str, Result<(u16, u8), Cause>); 20] = [
 // VOUT_COMMAND of the first output is this word, and each other cell has its start word.
 fn holds(rt: &impl Abort, world: &World, held: u16) -> Result<(), SetupFault> {
     let started = begun(base(), 2)?;
-    for cell in CELLS {
+    for &cell in &CELLS {
         let start = word(started.device(), cell);
         let wanted = if cell == FIRST { held } else { start };
         equal(rt, &word(device(world), cell), &wanted, &cell);

@@ -94,7 +94,7 @@ fn the_host_says_what_it_can_know(rt: HostRuntime) -> Result<(), SetupFault> {
     follow(&rt, &mut lost, &answers_lost());
     let mut world = begun(base(), 2)?;
     follow(&rt, &mut world, &falsely_acked());
-    for cell in CELLS {
+    for &cell in &CELLS {
         is_told(
             &rt,
             &world,
@@ -134,7 +134,7 @@ const OTHERS: [u16; 13] = [
 // Every cell has the word that it has now as a confirmed one, and the cell by which a restart was seen
 // may hold that word alone, each other any.
 fn are_confirmed(rt: &impl Abort, world: &World, seen_by: Cell) {
-    for cell in CELLS {
+    for &cell in &CELLS {
         let start = word(device(world), cell);
         let confirmed = Some(Standing::Confirmed(start));
         equal(rt, &standing(world, cell), &confirmed, &(cell, seen_by));
@@ -145,7 +145,7 @@ fn are_confirmed(rt: &impl Abort, world: &World, seen_by: Cell) {
 
 // Nothing is said of any cell.
 fn are_unknown(rt: &impl Abort, world: &World) {
-    for cell in CELLS {
+    for &cell in &CELLS {
         equal(rt, &standing(world, cell), &Some(UNKNOWN), &cell);
         is_told(rt, world, cell, &[]);
     }
@@ -154,7 +154,7 @@ fn are_unknown(rt: &impl Abort, world: &World) {
 // A world in which each cell was confirmed, and then another word of one of them was.
 fn confirmed(rt: &impl Abort, cell: Cell, other: u16) -> Result<World, SetupFault> {
     let mut world = begun(base(), 2)?;
-    for checked in CELLS {
+    for &checked in &CELLS {
         takes(rt, &mut world, &[Event::Check(checked), READ]);
     }
     let order = Event::Order(cell, other);

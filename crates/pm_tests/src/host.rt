@@ -295,7 +295,7 @@ static NO_ANSWERS: [&[u8]; 6] = [
 // request out.
 #[test]
 fn an_answer_to_another_request_is_no_good_answer(rt: HostRuntime) {
-    for row in NO_ANSWERS {
+    for &row in &NO_ANSWERS {
         is_no_answer(&rt, row);
     }
     let payload = [0xB1, 0x02, 0x00, 0x10];

@@ -66,7 +66,7 @@ fn plain() -> OrderMachine {
 }
 
 fn agrees(rt: &impl Abort, world: &World, machine: &OrderMachine, at: usize) {
-    for cell in CELLS {
+    for &cell in &CELLS {
         let held = word(device(world), cell);
         equal(rt, &held, &copied(machine, cell), &(cell, at));
     }

@@ -32,7 +32,7 @@ fn may_be(world: &World, cell: Cell, word: u16) -> bool {
 fn agrees(rt: &impl Abort, world: &World, watch: &Watch, at: usize) {
     are_ordered(rt, world, &watch.machine, at);
     let [first, second] = watch.since_answer;
-    for cell in CELLS {
+    for &cell in &CELLS {
         match cell {
             FIRST => is_known(rt, world, cell, first, at),
             SECOND => is_known(rt, world, cell, second, at),

@@ -242,7 +242,7 @@ fn eight_outputs_are_stored(rt: HostRuntime) -> Result<(), SetupFault> {
     ordered(&rt, &mut world, 0x3100);
     takes(&rt, &mut world, &[RESTARTED]);
     has(&rt, &world, 0x2000);
-    for cell in CELLS {
+    for &cell in &CELLS {
         is_true(&rt, standing(&world, cell).is_some(), &cell);
     }
     let (ran, stop) = ran(eight(), 1, &[STORE, WHOLE, ACKED, RESTORE, WHOLE, ACKED])?;

@@ -132,7 +132,7 @@ fn stored(converter: &Converter, cell: Cell) -> u16 {
 
 /// The settings and the store of a world are those of the machine.
 pub(crate) fn are_ordered(rt: &impl Abort, world: &World, machine: &OrderMachine, at: usize) {
-    for cell in CELLS {
+    for &cell in &CELLS {
         is_ordered(rt, world, machine, cell, at);
     }
 }

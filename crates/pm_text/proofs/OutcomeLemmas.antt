@@ -1,6 +1,6 @@
 -- What the replay of an input results in, by what its reader gave.
 use Rattle.std.proofs.Common.{◌≡◌, ℕ, ◌<◌, ◌≤◌, true, false, List, ◌++◌, length, length-append, append-nil, Option, Some, None, IfSome}
-use Rattle.std.proofs.Common.{Result, Ok, Err, refl, sym, ap, ◌∙◌, arith, ltb, subst, IfErr, ◌⊎◌, inl, inr}
+use Rattle.std.proofs.Common.{Result, Ok, Err, refl, sym, ap, ◌∙◌, arith, ltb, subst, ◌⊎◌, inl, inr}
 use Rattle.std.proofs.lemmas.Bool.Decides.{nat_tests}
 use Rattle.std.specs.Io.KnownBytes.{Consumes}
 use Rattle.pm_lines.specs.declared.fault.TextFault.{TextFault}
@@ -80,10 +80,3 @@ pub same-reported : (old new : Option (List ℕ)) (text out : List ℕ) (end : R
     → IfSome old (λ input. IsSettled (Ok end) → Ok end ≡ outcome_of input)
 same-reported old new text out end whole told =
     same-by old (Ok end) (end_alone (replay_of text)) (λ settled. sym (ap end_alone told)) (same-whole old new text whole)
-
--- what a failed write results in
-pub same-failed : (old : Option (List ℕ)) (fault : TextFault) → fault ≡ Write
-    → IfSome old (λ input. IsSettled (Err fault) → Err fault ≡ outcome_of input)
-same-failed old fault failed =
-    let P : TextFault → Type 0 = λ f. IfSome old (λ input. IsSettled (Err f) → Err f ≡ outcome_of input) in
-    subst P (sym failed) (unsettled old (Err Write) (λ settled. settled))

@@ -1,6 +1,6 @@
 -- The outputs of a scenario, one after another.
 use Rattle.std.proofs.Common.{◌≡◌, ℕ, zero, suc, ◌+◌, ◌≤◌, List, [], ◌∷◌, ◌++◌, length, Option, Some, None}
-use Rattle.std.proofs.Common.{Result, Ok, Err, refl, ap, sym, ◌∙◌, arith, add-one, append_assoc, append-nil, length-append, length-take-le}
+use Rattle.std.proofs.Common.{Result, Ok, Err, refl, ap, sym, ◌∙◌, arith, append_assoc, append-nil, length-append, length-take-le}
 use Rattle.std.specs.Prelude.{replicate, slice_set, take}
 use Rattle.std.proofs.lemmas.List.{take-replicate}
 use Rattle.pm_device.specs.declared.config.OutputStart.{OutputStart}
@@ -9,7 +9,6 @@ use Rattle.pm_lines.specs.Lines.{Numbered}
 use Rattle.pm_text.specs.Readers.{Field, Rest, line_as}
 use Rattle.pm_text.specs.ScenarioText.{counted, first_eight, outputs_in, start_before, starts_of}
 use Rattle.pm_text.specs.declared.scenario.fault.ScenarioFault.{ScenarioFault}
-use Rattle.pm_text.specs.declared.scenario.fault.ScenarioFault.TheVariants.{Syntax}
 use Rattle.pm_text.specs.declared.scenario.starts.Starts.{Starts}
 
 -- one more of a list that is kept up to a length, with others after it
@@ -39,16 +38,6 @@ starts-made count starts given counts firsts = rw (counts, firsts) refl
 abbrev pub behind : List OutputStart → Result (List OutputStart × Rest) ScenarioFault → Result (List OutputStart × Rest) ScenarioFault
 behind given (Err first) = Err first
 behind given (Ok got) = Ok (given ++ got.0, got.1)
-
--- before any output was read
-pub behind-nil : (more : Result (List OutputStart × Rest) ScenarioFault) → more ≡ behind [] more
-behind-nil (Err first) = refl
-behind-nil (Ok got) = refl
-
--- no line is left
-pub behind-end : (output : Field (Option OutputStart)) (given : List OutputStart) (count : ℕ) (lines : List Numbered)
-    (fault : ScenarioFault) → lines ≡ [] → fault ≡ Syntax (count + 1) → behind given (outputs_in output count lines) ≡ Err fault
-behind-end output given count lines fault empty is = rw (empty, is, add-one) refl
 
 -- one output more
 behind-push : (given : List OutputStart) (start : OutputStart) (more : Result (List OutputStart × Rest) ScenarioFault) (rest : Rest)

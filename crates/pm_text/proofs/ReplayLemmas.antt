@@ -1,5 +1,5 @@
 -- What a scenario that was read, and the run of its events, come to.
-use Rattle.std.proofs.Common.{◌≡◌, ◌∙◌, ◌+◌, ◌<◌, ◌≤◌, ℕ, zero, suc, List, [], ◌∷◌, ◌++◌, length, take, Option, Some, None, Result, Ok, Err}
+use Rattle.std.proofs.Common.{◌≡◌, ◌∙◌, ◌+◌, ◌<◌, ℕ, zero, suc, List, [], ◌∷◌, ◌++◌, length, take, Option, Some, None, Result, Ok, Err}
 use Rattle.std.proofs.Common.{refl, sym, ap, inl, inr, arith, subst, append_assoc, append-nil}
 use Rattle.std.specs.Prelude.{IsSomeAnd, reverse, slice_get}
 use mathlib.Core.List.{reverse-cons}
@@ -12,18 +12,17 @@ use Rattle.pm_world.specs.declared.stop.SetupFault.{SetupFault}
 use Rattle.pm_world.specs.declared.stop.Stop.{Stop}
 use Rattle.pm_world.specs.Setup.{setup_fault}
 use Rattle.pm_world.specs.Life.{AreTaken, StopsAt, now, taken_events}
-use Rattle.pm_world.specs.State.{State, cause_of}
+use Rattle.pm_world.specs.State.{cause_of}
 use Rattle.pm_lines.specs.declared.fault.TextFault.{TextFault}
-use Rattle.pm_lines.specs.declared.fault.TextFault.TheVariants.{Syntax, BadHex, TooLong, Read, Write, Memory, Setup}
-use Rattle.pm_lines.specs.Streams.{max_text}
+use Rattle.pm_lines.specs.declared.fault.TextFault.TheVariants.{Syntax, Setup}
 use Rattle.pm_lines.specs.Lines.{lines_of, unskipped_from}
 use Rattle.pm_text.specs.Readers.{row}
-use Rattle.pm_text.specs.ScenarioText.{HasEvent, IsOfScenario, scenario_of}
+use Rattle.pm_text.specs.ScenarioText.{HasEvent, scenario_of}
 use Rattle.pm_text.specs.declared.ran.Ran.{Ran}
 use Rattle.pm_text.specs.declared.scenario.Scenario.{Scenario}
 use Rattle.pm_text.specs.Kinds.{form_of}
 use Rattle.pm_text.specs.Report.{report_text}
-use Rattle.pm_text.specs.Replay.{IsOfReplay, end_by, ran_by, replay_by, replay_of, run_of, stop_after, taken_by, told, told_or}
+use Rattle.pm_text.specs.Replay.{end_by, ran_by, replay_by, replay_of, run_of, stop_after, taken_by, told, told_or}
 use Rattle.pm_text.specs.declared.replay_end.ReplayEnd.{ReplayEnd}
 
 -- ---- where a run stops
@@ -156,14 +155,3 @@ pub event-some : (text : List ℕ) → HasEvent text → 0 < length text
 unfolding row unskipped_from lines_of
 event-some [] has = absurd has
 event-some (byte ∷ text) has = omega arith
-
--- the faults of a text that isn't too long
-pub replay-faults : (text : List ℕ) (fault : TextFault) → length text ≤ max_text → IsOfScenario fault
-    → (fault ≡ TooLong → max_text < length text) → IsOfReplay fault
-replay-faults text (Syntax line) short of long = tt
-replay-faults text (BadHex line) short of long = tt
-replay-faults text TooLong short of long = let more = long refl in absurd (omega arith)
-replay-faults text Read short of long = of
-replay-faults text Write short of long = of
-replay-faults text Memory short of long = tt
-replay-faults text (Setup reason) short of long = tt

@@ -118,10 +118,10 @@ fn ends_at_read(
 #[test]
 fn a_failed_read_ends_an_engine_at_once(rt: HostRuntime) {
     for (engine, input, text, _) in worked() {
-        for piece in PIECES {
+        for &piece in &PIECES {
             let (calls, _) = calls_made(rt.alloc(), engine, input, piece);
             for fails_at in 1..=calls {
-                for kind in KINDS {
+                for &kind in &KINDS {
                     ends_at_read(&rt, (engine, input, text), piece, fails_at, kind);
                 }
             }
@@ -170,10 +170,10 @@ fn ends_at_write(
 #[test]
 fn a_failed_write_ends_an_engine_at_once(rt: HostRuntime) {
     for (engine, input, text, _) in worked() {
-        for piece in PIECES {
+        for &piece in &PIECES {
             let (_, calls) = calls_made(rt.alloc(), engine, input, piece);
             for fails_at in 1..=calls {
-                for failure in FAILURES {
+                for &failure in &FAILURES {
                     ends_at_write(&rt, (engine, input, text), piece, fails_at, failure);
                 }
             }
@@ -219,7 +219,7 @@ fn is_whole_cut(
 #[test]
 fn a_text_may_be_cut_anywhere(rt: HostRuntime) {
     for (engine, input, text, is_well) in worked() {
-        for piece in PIECES {
+        for &piece in &PIECES {
             is_whole_by(&rt, engine, input, (is_well, text), piece);
         }
         for cut in 0..=input.len() {

@@ -35,7 +35,7 @@ fn an_engine_without_memory_writes_nothing_else(rt: HostRuntime) {
     for (engine, input, text, _) in worked() {
         expect_text(&rt, engine, input, text);
     }
-    for (scenario, report) in REPORTS {
+    for &(scenario, report) in &REPORTS {
         expect_text(&rt, Engine::Replay, scenario, report);
     }
     expect_text(&rt, Engine::Decode, CODES, CODES_SAID);
@@ -136,7 +136,7 @@ fn lines_and_reports_are_whole_or_want_memory(rt: HostRuntime) {
     for &(line, wanted) in &LINES {
         expect(&rt, line_said(rt.alloc(), line), wanted);
     }
-    for (scenario, report) in REPORTS {
+    for &(scenario, report) in &REPORTS {
         expect(&rt, report_of(rt.alloc(), scenario), report);
     }
 }

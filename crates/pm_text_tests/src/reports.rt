@@ -356,7 +356,7 @@ fn is_reported(rt: &(impl Abort + AllocGlobal), scenario: &str, report: &str) {
 
 #[test]
 fn every_word_and_number_of_a_report_has_its_place(rt: HostRuntime) {
-    for (scenario, report) in REPORTS {
+    for &(scenario, report) in &REPORTS {
         is_reported(&rt, scenario, report);
     }
 }

@@ -100,7 +100,7 @@ fn is_told(told: &str, first: &str, [held, said]: [&str; 2], last: &str) -> bool
 
 #[test]
 fn stored_words_come_back(rt: HostRuntime) -> Result<(), Fail> {
-    for (events, first, output, last) in ROWS {
+    for &(events, first, output, last) in &ROWS {
         let text = text_with(rt.alloc(), "00", events)?;
         let (end, written) = Engine::Replay.text_of(rt.alloc(), in_pieces(text.as_bytes(), 4096));
         equal(&rt, &end, &Ok(!first.starts_with("stopped")), &events);
@@ -138,7 +138,7 @@ static PROTECTED: [(&str, &str, &str); 4] = [
 
 #[test]
 fn write_protect_is_not_stored(rt: HostRuntime) -> Result<(), Fail> {
-    for (protect, events, first) in PROTECTED {
+    for &(protect, events, first) in &PROTECTED {
         let text = text_with(rt.alloc(), protect, events)?;
         let (end, written) = Engine::Replay.text_of(rt.alloc(), in_pieces(text.as_bytes(), 4096));
         equal(&rt, &end, &Ok(true), &events);
@@ -185,7 +185,7 @@ static HEARD: [(&str, &str, &str); 6] = [
 
 #[test]
 fn hear_stores_and_restores(rt: HostRuntime) -> Result<(), Fail> {
-    for (text, answers, word) in HEARD {
+    for &(text, answers, word) in &HEARD {
         let (end, written) = Engine::Hear.text_of(rt.alloc(), in_pieces(text.as_bytes(), 4096));
         equal(&rt, &end, &Ok(true), &text);
         let wanted = format!(in rt.alloc();

@@ -111,7 +111,7 @@ fn a_sink_writes_to_the_first_failure(rt: HostRuntime) {
     for (piece, calls) in [(1, 20), (7, 3), (20, 1), (4096, 1)] {
         is_put(&rt, piece, calls);
         for fails_at in 1..=calls {
-            for failure in FAILURES {
+            for &failure in &FAILURES {
                 is_put_to(&rt, piece, fails_at, failure);
             }
         }

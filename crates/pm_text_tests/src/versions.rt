@@ -92,7 +92,11 @@ static LOST_TOLD: [&str; 4] = [
 ];
 
 // A text is replayed to its end, and its report has each of these pieces.
-fn tells(rt: &(impl Abort + AllocGlobal), text: &str, pieces: &[&str]) -> Result<(), Fail> {
+fn is_replayed_with(
+    rt: &(impl Abort + AllocGlobal),
+    text: &str,
+    pieces: &[&str],
+) -> Result<(), Fail> {
     let (end, written) = replayed(rt.alloc(), text);
     equal(rt, &end, &Ok(true), &text);
     let told = std::str::from_utf8(&written)?;
@@ -105,7 +109,7 @@ fn tells(rt: &(impl Abort + AllocGlobal), text: &str, pieces: &[&str]) -> Result
 #[test]
 fn a_report_of_version_2_tells_the_possible_words(rt: HostRuntime) -> Result<(), Fail> {
     let text = text_with(rt.alloc(), 8, "", LOST)?;
-    tells(&rt, &text, &LOST_TOLD)
+    is_replayed_with(&rt, &text, &LOST_TOLD)
 }
 
 #[test]
@@ -180,7 +184,7 @@ fn tells(rt: &impl Abort, written: &[u8], lines: &[&str]) -> Result<(), Fail> {
 
 #[test]
 fn version_2_orders_vout_min(rt: HostRuntime) -> Result<(), Fail> {
-    for (event, first, second, third) in ORDERED {
+    for &(event, first, second, third) in &ORDERED {
         tells(&rt, &report_after(&rt, event)?, &[first, second, third])?;
     }
     Ok(())
@@ -212,7 +216,7 @@ fn is_heard(rt: &(impl Abort + AllocGlobal), text: &str, wanted: &str) {
 #[test]
 fn hear_takes_vout_min_and_shows_what_it_cuts(rt: HostRuntime) -> Result<(), Fail> {
     let outputs = "output 0 VOUT_COMMAND 1000\noutput 1 VOUT_COMMAND 1000\n";
-    for (text, answers) in HEARD {
+    for &(text, answers) in &HEARD {
         let wanted = format!(in rt.alloc(); "{answers}{outputs}")?;
         is_heard(&rt, text, &wanted);
     }
@@ -263,7 +267,7 @@ fn is_refused(rt: &(impl Abort + AllocGlobal), text: &str, fault: TextFault) {
 
 #[test]
 fn a_line_of_version_2_is_faulty_so(rt: HostRuntime) -> Result<(), Fail> {
-    for (place, line, fault) in FAULTY {
+    for &(place, line, fault) in &FAULTY {
         let text = text_with(rt.alloc(), place, line, "")?;
         is_refused(&rt, &text, fault);
     }
@@ -320,7 +324,7 @@ fn has_least(
 
 #[test]
 fn version_1_has_the_least_vout_min(rt: HostRuntime) -> Result<(), Fail> {
-    for (mode, m, wanted) in LEAST {
+    for &(mode, m, wanted) in &LEAST {
         has_least(&rt, mode, m, wanted)?;
     }
     Ok(())

@@ -29,11 +29,6 @@ abbrev pub prepended : List Event → Result (List Event) TextFault → Result (
 prepended done (Ok events) = Ok (done ++ events)
 prepended done (Err fault) = Err fault
 
--- nothing done yet
-pub prepended-nil : (rest : Result (List Event) TextFault) → rest ≡ prepended [] rest
-prepended-nil (Ok events) = refl
-prepended-nil (Err fault) = refl
-
 -- one event more
 pub prepended-joined : (done : List Event) (event : Event) (rest : Result (List Event) TextFault)
     → prepended done (joined_events (Ok event) rest) ≡ prepended (done ++ event ∷ []) rest
@@ -49,10 +44,6 @@ module _ (done : List Event) (line : Numbered) (lines : List Numbered) where
   -- a faulty line's fault is that of all lines
   pub events-fault : (fault : TextFault) → line_event line ≡ Err fault → prepended done (events_in (line ∷ lines)) ≡ Err fault
   events-fault fault is = ap (λ e. prepended done (joined_events e (events_in lines))) is
-
--- all lines were read
-pub events-end : (done : List Event) (lines : List Numbered) → lines ≡ [] → prepended done (events_in lines) ≡ Ok done
-events-end done lines none = ap (λ l. prepended done (events_in l)) none ∙ ap Ok (append-nil done)
 
 -- what a converter holds after one event more
 pub held_after-push : (held : Held) (done : List Event) (event : Event)

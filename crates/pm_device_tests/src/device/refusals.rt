@@ -135,7 +135,7 @@ fn is_refused(
     for output in [0, 1] {
         equal(rt, &status(rt, &converter, output), &(0x0002, 0x00), &row);
     }
-    for cell in CELLS {
+    for &cell in &CELLS {
         let wanted = word(&started, cell);
         equal(rt, &word(&converter, cell), &wanted, &(cell, row));
     }

@@ -143,16 +143,16 @@ fn each_cell_is_stored(rt: HostRuntime) -> Result<(), Fail> {
     hears_rows(&rt, &mut other, &OTHERS);
     hears_rows(&rt, &mut converter, &OTHERS);
     hears_rows(&rt, &mut converter, &["B0 16 2D"]);
-    for cell in CELLS {
+    for &cell in &CELLS {
         has(&rt, &converter, &started, cell);
     }
     hears_rows(&rt, &mut converter, &OTHERS);
     hears_rows(&rt, &mut converter, &["B0 15 24"]);
-    for cell in CELLS {
+    for &cell in &CELLS {
         is_stored(&rt, &converter, cell);
     }
     restart(&mut converter);
-    for cell in CELLS {
+    for &cell in &CELLS {
         has(&rt, &converter, &other, cell);
     }
     Ok(())

@@ -84,11 +84,11 @@ fn each_write_reaches_its_own_register(rt: HostRuntime) -> Result<(), Fail> {
     let started = base()?;
     let mut converter = base()?;
     hears_rows(&rt, &mut converter, &WRITES);
-    for cell in CELLS {
+    for &cell in &CELLS {
         has_its_start(&rt, &converter, &started, cell, false);
     }
     restart(&mut converter);
-    for cell in CELLS {
+    for &cell in &CELLS {
         has_its_start(&rt, &converter, &started, cell, true);
     }
     equal(&rt, &page_of(&converter), &0, &1);

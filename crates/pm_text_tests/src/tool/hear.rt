@@ -107,7 +107,7 @@ static ANSWERS: [(&str, &str, &str); 31] = [
 #[test]
 fn each_line_is_answered_and_the_outputs_follow(rt: HostRuntime) {
     for &(text, answers, words) in &ANSWERS {
-        for piece in PIECES {
+        for &piece in &PIECES {
             is_heard(&rt, text, piece, answers, words);
         }
     }
@@ -128,7 +128,7 @@ static SPELLINGS: [&str; 9] = [
 #[test]
 fn a_frame_line_is_heard_however_it_is_written(rt: HostRuntime) {
     for &text in &SPELLINGS {
-        for piece in PIECES {
+        for &piece in &PIECES {
             is_heard(&rt, text, piece, "", TAKEN);
         }
     }
@@ -178,7 +178,7 @@ static FAULTY_TEXTS: [(&str, TextFault); 27] = [
 #[test]
 fn the_first_faulty_line_is_named(rt: HostRuntime) {
     for &(text, fault) in &FAULTY_TEXTS {
-        for piece in PIECES {
+        for &piece in &PIECES {
             is_refused(&rt, text, piece, fault);
         }
     }

@@ -203,7 +203,7 @@ fn has_ended(rt: &impl Abort, found: &Ran, status: u8, errors: &str) {
 // Each call of an output fails in each way, and its flush.
 fn holds_a_front(rt: &(impl Abort + AllocGlobal), words: &[&str], text: &str) {
     for fails_at in 1..=text.len() {
-        for failure in FAILURES {
+        for &failure in &FAILURES {
             ends_at_write(rt, words, text, fails_at, failure);
         }
     }

@@ -1,6 +1,6 @@
 use Rattle.std.proofs.Common.{◌∙◌, Ok, Err, ap, sym}
 use Rattle.std.proofs.lemmas.Result.{err_from_is_err_and}
-use Rattle.pm_text.proofs.OutcomeLemmas.{same-failed, same-read, same-refused, same-reported}
+use Rattle.pm_text.proofs.OutcomeLemmas.{same-read, same-refused, same-reported}
 use Rattle.pm_text.specs.Replay.{replay_of}
 use Rattle.pm_text.proofs.replays.replay.Goals as goal
 
@@ -13,11 +13,6 @@ pub returns-in_err-text-clause-same : goal.returns-in_err-text-clause-same
 returns-in_err-text-clause-same g c =
     let p = err_from_is_err_and c.from_residual-in_err-text.result c.from_residual-in_err-text.ensures.1 in
     rw (p.1, p.2) (same-refused _ _ _ _ _ c.in_ok-input.ensures.whole c.deref.ensures.value c.in_err-text.ensures.refused)
-
-pub returns-in_err-put-clause-same : goal.returns-in_err-put-clause-same
-returns-in_err-put-clause-same g c =
-    let p = err_from_is_err_and c.from_residual-in_err-put.result c.from_residual-in_err-put.ensures.1 in
-    rw (p.1, p.2) (same-failed _ _ c.in_err-put.ensures.fault)
 
 pub returns-clause-same : goal.returns-clause-same
 returns-clause-same g c =

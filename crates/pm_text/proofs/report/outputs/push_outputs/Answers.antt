@@ -1,4 +1,4 @@
-use Rattle.std.proofs.Common.{◌≡◌, ◌∙◌, ◌+◌, ◌<◌, ◌++◌, ap, arith, append_assoc, rules, string_bytes}
+use Rattle.std.proofs.Common.{◌∙◌, ◌<◌, ◌++◌, ap, arith, append_assoc, rules, string_bytes}
 use Rattle.pm_text.specs.Report.{output_lines}
 use Rattle.pm_text.proofs.CountingLemmas.{numbered-all, numbered-more}
 use Rattle.pm_text.proofs.report.outputs.push_outputs.Goals as goal

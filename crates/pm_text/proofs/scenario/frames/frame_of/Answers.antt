@@ -1,5 +1,5 @@
 use Rattle.std.proofs.Common.{◌≡◌, ◌∙◌, ◌≤◌, ◌-◌, ◌++◌, ◌∷◌, [], drop, length, refl, rules, sym, take}
-use Rattle.pm_text.proofs.FrameLemmas.{pair_more, too_many, whole}
+use Rattle.pm_text.proofs.FrameLemmas.{pair_more, too_many}
 use Rattle.pm_text.proofs.scenario.frames.frame_of.Goals as goal
 
 pub returns-then-is_err : goal.returns-then-is_err
@@ -19,9 +19,3 @@ pairs-preserved c =
           c.in-len2-up.len_at_least refl (sym c.pair_of.ensures ∙ c.in-Some.is) pushed;
       room = room;
     }
-
-pub returns-then-not-is_empty : goal.returns-then-not-is_empty
-returns-then-not-is_empty c =
-    let none : length c.pairs.digits.now ≡ 0 = search rules in
-    let some : 1 ≤ length c.pairs.frame.items = search rules in
-    whole c.args.word.now c.pairs.digits.now c.pairs.frame.items c.pairs.invariant.all none some c.pairs.invariant.room
