@@ -4,7 +4,9 @@ ghost use Rattle.std.specs.Prelude.{◌≡◌, true, length};
 ghost use Rattle.pm_table.specs.Address.{IsAddress};
 ghost use Rattle.pm_frame.specs.Layout.{answer_length, fits_layout, is_read_message};
 
-use pm_frame::{Frame, FrameFault, Message, answer, is_betrayed, read_answer, read_request, read_write};
+use pm_frame::{
+    Frame, FrameFault, Message, answer, is_betrayed, read_answer, read_request, read_write,
+};
 
 /// The message, the page, the code and the payload that a write shows.
 pub(crate) fn write_shown(addr: u8, bytes: &[u8]) -> Result<(Message, Option<u8>, u8), FrameFault>

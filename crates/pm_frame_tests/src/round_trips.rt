@@ -1,8 +1,8 @@
 //! Packets that are put on the wire and read again, and what is left of them where they are cut.
 
 use crate::calls::{
-    answer_carries, answered, betrayed, request_carries, request_shown, whole_answer, write_carries,
-    write_shown,
+    answer_carries, answered, betrayed, request_carries, request_shown, whole_answer,
+    write_carries, write_shown,
 };
 use crate::checks::agrees;
 use crate::frames::{READS, WRITES};

@@ -165,11 +165,20 @@ fn is_done(rt: &impl Abort, acked: bool) {
     let mut host = new_host();
     sends(rt, &host, &[], false);
     goes(rt, &mut host, &[(Order(FIRST, 0x34CD), BEGUN)]);
-    sends(rt, &host, &[0xB0, 0x05, 0x04, 0x00, 0x21, 0xCD, 0x34, 0x5A], false);
+    sends(
+        rt,
+        &host,
+        &[0xB0, 0x05, 0x04, 0x00, 0x21, 0xCD, 0x34, 0x5A],
+        false,
+    );
     goes(rt, &mut host, &[(Finish(acked), NEXT)]);
     stands(rt, &host, FIRST, Standing::Unknown);
     sends(rt, &host, &[0xB0, 0x06, 0x02, 0x00, 0x21], true);
-    goes(rt, &mut host, &[(Got(&[0xB1, 0x02, 0xCD, 0x34, 0xB9]), DONE)]);
+    goes(
+        rt,
+        &mut host,
+        &[(Got(&[0xB1, 0x02, 0xCD, 0x34, 0xB9]), DONE)],
+    );
     stands(rt, &host, FIRST, ORDERED);
     knows(rt, &host, FIRST, &[0x34CD], false);
     knows(rt, &host, SECOND, &[], false);
@@ -211,7 +220,11 @@ fn a_pass_that_reads_the_old_word_is_followed_by_another(rt: HostRuntime) {
     let mut host = new_host();
     goes(&rt, &mut host, &CHECKED_AND_WRITTEN);
     stands(&rt, &host, FIRST, Standing::Unknown);
-    goes(&rt, &mut host, &[(Answered(READ_FIRST, &[0x00, 0x10]), NEXT)]);
+    goes(
+        &rt,
+        &mut host,
+        &[(Answered(READ_FIRST, &[0x00, 0x10]), NEXT)],
+    );
     stands(&rt, &host, FIRST, Standing::Unknown);
     knows(&rt, &host, FIRST, &[0x1000, 0x34CD], false);
     goes(&rt, &mut host, &ANOTHER_PASS);
@@ -231,7 +244,11 @@ fn a_surprising_answer_shows_a_restart_of_the_device(rt: HostRuntime) {
     let mut host = new_host();
     goes(&rt, &mut host, &SECOND_CHECKED);
     goes(&rt, &mut host, &CHECKED_AND_WRITTEN);
-    goes(&rt, &mut host, &[(Answered(READ_FIRST, &[0x77, 0x77]), NEXT)]);
+    goes(
+        &rt,
+        &mut host,
+        &[(Answered(READ_FIRST, &[0x77, 0x77]), NEXT)],
+    );
     knows(&rt, &host, FIRST, &[0x7777, 0x34CD], true);
     knows(&rt, &host, SECOND, &[], true);
     stands(&rt, &host, SECOND, STARTED);

@@ -387,8 +387,12 @@ fn is_bad(
 ) -> Result<(), Fail> {
     let text = format!(in rt.alloc(); "1 {said}\nlines 1 accepted 0 faults 0 bad 1\n")?;
     is_written(rt, line, &text);
-    let alone = rendered(rt.alloc(), line, 1).err();
-    equal(rt, &alone, &Some(fault), &line);
+    equal(
+        rt,
+        &rendered(rt.alloc(), line, 1).err(),
+        &Some(fault),
+        &line,
+    );
     Ok(())
 }
 
