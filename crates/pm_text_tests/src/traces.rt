@@ -1,5 +1,6 @@
 //! Traces: lines that are skipped, counts, a decoder in pieces, and the most bytes of a part and of a text.
 
+mod bad_lines;
 mod packets;
 
 use crate::checks::{equal, is_true};

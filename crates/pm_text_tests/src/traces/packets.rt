@@ -2,7 +2,6 @@
 
 use super::{decoded, rendered};
 use crate::checks::equal;
-use pm_text::TextFault;
 use std::process::Abort;
 use std::test::Fail;
 
@@ -318,24 +317,8 @@ static FAULTY: [(&str, &str); 71] = [
     ),
 ];
 
-/// Lines that are no packet, and what they say.
-static BAD: [(&str, &str, TextFault); 12] = [
-    ("B0 // B1", "X1 Syntax", TextFault::Syntax(1)),
-    ("B0 / B1 / B2", "X1 Syntax", TextFault::Syntax(1)),
-    ("B0 / B1 / B", "X2 BadHex", TextFault::BadHex(1)),
-    ("B0 / / Z", "X2 BadHex", TextFault::BadHex(1)),
-    ("B/0", "X2 BadHex", TextFault::BadHex(1)),
-    ("B0 9", "X2 BadHex", TextFault::BadHex(1)),
-    (" # x", "X2 BadHex", TextFault::BadHex(1)),
-    ("; B0", "X2 BadHex", TextFault::BadHex(1)),
-    ("b010 80 34\r\r", "X2 BadHex", TextFault::BadHex(1)),
-    ("B0 1\r0 80 34", "X2 BadHex", TextFault::BadHex(1)),
-    ("b0\t10 80 34", "X2 BadHex", TextFault::BadHex(1)),
-    ("B0108034 Z", "X2 BadHex", TextFault::BadHex(1)),
-];
-
 // `decode` writes this of a line.
-fn is_written(rt: &(impl Abort + AllocGlobal), line: &str, text: &str) {
+pub(super) fn is_written(rt: &(impl Abort + AllocGlobal), line: &str, text: &str) {
     let (_, written) = decoded(rt.alloc(), line);
     equal(rt, &written.as_slice(), &text.as_bytes(), &line);
 }
@@ -374,32 +357,6 @@ fn each_line_says_its_packet(rt: HostRuntime) -> Result<(), Fail> {
 fn each_line_says_its_fault(rt: HostRuntime) -> Result<(), Fail> {
     for &(line, said) in &FAULTY {
         expect_said(&rt, line, said, "lines 1 accepted 0 faults 1 bad 0")?;
-    }
-    Ok(())
-}
-
-// A line that is no packet says this, and by itself it is refused so.
-fn is_bad(
-    rt: &(impl Abort + AllocGlobal),
-    line: &str,
-    said: &str,
-    fault: TextFault,
-) -> Result<(), Fail> {
-    let text = format!(in rt.alloc(); "1 {said}\nlines 1 accepted 0 faults 0 bad 1\n")?;
-    is_written(rt, line, &text);
-    equal(
-        rt,
-        &rendered(rt.alloc(), line, 1).err(),
-        &Some(fault),
-        &line,
-    );
-    Ok(())
-}
-
-#[test]
-fn each_bad_line_says_why(rt: HostRuntime) -> Result<(), Fail> {
-    for &(line, said, fault) in &BAD {
-        is_bad(&rt, line, said, fault)?;
     }
     Ok(())
 }
