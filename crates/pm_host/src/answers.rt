@@ -1,6 +1,6 @@
 //! What came back for a host's own request.
 
-ghost use Rattle.std.specs.Prelude.{◌≡◌, true, length, option_map};
+ghost use Rattle.std.specs.Prelude.{◌≡◌, true, option_map};
 ghost use Rattle.pm_table.specs.Address.{IsAddress};
 ghost use Rattle.pm_table.specs.Coefficients.{coefficients_of};
 ghost use Rattle.pm_frame.specs.Layout.{answer_length, fits_layout, is_read_message};
@@ -47,17 +47,11 @@ pub(crate) fn good_coefficients(addr: u8, got: &[u8]) -> Option<Coefficients>
     ensures { result ≡ option_map coefficients_of (good_payload addr messages.coefficients_read got.now) }
 {
     match read_answer(addr, &coefficients_read(), got) {
-        Ok(payload) => Some(coefficients_in(payload)),
+        Ok(payload) => Some(Coefficients::read([
+            payload[0], payload[1], payload[2], payload[3], payload[4],
+        ])),
         Err(_) => None,
     }
-}
-
-// The coefficients that five bytes are.
-fn coefficients_in(payload: &[u8]) -> Coefficients
-    requires { length payload.now ≡ 5 }
-    ensures { result ≡ coefficients_of payload.now }
-{
-    Coefficients::read([payload[0], payload[1], payload[2], payload[3], payload[4]])
 }
 
 // The word of a payload of one byte or two, low byte first.

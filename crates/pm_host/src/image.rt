@@ -1,8 +1,8 @@
-ghost use Rattle.std.specs.Prelude.{◌≡◌, true, false, length, OnOk, OnErr, Some, None};
+ghost use Rattle.std.specs.Prelude.{◌≡◌, true, false, OnOk, OnErr, Some, None};
 ghost use Rattle.std.specs.Result.{result_err};
 ghost use Rattle.pm_table.specs.Address.{IsAddress};
 ghost use Rattle.pm_table.specs.Cell.{IsCell};
-ghost use Rattle.pm_host.specs.Image.{held, formats_held, host_of, is_current, is_host, is_setup, is_sound, is_stage, may_order};
+ghost use Rattle.pm_host.specs.Image.{held, host_of, is_current, is_host, is_sound, is_stage};
 ghost use Rattle.pm_host.specs.Cells.{is_cell};
 ghost use Rattle.pm_host.specs.Refusals.{setup_fault, IsSetup};
 ghost use Rattle.pm_host.specs.Sound.{IsSound, IsStage};
@@ -10,10 +10,9 @@ ghost use Rattle.pm_host.specs.Summary.{start};
 ghost use Rattle.pm_host.specs.Transcript.{Setup};
 
 use crate::fault::HostFault;
-use crate::format_image::FormatImage;
 use crate::stage::Stage;
 use crate::standing::Standing;
-use crate::state::{OUTPUTS, State};
+use crate::state::State;
 use pm_table::{Cell, address_ok};
 
 /// A host in memory that a caller keeps who isn't Rattle: a state after the mark and the number of its
@@ -88,23 +87,15 @@ impl Image {
 
 impl State {
     /// Whether it is a state that a host holds.
-    #[tactic(auto, unfolding(crate::specs::Image::is_sound))]
+    #[tactic(auto, unfolding(crate::specs::Image::is_sound, crate::specs::Image::formats_held))]
     pub fn is_sound(&self) -> bool
         ensures sound { result ≡ is_sound (held self.now) }
         ensures fact { result ≡ true → IsSound (held self.now) }
     {
-        whole_formats(&self.formats);
-        self.setup_is_sound() && self.stage_is_sound()
-    }
-
-    // Whether a host may be made with it.
-    fn setup_is_sound(&self) -> bool
-        ensures test { result ≡ is_setup (held self.now).setup }
-        ensures fact { result ≡ true → IsSetup (held self.now).setup }
-    {
         address_ok(self.address)
             && (1..=8).contains(&self.outputs)
             && (1..=15).contains(&self.passes)
+            && self.stage_is_sound()
     }
 
     // Whether an open job may stand at its stage.
@@ -117,7 +108,11 @@ impl State {
         match self.stage.stage() {
             None => true,
             Some(Stage::Writes { cell, word, pass } | Stage::Reads { cell, word, pass }) => {
-                self.is_ordering(cell, word) && pass < passes
+                self.has_cell(cell)
+                    && cell.accepts(word)
+                    && self.known.possible(cell).allows(word)
+                    && self.known.standing(cell).standing() == Standing::Unknown
+                    && pass < passes
             }
             Some(Stage::Checks { cell, tries }) => self.has_cell(cell) && tries < passes,
             Some(Stage::AsksMode { output, tries } | Stage::AsksCoefficients { output, tries }) => {
@@ -127,17 +122,6 @@ impl State {
                 command.is_there(self.outputs) && tries < passes
             }
         }
-    }
-
-    // Whether an order of this cell and word may be open.
-    fn is_ordering(&self, cell: Cell, word: u16) -> bool
-        requires { IsSetup (held self.now).setup }
-        ensures { result ≡ may_order (held self.now) cell word }
-    {
-        self.has_cell(cell)
-            && cell.accepts(word)
-            && self.known.possible(cell).allows(word)
-            && self.known.standing(cell).standing() == Standing::Unknown
     }
 
     /// Whether the cell is there.
@@ -151,9 +135,3 @@ impl State {
         }
     }
 }
-
-// Hands the prover that there are eight formats.
-#[tactic(auto, unfolding(crate::specs::Image::formats_held))]
-fn whole_formats(formats: &[FormatImage; OUTPUTS])
-    ensures { length (formats_held formats.now) ≡ 8 }
-{}

@@ -24,15 +24,6 @@ pub struct Knowledge {
 }
 
 impl Knowledge {
-    /// Nothing is known, for a state that isn't a host's yet.
-    pub(crate) fn blank() -> Knowledge {
-        Knowledge {
-            possible: [WordsImage::ANY; Cell::PLACES],
-            standing: [StandingImage::UNKNOWN; Cell::PLACES],
-            seen: 0,
-        }
-    }
-
     /// Forgets all.
     #[tactic(auto, unfolding(crate::specs::Image::known_held, crate::specs::Known::nothing_known))]
     pub(crate) fn clear(&mut self)

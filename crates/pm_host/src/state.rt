@@ -74,11 +74,16 @@ impl State {
             unused: 0,
             stage: StageImage::idle(),
             formats: [FormatImage::NONE; OUTPUTS],
-            known: Knowledge::blank(),
+            known: Knowledge {
+                possible: [WordsImage::ANY; Cell::PLACES],
+                standing: [StandingImage::UNKNOWN; Cell::PLACES],
+                seen: 0,
+            },
         }
     }
 
     /// Makes it the state of a host as `Host::new` does, whatever it was.
+    #[tactic(auto, unfolding(crate::specs::Summary::next))]
     pub fn start(&mut self, addr: u8, outputs: u8, passes: u8) -> Result<(), HostFault>
         requires { IsAddress addr }
         ensures made { let setup : Setup = record { addr = addr; outputs = outputs; passes = passes } in
@@ -97,19 +102,8 @@ impl State {
         self.outputs = outputs;
         self.passes = passes;
         self.unused = 0;
-        self.forget();
+        self.restart();
         Ok(())
-    }
-
-    // No job is open, and nothing is known.
-    fn forget(&mut self)
-        requires { IsSetup (held self.old).setup }
-        ensures after { held self.new ≡ start (held self.old).setup }
-        ensures sound { IsSound (held self.new) }
-    {
-        self.stage = StageImage::idle();
-        forget_formats(&mut self.formats);
-        self.known.clear();
     }
 
     /// Begins an order, as `Host::order`.
@@ -272,16 +266,19 @@ impl State {
         }
     }
 
-    /// Drops the open job and all that is known, as `Host::restart`.
+    /// Drops the open job and all that is known, as `Host::restart`. Of what it held the setup alone has
+    /// to be sound.
     #[tactic(auto, unfolding(crate::specs::Summary::next))]
     pub fn restart(&mut self)
-        requires sound { IsSound (held self.old) }
+        requires { IsSetup (held self.old).setup }
         ensures sound { IsSound (held self.new) }
         ensures after { held self.new ≡ next (held self.old) Restarted }
         ensures kept { (held self.new).setup ≡ (held self.old).setup }
         ensures left { frames_left (held self.new) ≡ 0 }
     {
-        self.forget();
+        self.stage = StageImage::idle();
+        forget_formats(&mut self.formats);
+        self.known.clear();
     }
 
     /// What is known of a cell's word, as `Host::standing` says.

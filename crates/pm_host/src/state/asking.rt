@@ -37,9 +37,6 @@ impl State {
         ensures there { OnOk result (IsCell (held self.now).setup.outputs cell) }
         ensures some { 1 ≤ (held self.now).setup.passes }
     {
-        self.is_free(match cell {
-            Cell::Out(output, _) => output < self.outputs,
-            Cell::Protect => true,
-        })
+        self.is_free(self.has_cell(cell))
     }
 }
