@@ -5,8 +5,6 @@ import subprocess
 import sys
 import tempfile
 
-TESTS = ("pm_frame_tests", "pm_device_tests", "pm_tests", "pm_text_tests")
-
 
 def run(folder, *words):
     """The lines that a command prints."""
@@ -62,7 +60,7 @@ class CrateCopy:
     def __init__(self, crate, jobs):
         uses = crates_below()
         self.crate, self.jobs = crate, jobs
-        self.tests = [crate] + [name for name in TESTS if name in uses and crate in all_below(uses, name)]
+        self.tests = [crate] + [name for name in uses if name.endswith("_tests") and crate in all_below(uses, name)]
         self.top = tempfile.mkdtemp(prefix="copy-")
         self.home = os.path.join(self.top, "crates", crate)
         checked = {crate} | all_below(uses, crate)

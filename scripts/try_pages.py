@@ -177,10 +177,10 @@ def toolchain_faults(shell, found):
 def listing_fault(found):
     """The README's loop is the test's, whose clauses it leaves out."""
     listing = re.search(r"^```rust\n(.*?)^```", found, re.M | re.S)[1]
-    with open(os.path.join(program.ROOT, "crates/pm_tests/src/driver.rt"), encoding="utf-8") as file:
+    with open(os.path.join(program.ROOT, "crates/pm_host_tests/src/driver.rt"), encoding="utf-8") as file:
         body = re.search(r"^fn carry_out.*?^}\n", file.read(), re.M | re.S)[0]
     plain = [" ".join(re.sub(r"^ *ensures .*$", "", it, flags=re.M).split()) for it in (listing, body)]
-    return [] if plain[0] == plain[1] else ["its listing isn't that of crates/pm_tests/src/driver.rt"]
+    return [] if plain[0] == plain[1] else ["its listing isn't that of crates/pm_host_tests/src/driver.rt"]
 
 
 def manual_faults():

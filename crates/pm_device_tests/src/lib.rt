@@ -1,5 +1,5 @@
-//! Tests over the public calls of the settings and of the converter, a module for each thing that is
-//! tested, and the configuration and the cells that these tests and those of both ends begin from.
+//! Tests over the public calls of the converter, a module for each thing that is tested, and the configuration
+//! and the cells that these tests and those of both ends begin from.
 #![tactic(auto)]
 
 #[cfg(test)]
@@ -11,7 +11,5 @@ mod device;
 mod fixtures;
 #[cfg(test)]
 mod frames;
-#[cfg(test)]
-mod model;
 
 pub use fixtures::{BASE, CELLS, FIRST, OUTPUT, SECOND, START};

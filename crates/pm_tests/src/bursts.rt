@@ -1,10 +1,11 @@
 //! Each change within eight neighbouring bits of an order's frame.
 
 use crate::checks::{equal, is_true};
-use crate::fixtures::{
-    CELLS, FIRST, ORDER, WHOLE, after, base, begun, device, replied, step, takes, word,
-};
-use pm_device::{Converter, Ending, Heard};
+use crate::events::{ORDER, WHOLE};
+use crate::fixtures::{after, takes};
+use crate::look::Look;
+use pm_device::{Ending, Heard};
+use pm_device_tests::{CELLS, FIRST};
 use pm_frame::Frame;
 use pm_world::{Arrival, Event, SetupFault, World};
 use std::process::Abort;
@@ -13,10 +14,10 @@ use std::process::Abort;
 const ORDER_BYTES: u64 = 0xB005_0400_21CD_345A;
 
 // Whether each cell of both outputs and of the device has its start word.
-fn is_at_start(converter: &Converter, started: &Converter) -> bool {
+fn is_at_start(world: &World, started: &World) -> bool {
     let mut same = true;
     for &cell in &CELLS {
-        same = same && word(converter, cell) == word(started, cell);
+        same = same && world.word(cell) == started.word(cell);
     }
     same
 }
@@ -33,12 +34,12 @@ fn delivery(rt: &impl Abort, bytes: &[u8]) -> Event {
 // A world in which the order's frame is being sent hears these bytes in its place: its converter has no
 // answer for them, and no word changes.
 fn is_without_effect(rt: &impl Abort, world: &mut World, started: &World, bytes: &[u8]) {
-    let heard = replied(world, bytes, Ending::Stop);
+    let heard = world.replies(bytes, Ending::Stop);
     let unheard = matches!(heard, Heard::Refused(_) | Heard::Silent);
     is_true(rt, unheard, &bytes);
-    let delivered = step(world, &delivery(rt, bytes));
+    let delivered = world.meets(&delivery(rt, bytes));
     is_true(rt, delivered.is_ok(), &bytes);
-    let same = is_at_start(device(world), device(started));
+    let same = is_at_start(world, started);
     is_true(rt, same, &bytes);
 }
 
@@ -55,14 +56,14 @@ fn each_change(rt: &impl Abort, world: &mut World, started: &World, place: u32) 
 
 #[test]
 fn short_bursts_change_no_word(rt: HostRuntime) -> Result<(), SetupFault> {
-    let started = begun(base(), 2)?;
-    let mut world = after(&rt, base(), 2, &[ORDER])?;
+    let started = World::begin(World::base(), 2)?;
+    let mut world = after(&rt, World::base(), 2, &[ORDER])?;
     let mut tried = 0u32;
     for place in 0..57u32 {
         tried = tried.saturating_add(each_change(&rt, &mut world, &started, place));
     }
     equal(&rt, &tried, &14_535, &1);
     takes(&rt, &mut world, &[WHOLE]);
-    equal(&rt, &word(device(&world), FIRST), &0x34CD, &2);
+    equal(&rt, &world.word(FIRST), &0x34CD, &2);
     Ok(())
 }

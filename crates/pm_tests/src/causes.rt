@@ -1,11 +1,11 @@
 //! Why an event isn't taken, and which bytes are a legal hearing or a legal return.
 
 use crate::checks::{equal, is_true};
-use crate::fixtures::{
-    CELLS, CHECK, FIRST, ORDER, OUTPUT, after, arrival, back, base, begun, device, last_end, ran,
-    sends, standing, status_cml, step, word,
-};
+use crate::events::{CHECK, ORDER};
+use crate::fixtures::{after, arrival, back, sends};
+use crate::look::Look;
 use pm_device::{Config, ConfigFault, OutputStart};
+use pm_device_tests::{CELLS, FIRST, OUTPUT};
 use pm_host::{HostFault, JobEnd, Standing};
 use pm_num::NumFault;
 use pm_table::{Cell, Coefficients, Reg, TableFault};
@@ -71,7 +71,7 @@ static READING: [(Bus, Cause); 7] = [
 ];
 
 fn is_not_taken(rt: &impl Abort, world: &mut World, event: &Event, cause: Cause) {
-    equal(rt, &step(world, event), &Err(cause), &event);
+    equal(rt, &world.meets(event), &Err(cause), &event);
 }
 
 // No event of the bus is taken, nor a further job where one is open; nothing changes.
@@ -81,7 +81,7 @@ fn stops(
     sent: &str,
     rows: &[(Bus, Cause)],
 ) -> Result<(), SetupFault> {
-    let mut world = after(rt, base(), 2, job)?;
+    let mut world = after(rt, World::base(), 2, job)?;
     for (bus, cause) in rows {
         is_not_taken(rt, &mut world, &event(rt, *bus), *cause);
     }
@@ -89,8 +89,8 @@ fn stops(
         is_not_taken(rt, &mut world, &CHECK, S4_BUSY);
     }
     is_true(rt, sends(rt, &world, sent), &1);
-    equal(rt, &last_end(&world), &None, &2);
-    equal(rt, &status_cml(&world), &0x00, &3);
+    equal(rt, &world.ended(), &None, &2);
+    equal(rt, &world.status_cml(), &0x00, &3);
     Ok(())
 }
 
@@ -127,11 +127,11 @@ static HEARINGS: [(&str, Result<(u16, u8), Cause>); 20] = [
 
 // VOUT_COMMAND of the first output is this word, and each other cell has its start word.
 fn holds(rt: &impl Abort, world: &World, held: u16) -> Result<(), SetupFault> {
-    let started = begun(base(), 2)?;
+    let started = World::begin(World::base(), 2)?;
     for &cell in &CELLS {
-        let start = word(started.device(), cell);
+        let start = started.word(cell);
         let wanted = if cell == FIRST { held } else { start };
-        equal(rt, &word(device(world), cell), &wanted, &cell);
+        equal(rt, &world.word(cell), &wanted, &cell);
     }
     Ok(())
 }
@@ -142,15 +142,15 @@ fn arrives(
     heard: &str,
     wanted: Result<(u16, u8), Cause>,
 ) -> Result<(), SetupFault> {
-    let mut world = after(rt, base(), 2, &[ORDER])?;
-    let taken = step(&mut world, &Event::Deliver(arrival(rt, heard)));
+    let mut world = after(rt, World::base(), 2, &[ORDER])?;
+    let taken = world.meets(&Event::Deliver(arrival(rt, heard)));
     let (cause, held, cml) = match wanted {
         Ok((held, cml)) => (None, held, cml),
         Err(cause) => (Some(cause), 0x1000, 0x00),
     };
     equal(rt, &taken.err(), &cause, &heard);
-    equal(rt, &status_cml(&world), &cml, &heard);
-    equal(rt, &standing(&world, FIRST), &Some(Standing::Unknown), &1);
+    equal(rt, &world.status_cml(), &cml, &heard);
+    equal(rt, &world.says(FIRST), &Some(Standing::Unknown), &1);
     holds(rt, &world, held)
 }
 
@@ -212,21 +212,21 @@ static RETURNS: [Return; 28] = [
 ];
 
 fn comes_back(rt: &impl Abort, heard: &str, came: &str, wanted: Outcome) -> Result<(), SetupFault> {
-    let mut world = after(rt, base(), 2, &[CHECK])?;
+    let mut world = after(rt, World::base(), 2, &[CHECK])?;
     let exchange = Event::Exchange(arrival(rt, heard), back(rt, came));
-    let taken = step(&mut world, &exchange);
+    let taken = world.meets(&exchange);
     let (cause, end, cml) = match wanted {
         Ok((end, cml)) => (None, end, cml),
         Err(cause) => (Some(cause), None, 0x00),
     };
     equal(rt, &taken.err(), &cause, &(heard, came));
-    equal(rt, &last_end(&world), &end, &(heard, came));
-    equal(rt, &status_cml(&world), &cml, &(heard, came));
+    equal(rt, &world.ended(), &end, &(heard, came));
+    equal(rt, &world.status_cml(), &cml, &(heard, came));
     let stands = match end {
         Some(_) => Standing::Confirmed(0x1000),
         None => Standing::Unknown,
     };
-    equal(rt, &standing(&world, FIRST), &Some(stands), &(heard, came));
+    equal(rt, &world.says(FIRST), &Some(stands), &(heard, came));
     Ok(())
 }
 
@@ -278,11 +278,11 @@ fn configured(row: Setup) -> Config {
 
 // The fault of a world, and that of a run, which looks at no event.
 fn fault_of_world(config: Config, passes: u8) -> Option<SetupFault> {
-    begun(config, passes).err()
+    World::begin(config, passes).err()
 }
 
 fn fault_of_run(config: Config, passes: u8) -> Option<SetupFault> {
-    ran(config, passes, &[CHECK, CHECK]).err()
+    World::live(config, passes, &[CHECK, CHECK]).err()
 }
 
 fn has_fault(rt: &impl Abort, row: Setup, passes: u8, wanted: Option<SetupFault>) {

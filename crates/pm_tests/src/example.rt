@@ -1,7 +1,7 @@
 //! The example of the root of `pm_world`, word for word.
 
-use crate::fixtures::BASE;
 use pm_device::Config;
+use pm_device_tests::BASE;
 use pm_host::JobEnd;
 use pm_table::{Cell, Reg};
 use pm_world::{Arrival, Back, Event, SetupFault, World};

@@ -1,5 +1,6 @@
-//! Tests over the public calls of the host and of the world, a module for each thing that is tested,
-//! and in `further` what is proved of a world that goes on after a run.
+//! Tests over the public calls of the world, a module for each thing that is tested; in `further` what is
+//! proved of a world that goes on after a run; and what tests ask of a world (`Look`), with the events that
+//! they tell most.
 #![tactic(auto)]
 
 #[cfg(test)]
@@ -8,10 +9,7 @@ mod bursts;
 mod causes;
 #[cfg(test)]
 mod checks;
-#[cfg(test)]
-mod confirmed;
-#[cfg(test)]
-mod driver;
+mod events;
 #[cfg(test)]
 mod example;
 #[cfg(test)]
@@ -19,21 +17,13 @@ mod faults;
 #[cfg(test)]
 mod fixtures;
 pub mod further;
-#[cfg(test)]
-mod host;
-#[cfg(test)]
-mod orders;
+mod look;
 #[cfg(test)]
 mod refusals;
 #[cfg(test)]
-mod restarts;
-#[cfg(test)]
 mod runs;
 #[cfg(test)]
-mod stores;
-#[cfg(test)]
 mod turns;
-#[cfg(test)]
-mod uncertain;
-#[cfg(test)]
-mod watch;
+
+pub use events::{ACKED, CHECK, LOST, NOT_ACKED, ORDER, READ, READ_LOST, WHOLE};
+pub use look::Look;

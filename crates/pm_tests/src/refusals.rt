@@ -1,9 +1,10 @@
 //! Which of the host's refusals comes first, where a call can have two.
 
 use crate::checks::equal;
-use crate::fixtures::{
-    ACKED, CHECK, FIRST, NOT_ACKED, READ, READ_LOST, SECOND, after, base, begun, step, takes,
-};
+use crate::events::{ACKED, CHECK, NOT_ACKED, READ, READ_LOST};
+use crate::fixtures::{after, takes};
+use crate::look::Look;
+use pm_device_tests::{FIRST, SECOND};
 use pm_host::HostFault;
 use pm_num::NumFault;
 use pm_table::{Cell, Reg};
@@ -135,7 +136,7 @@ const FULL_OPERATION: [Row; 4] = [
 fn refuses(rt: &impl Abort, world: &mut World, rows: &[Row]) {
     for (event, fault) in rows {
         let refused = Err(Cause::Host(*fault));
-        equal(rt, &step(world, event), &refused, &event);
+        equal(rt, &world.meets(event), &refused, &event);
     }
 }
 
@@ -160,26 +161,26 @@ const SOFT_OFF: [u16; 15] = [
 
 #[test]
 fn each_refusal_comes_before_those_after_it(rt: HostRuntime) -> Result<(), SetupFault> {
-    let mut idle = begun(base(), 2)?;
+    let mut idle = World::begin(World::base(), 2)?;
     refuses(&rt, &mut idle, &IDLE);
     takes(&rt, &mut idle, &[CHECK]);
     refuses(&rt, &mut idle, &BUSY);
-    let mut learned = after(&rt, base(), 2, &[Event::Learn(0), READ])?;
+    let mut learned = after(&rt, World::base(), 2, &[Event::Learn(0), READ])?;
     refuses(&rt, &mut learned, &LEARNED);
     Ok(())
 }
 
 #[test]
 fn a_full_list_is_refused_before_what_comes_after_it(rt: HostRuntime) -> Result<(), SetupFault> {
-    let mut full = after(&rt, base(), 1, &[Event::Learn(0), READ])?;
+    let mut full = after(&rt, World::base(), 1, &[Event::Learn(0), READ])?;
     fill(&rt, &mut full, FIRST, WORDS);
     refuses(&rt, &mut full, &FULL);
     takes(&rt, &mut full, &[CHECK]);
     refuses(&rt, &mut full, &FULL_AND_BUSY);
-    let mut unlearned = begun(base(), 1)?;
+    let mut unlearned = World::begin(World::base(), 1)?;
     fill(&rt, &mut unlearned, FIRST, WORDS);
     refuses(&rt, &mut unlearned, &FULL_UNLEARNED);
-    let mut operation = begun(base(), 1)?;
+    let mut operation = World::begin(World::base(), 1)?;
     fill(&rt, &mut operation, OPERATION, SOFT_OFF);
     refuses(&rt, &mut operation, &FULL_OPERATION);
     Ok(())
@@ -188,7 +189,7 @@ fn a_full_list_is_refused_before_what_comes_after_it(rt: HostRuntime) -> Result<
 // Any of the 16 words is accepted again, also in microvolts, and any word of another cell.
 #[test]
 fn a_word_that_is_possible_is_accepted(rt: HostRuntime) -> Result<(), SetupFault> {
-    let mut world = after(&rt, base(), 1, &[Event::Learn(0), READ])?;
+    let mut world = after(&rt, World::base(), 1, &[Event::Learn(0), READ])?;
     fill(&rt, &mut world, FIRST, WORDS);
     for word in [0x1000].into_iter().chain(WORDS) {
         let order = Event::Order(FIRST, word);

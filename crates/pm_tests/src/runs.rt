@@ -2,12 +2,11 @@
 //! damage that the PEC doesn't betray.
 
 use crate::checks::{equal, is_true};
-use crate::fixtures::{
-    ACKED, CHECK, FIRST, LOST, NOT_ACKED, ORDER, READ, READ_LOST, SECOND, WHOLE, after, arrival,
-    base, begun, device, frame, last_end, ran, replied, restart_seen, standing, status_cml, takes,
-    with_protect, word,
-};
+use crate::events::{ACKED, CHECK, LOST, NOT_ACKED, ORDER, READ, READ_LOST, WHOLE};
+use crate::fixtures::{after, arrival, frame, takes};
+use crate::look::Look;
 use pm_device::{Config, Ending, Heard};
+use pm_device_tests::{FIRST, SECOND};
 use pm_host::{JobEnd, Standing};
 use pm_table::Code;
 use pm_world::{Arrival, Cause, Event, SetupFault, Stop, World};
@@ -24,11 +23,11 @@ fn ends(
     seen: bool,
 ) -> Result<World, SetupFault> {
     let world = after(rt, config, 2, events)?;
-    equal(rt, &last_end(&world), &Some(end), &1);
+    equal(rt, &world.ended(), &Some(end), &1);
     let (stands, held) = told;
-    equal(rt, &standing(&world, FIRST), &Some(stands), &2);
-    equal(rt, &word(device(&world), FIRST), &held, &3);
-    equal(rt, &restart_seen(&world), &seen, &4);
+    equal(rt, &world.says(FIRST), &Some(stands), &2);
+    equal(rt, &world.word(FIRST), &held, &3);
+    equal(rt, &world.sees_restart(), &seen, &4);
     Ok(world)
 }
 
@@ -71,24 +70,38 @@ fn runs_end_as_their_events_say(rt: HostRuntime) -> Result<(), SetupFault> {
     let unknown = (Standing::Unknown, 0x34CD);
     ends(
         &rt,
-        base(),
+        World::base(),
         &answers_lost(),
         JobEnd::Unknown,
         unknown,
         false,
     )?;
-    ends(&rt, base(), &falsely_acked(), JobEnd::Done, DONE, false)?;
-    ends(&rt, base(), &restarted(), JobEnd::Done, START, true)?;
+    ends(
+        &rt,
+        World::base(),
+        &falsely_acked(),
+        JobEnd::Done,
+        DONE,
+        false,
+    )?;
+    ends(&rt, World::base(), &restarted(), JobEnd::Done, START, true)?;
     let differs = JobEnd::Differs(0x1000);
-    let world = ends(&rt, with_protect(0x40), &blocked(), differs, START, false)?;
-    equal(&rt, &status_cml(&world), &0x80, &1);
+    let world = ends(
+        &rt,
+        World::with_protect(0x40),
+        &blocked(),
+        differs,
+        START,
+        false,
+    )?;
+    equal(&rt, &world.status_cml(), &0x80, &1);
     Ok(())
 }
 
 fn is_heard_whole(rt: &impl Abort, heard: &str) -> Result<(), SetupFault> {
     let delivered = Event::Deliver(arrival(rt, heard));
     let honest = [ORDER, delivered, ACKED, READ];
-    ends(rt, base(), &honest, JobEnd::Done, DONE, false)?;
+    ends(rt, World::base(), &honest, JobEnd::Done, DONE, false)?;
     Ok(())
 }
 
@@ -104,19 +117,19 @@ fn an_order_goes_through_by_its_bytes(rt: HostRuntime) -> Result<(), SetupFault>
 fn damage_that_the_pec_does_not_betray_stops_a_run(rt: HostRuntime) -> Result<(), SetupFault> {
     let other = Arrival::Bytes(frame(&rt, "B0 05 04 01 21 CD 34 4C"), Ending::Stop);
     let events = [ORDER, Event::Deliver(other), ACKED];
-    let (world, stop) = ran(base(), 2, &events)?;
+    let (world, stop) = World::live(World::base(), 2, &events)?;
     let cause = Cause::NotBetrayed;
     equal(&rt, &stop, &Some(Stop { at: 1, cause }), &1);
-    equal(&rt, &standing(&world, FIRST), &Some(Standing::Unknown), &2);
-    equal(&rt, &word(device(&world), FIRST), &0x1000, &3);
-    equal(&rt, &word(device(&world), SECOND), &0x1000, &4);
-    equal(&rt, &last_end(&world), &None, &5);
+    equal(&rt, &world.says(FIRST), &Some(Standing::Unknown), &2);
+    equal(&rt, &world.word(FIRST), &0x1000, &3);
+    equal(&rt, &world.word(SECOND), &0x1000, &4);
+    equal(&rt, &world.ended(), &None, &5);
     Ok(())
 }
 
 // The converter answers a request so.
 fn is_answered(rt: &impl Abort, world: &World, request: &str, answer: &str) {
-    let reply = replied(world, frame(rt, request).as_slice(), Ending::Restart);
+    let reply = world.replies(frame(rt, request).as_slice(), Ending::Restart);
     let wanted = frame(rt, answer);
     let same = matches!(&reply, Heard::Answer(got) if got.as_slice() == wanted.as_slice());
     is_true(rt, same, &(reply, request));
@@ -126,7 +139,7 @@ fn is_answered(rt: &impl Abort, world: &World, request: &str, answer: &str) {
 // code that is no reading, are taken too, and change nothing.
 #[test]
 fn a_reading_is_answered_by_the_converter(rt: HostRuntime) -> Result<(), SetupFault> {
-    let mut world = begun(base(), 2)?;
+    let mut world = World::begin(World::base(), 2)?;
     for (output, code, reading) in [
         (0, 0x88, 0x1A2B),
         (0, 0x8B, 0x2B3C),

@@ -3,11 +3,11 @@
 mod eight;
 
 use crate::checks::{equal, is_true};
-use crate::fixtures::{
-    ACKED, CHECK, FIRST, LOST, NOT_ACKED, ORDER, OUTPUT, READ, READ_LOST, SECOND, WHOLE, after,
-    base, begun, last_end, sends, standing, step, takes,
-};
+use crate::events::{ACKED, CHECK, LOST, NOT_ACKED, ORDER, READ, READ_LOST, WHOLE};
+use crate::fixtures::{after, sends, takes};
+use crate::look::Look;
 use pm_device::{Config, OutputStart};
+use pm_device_tests::{FIRST, OUTPUT, SECOND};
 use pm_host::{JobEnd, Standing, Turn};
 use pm_table::{Cell, Coefficients, Reg};
 use pm_world::{Event, SetupFault, World};
@@ -114,7 +114,7 @@ static ORDERS: [(Cell, u16, &str, &str); 13] = [
 
 // An event is taken, and what the host sends then.
 fn goes(rt: &impl Abort, world: &mut World, event: &Event, text: &str) {
-    equal(rt, &step(world, event), &Ok(()), &event);
+    equal(rt, &world.meets(event), &Ok(()), &event);
     is_true(rt, sends(rt, world, text), &(event, text));
 }
 
@@ -130,23 +130,23 @@ fn is_ordered_in_vain(
         goes(rt, world, &NOT_ACKED, request);
         goes(rt, world, &READ_LOST, next);
     }
-    equal(rt, &last_end(world), &Some(JobEnd::Unknown), &1);
+    equal(rt, &world.ended(), &Some(JobEnd::Unknown), &1);
 }
 
 fn is_checked_in_vain(rt: &impl Abort, world: &mut World, check: &Event, request: &str) {
     goes(rt, world, check, request);
-    equal(rt, &last_end(world), &None, &1);
+    equal(rt, &world.ended(), &None, &1);
     for next in [request, request, ""] {
         goes(rt, world, &READ_LOST, next);
     }
-    equal(rt, &last_end(world), &Some(JobEnd::Unknown), &2);
+    equal(rt, &world.ended(), &Some(JobEnd::Unknown), &2);
 }
 
 // Each pass of an order writes once and reads once, each try of a check reads once, all in vain; the host
 // has started again before.
 #[test]
 fn orders_and_checks_send_the_same_frames_in_each_pass(rt: HostRuntime) -> Result<(), SetupFault> {
-    let mut world = begun(mixed(), PASSES)?;
+    let mut world = World::begin(mixed(), PASSES)?;
     goes(&rt, &mut world, &Event::RestartHost, "");
     for (cell, word, write, request) in &ORDERS {
         is_ordered_in_vain(&rt, &mut world, &Event::Order(*cell, *word), write, request);
@@ -163,18 +163,13 @@ fn is_confirmed(
     write: &str,
     request: &str,
 ) -> Result<(), SetupFault> {
-    let mut world = begun(mixed(), PASSES)?;
+    let mut world = World::begin(mixed(), PASSES)?;
     goes(rt, &mut world, &Event::Order(cell, word), write);
     goes(rt, &mut world, &WHOLE, write);
     goes(rt, &mut world, &ACKED, request);
     goes(rt, &mut world, &READ, "");
-    equal(rt, &last_end(&world), &Some(JobEnd::Done), &1);
-    equal(
-        rt,
-        &standing(&world, cell),
-        &Some(Standing::Confirmed(word)),
-        &2,
-    );
+    equal(rt, &world.ended(), &Some(JobEnd::Done), &1);
+    equal(rt, &world.says(cell), &Some(Standing::Confirmed(word)), &2);
     Ok(())
 }
 
@@ -192,16 +187,16 @@ fn is_cleared(rt: &impl Abort, world: &mut World, clear: &Event, frame: &str) {
     for next in [frame, frame, ""] {
         goes(rt, world, &NOT_ACKED, next);
     }
-    equal(rt, &last_end(world), &Some(JobEnd::Unknown), &1);
+    equal(rt, &world.ended(), &Some(JobEnd::Unknown), &1);
     goes(rt, world, clear, frame);
     goes(rt, world, &NOT_ACKED, frame);
     goes(rt, world, &ACKED, "");
-    equal(rt, &last_end(world), &Some(JobEnd::Done), &2);
+    equal(rt, &world.ended(), &Some(JobEnd::Done), &2);
 }
 
 #[test]
 fn a_clear_sends_clear_faults_until_it_is_acknowledged(rt: HostRuntime) -> Result<(), SetupFault> {
-    let mut world = begun(mixed(), PASSES)?;
+    let mut world = World::begin(mixed(), PASSES)?;
     is_cleared(&rt, &mut world, &Event::Clear(0), "B0 05 02 00 03 50");
     is_cleared(&rt, &mut world, &Event::Clear(1), "B0 05 02 01 03 45");
     Ok(())
@@ -217,7 +212,7 @@ const COEFFICIENTS: &str = "B0 30 02 21 00";
 // Each of a learn's two reads has tries of its own; a learn that fails leaves the format from before.
 #[test]
 fn a_learn_reads_the_mode_and_then_the_coefficients(rt: HostRuntime) -> Result<(), SetupFault> {
-    let mut world = begun(mixed(), PASSES)?;
+    let mut world = World::begin(mixed(), PASSES)?;
     let learn = Event::Learn(1);
     goes(&rt, &mut world, &learn, MODE_1);
     for (event, next) in [
@@ -230,18 +225,18 @@ fn a_learn_reads_the_mode_and_then_the_coefficients(rt: HostRuntime) -> Result<(
     ] {
         goes(&rt, &mut world, &event, next);
     }
-    equal(&rt, &last_end(&world), &Some(JobEnd::Learned), &1);
+    equal(&rt, &world.ended(), &Some(JobEnd::Learned), &1);
     goes(&rt, &mut world, &learn, MODE_1);
     for next in [MODE_1, MODE_1, ""] {
         goes(&rt, &mut world, &READ_LOST, next);
     }
-    equal(&rt, &last_end(&world), &Some(JobEnd::Unknown), &2);
+    equal(&rt, &world.ended(), &Some(JobEnd::Unknown), &2);
     goes(&rt, &mut world, &learn, MODE_1);
     goes(&rt, &mut world, &READ, COEFFICIENTS);
     for next in [COEFFICIENTS, COEFFICIENTS, ""] {
         goes(&rt, &mut world, &READ_LOST, next);
     }
-    equal(&rt, &last_end(&world), &Some(JobEnd::Unknown), &3);
+    equal(&rt, &world.ended(), &Some(JobEnd::Unknown), &3);
     // 3.3 V, as 3300 millivolts.
     let micro = Event::OrderMicro(SECOND, 3_300_000);
     goes(&rt, &mut world, &micro, "B0 05 04 01 21 E4 0C F7");
@@ -251,12 +246,12 @@ fn a_learn_reads_the_mode_and_then_the_coefficients(rt: HostRuntime) -> Result<(
 // A format is that of the output that was learned: 3.3 V as 3300 millivolts or as 13517/4096.
 #[test]
 fn each_output_is_learned_by_itself(rt: HostRuntime) -> Result<(), SetupFault> {
-    let mut world = begun(mixed(), PASSES)?;
+    let mut world = World::begin(mixed(), PASSES)?;
     goes(&rt, &mut world, &Event::Learn(0), MODE_0);
     goes(&rt, &mut world, &READ, "");
-    equal(&rt, &last_end(&world), &Some(JobEnd::Learned), &1);
+    equal(&rt, &world.ended(), &Some(JobEnd::Learned), &1);
     let second = Event::OrderMicro(SECOND, 3_300_000);
-    is_true(&rt, step(&mut world, &second).is_err(), &2);
+    is_true(&rt, world.meets(&second).is_err(), &2);
     goes(&rt, &mut world, &Event::Learn(1), MODE_1);
     goes(&rt, &mut world, &READ, COEFFICIENTS);
     goes(&rt, &mut world, &READ, "");
@@ -303,9 +298,9 @@ fn has_end(
     end: Option<JobEnd>,
     stands: Standing,
 ) -> Result<(), SetupFault> {
-    let world = after(rt, base(), 1, events)?;
-    equal(rt, &last_end(&world), &end, &events);
-    equal(rt, &standing(&world, FIRST), &Some(stands), &events);
+    let world = after(rt, World::base(), 1, events)?;
+    equal(rt, &world.ended(), &end, &events);
+    equal(rt, &world.says(FIRST), &Some(stands), &events);
     Ok(())
 }
 

@@ -2,10 +2,8 @@
 //! reported as, and what is no scenario.
 
 use crate::checks::{equal, is_true};
-use crate::engine::Engine;
-use crate::fakes::in_pieces;
-use crate::worked::{REPORT, SCENARIO};
 use pm_text::{Ran, TextFault, read_scenario, render_report};
+use pm_text_fixtures::{Engine, Engines, REPORT, SCENARIO, in_pieces};
 use pm_world::{Cause, Stop, World};
 use std::alloc::Global;
 use std::process::Abort;

@@ -3,10 +3,10 @@
 mod faults;
 
 use crate::checks::equal;
-use crate::worked::SCENARIO;
 use pm_device::{Config, OutputStart};
 use pm_table::Coefficients;
 use pm_text::{Scenario, TextFault, read_scenario};
+use pm_text_fixtures::SCENARIO;
 use std::alloc::{AllocError, Global};
 use std::process::Abort;
 use std::test::Fail;

@@ -1,10 +1,8 @@
 //! The user store in texts: what is stored comes back by a restart and by a restore, in version 2 alone.
 
 use crate::checks::{equal, is_true};
-use crate::engine::Engine;
-use crate::fakes::in_pieces;
-use crate::worked::SCENARIO;
 use pm_text::{TextFault, read_scenario};
+use pm_text_fixtures::{Engine, Engines, SCENARIO, in_pieces};
 use std::alloc::Global;
 use std::process::Abort;
 use std::test::Fail;

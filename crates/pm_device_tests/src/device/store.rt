@@ -93,16 +93,12 @@ fn holds(rt: &impl Abort, converter: &Converter, row: &Row) {
     equal(rt, &word(converter, Cell::Protect), protect, &bytes);
 }
 
-fn follow(rt: &impl Abort, converter: &mut Converter, row: &Row) {
-    hears_row(rt, converter, row.0, row.1);
-    holds(rt, converter, row);
-}
-
 #[test]
 fn the_outputs_settings_are_stored_and_come_back(rt: HostRuntime) -> Result<(), Fail> {
     let mut converter = base()?;
     for row in &ROWS {
-        follow(&rt, &mut converter, row);
+        hears_row(&rt, &mut converter, row.0, row.1);
+        holds(&rt, &converter, row);
     }
     restart(&mut converter);
     let row = ("a restart", None, BOTH, BOTH, 0x00);

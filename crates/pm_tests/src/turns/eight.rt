@@ -2,11 +2,14 @@
 
 use super::goes;
 use crate::checks::equal;
-use crate::fixtures::{NOT_ACKED, OUTPUT, READ, READ_LOST, begun, last_end, step, takes};
+use crate::events::{NOT_ACKED, READ, READ_LOST};
+use crate::fixtures::takes;
+use crate::look::Look;
 use pm_device::{Config, OutputStart};
+use pm_device_tests::OUTPUT;
 use pm_host::{HostFault, JobEnd};
 use pm_table::{Cell, Coefficients, Reg};
-use pm_world::{Cause, Event, SetupFault};
+use pm_world::{Cause, Event, SetupFault, World};
 
 // Eight outputs in ULINEAR16, with N from -12 to -5.
 const EIGHT: Config = Config {
@@ -65,11 +68,11 @@ static LEARNS: [(&str, &str); 8] = [
 
 #[test]
 fn each_of_eight_outputs_has_a_format_of_its_own(rt: HostRuntime) -> Result<(), SetupFault> {
-    let mut world = begun(eight(), 1)?;
+    let mut world = World::begin(eight(), 1)?;
     for (output, (request, _)) in (0..8).zip(LEARNS.iter().copied()) {
         goes(&rt, &mut world, &Event::Learn(output), request);
         goes(&rt, &mut world, &READ, "");
-        equal(&rt, &last_end(&world), &Some(JobEnd::Learned), &1);
+        equal(&rt, &world.ended(), &Some(JobEnd::Learned), &1);
     }
     for (output, (_, write)) in (0..8).zip(LEARNS.iter().copied()) {
         let volt = Event::OrderMicro(Cell::Out(output, Reg::VoutCommand), 1_000_000);
@@ -81,7 +84,7 @@ fn each_of_eight_outputs_has_a_format_of_its_own(rt: HostRuntime) -> Result<(), 
     for output in 0..8 {
         let volt = Event::OrderMicro(Cell::Out(output, Reg::VoutCommand), 1_000_000);
         let unknown = Err(Cause::Host(HostFault::FormatUnknown));
-        equal(&rt, &step(&mut world, &volt), &unknown, &output);
+        equal(&rt, &world.meets(&volt), &unknown, &output);
     }
     Ok(())
 }

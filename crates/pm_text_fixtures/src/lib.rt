@@ -1,0 +1,11 @@
+//! What tests of texts share: readers and writers that tell their bytes, count their calls, fail once, never end
+//! or take no memory; the three engines from a reader to a writer as one call (`Engines`); and the worked texts.
+#![tactic(auto)]
+
+mod engine;
+mod fakes;
+mod worked;
+
+pub use engine::{Ended, Engine, Engines};
+pub use fakes::{Endless, FAILURES, Failure, Halves, Paper, Pieces, Sheet, blank_paper, in_pieces};
+pub use worked::{CODES, CODES_SAID, FRAME, LINES, REPORT, SCENARIO, TAKEN, TRACE};

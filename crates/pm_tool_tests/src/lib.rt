@@ -1,0 +1,18 @@
+//! Tests over the public calls of `pm_tool`: the texts of `hear` and `number`, the command line, and whole runs.
+//! There is nothing here to use.
+#![tactic(auto)]
+
+#[cfg(test)]
+mod checks;
+#[cfg(test)]
+mod commandline;
+#[cfg(test)]
+mod hear;
+#[cfg(test)]
+mod numbers;
+#[cfg(test)]
+mod run;
+#[cfg(test)]
+mod setups;
+#[cfg(test)]
+mod usage;

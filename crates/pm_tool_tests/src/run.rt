@@ -1,0 +1,350 @@
+ghost use Rattle.std.specs.Prelude.{IsFalse};
+
+use crate::checks::{equal, is_true};
+use pm_text_fixtures::{
+    FAILURES, FRAME, Failure, LINES, Paper, Pieces, REPORT, SCENARIO, TAKEN, TRACE, blank_paper,
+    in_pieces,
+};
+use pm_tool::{Sink, Source, run};
+use std::alloc::Global;
+use std::io::{ErrorKind, Read};
+use std::process::Abort;
+use std::test::Fail;
+
+/// What a run over memory results in: the status, and what was written on both streams.
+#[derive(Drop)]
+pub(super) struct Ran {
+    pub(super) status: u8,
+    pub(super) output: Paper,
+    pub(super) errors: Paper,
+}
+
+impl Ran {
+    /// Whether the run ended so.
+    pub(super) fn is(&self, status: u8, output: &str, errors: &str) -> bool {
+        self.status == status
+            && self.output.taken.as_slice() == output.as_bytes()
+            && self.errors.taken.as_slice() == errors.as_bytes()
+    }
+}
+
+/// Runs the program with its output and its errors going to such writers.
+pub(super) fn run_with<R: Read>(
+    alloc: Global,
+    words: Result<&[&str], ErrorKind>,
+    input: &mut Source<R>,
+    output: Paper,
+    errors: Paper,
+) -> Ran
+    requires { IsFalse input.old.failed }
+{
+    let mut output = Sink::new(output);
+    let mut errors = Sink::new(errors);
+    let status = run(alloc, words, input, &mut output, &mut errors);
+    Ran {
+        status,
+        output: output.into_inner(),
+        errors: errors.into_inner(),
+    }
+}
+
+/// Runs the program on a text.
+pub(super) fn run_on(alloc: Global, words: &[&str], text: &str) -> Ran {
+    let mut input = Source::new(in_pieces(text.as_bytes(), 7));
+    run_with(
+        alloc,
+        Ok(words),
+        &mut input,
+        blank_paper(alloc, 4096),
+        blank_paper(alloc, 4096),
+    )
+}
+
+// A run on a text ends so.
+fn ends(
+    rt: &(impl Abort + AllocGlobal),
+    words: &[&str],
+    text: &str,
+    status: u8,
+    said: (&str, &str),
+) {
+    let (output, errors) = said;
+    let found = run_on(rt.alloc(), words, text);
+    is_true(rt, found.is(status, output, errors), &(words, text));
+}
+
+// Words that aren't there are refused so, and nothing is read.
+fn ends_unread(rt: &(impl Abort + AllocGlobal), kind: ErrorKind, status: u8, errors: &str) {
+    let mut input = Source::new(in_pieces(FRAME.as_bytes(), 7));
+    let found = run_with(
+        rt.alloc(),
+        Err(kind),
+        &mut input,
+        blank_paper(rt.alloc(), 1),
+        blank_paper(rt.alloc(), 1),
+    );
+    is_true(rt, found.is(status, "", errors), &errors);
+    equal(rt, &input.into_inner().calls, &0, &1);
+}
+
+#[test]
+fn every_status_has_its_texts(rt: HostRuntime) {
+    let hear = ["pmb", "hear"];
+    ends(&rt, &hear, FRAME, 0, (TAKEN, ""));
+    ends(&rt, &hear, "/ /", 1, ("", "pmb: X1 Syntax line 1\n"));
+    ends(&rt, &hear, "\n\nB0 0", 1, ("", "pmb: X2 BadHex line 3\n"));
+    ends_unread(&rt, ErrorKind::OutOfMemory, 1, "pmb: X6 Memory\n");
+    ends_unread(&rt, ErrorKind::InvalidData, 2, "pmb: bad arguments\n");
+}
+
+#[test]
+fn every_status_of_number_has_its_texts(rt: HostRuntime) {
+    for (option, status, output, errors) in [
+        ("--word=87FF", 0, "word 87FF value -1/65536 micro -16\n", ""),
+        ("--word=1", 2, "", "pmb: bad word\n"),
+        ("--micro=1e3", 2, "", "pmb: bad micro\n"),
+        ("--micro=33521664000001", 1, "", "pmb: N4 AboveGreatest\n"),
+        ("--micro=-33554432000001", 1, "", "pmb: N3 BelowLeast\n"),
+        ("--micro=1000000000000001", 1, "", "pmb: N5 TooLarge\n"),
+    ] {
+        let words = ["pmb", "number", "--format=linear11", option];
+        ends(&rt, &words, FRAME, status, (output, errors));
+    }
+    let words = ["pmb", "number", "--format=linear11"];
+    let errors = "pmb: give one of --word and --micro\n";
+    ends(&rt, &words, FRAME, 2, ("", errors));
+    for (format, status, errors) in [
+        ("--format=direct:0:5:3", 1, "pmb: N1 ZeroSlope\n"),
+        ("--format=direct:1:5:13", 1, "pmb: N2 ExponentRange\n"),
+        ("--format=float", 2, "pmb: bad format\n"),
+    ] {
+        let words = ["pmb", "number", format, "--word=0001"];
+        ends(&rt, &words, "", status, ("", errors));
+    }
+}
+
+// A run over such a reader ends with these words on standard error, after so many calls.
+fn ends_reading(
+    rt: &(impl Abort + AllocGlobal),
+    command: &str,
+    reader: Pieces<'_>,
+    errors: &str,
+) -> usize {
+    let mut input = Source::new(reader);
+    let words = ["pmb", command];
+    let found = run_with(
+        rt.alloc(),
+        Ok(&words),
+        &mut input,
+        blank_paper(rt.alloc(), 1),
+        blank_paper(rt.alloc(), 1),
+    );
+    is_true(rt, found.is(1, "", errors), &command);
+    input.into_inner().calls
+}
+
+fn ends_at_read(rt: &(impl Abort + AllocGlobal), command: &str, fails_at: usize) {
+    let reader = Pieces {
+        fails_at,
+        ..in_pieces(FRAME.as_bytes(), 7)
+    };
+    let calls = ends_reading(rt, command, reader, "pmb: X4 Read\n");
+    equal(rt, &calls, &fails_at, &command);
+}
+
+#[test]
+fn a_failed_reader_and_a_long_text_are_told(rt: HostRuntime) -> Result<(), Fail> {
+    let long = vec![in rt.alloc(); b'#'; 1_048_577]?;
+    for command in ["hear", "replay", "decode"] {
+        for fails_at in 1..=5 {
+            ends_at_read(&rt, command, fails_at);
+        }
+        ends_reading(&rt, command, in_pieces(&long, 4096), "pmb: X3 TooLong\n");
+    }
+    Ok(())
+}
+
+// What comes of a run on the worked frame over such an output.
+fn run_into(alloc: Global, words: &[&str], output: Paper) -> Ran {
+    let mut input = Source::new(in_pieces(FRAME.as_bytes(), 7));
+    run_with(
+        alloc,
+        Ok(words),
+        &mut input,
+        output,
+        blank_paper(alloc, 4096),
+    )
+}
+
+// An output that fails at this call has a front of the text, and the failure is told.
+fn ends_at_write(
+    rt: &(impl Abort + AllocGlobal),
+    words: &[&str],
+    text: &str,
+    fails_at: usize,
+    failure: Failure,
+) {
+    let output = Paper {
+        fails_at,
+        failure,
+        ..blank_paper(rt.alloc(), 1)
+    };
+    let found = run_into(rt.alloc(), words, output);
+    equal(rt, &found.output.calls, &fails_at, &words);
+    let front = &text.as_bytes()[..fails_at.saturating_sub(1).min(text.len())];
+    equal(rt, &found.output.taken.as_slice(), &front, &fails_at);
+    has_ended(rt, &found, 1, "pmb: X5 Write\n");
+}
+
+fn has_ended(rt: &impl Abort, found: &Ran, status: u8, errors: &str) {
+    equal(rt, &found.status, &status, &errors);
+    let written = found.errors.taken.as_slice();
+    equal(rt, &written, &errors.as_bytes(), &errors);
+}
+
+// Each call of an output fails in each way, and its flush.
+fn holds_a_front(rt: &(impl Abort + AllocGlobal), words: &[&str], text: &str) {
+    for fails_at in 1..=text.len() {
+        for &failure in &FAILURES {
+            ends_at_write(rt, words, text, fails_at, failure);
+        }
+    }
+    let output = Paper {
+        flush_fails: true,
+        ..blank_paper(rt.alloc(), 1)
+    };
+    let found = run_into(rt.alloc(), words, output);
+    is_true(rt, found.is(1, text, "pmb: X5 Write\n"), &1);
+}
+
+#[test]
+fn a_failed_output_is_told_and_holds_a_front(rt: HostRuntime) {
+    holds_a_front(&rt, &["pmb", "hear"], TAKEN);
+    let number = ["pmb", "number", "--format=linear11", "--word=87FF"];
+    holds_a_front(&rt, &number, "word 87FF value -1/65536 micro -16\n");
+}
+
+/// A replay that stops, and its report.
+static STOPPED: &str =
+    "scenario 1\naddress 58\npasses 2\nprotect 00\ncoefficients 1 0 0\noutput 14 80 1000 4000 1100 0F00\nbegin\nfinish ack\n";
+
+static STOPPED_REPORT: &str =
+    "stopped 0 S2 NothingSent\nprotect 00 host unknown\noutput 0 on commanded 4096/4096 1000000 uV\nOPERATION 80 host unknown\nVOUT_COMMAND 1000 host unknown\nVOUT_MAX 4000 host unknown\nVOUT_MARGIN_HIGH 1100 host unknown\nVOUT_MARGIN_LOW 0F00 host unknown\nstatus 00 0000 00\ncml 00\nrestart seen no\njob none\n";
+
+// A run over an output whose flush fails, or not.
+fn flushed(alloc: Global, words: &[&str], text: &str, flush_fails: bool) -> Ran {
+    let mut input = Source::new(in_pieces(text.as_bytes(), 4096));
+    let output = Paper {
+        flush_fails,
+        ..blank_paper(alloc, 4096)
+    };
+    run_with(
+        alloc,
+        Ok(words),
+        &mut input,
+        output,
+        blank_paper(alloc, 4096),
+    )
+}
+
+#[test]
+fn what_is_printed_is_handed_on_once_whatever_the_status(rt: HostRuntime) {
+    // The option or the command, what is read, the status, what is printed and what is said.
+    let rows = [
+        ("hear", FRAME, 0, TAKEN, ""),
+        ("replay", SCENARIO, 0, REPORT, ""),
+        ("replay", STOPPED, 1, STOPPED_REPORT, ""),
+        (
+            "decode",
+            "B0",
+            0,
+            "1 58 write F2 Short 1\nlines 1 accepted 0 faults 1 bad 0\n",
+            "",
+        ),
+        ("decode", TRACE, 1, LINES, ""),
+        ("decode", "", 0, "lines 0 accepted 0 faults 0 bad 0\n", ""),
+        ("--version", "", 0, "pmb 0.1.0\n", ""),
+        ("hear", "/ /", 1, "", "pmb: X1 Syntax line 1\n"),
+        ("replay", "", 1, "", "pmb: X1 Syntax line 1\n"),
+        (
+            "replay",
+            "scenario 1\naddress 5\n",
+            1,
+            "",
+            "pmb: X2 BadHex line 2\n",
+        ),
+        ("number", "", 2, "", "pmb: give one of --word and --micro\n"),
+    ];
+    for (command, text, status, output, errors) in rows {
+        is_handed_on(&rt, command, text, status, (output, errors));
+    }
+}
+
+// What is printed is flushed once, and a flush that fails is told.
+fn is_handed_on(
+    rt: &(impl Abort + AllocGlobal),
+    command: &str,
+    text: &str,
+    status: u8,
+    said: (&str, &str),
+) {
+    let (output, errors) = said;
+    let words = ["pmb", command];
+    let found = flushed(rt.alloc(), &words, text, false);
+    is_true(rt, found.is(status, output, errors), &(command, text));
+    let printed = usize::from(!output.is_empty());
+    equal(rt, &found.output.flushes, &printed, &(command, text));
+    equal(
+        rt,
+        &(found.output.calls > 0),
+        &(printed > 0),
+        &(command, text),
+    );
+    equal(rt, &found.errors.flushes, &0, &(command, text));
+    if printed > 0 {
+        let failed = flushed(rt.alloc(), &words, text, true);
+        is_true(
+            rt,
+            failed.is(1, output, "pmb: X5 Write\n"),
+            &(command, text),
+        );
+    }
+}
+
+// A run on no frame, over a standard error that fails at this call, has this status all the same.
+fn keeps_status(
+    rt: &(impl Abort + AllocGlobal),
+    command: &str,
+    status: u8,
+    text: &str,
+    fails_at: usize,
+) {
+    let mut input = Source::new(in_pieces(b"ZZ", 7));
+    let errors = Paper {
+        fails_at,
+        ..blank_paper(rt.alloc(), 1)
+    };
+    let output = blank_paper(rt.alloc(), 1);
+    let words = ["pmb", command];
+    let found = run_with(rt.alloc(), Ok(&words), &mut input, output, errors);
+    is_true(
+        rt,
+        found.status == status && found.output.taken.is_empty(),
+        &fails_at,
+    );
+    equal(rt, &found.errors.calls, &fails_at, &1);
+    let front = &text.as_bytes()[..fails_at.saturating_sub(1).min(text.len())];
+    equal(rt, &found.errors.taken.as_slice(), &front, &fails_at);
+}
+
+#[test]
+fn a_failed_standard_error_leaves_the_status(rt: HostRuntime) {
+    let hear = "pmb: X2 BadHex line 1\n";
+    for fails_at in 1..=hear.len() {
+        keeps_status(&rt, "hear", 1, hear, fails_at);
+    }
+    let number = "pmb: give one of --word and --micro\n";
+    for fails_at in 1..=number.len() {
+        keeps_status(&rt, "number", 2, number, fails_at);
+    }
+}

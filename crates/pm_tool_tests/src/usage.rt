@@ -1,0 +1,261 @@
+//! The parser's own texts: of a faulty command line on standard error, and of help on the output.
+
+use crate::checks::is_true;
+use crate::run::{run_on, run_with};
+use pm_text_fixtures::{blank_paper, in_pieces};
+use pm_tool::Source;
+use std::process::Abort;
+
+static MISSING: &str = "error: 'pmb' requires a subcommand but one was not provided
+  [subcommands: hear, replay, decode, number]
+
+Usage: pmb <COMMAND>
+
+For more information, try '--help'.
+";
+
+static UNKNOWN: &str = "error: unrecognized subcommand 'listen'
+
+Usage: pmb <COMMAND>
+
+For more information, try '--help'.
+";
+
+static NO_SUCH_OPTION: &str = "error: unexpected argument '--bits' found
+
+Usage: pmb number --format=F (--word=HHHH | --micro=K)
+
+For more information, try '--help'.
+";
+
+static NO_VALUE: &str = "error: a value is required for '--word <HHHH>' but none was supplied
+
+For more information, try '--help'.
+";
+
+static TWICE: &str = "error: the argument '--word <HHHH>' cannot be used multiple times
+
+Usage: pmb number --format=F (--word=HHHH | --micro=K)
+
+For more information, try '--help'.
+";
+
+static HELP: &str = "PMBus packets, scenarios and numbers, by proved engines
+
+Usage: pmb <COMMAND>
+
+Commands:
+  hear    Lets a model converter hear the frames of standard input
+  replay  Replays a scenario between a host and a converter, and reports
+  decode  Tells what the packets of a bus trace say
+  number  Prints a word of a number format, its exact value and its whole millionths
+
+Options:
+  -h, --help     Print help
+  -V, --version  Print version
+
+Each command but number reads standard input: pmb replay < examples/one-order.scenario
+pmb COMMAND --help shows the form of its lines and its refusals; docs/refusals.md has all of them.
+";
+
+static HEAR_HELP: &str = "Lets a model converter hear the frames of standard input
+
+Usage: pmb hear < FRAMES
+
+Options:
+  -h, --help  Print help
+
+A line is one of
+
+  B0 05 04 00 21 CD 34 5A   a frame in hexadecimal, which a stop ends
+  B0 20 /                   a frame, which a repeated start follows
+  restart                   the converter starts again
+
+Spaces alone part bytes, without 0x or h. Empty lines, and lines whose first byte is #, are skipped.
+A text has at most 1 MiB. The converter has two outputs of 1 V at address 58: B0 writes, B1 reads.
+Printed are its answers, and then each output's VOUT_COMMAND.
+
+  $ echo 'B0 05 04 00 21 CD 34 5A' | pmb hear
+  taken
+  output 0 VOUT_COMMAND 34CD
+  output 1 VOUT_COMMAND 1000
+
+An answer is taken, answer BYTES, silent (another device's frame), or refused:
+
+  K1 Frame F..         a faulty frame; pmb decode --help has these letters
+  K2 UnsupportedCode   the code isn't in the command table
+  K3 UnsupportedData   the register doesn't take the word
+  K4 BadPage           there is no output with this page
+  K5 Protected         WRITE_PROTECT blocks the write
+  K6 Nested            PAGE_PLUS doesn't carry the code
+  K7 ReadOnly          the code isn't written, or isn't read
+
+Status 1 and a line on standard error: X1 Syntax, X2 BadHex (the line's form), X3 TooLong, X4 Read,
+X5 Write, X6 Memory.
+";
+
+static REPLAY_HELP: &str = "Replays a scenario between a host and a converter, and reports
+
+Usage: pmb replay < SCENARIO
+
+Options:
+  -h, --help  Print help
+
+A scenario is these lines, and then events (version 1 has no MIN, VOUT_MIN, store and restore):
+
+  scenario 2
+  address 58                              seven bits, 08 to 77: B0 on the wire is 58
+  passes 2                                tries of a job, 1 to 15
+  protect 00                              WRITE_PROTECT: 00, 20, 40 or 80
+  coefficients 1 0 0                      M B R in decimal, for DIRECT
+  output 14 80 1000 4000 1100 0F00 0000   VOUT_MODE OPERATION COMMAND MAX HIGH LOW MIN; 1 to 8 lines
+  begin
+
+  order 0 VOUT_COMMAND 34CD               a job: write the word, read it back
+  volts 0 VOUT_COMMAND 3300000            the same in microvolts, after learn
+  check 0 VOUT_COMMAND                    a job: read the register
+  learn 0                                 a job: read the output's format
+  clear 0                                 a job: send CLEAR_FAULTS
+  store                                   a job: send STORE_USER_ALL
+  restore                                 a job: send RESTORE_USER_ALL
+  deliver A                               the converter hears the write that is being sent
+  finish ack                              the write is over: ack, or nack
+  exchange A B                            the converter hears the request, and B comes back
+  restart device                          an end starts again: device (with what is stored), or host
+  reading 0 READ_VOUT 34CD                what READ_VOUT or READ_IOUT answers
+  reading - READ_VIN D300                 the same of READ_VIN or READ_TEMPERATURE_1
+
+order and check take - WRITE_PROTECT too. A and B are whole; cut N, the first N bytes; or bytes HEX,
+for A with stop or restart after it, 1 to 16 bytes. A text has at most 1 MiB. Printed is what the
+converter then holds, commands and shows, and what the host knows.
+
+  $ pmb replay < examples/one-order.scenario
+
+Status 1 where `stopped N` says that N events were taken and the next one wasn't:
+
+  S1 NotBetrayed   other bytes than were sent, and their PEC is right
+  S2 NothingSent   nothing is being sent: begin a job first
+  S3 WrongKind     a write is delivered and finished, a read is exchanged
+  S4 Host H3 Busy, H4 UnknownOutput, H5 BadWord, H6 TooUncertain (check it first), H7 FormatUnknown
+     (learn it first), N3 BelowLeast, N4 AboveGreatest, N5 TooLarge
+  S5 Full          2^48 events were taken
+
+and with a line on standard error: X1 Syntax, X2 BadHex (the line's form), X3 TooLong, X4 Read,
+X5 Write, X6 Memory, and X7 Setup with
+
+  V1 OutputCount   0 or more than 8 outputs      V4 BadMode           VOUT_MODE isn't 00 to 1F or 40
+  V2 BadStart      a start word isn't taken      V5 BadCoefficients   M is 0, or R beyond 12 in size
+  V3 Address       outside 08 to 77              H2 Passes            passes outside 1 to 15
+";
+
+static DECODE_HELP: &str = "Tells what the packets of a bus trace say
+
+Usage: pmb decode < TRACE
+
+Options:
+  -h, --help  Print help
+
+A line is one of
+
+  B0 05 04 00 21 CD 34 5A           a write, in hexadecimal
+  B0 06 02 00 21 / B1 02 CD 34 B9   a read: the request, and after / what came back
+
+Spaces alone part bytes, without 0x or h. Empty lines, and lines whose first byte is #, are skipped.
+A text has at most 1 MiB (split -C 1M), a part 300 bytes. Printed is a line for each, with its
+number, and then the counts.
+
+  $ echo 'B0 05 04 00 21 CD 34 5A' | pmb decode
+  1 58 page 0 VOUT_COMMAND write 34CD
+  count VOUT_COMMAND 1
+  lines 1 accepted 1 faults 0 bad 0
+
+A packet may be faulty; N counts bytes from 0, the address is byte 0:
+
+  F1 NotOurs          no byte, or byte 0 isn't the address with its direction
+  F2 Short N          the bytes end after N, before the packet does
+  F3 Long N           bytes follow the packet's end
+  F4 WrongCount N     the count isn't the one that the code has
+  F5 WrongPec N       the PEC isn't that of the bytes before it
+  F6 UnknownCode N    the code isn't in the command table
+  F7 WrongDirection N the code is never written, or never read
+  F8 Nested N         PAGE_PLUS doesn't carry the code
+
+Status 1 where a line is bad, X1 Syntax or X2 BadHex, or with a line on standard error: X3 TooLong,
+X4 Read, X5 Write, X6 Memory.
+";
+
+static NUMBER_HELP: &str =
+    "Prints a word of a number format, its exact value and its whole millionths
+
+Usage: pmb number --format=F (--word=HHHH | --micro=K)
+
+Options:
+      --format <F>   The format: linear11, ulinear16:N (N from -16 to 15) or direct:M:B:R
+      --word <HHHH>  The word, as four hexadecimal digits
+      --micro <K>    A value of K millionths, whose nearest word is taken
+  -h, --help         Print help
+
+A word is 34CD, without 0x or h. K is in millionths: 3.3 V is 3300000; a negative one is written
+--micro=-3300000. LINEAR16 of older papers is ulinear16:N, with N of VOUT_MODE.
+
+  $ pmb number --format=ulinear16:-12 --micro=3300000
+  word 34CD value 13517/4096 micro 3300048
+
+Status 1 and a line on standard error: bad format, bad word, bad micro, X5 Write, X6 Memory, or
+
+  N1 ZeroSlope       m of DIRECT is 0
+  N2 ExponentRange   R of DIRECT is beyond 12 in size
+  N3 BelowLeast      the value is below all of the format's
+  N4 AboveGreatest   the value is above all of the format's
+  N5 TooLarge        beyond 10^15 millionths in size
+";
+
+fn is_said(
+    rt: &(impl Abort + AllocGlobal),
+    words: &[&str],
+    status: u8,
+    output: &str,
+    errors: &str,
+) {
+    let found = run_on(rt.alloc(), words, "");
+    is_true(rt, found.is(status, output, errors), &words);
+}
+
+#[test]
+fn the_parsers_texts_go_where_they_belong(rt: HostRuntime) {
+    for (words, status, output, errors) in [
+        (["pmb"].as_slice(), 2, "", MISSING),
+        (["pmb", "listen"].as_slice(), 2, "", UNKNOWN),
+        (
+            ["pmb", "number", "--bits=1"].as_slice(),
+            2,
+            "",
+            NO_SUCH_OPTION,
+        ),
+        (["pmb", "number", "--word"].as_slice(), 2, "", NO_VALUE),
+        (
+            ["pmb", "number", "--word=1", "--word=2"].as_slice(),
+            2,
+            "",
+            TWICE,
+        ),
+        (["pmb", "--help"].as_slice(), 0, HELP, ""),
+        (["pmb", "hear", "--help"].as_slice(), 0, HEAR_HELP, ""),
+        (["pmb", "replay", "--help"].as_slice(), 0, REPLAY_HELP, ""),
+        (["pmb", "decode", "--help"].as_slice(), 0, DECODE_HELP, ""),
+        (["pmb", "number", "--help"].as_slice(), 0, NUMBER_HELP, ""),
+    ] {
+        is_said(&rt, words, status, output, errors);
+    }
+}
+
+#[test]
+fn a_failed_output_of_help_is_told(rt: HostRuntime) {
+    let alloc = rt.alloc();
+    let mut input = Source::new(in_pieces(b"", 1));
+    let mut output = blank_paper(alloc, 1);
+    output.fails_at = 3;
+    let words = ["pmb", "--help"];
+    let found = run_with(alloc, Ok(&words), &mut input, output, blank_paper(alloc, 1));
+    is_true(&rt, found.is(1, "PM", "pmb: X5 Write\n"), &1);
+}
