@@ -2,6 +2,7 @@
 //! were made, and what was written until then.
 
 use crate::checks::{equal, is_true};
+use crate::worked::worked;
 use pm_text::TextFault;
 use pm_text_fixtures::{
     Engine, Engines, FAILURES, FRAME, Failure, Halves, Paper, Pieces, SCENARIO, TRACE, blank_paper,
@@ -118,7 +119,7 @@ fn ends_at_read(
 
 #[test]
 fn a_failed_read_ends_an_engine_at_once(rt: HostRuntime) {
-    for (engine, input, text, _) in Engine::worked() {
+    for (engine, input, text, _) in worked() {
         for &piece in &PIECES {
             let (calls, _) = calls_made(rt.alloc(), engine, input, piece);
             for fails_at in 1..=calls {
@@ -170,7 +171,7 @@ fn ends_at_write(
 
 #[test]
 fn a_failed_write_ends_an_engine_at_once(rt: HostRuntime) {
-    for (engine, input, text, _) in Engine::worked() {
+    for (engine, input, text, _) in worked() {
         for &piece in &PIECES {
             let (_, calls) = calls_made(rt.alloc(), engine, input, piece);
             for fails_at in 1..=calls {
@@ -219,7 +220,7 @@ fn is_whole_cut(
 
 #[test]
 fn a_text_may_be_cut_anywhere(rt: HostRuntime) {
-    for (engine, input, text, is_well) in Engine::worked() {
+    for (engine, input, text, is_well) in worked() {
         for &piece in &PIECES {
             is_whole_by(&rt, engine, input, (is_well, text), piece);
         }

@@ -14,3 +14,5 @@ mod memory;
 mod reports;
 #[cfg(test)]
 mod sizes;
+#[cfg(test)]
+mod worked;

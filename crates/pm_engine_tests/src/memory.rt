@@ -3,6 +3,7 @@
 
 use crate::checks::{equal, is_true};
 use crate::reports::REPORTS;
+use crate::worked::worked;
 use clap::error::ErrorKind;
 use pm_text::{
     Decoder, Ran, Sink, TextFault, read_scenario, read_trace_line, render_line, render_report,
@@ -30,7 +31,7 @@ fn expect_text(rt: &(impl Abort + AllocGlobal), engine: Engine, input: &str, tex
 
 #[test]
 fn an_engine_without_memory_writes_nothing_else(rt: HostRuntime) {
-    for (engine, input, text, _) in Engine::worked() {
+    for (engine, input, text, _) in worked() {
         expect_text(&rt, engine, input, text);
     }
     for &(scenario, report) in &REPORTS {

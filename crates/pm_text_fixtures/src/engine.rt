@@ -2,7 +2,6 @@
 ghost use Rattle.std.specs.Prelude.{IsFalse};
 
 use crate::fakes::{Endless, Paper, Pieces, Sheet, blank_paper};
-use crate::worked::{FRAME, LINES, REPORT, SCENARIO, TAKEN, TRACE};
 use pm_text::{DecodeEnd, ReplayEnd, Sink, Source, TextFault, decode, replay};
 use pm_tool::hear;
 use std::alloc::Global;
@@ -91,9 +90,6 @@ impl Engine {
 
 /// The engines as calls that promise nothing: no test's proof carries what an engine promises, which no test needs.
 pub trait Engines: Sized {
-    /// Each engine, its worked text, what it writes of that, and whether it ends well.
-    fn worked() -> [(Self, &'static str, &'static str, bool); 3];
-
     /// Runs the engine from a reader of pieces to a writer of pieces.
     fn over(self, alloc: Global, read: Pieces<'_>, written: Paper) -> Ended<'_>;
 
@@ -112,14 +108,6 @@ pub trait Engines: Sized {
 }
 
 impl Engines for Engine {
-    fn worked() -> [(Self, &'static str, &'static str, bool); 3] {
-        [
-            (Engine::Replay, SCENARIO, REPORT, true),
-            (Engine::Decode, TRACE, LINES, false),
-            (Engine::Hear, FRAME, TAKEN, true),
-        ]
-    }
-
     fn over(self, alloc: Global, read: Pieces<'_>, written: Paper) -> Ended<'_> {
         let mut reader = Source::new(read);
         let mut writer = Sink::new(written);
