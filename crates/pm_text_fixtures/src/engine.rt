@@ -10,8 +10,11 @@ use std::io::{Read, Write};
 /// An engine from a reader to a writer.
 #[derive(Clone, Copy, Debug, PartialEq, Eq)]
 pub enum Engine {
+    /// `replay`.
     Replay,
+    /// `decode`.
     Decode,
+    /// `hear`.
     Hear,
 }
 
@@ -61,10 +64,15 @@ fn heard<R: Read, W: Write>(
 /// What comes of a run: how it ended, whether reading and writing failed, and what was read and written.
 #[derive(Drop)]
 pub struct Ended<'a> {
+    /// Whether the engine ended well, or why it refused.
     pub end: Result<bool, TextFault>,
+    /// Whether reading failed.
     pub read_failed: bool,
+    /// Whether writing failed.
     pub write_failed: bool,
+    /// The reader afterwards.
     pub read: Pieces<'a>,
+    /// The writer afterwards.
     pub written: Paper,
 }
 

@@ -8,10 +8,15 @@ use std::io::{self, ErrorKind, Read, Write};
 /// don't; 0 for none.
 #[derive(Drop)]
 pub struct Pieces<'a> {
+    /// The bytes that are still to come.
     pub rest: &'a [u8],
+    /// The most bytes that a call gives.
     pub piece: usize,
+    /// The number of the call that fails, from 1 on; 0 for none.
     pub fails_at: usize,
+    /// How it fails.
     pub kind: ErrorKind,
+    /// How many calls there were.
     pub calls: usize,
     /// The most bytes that a call asked for.
     pub most_asked: usize,
@@ -51,7 +56,9 @@ pub fn in_pieces(rest: &[u8], piece: usize) -> Pieces<'_>
 /// A reader of two pieces, each as far as a call has room for it.
 #[derive(Drop)]
 pub struct Halves<'a> {
+    /// What is left of the first piece.
     pub first: &'a [u8],
+    /// The second piece.
     pub second: &'a [u8],
 }
 
@@ -71,7 +78,9 @@ impl Read for Halves<'_> {
 /// A reader that gives these bytes over and over, one a call, for ever.
 #[derive(Drop)]
 pub struct Endless<'a> {
+    /// What comes over and over.
     pub bytes: &'a [u8],
+    /// How many calls there were.
     pub calls: usize,
 }
 
@@ -107,12 +116,19 @@ pub static FAILURES: [Failure; 3] = [Failure::Error, Failure::Interrupted, Failu
 /// don't; 0 for none. A flush is counted apart, and fails where it is said to.
 #[derive(Drop)]
 pub struct Paper {
+    /// What was written.
     pub taken: Vec<u8>,
+    /// The most bytes that a call takes.
     pub piece: usize,
+    /// The number of the write that fails, from 1 on; 0 for none.
     pub fails_at: usize,
+    /// How it fails.
     pub failure: Failure,
+    /// How many writes there were.
     pub calls: usize,
+    /// How many flushes there were.
     pub flushes: usize,
+    /// Whether a flush fails.
     pub flush_fails: bool,
 }
 
