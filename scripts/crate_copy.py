@@ -1,9 +1,12 @@
 """A copy of the crates to try changes on, with the work of earlier checks of one crate and of those below it."""
 import os
+import re
 import shutil
 import subprocess
 import sys
 import tempfile
+
+ERROR = re.compile(r"(^|: )error[\[:]")
 
 
 def run(folder, *words):
@@ -92,7 +95,7 @@ class CrateCopy:
             lines = run(self.home, "rt", "check", "--jobs", self.jobs, *flags)
             if any(line.startswith("crate %s: " % self.crate) for line in lines):
                 break
-            if any("error" in line for line in lines):
+            if any(ERROR.search(line) for line in lines):
                 return lines, None
         else:
             sys.exit("rt check says nothing of %s: %s" % (self.crate, lines[-1]))
@@ -114,5 +117,5 @@ class CrateCopy:
 
 def why_not(lines):
     """The first line that says what isn't proved."""
-    told = [line for line in lines if " no proof" in line or ": error" in line or "error[" in line]
+    told = [line for line in lines if " no proof" in line or ERROR.search(line)]
     return (told or lines[-1:])[0]
