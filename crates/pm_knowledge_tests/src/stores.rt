@@ -207,7 +207,10 @@ fn a_store_and_a_restore_are_plain_send_bytes(rt: HostRuntime) -> Result<(), Set
 
 // Eight outputs, and VOUT_COMMAND of one of them.
 fn eight() -> Config {
-    Config { count: 8, ..World::base() }
+    Config {
+        count: 8,
+        ..World::base()
+    }
 }
 
 fn voltage(output: u8) -> Cell {
