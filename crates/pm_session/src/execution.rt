@@ -1,5 +1,6 @@
 //! The program: its options make a host, which is then spoken to over its streams.
-ghost use Rattle.std.specs.Prelude.{◌≡◌, ◌⊎◌, IsFalse};
+ghost use Rattle.std.specs.Prelude.{◌≡◌, ◌⊎◌, ◌≤◌, IsFalse};
+ghost use Rattle.std.specs.Process.{exit_status};
 ghost use Rattle.clap.specs.Words.{kind_of};
 ghost use Rattle.pm_session.specs.Execution.{Run, RunEnds, Says, ServeEnds, refusal_line};
 ghost use Rattle.pm_session.specs.Options.{start_of, usage_status};
@@ -17,12 +18,14 @@ use std::rt::Runtime;
 
 /// Runs the program over the parts of a runtime: its arguments and its input, standard output and
 /// standard error. What `main` does is this one call. No clause can say what a terminal or a pipe
-/// gives or takes: `run` says what is read and written.
+/// gives or takes: `run` says what is read and written. The status is at most 2.
 pub fn program<R: Runtime + AllocGlobal, W: Write + Drop, E: Write + Drop>(
     rt: &R,
     output: W,
     errors: E,
-) -> ExitCode {
+) -> ExitCode
+    ensures { exit_status result ≤ 2 }
+{
     let mut streams = Streams {
         source: Source::new(rt.reader()),
         sink: Sink::new(output),

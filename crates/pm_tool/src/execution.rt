@@ -1,5 +1,6 @@
-ghost use Rattle.std.specs.Prelude.{◌≡◌, ◌⊎◌, IsFalse, Some, codes};
+ghost use Rattle.std.specs.Prelude.{◌≡◌, ◌⊎◌, ◌≤◌, IsFalse, Some, codes};
 ghost use Rattle.std.specs.Io.KnownBytes.{Keeps};
+ghost use Rattle.std.specs.Process.{exit_status};
 ghost use Rattle.clap.specs.Words.{kind_of};
 ghost use Rattle.pm_tool.specs.Execution.{DecodeEnds, End, HearEnds, IsDone, IsEnd, NumberEnds, ReplayEnds, RunEnds, Says, UsageEnds};
 ghost use Rattle.pm_tool.specs.Execution.{decode_status as status_of_decode, replay_status as status_of_replay};
@@ -20,12 +21,14 @@ use std::rt::Runtime;
 
 /// Runs the program over the parts of a runtime: its arguments and its input, standard output and
 /// standard error. What `main` does is this one call. No clause can say what a terminal or a file
-/// gives or takes: `run` says what is read and written.
+/// gives or takes: `run` says what is read and written. The status is at most 2.
 pub fn program<R: Runtime + AllocGlobal, W: Write + Drop, E: Write + Drop>(
     rt: &R,
     output: W,
     errors: E,
-) -> ExitCode {
+) -> ExitCode
+    ensures { exit_status result ≤ 2 }
+{
     let mut input = Source::new(rt.reader());
     let mut output = Sink::new(output);
     let mut errors = Sink::new(errors);
