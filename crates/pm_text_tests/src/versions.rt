@@ -85,7 +85,7 @@ exchange whole cut 0
 static LOST_TOLD: [&str; 4] = [
     "ran 9\nprotect 00 host unknown possible any\n",
     "VOUT_COMMAND 34CD host unknown possible 1000 34CD\n",
-    "VOUT_COMMAND 0BB8 host unknown possible any\n",
+    "VOUT_COMMAND 1000 host unknown possible any\n",
     "job unknown\n",
 ];
 
@@ -106,7 +106,8 @@ fn is_replayed_with(
 
 #[test]
 fn a_report_of_version_2_tells_the_possible_words(rt: HostRuntime) -> Result<(), Fail> {
-    let text = text_with(rt.alloc(), 8, "", LOST)?;
+    let second = "output 14 80 1000 4000 1100 0F00 0000";
+    let text = text_with(rt.alloc(), 6, second, LOST)?;
     is_replayed_with(&rt, &text, &LOST_TOLD)
 }
 
