@@ -1,7 +1,7 @@
 -- Floors and rounded quotients of whole numbers.
-use Rattle.std.proofs.Common.{◌≡◌, ℕ, ◌<◌, ◌≤◌, ℤ, pos, negsuc, ◌+ℤ◌, ◌-ℤ◌, ◌*ℤ◌, ◌<ℤ◌, ◌≤ℤ◌, unsigned_abs, ap, ◌∙◌, subst, sym, arith}
+use Rattle.std.proofs.Common.{◌≡◌, ℕ, ◌*◌, ◌<◌, ◌≤◌, ℤ, pos, negsuc, ◌+ℤ◌, ◌-ℤ◌, ◌*ℤ◌, ◌<ℤ◌, ◌≤ℤ◌, unsigned_abs, ap, ◌∙◌, subst, sym, arith}
 use Rattle.std.specs.Int.{int_div_euclid}
-use Rattle.std.proofs.lemmas.Int.{ints, by_lt_z, to_z-of_z}
+use Rattle.std.proofs.lemmas.Int.{ints, by_lt_z, to_z-of_z, unsigned_abs-mul}
 use mir.Syntax.{w128}
 use mir.Val.{SFits, to_z, of_z}
 use Rattle.pm_num.specs.Steps.{IsFloor, IsRounded}
@@ -67,10 +67,18 @@ pub same_product : {p q r : ℤ} (a b : ℤ) → SFits w128 p → SFits w128 q �
     → r ≡ a *ℤ b
 same_product a b fits_p fits_q e is_p is_q = let f = simp to_z-of_z at e in cc
 
+-- The same where the casts are known to keep the numbers; s is what the code goes on with.
+pub product_at : {p q r s : ℤ} (a b : ℤ) → r ≡ p *ℤ q → p ≡ a → q ≡ b → s ≡ r → s ≡ a *ℤ b
+product_at {q = q} a b e is_p is_q is_s = is_s ∙ e ∙ ap (λ (z : ℤ). z *ℤ q) is_p ∙ ap (λ (z : ℤ). a *ℤ z) is_q
+
 -- and is kept by its own.
 pub product_kept : {p q : ℤ} (a b : ℤ) → p ≡ a → q ≡ b → SFits w128 (a *ℤ b) → to_z w128 (of_z w128 (p *ℤ q)) ≡ a *ℤ b
 product_kept {p} {q} a b e f h = ap (λ (z : ℤ). to_z w128 (of_z w128 (z *ℤ q))) e ∙ ap (λ (z : ℤ). to_z w128 (of_z w128 (a *ℤ z))) f
     ∙ to_z-of_z w128 (a *ℤ b) h
+
+-- The size of a product.
+pub product_size : {r : ℤ} (a b : ℤ) → r ≡ a *ℤ b → unsigned_abs r ≡ unsigned_abs a * unsigned_abs b
+product_size a b e = ap unsigned_abs e ∙ unsigned_abs-mul a b
 
 -- The rounded quotient of the numbers that are meant; b, e and r are what the code computes.
 pub rounded_at : {b e q r : ℤ} (a d : ℤ) → IsRounded b e q → b ≡ a → e ≡ d → r ≡ q → IsRounded a d r

@@ -3,6 +3,7 @@ use Rattle.std.proofs.Common.{◌≡◌, ℕ, ◌+◌, ◌*◌, ◌^◌, ◌<◌
 use Rattle.std.proofs.Common.{unsigned_abs, ap, ◌∙◌, subst, arith}
 use Rattle.std.proofs.lemmas.Int.{ints}
 use Rattle.std.proofs.Math.Nat.{pow-le-pow_right}
+use Rattle.std.proofs.lemmas.Nat.{mul-le}
 use borrow.Author.Differences.{product_is}
 use Rattle.pm_num.specs.Ratio.{Ratio, AtMost, IsBetween}
 use Rattle.pm_num.specs.Value.{upper, lower, sign, signed, direct_value, direct_least, direct_greatest}
@@ -88,6 +89,10 @@ direct-nearest {x} {q} {w} m b r den is_s place word is =
     let h = subst (λ (t : Spacing). IsPlace t x q) is_s place in
     nearest_word (λ u. sign m *ℤ signed 16 u) (direct_spacing m b r) (λ u _. direct-at_place m b r u) den word
     (sign_back m (signed 16 w) q is) h.nearest h.lowest
+
+-- A coefficient times a part of a power of ten is in bounds.
+pub coefficient_times_ten : (a b : ℕ) → a ≤ 2 ^ 15 → b ≤ 10 ^ 12 → a * b ≤ 2 ^ 55
+coefficient_times_ten a b h k = omega (arith, mul-le a b (2 ^ 15) (10 ^ 12) h k)
 
 -- The two parts of a numerator are not both large.
 pub parts_small : (r : ℤ) → IsDecimal r → 2 ^ 15 * lower 10 r + 2 ^ 15 * upper 10 r ≤ 2 ^ 55

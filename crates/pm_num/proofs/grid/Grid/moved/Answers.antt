@@ -1,3 +1,4 @@
+-- Spares the search: it finds these too, in 12 seconds.
 use Rattle.std.proofs.Common.{pos, arith, rules}
 use mir.Syntax.{w128}
 use mir.Val.{SFits}
@@ -17,3 +18,24 @@ returns-clause-value c =
     let f = same_product g.offset (pos x.den) fits_offset fits_other c.product-2.ensures.value c.offset.ensures.value c.den-2.ensures.value
     in
     omega (arith, ints)
+
+pub product-requires-clause-left : goal.product-requires-clause-left
+product-requires-clause-left c = let h = c.num.ensures.bounds in omega (arith, ints)
+
+pub product-requires-clause-right : goal.product-requires-clause-right
+product-requires-clause-right c = let h = c.den.ensures.sizes in omega (arith, ints)
+
+pub product-requires-2-clause-left : goal.product-requires-2-clause-left
+product-requires-2-clause-left c = let h = c.offset.ensures.sizes in omega (arith, ints)
+
+pub product-requires-2-clause-right : goal.product-requires-2-clause-right
+product-requires-2-clause-right c = let h = c.den-2.ensures.bounds in omega (arith, ints)
+
+pub overflow_add-result : goal.overflow_add-result
+overflow_add-result c = omega (arith, ints)
+
+pub returns-clause-sizes : goal.returns-clause-sizes
+returns-clause-sizes c = c.den.ensures.sizes
+
+pub returns-clause-small : goal.returns-clause-small
+returns-clause-small c = omega (arith, ints)
