@@ -1,8 +1,8 @@
 /* The PMBus host core as a static library: a host that sets supply voltages over PMBus 1.3, packets and
  * numbers alone, and a model converter for a desk. Built for x86-64 and for nothing of 32 bits.
  *
- * What each call answers and does is proved of the library (crates/pm_c). No prover reads this header:
- * that it says the same as the library is checked by its own tests alone.
+ * What each call answers and does is proved of the library (crates/pm_c). No prover reads this header: the
+ * programs of examples/c compare its sizes and the numbers that they use.
  *
  * What the caller owes, on every call:
  *   - each pointer is valid for what it points to, aligned for its type, and never null; with a count of
@@ -14,9 +14,9 @@
  *
  * The library takes no memory, keeps nothing between calls, calls nothing and never blocks.
  *
- * A host lives in memory of yours, a pm_host. Any bytes may stand there: each call asks first whether it
- * is a host, and answers PM_NO_HOST where it isn't, as for zeros, for a host of another version and for
- * most damage. Memory that was damaged and still reads as a host is safe to use, and what it says may be
+ * A host lives in memory of yours, a pm_host. Any bytes may stand there: each call but pm_host_new, which
+ * makes one, asks first whether it is a host, and answers PM_NO_HOST where it isn't, as for zeros, for a
+ * host of another version and for most damage. Memory that was damaged and still reads as a host is safe to use, and what it says may be
  * wrong: keep it from others, or guard it with a checksum of your own. A pm_host may be copied and kept
  * over a sleep; it holds no pointer. */
 #ifndef PM_H
@@ -109,10 +109,10 @@ typedef struct {
     uint16_t word; /* with PM_DIFFERS the word that was read, otherwise 0 */
 } pm_step;
 
-/* The words that a cell may hold: the first `count` of `words`; any word where the count is 0. */
+/* The words that a cell may hold: the first `count` of `words`, at most 16; any word where the count is 0. */
 typedef struct { uint16_t count; uint16_t words[16]; } pm_words;
 
-/* What is said of a cell's word. */
+/* What is said of a cell's word: 1 where it is confirmed, otherwise 0. */
 typedef struct { uint16_t is_confirmed; uint16_t word; } pm_standing;
 
 /* The format of an output's voltages. */
@@ -159,7 +159,8 @@ uint8_t pm_host_clear(pm_host *host, uint8_t output);
 uint8_t pm_host_store(pm_host *host);
 uint8_t pm_host_restore(pm_host *host);
 
-/* What is to be sent now. It stays the same until a call below. PM_NO_HOST, and then PM_NOTHING. */
+/* What is to be sent now. It stays the same until pm_host_finished, pm_host_got, pm_host_restart or
+ * pm_host_new, and where it is PM_NOTHING until a job begins. PM_NO_HOST, and then PM_NOTHING. */
 uint8_t pm_host_sending(const pm_host *host, pm_sending *sending);
 
 /* A write was sent; `acked` isn't 0 where every byte was acknowledged. PM_NO_HOST, PM_OTHER_FRAME where no

@@ -1,6 +1,6 @@
 -- What the calls of a host answer and do, by the host's own model. Memory that holds no host, a code
 -- that is no cell's and a frame of the other kind are refused first; then the host decides.
-use Rattle.std.specs.Prelude.{◌≡◌, ℕ, ℤ, Bool, false, if◌then◌else◌, take, Option, Some, None, option_map, option_and_then, MatchOption}
+use Rattle.std.specs.Prelude.{◌≡◌, ◌≤◌, ℕ, ℤ, Bool, false, if◌then◌else◌, take, Option, Some, None, option_map, option_and_then, MatchOption}
 use Rattle.std.specs.Option.{option_map_or}
 use Rattle.pm_table.specs.declared.cell.Cell.{Cell}
 use Rattle.pm_frame.specs.declared.message.Message.{Message}
@@ -112,12 +112,16 @@ cell_number (Some s) None = no_cell
 cell_number (Some s) (Some cell) =
     if is_cell s.setup.outputs cell then accepted else host_number UnknownOutput
 
+-- what is said of a cell: 1 where its word is confirmed, otherwise 0, whatever the memory has there
 abbrev pub IsStanding : Option Summary → Option Cell → StandingImage → Type 0
-IsStanding (Some s) (Some cell) said = standing_held said ≡ standing_at s cell
+IsStanding (Some s) (Some cell) said =
+    (standing_held said ≡ standing_at s cell) × (said.is_confirmed ≤ 1)
 IsStanding _ _ said = Unit {0}
 
+-- a count of words that are there, whatever the memory has there: 0 where any word is possible
 abbrev pub IsPossible : Option Summary → Option Cell → WordsImage → Type 0
-IsPossible (Some s) (Some cell) words = words_held words ≡ possible_at s cell
+IsPossible (Some s) (Some cell) words =
+    (words_held words ≡ possible_at s cell) × (words.count ≤ 16)
 IsPossible _ _ words = Unit {0}
 
 -- 1 where a restart of the device was seen, 0 where none was

@@ -1,6 +1,6 @@
 //! A model converter on a desk.
 
-ghost use Rattle.std.specs.Prelude.{◌≡◌, ◌≢◌, ◌↔◌, ◌<◌, ◌≤◌, true, map, take, None, option_map, IfSome, IsSomeAnd};
+ghost use Rattle.std.specs.Prelude.{◌≡◌, ◌≢◌, ◌↔◌, ◌<◌, ◌≤◌, ◌⊎◌, true, map, take, None, option_map, IfSome, IsSomeAnd};
 ghost use Rattle.pm_table.specs.Cell.{cell_at, IsCell};
 ghost use Rattle.pm_device.specs.Effect.{Hearing};
 ghost use Rattle.pm_device.specs.Reply.{reply_of};
@@ -280,6 +280,7 @@ pub extern "C" fn pm_desk_commanded(desk: &Desk, output: u8, microvolts: &mut i6
     ensures none { (result ≡ 0xE5) ↔ (desk_of desk.now ≡ None) }
     ensures missing { IfSome (desk_of desk.now)
         (λ held. (result ≡ 4) ↔ (held.config.count ≤ output)) }
+    ensures number { (result ≡ 0) ⊎ (result ≡ 4) ⊎ (result ≡ 0x15) ⊎ (result ≡ 0xE5) }
     ensures refused { result ≢ 0 → microvolts.new ≡ microvolts.old }
 {
     let Ok(converter) = &Converter::new(desk.config()) else {

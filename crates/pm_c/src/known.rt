@@ -1,8 +1,8 @@
 //! What a host knows.
 
-ghost use Rattle.std.specs.Prelude.{◌≡◌, ◌≢◌};
+ghost use Rattle.std.specs.Prelude.{◌≡◌, ◌≢◌, ◌≤◌};
 ghost use Rattle.pm_table.specs.Cell.{cell_at};
-ghost use Rattle.pm_host.specs.Image.{host_of};
+ghost use Rattle.pm_host.specs.Image.{host_of, standing_held, words_held};
 ghost use Rattle.pm_c.specs.Host.{cell_number, IsStanding, IsPossible, seen_number};
 
 use crate::numbers::{ACCEPTED, NO_CELL, NO_HOST, of_host};
@@ -30,8 +30,23 @@ pub extern "C" fn pm_host_standing(
     if !host.state.has_cell(cell) {
         return of_host(HostFault::UnknownOutput);
     }
-    *standing = host.state.standing(cell);
+    *standing = flagged(host.state.standing(cell));
     ACCEPTED
+}
+
+// The same with 0 for any number that isn't 1, which damaged memory may have.
+fn flagged(standing: StandingImage) -> StandingImage
+    ensures same { standing_held result ≡ standing_held standing }
+    ensures flag { result.is_confirmed ≤ 1 }
+{
+    if standing.is_confirmed == 1 {
+        standing
+    } else {
+        StandingImage {
+            is_confirmed: 0,
+            word: 0,
+        }
+    }
 }
 
 /// The words that a cell may hold. E0h, E1h, H4.
@@ -50,8 +65,23 @@ pub extern "C" fn pm_host_possible(host: &Image, output: u8, code: u8, words: &m
     if !host.state.has_cell(cell) {
         return of_host(HostFault::UnknownOutput);
     }
-    *words = *host.state.possible(cell);
+    *words = counted(host.state.possible(cell));
     ACCEPTED
+}
+
+// The same with 0 for a count above 16, which damaged memory may have.
+fn counted(words: &WordsImage) -> WordsImage
+    ensures same { words_held result ≡ words_held words.now }
+    ensures count { result.count ≤ 16 }
+{
+    if words.count <= 16 {
+        *words
+    } else {
+        WordsImage {
+            count: 0,
+            words: [0; 16],
+        }
+    }
 }
 
 /// 1 where a restart of the device was seen since the host started, 0 where none was. E0h.

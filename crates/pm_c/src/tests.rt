@@ -215,6 +215,21 @@ fn memory_that_holds_no_host_is_refused(rt: HostRuntime) {
     is_true(&rt, !is_refused(&mut changed(11)), &"no change");
 }
 
+// What damaged memory says of output 1, that still reads as a host: a count past the words, a flag that is
+// neither, an exponent that no format has.
+#[test]
+fn damaged_memory_says_what_can_be_read(rt: HostRuntime) {
+    let mut image = host(2);
+    let state = &mut image.state;
+    state.known.possible[7].count = 0x0400;
+    state.known.standing[7].is_confirmed = 2;
+    state.formats[1].kind = 1;
+    state.formats[1].exponent = 99;
+    equal(&rt, &possible(&image, 1, 0x21), &(0, 0, 0), &1);
+    equal(&rt, &standing(&image, 1, 0x21), &(0, 0, 0), &2);
+    equal(&rt, &format(&image, 1), &(0, 0, 0), &3);
+}
+
 #[test]
 fn packets_stand_alone(rt: HostRuntime) {
     let bytes = [0xB0, 0x05, 0x04, 0x00, 0x21, 0xCD, 0x34, 0x5A];

@@ -6,7 +6,7 @@ ghost use Rattle.pm_num.specs.NearestWord.{nearest_word as spec_nearest_word};
 ghost use Rattle.pm_num.specs.Ratio.{micros};
 ghost use Rattle.pm_host.specs.Image.{format_held, host_of};
 ghost use Rattle.pm_host.specs.Summary.{format_at};
-ghost use Rattle.pm_c.specs.Voltages.{output_number, word_number, IsFar, IsFloor};
+ghost use Rattle.pm_c.specs.Voltages.{output_number, word_number, IsFar, IsFloor, IsFormat};
 
 use crate::numbers::{ACCEPTED, NO_HOST, of_host, of_number};
 use pm_host::{FormatImage, HostFault, Image, nearest_word};
@@ -20,7 +20,7 @@ const LIMIT: i128 = 1_000_000_000_000_000;
 pub extern "C" fn pm_host_format(host: &Image, output: u8, format: &mut FormatImage) -> u8
     ensures number { result ≡ output_number (host_of host.now) output }
     ensures said { result ≡ 0 → IsSomeAnd (host_of host.now)
-        (λ s. format_held format.new ≡ format_at s output) }
+        (λ s. IsFormat (format_at s output) format.new) }
     ensures refused { result ≢ 0 → format.new ≡ format.old }
 {
     if !host.is_host() {
@@ -29,8 +29,24 @@ pub extern "C" fn pm_host_format(host: &Image, output: u8, format: &mut FormatIm
     if host.state.outputs <= output {
         return of_host(HostFault::UnknownOutput);
     }
-    *format = host.state.format(output);
+    *format = kinded(host.state.format(output));
     ACCEPTED
+}
+
+// The same with kind 0 for numbers that mean no format, which damaged memory may have.
+fn kinded(format: FormatImage) -> FormatImage
+    ensures { IsFormat (format_held format) result }
+{
+    if format.format().is_some() {
+        format
+    } else {
+        FormatImage {
+            kind: 0,
+            exponent: 0,
+            m: 0,
+            b: 0,
+        }
+    }
 }
 
 /// The whole microvolts of a word, rounded down. H7 where the numbers mean no format, N5 beyond 10^15
