@@ -1,6 +1,6 @@
 -- How a run of `pmbhost` ends: its status, what went over its streams, and the line that standard error
 -- gets. This project's own choice.
-use Rattle.std.specs.Prelude.{◌≡◌, ◌⊎◌, ℕ, true, List, ◌++◌, Option, Result, Ok, Err, IsTrue, IsFalse, codes}
+use Rattle.std.specs.Prelude.{◌≡◌, ◌⊎◌, ℕ, true, List, [], ◌++◌, Option, Result, Ok, Err, IsTrue, IsFalse, codes}
 use Rattle.std.specs.List.{list_all}
 use Rattle.std.specs.Borrow.{Bor}
 use Rattle.std.specs.Io.KnownBytes.{Appends, Consumes}
@@ -13,6 +13,7 @@ use Rattle.pm_host.specs.Summary.{Summary}
 use Rattle.pm_lines.specs.Faults.{fault_words}
 use Rattle.pm_lines.specs.Streams.{AppendsFront, Held}
 use Rattle.pm_lines.specs.declared.fault.TextFault.{TextFault}
+use Rattle.pm_lines.specs.declared.fault.TextFault.TheVariants.{Memory, Write}
 use Rattle.pm_session.specs.Options.{HasTexts, pmbhost, start_fault_words, start_of, start_status, usage_status}
 use Rattle.pm_session.specs.Ports.{bytes_in, bytes_out}
 use Rattle.pm_session.specs.Talk.{after_lines, is_line, last_turn, talk, IsCut, IsOver}
@@ -75,23 +76,49 @@ ServeEnds run status (Ok s) = ((status ≡ 0) × (run.errors' ≡ run.errors) ×
 ServeEnds run status (Err fault) =
     (status ≡ start_status fault) × IsQuiet run × Refuses run (start_fault_words fault)
 
--- how it ends where the parser says something in place of options: its status, or 1 where that can't be
--- written or made; nothing is read
-abbrev pub UsageEnds : {R W E : Type 0} → Run R W E → ℕ → ErrorKind → Type 0
-UsageEnds run status kind =
-    (run.source' ≡ run.source) × ((status ≡ usage_status kind) ⊎ (status ≡ 1))
+-- memory for the command line was refused
+abbrev pub WantsMemory : {R W E : Type 0} → Run R W E → ℕ → Type 0
+WantsMemory run status = (status ≡ 1) × IsQuiet run × Refuses run (fault_words Memory)
 
--- the status where the arguments can't be had as words
+-- standard output got a text, whose words are the parser's
+abbrev pub Writes : {R W E : Type 0} → Run R W E → Type 0
+Writes run = (text : List ℕ) × Appends (run.contents run.sink.inner) (run.contents run.sink'.inner) text
+
+-- help or the version was written, or standard output failed
+abbrev pub Shows : {R W E : Type 0} → Run R W E → ℕ → Type 0
+Shows run status =
+    ((status ≡ 0) × IsFalse run.sink'.failed × (run.errors' ≡ run.errors) × Writes run)
+    ⊎ ((status ≡ 1) × IsTrue run.sink'.failed × Refuses run (fault_words Write) × Writes run)
+
+-- the parser's own text is said of bad options
+abbrev pub Misuses : {R W E : Type 0} → Run R W E → ℕ → Type 0
+Misuses run status = (status ≡ 2) × (run.sink' ≡ run.sink)
+    × (text : List ℕ) × Says run.told run.errors run.errors' text
+
+-- how it ends where the parser says something in place of options; nothing is read
+abbrev pub UsageEnds : {R W E : Type 0} → Run R W E → ℕ → ErrorKind → Type 0
+UsageEnds run status kind = (run.source' ≡ run.source)
+    × (((usage_status kind ≡ 0) × Shows run status)
+    ⊎ ((usage_status kind ≡ 2) × Misuses run status)
+    ⊎ WantsMemory run status)
+
+-- the status where the arguments can't be had as words, and what is said
 abbrev pub no_words_status : IoKind → ℕ
 no_words_status IoMemory = 1
 no_words_status _ = 2
 
+abbrev pub no_words : IoKind → List ℕ
+no_words IoMemory = fault_words Memory
+no_words _ = codes "bad arguments"
+
 -- how a run ends, by its words or why there are none: where the parser finds no fault, by the options; where
--- it does, by that fault; and for want of memory, with nothing read
+-- it does, by that fault; and for want of memory, with nothing read and nothing written
 abbrev pub RunEnds : {R W E : Type 0} → Run R W E → ℕ → Result (Bor (List (Bor Text))) IoKind → Type 0
-RunEnds run status (Err kind) = (status ≡ no_words_status kind) × IsQuiet run
+RunEnds run status (Err kind) =
+    (status ≡ no_words_status kind) × IsQuiet run × Refuses run (no_words kind)
 RunEnds run status (Ok words) =
-    ((options : Options) × HasTexts options (matches_of pmbhost (texts words.now))
+    ((fault_of pmbhost (texts words.now) ≡ []) × (options : Options)
+    × HasTexts options (matches_of pmbhost (texts words.now))
     × ServeEnds run status (start_of options))
     ⊎ ((kind : ErrorKind) × IsAmong kind (fault_of pmbhost (texts words.now)) × UsageEnds run status kind)
-    ⊎ ((run.source' ≡ run.source) × (status ≡ 1))
+    ⊎ WantsMemory run status

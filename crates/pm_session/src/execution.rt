@@ -1,9 +1,13 @@
 //! The program: its options make a host, which is then spoken to over its streams.
-ghost use Rattle.std.specs.Prelude.{◌≡◌, ◌⊎◌, ◌≤◌, IsFalse};
+ghost use Rattle.std.specs.Prelude.{◌≡◌, ◌≤◌, ℕ, List, IsFalse, not};
+ghost use Rattle.std.specs.Io.KnownBytes.{Appends};
 ghost use Rattle.std.specs.Process.{exit_status};
 ghost use Rattle.clap.specs.Words.{kind_of};
-ghost use Rattle.pm_session.specs.Execution.{Run, RunEnds, Says, ServeEnds, refusal_line};
-ghost use Rattle.pm_session.specs.Options.{start_of, usage_status};
+ghost use Rattle.pm_lines.specs.Faults.{fault_words};
+ghost use Rattle.pm_lines.specs.declared.fault.TextFault.TheVariants.{Memory};
+ghost use Rattle.pm_session.specs.Execution.{Run, RunEnds, Says, ServeEnds, Shows, UsageEnds};
+ghost use Rattle.pm_session.specs.Execution.{no_words, no_words_status, refusal_line};
+ghost use Rattle.pm_session.specs.Options.{start_of};
 
 use crate::options::Options;
 use crate::streams::Streams;
@@ -84,15 +88,11 @@ pub fn run<R: Read, W: Write, E: Write>(
 {
     let words = match words {
         Ok(words) => words,
-        Err(io::ErrorKind::OutOfMemory) => return refuse_memory(errors),
-        Err(_) => {
-            say(errors, "bad arguments");
-            return 2;
-        }
+        Err(kind) => return refuse_arguments(kind, errors),
     };
     match Options::read(alloc, words) {
         Ok(options) => serve(&options, streams, errors),
-        Err(error) => show_usage(alloc, &error, &mut streams.sink, errors),
+        Err(error) => show_usage(alloc, &error, streams, errors),
     }
 }
 
@@ -124,22 +124,29 @@ fn serve<R: Read, W: Write, E: Write>(
     };
     match converse(&mut host, streams) {
         Ok(()) => 0,
-        Err(fault) => {
-            say(errors, fault.words());
-            1
-        }
+        Err(fault) => refuse(errors, fault),
     }
 }
 
 // What the parser says in place of options: help and the version on the output, a fault on `errors`.
-fn show_usage<W: Write, E: Write>(
+fn show_usage<R: Read, W: Write, E: Write>(
     alloc: Global,
     error: &clap::Error,
-    output: &mut Sink<W>,
+    streams: &mut Streams<R, W>,
     errors: &mut Sink<E>,
 ) -> u8
     requires { IsFalse errors.old.failed }
-    ensures { (result ≡ usage_status (kind_of error.now)) ⊎ (result ≡ 1) }
+    ensures { let run : Run _ _ _ = record {
+      remaining = R.remaining;
+      contents = W.contents;
+      told = E.contents;
+      source = streams.old.source;
+      source' = streams.new.source;
+      sink = streams.old.sink;
+      sink' = streams.new.sink;
+      errors = errors.old;
+      errors' = errors.new;
+    } in UsageEnds run result (kind_of error.now) }
 {
     let Ok(text) = format!(in alloc; "{error}") else {
         return refuse_memory(errors);
@@ -148,7 +155,7 @@ fn show_usage<W: Write, E: Write>(
         ErrorKind::OutOfMemory => refuse_memory(errors),
         ErrorKind::DisplayHelp | ErrorKind::DisplayVersion => print_whole(
             text.as_bytes(),
-            output,
+            streams,
             errors,
         ),
         _ => {
@@ -159,24 +166,71 @@ fn show_usage<W: Write, E: Write>(
 }
 
 // Prints a whole text.
-fn print_whole<W: Write, E: Write>(text: &[u8], output: &mut Sink<W>, errors: &mut Sink<E>) -> u8
+fn print_whole<R: Read, W: Write, E: Write>(
+    text: &[u8],
+    streams: &mut Streams<R, W>,
+    errors: &mut Sink<E>,
+) -> u8
     requires { IsFalse errors.old.failed }
-    ensures { (result ≡ 0) ⊎ (result ≡ 1) }
+    ensures read { streams.new.source ≡ streams.old.source }
+    ensures shown { let run : Run _ _ _ = record {
+      remaining = R.remaining;
+      contents = W.contents;
+      told = E.contents;
+      source = streams.old.source;
+      source' = streams.new.source;
+      sink = streams.old.sink;
+      sink' = streams.new.sink;
+      errors = errors.old;
+      errors' = errors.new;
+    } in Shows run result }
 {
-    let is_printed = !output.failed() && output.put(text).is_ok() && output.flush().is_ok();
-    if is_printed {
+    if is_printed(text, &mut streams.sink) {
         return 0;
     }
-    say(errors, TextFault::Write.words());
-    1
+    refuse(errors, TextFault::Write)
+}
+
+// Whether a whole text was written and handed on.
+fn is_printed<W: Write>(text: &[u8], output: &mut Sink<W>) -> bool
+    ensures failed { output.new.failed ≡ not result }
+    ensures written { (bytes : List ℕ)
+        × Appends (W.contents output.old.inner) (W.contents output.new.inner) bytes }
+{
+    !output.failed() && output.put(text).is_ok() && output.flush().is_ok()
+}
+
+// Says that the arguments couldn't be had as texts, for want of memory or since they are none.
+fn refuse_arguments<E: Write>(kind: io::ErrorKind, errors: &mut Sink<E>) -> u8
+    requires { IsFalse errors.old.failed }
+    ensures status { result ≡ no_words_status kind }
+    ensures said { Says E.contents errors.old errors.new (refusal_line (no_words kind)) }
+{
+    match kind {
+        io::ErrorKind::OutOfMemory => refuse_memory(errors),
+        _ => {
+            say(errors, "bad arguments");
+            2
+        }
+    }
 }
 
 // Says that memory was refused.
 fn refuse_memory<E: Write>(errors: &mut Sink<E>) -> u8
     requires { IsFalse errors.old.failed }
-    ensures { result ≡ 1 }
+    ensures status { result ≡ 1 }
+    ensures said { Says E.contents errors.old errors.new (refusal_line (fault_words Memory)) }
 {
-    say(errors, TextFault::from(AllocError).words());
+    refuse(errors, TextFault::from(AllocError))
+}
+
+// Says the fault of a stream or of memory, and gives its status.
+fn refuse<E: Write>(errors: &mut Sink<E>, fault: TextFault) -> u8
+    requires { IsFalse errors.old.failed }
+    ensures status { result ≡ 1 }
+    ensures said { Says E.contents errors.old errors.new (refusal_line (fault_words fault)) }
+{
+    say(errors, fault.words());
     1
 }
 

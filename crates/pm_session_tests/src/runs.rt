@@ -123,3 +123,75 @@ fn each_end_has_its_status_and_its_line(rt: HostRuntime) {
         "pmbhost: bad arguments\n",
     );
 }
+
+const HELP: &str = "\
+A proved PMBus host that is spoken to in lines, for scripts that drive a bus
+
+Usage: pmbhost [OPTIONS]
+
+Options:
+      --address <HH>  The device's address, two hexadecimal digits from 08 to 77
+      --outputs <N>   How many outputs the device has, 1 to 8
+      --passes <N>    How many passes or tries a job has at most, 1 to 15
+  -h, --help          Print help
+  -V, --version       Print version
+
+Each line of standard input gets one line at once. A line says:
+  order 0 VOUT_COMMAND 34CD      write a word and read it back; order - WRITE_PROTECT 40
+  volts 0 VOUT_COMMAND 3300000   the same in microvolts, after learn
+  check 0 VOUT_COMMAND           read a setting; check - WRITE_PROTECT
+  learn 0                        read the format of an output's voltages
+  clear 0                        clear an output's latched faults
+  store                          store the outputs' settings, for a restart of the device to load
+  restore                        bring them back: then none is confirmed until it is read
+  finished ack | finished nack   the write was sent, and acknowledged or not
+  got B1 02 CD 34 B9 | got       the request was sent, and this came back, or nothing
+  sending                        say again what is to be sent
+  state 0 VOUT_COMMAND           what is known of a setting; state - WRITE_PROTECT
+  seen                           whether a restart of the device was seen
+  restart                        forget all
+An answer says:
+  send B0 05 04 00 21 CD 34 5A   send this write, then say finished
+  send B0 06 02 00 21 read 4     send this request, read 4 bytes behind the read address, say got
+  ended done | ended differs 1000 | ended unknown | ended learned
+  idle                           nothing is to be sent
+  state confirmed 34CD possible 34CD | state unknown possible 1000 34CD | state unknown possible any
+  seen yes | seen no
+  restarted
+  refused H6 TooUncertain        nothing has changed: X1 to X3, S2, S3, H3 to H7, N3 to N5
+
+  $ echo 'order 0 VOUT_COMMAND 34CD' | pmbhost --address=58 --outputs=2 --passes=2
+  send B0 05 04 00 21 CD 34 5A
+";
+
+// What the parser says of a word, in place of options; the writer fails at this call, 0 for none.
+fn said_of(alloc: Global, word: &str, fails_at: usize) -> (u8, Vec<u8>, Vec<u8>) {
+    let words = ["pmbhost", word];
+    ran(alloc, Ok(&words), fails_at)
+}
+
+#[test]
+fn the_parser_speaks_for_itself(rt: HostRuntime) {
+    expect_run(&rt, said_of(rt.alloc(), "--help", 0), 0, HELP, "");
+    expect_run(
+        &rt,
+        said_of(rt.alloc(), "--version", 0),
+        0,
+        "pmbhost 0.1.0\n",
+        "",
+    );
+    expect_run(
+        &rt,
+        said_of(rt.alloc(), "--version", 2),
+        1,
+        "pmbhost",
+        "pmbhost: X5 Write\n",
+    );
+    expect_run(
+        &rt,
+        said_of(rt.alloc(), "--nope", 0),
+        2,
+        "",
+        "error: unexpected argument '--nope' found\n\nUsage: pmbhost [OPTIONS]\n\nFor more information, try '--help'.\n",
+    );
+}

@@ -1,22 +1,20 @@
-use Rattle.std.proofs.Common.{◌≡◌, ◌⊎◌, ℕ, refl, inl, inr, subst, ⊎_elim}
-use Rattle.clap.specs.Walk.{texts}
+use Rattle.std.proofs.Common.{◌≡◌, ◌⊎◌, inl, inr}
 use Rattle.clap.specs.declared.error.kind.ErrorKind.{ErrorKind}
 use Rattle.clap.specs.declared.error.kind.ErrorKind.TheVariants.{OutOfMemory}
 use Rattle.pm_session.specs.Options.{usage_status}
 use Rattle.pm_session.proofs.execution.run.Goals as goal
 
--- the status for want of memory is 1
-one : (status : ℕ) (kind : ErrorKind) → kind ≡ OutOfMemory → (status ≡ usage_status kind) ⊎ (status ≡ 1) → status ≡ 1
-one status kind memory which =
-    let by : (status ≡ 1) ⊎ (status ≡ 1) = subst (λ k. (status ≡ usage_status k) ⊎ (status ≡ 1)) memory which in
-    ⊎_elim (λ is. is) (λ is. is) by
+-- of the parser's ends, that of its own want of memory is that of the program's
+memory_ends : {Shown Misused Wanted : Type 0} (kind : ErrorKind) → kind ≡ OutOfMemory
+    → ((usage_status kind ≡ 0) × Shown) ⊎ ((usage_status kind ≡ 2) × Misused) ⊎ Wanted → Wanted
+memory_ends kind memory (inl (zero, _)) = absurd (cc)
+memory_ends kind memory (inr (inl (two, _))) = absurd (cc)
+memory_ends kind memory (inr (inr wants)) = wants
 
 pub returns-in-Err-read : goal.returns-in-Err-read
 returns-in-Err-read g c =
-    let words = texts c.in-Ok.words.now in
-    let status = c.show_usage.result in
-    let which = c.show_usage.ensures in
+    let (read, ends) = c.show_usage.ensures in
     rw c.in-Ok.is (elim c.in-Err-read.ensures.kinds [
-      | inl memory ↦ inr (inr (refl, one status _ memory which))
-      | inr among ↦ inr (inl (_, among, (refl, which)))
+      | inl memory ↦ inr (inr (memory_ends _ memory ends))
+      | inr among ↦ inr (inl (_, among, c.show_usage.ensures))
     ])
