@@ -9,8 +9,8 @@
 
 BUS is the number of /dev/i2c-BUS, ADDRESS two hexadecimal digits. A JOB is what is said to pmbhost: `order O NAME HEX`,
 `volts O NAME MICROVOLTS`, `check O NAME`, `learn O`, `clear O`, `store`, `restore`; `state O NAME` and `seen` tell what is
-known. One host carries all of them out, up to the first that doesn't end as `done` or `learned`, and the last answer to
-each is printed.
+known. One host carries all of them out, and the last answer to each is printed. After the first that doesn't end as `done`
+or `learned` no further one is begun, and only questions are answered.
 
     --outputs=N     how many outputs the device has, 8 where it isn't given
     --passes=N      how often a job is tried at most, 3 where it isn't given
@@ -32,6 +32,7 @@ from program import answer_help  # noqa: E402
 from session import NoAnswer, Session  # noqa: E402
 
 ENDED_WELL = ("ended done", "ended learned", "state ", "seen ", "idle", "restarted")
+QUESTIONS = ("state", "seen")
 SEND = re.compile(r"send ((?:[0-9A-F]{2} ?)+?)(?: read (\d+))?")
 
 
@@ -116,11 +117,11 @@ def run(number, address, options, jobs):
     host = Session(address, options["outputs"], options["passes"])
     is_well = True
     for job in jobs:
+        if not is_well and job.split()[0] not in QUESTIONS:
+            continue
         answer = carry_out(host, bus, job)
         print(answer, flush=True)
-        is_well = answer.startswith(ENDED_WELL)
-        if not is_well:
-            break
+        is_well = is_well and answer.startswith(ENDED_WELL)
     host.close()
     return 0 if is_well else 1
 

@@ -30,7 +30,7 @@ HEX = re.compile(r"0x[0-9A-F]{2}(?![0-9A-Fa-f_])")
 # Bytes that are often no code: a value of WRITE_PROTECT or of a side, a space, a digit, the number of N5 for C.
 OTHERS = {"0x00", "0x01", "0x10", "0x15", "0x20", "0x30"}
 # A file of numbers that are no codes.
-NUMBERS = ("crates/pm_frame/src/packet_error_code.rt", "crates/pm_trace/src/hex_digit.rt")
+NUMBERS = ("crates/pm_frame/src/packet_error_code.rt", "crates/pm_lines/src/hex_digit.rt")
 
 
 def sources(crates, folders):

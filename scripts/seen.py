@@ -1,5 +1,5 @@
 """What a picture of a scenario's run shows, row by row: of the program's reports, and of the plain model the words
-that the host thinks possible, which no report has, and what came of each event on the bus."""
+that the host thinks possible, which a report of version 1 lacks, and what came of each event on the bus."""
 from fractions import Fraction
 
 from lived import lived

@@ -74,8 +74,11 @@ ROWS = [
     (ORDER, "false", "ended done", 0, "34CD"),
     # every acknowledgement is false, and the last read shows the old word
     (f"--passes=2 {ORDER}", "false ok false ok", "ended differs 1000", 1, "1000"),
-    # the answers are lost: the host doesn't claim to know
-    (f"--passes=2 {ORDER} + seen", "ok lost ok lost", "ended unknown", 1, "34CD"),
+    # the answers are lost: the host doesn't claim to know, and what it knows can be asked, but nothing more is begun
+    (f"--passes=2 {ORDER} + seen + clear 0 + state 0 VOUT_COMMAND", "ok lost ok lost",
+     "ended unknown\nseen no\nstate unknown possible any", 1, "34CD"),
+    (f"--passes=2 check 0 VOUT_COMMAND + {ORDER} + state 0 VOUT_COMMAND", "ok ok lost ok lost",
+     "ended done\nended unknown\nstate unknown possible 1000 34CD", 1, "34CD"),
     # damaged answers are none
     (f"--passes=2 check 0 VOUT_COMMAND + {ORDER}", "damaged damaged", "ended unknown", 1, "1000"),
     (f"{ORDER}", "ok damaged ok ok", "ended done", 0, "34CD"),

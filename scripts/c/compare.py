@@ -48,6 +48,8 @@ class Format(ctypes.Structure):
 
 def library(archive, folder):
     """The archive as a library that is loaded here."""
+    if not os.path.exists(archive):
+        sys.exit(f"no archive at {archive}: build it by (cd crates/pm_c && rt lib --backend rattle), or give --archive")
     shared = os.path.join(folder, "pm_c.so")
     subprocess.run(["cc", "-shared", "-Wl,--whole-archive", archive, "-Wl,--no-whole-archive", "-o", shared], check=True)
     loaded = ctypes.CDLL(shared)

@@ -217,7 +217,7 @@ impl Host {
     }
 
     /// What to do now: nothing, to send a write, or to send a request and read its answer. It stays the
-    /// same until `told` or `restart` is called.
+    /// same until `told` or `restart` is called or, where no job is open, one begins.
     pub fn turn(&self) -> Turn<'_>
         ensures { Shows self.now result }
     {
@@ -240,7 +240,7 @@ impl Host {
 
     /// The frame to put on the wire, address first: a whole packet for a write, the request before the
     /// repeated start for a read. `None` exactly where no job is open. It stays the same until `told`
-    /// or `restart` is called.
+    /// or `restart` is called or, where no job is open, one begins.
     pub fn sending(&self) -> Option<&Frame>
         ensures { MatchOption (sending_in self.now) (IsNone result)
             (λ message. IsSomeAnd result
