@@ -122,8 +122,8 @@ A word is 34CD, without 0x or h. K is in millionths: 3.3 V is 3300000; a negativ
   $ pmb number --format=ulinear16:-12 --micro=3300000
   word 34CD value 13517/4096 micro 3300048
 
-Status 2 and a line on standard error: give one of --word and --micro, bad format, bad word, bad micro.
-Status 1 and such a line: X5 Write, X6 Memory, or
+Status 2 and a line on standard error: give one of --word and --micro, bad format, bad word,
+bad micro. Status 1 and such a line: X5 Write, X6 Memory, or
 
   N1 ZeroSlope       m of DIRECT is 0
   N2 ExponentRange   R of DIRECT is beyond 12 in size
