@@ -24,6 +24,7 @@ class Watch:
         self.settings, self.store, self.pending = dict(self.start), outputs_of(self.start), None
         self.events, self.at, self.last_restart, self.host_start = [], [], -1, -1
         self.frames, self.job_at, self.was_allowed, self.reached = 0, None, False, set()
+        self.learned = set()
 
     def step(self, event):
         """The cause why the event isn't taken, if there is one, and the promises that it breaks."""
@@ -40,7 +41,7 @@ class Watch:
         if event == ("restart", "device"):
             self.last_restart = place
         if event == ("restart", "host"):
-            self.host_start, self.pending = place, None
+            self.host_start, self.pending, self.learned = place, None, set()
         return None, [*self.of_jobs(event, added, protect), *self.of_settings(event, sent),
                       *self.of_voltages(), *self.of_knowledge(known)]
 
@@ -52,6 +53,10 @@ class Watch:
             if added[0][0] == "order":
                 self.own[added[0][1]].add(added[0][2])
                 self.was_allowed = protect == 0 or added[0][1][1] in ALLOWED[protect]
+                if event[0] == "volts":
+                    self.reached.add("an order in microvolts")
+                    if not is_nearest(form_of(self.world, added[0][1][0]), added[0][2], event[2]):
+                        yield "an order in microvolts is that of a word that none is nearer than"
         elif event[0] in ("finish", "exchange"):
             self.frames += 1
         if self.frames + (host.sending() is not None) > 2 * self.passes:
@@ -65,10 +70,12 @@ class Watch:
             _, cell, word = self.pending
             if (host.job(), self.frames, host.standing(cell), self.world.device.cells[cell]) != ("done", 2, word, word):
                 yield "an undisturbed allowed order ends confirmed and held after one write and one read"
+        if host.job() == "learned" and self.pending and self.pending[0] == "learn":
+            self.learned.add(self.pending[1])
         for output in self.world.device.outputs:
             form = host.format(output)
-            if form and form != form_of(self.world, output):
-                yield "a format that was learned is the converter's"
+            if bool(form) != (output in self.learned) or form and form != form_of(self.world, output):
+                yield "a format that was learned is held, and is the converter's"
 
     def is_undisturbed(self):
         """The last job is an order, heard whole at least once, and now read back with nothing lost."""
@@ -166,6 +173,16 @@ def form_of(world, output):
     mode = world.device.setup["outputs"][output][0]
     coefficients = world.device.setup["coefficients"]
     return ("direct", *coefficients) if mode & 0x40 else ("ulinear16", (mode ^ 0x10) - 0x10)
+
+
+def is_nearest(form, word, micro):
+    """No word beside this one has a value nearer to it: the values are evenly spaced, by the word as a number."""
+    number, least, most = word, 0, 0xFFFF
+    if form[0] == "direct":
+        number, least, most = (word ^ 0x8000) - 0x8000, -0x8000, 0x7FFF
+    far = [abs(Fraction(*value_of(form, it & 0xFFFF)) - Fraction(micro, 10**6))
+           for it in (number, number - 1, number + 1) if least <= it <= most]
+    return far[0] == min(far)
 
 
 def broken_promises(text):
