@@ -7,10 +7,10 @@ use Rattle.pm_c.specs.declared.desk.OutputWords.{OutputWords}
 use Rattle.pm_c.specs.Desk.{no_output, HasWords, HaveSameModes}
 
 -- one more output has its words
-pub kept-more : {words : Words} → (xs : List OutputWords) (n : ℕ) (x : OutputWords) → n < length xs
+pub kept-more : (words : Words) (xs : List OutputWords) (n : ℕ) (x : OutputWords) → n < length xs
     → ((k : ℕ) → k < n → HasWords (get_or xs k no_output) words k) → HasWords x words n
     → (k : ℕ) → k < n + 1 → HasWords (get_or (set xs n x) k no_output) words k
-kept-more {words} xs n x small before here k h =
+kept-more words xs n x small before here k h =
     elim (cases_eq k n) [
       | inl same ↦ rw same (rw (get_or-set_same xs n x no_output small) here)
       | inr apart ↦ rw (get_or-set_other xs n k x no_output apart) (before k (omega (arith, h, apart)))

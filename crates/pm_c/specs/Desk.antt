@@ -1,11 +1,11 @@
 -- A converter on a desk: its configuration and the words that its cells hold now, as plain numbers. At
 -- each call a converter starts with these words, which its store then has too: it keeps no PAGE, no
 -- readings, no latched status and no store of other words.
-use Rattle.std.specs.Prelude.{◌≡◌, ℕ, if◌then◌else◌, ◌==◌, ◌<◌, slice_index_or, List, [], map, take, Option, Some, None, is_none}
+use Rattle.std.specs.Prelude.{◌≡◌, ℕ, if◌then◌else◌, ◌==◌, ◌<◌, slice_index, slice_index_or, List, [], map, take, Option, Some, None, is_none}
 use Rattle.std.specs.Option.{option_map_or}
 use Rattle.pm_table.specs.declared.cell.Cell.{Cell}
 use Rattle.pm_table.specs.declared.cell.Cell.TheVariants.{Out, Protect}
-use Rattle.pm_table.specs.declared.cell.Reg.TheVariants.{Operation, VoutCommand, VoutMax, MarginHigh, MarginLow, VoutMin}
+use Rattle.pm_table.specs.Cell.{register_number, registers}
 use Rattle.pm_device.specs.declared.config.Config.{Config}
 use Rattle.pm_device.specs.declared.config.OutputStart.{OutputStart}
 use Rattle.pm_device.specs.declared.fault.DeviceFault.{DeviceFault}
@@ -17,7 +17,7 @@ use Rattle.pm_device.specs.declared.heard.Ending.TheVariants.{Stop, Restart}
 use Rattle.pm_device.specs.Held.{Held, value_for}
 use Rattle.pm_device.specs.Effect.{Event}
 use Rattle.pm_device.specs.History.{next, start_of}
-use Rattle.pm_device.specs.Start.{config_fault}
+use Rattle.pm_device.specs.Start.{config_fault, start_of as start_with}
 use Rattle.pm_host.specs.Cells.{is_cell}
 use Rattle.pm_host.specs.declared.fault.HostFault.TheVariants.{UnknownOutput}
 use Rattle.pm_model.specs.Commanded.{commanded}
@@ -30,15 +30,8 @@ use Rattle.pm_c.specs.Numbers.{accepted, no_cell, no_converter, host_number}
 
 -- an output's mode and words
 abbrev pub output_start : OutputWords → OutputStart
-output_start words = record {
-  mode = words.mode;
-  operation = words.operation;
-  command = words.command;
-  max = words.max;
-  high = words.high;
-  low = words.low;
-  min = words.min;
-}
+output_start kept =
+    start_with kept.mode (λ register. slice_index kept.words (register_number register))
 
 -- the configuration that it starts with at a call: the words as they are now
 abbrev pub desk_config : Desk → Config
@@ -105,16 +98,12 @@ commanded_now held output = commanded (value_for held.config output) held.words 
 
 -- nothing, where no output is
 abbrev pub no_output : OutputWords
-no_output = record { mode = 0; unused = 0; operation = 0; command = 0; max = 0; high = 0; low = 0; min = 0 }
+no_output = record { mode = 0; unused = 0; words = [] }
 
--- these are the words of an output's registers
-pub record HasWords (kept : OutputWords) (words : Words) (output : ℕ) : Type 0 where
-  pub operation : kept.operation ≡ word_at words (Out output Operation)
-  pub command : kept.command ≡ word_at words (Out output VoutCommand)
-  pub max : kept.max ≡ word_at words (Out output VoutMax)
-  pub high : kept.high ≡ word_at words (Out output MarginHigh)
-  pub low : kept.low ≡ word_at words (Out output MarginLow)
-  pub min : kept.min ≡ word_at words (Out output VoutMin)
+-- these are the words of an output's registers, in their order
+abbrev pub HasWords : OutputWords → Words → ℕ → Type 0
+HasWords kept words output =
+    kept.words ≡ map (λ register. word_at words (Out output register)) registers
 
 -- so are those of each output
 abbrev pub AreKept : List OutputWords → Held → Type 0

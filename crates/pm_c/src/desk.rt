@@ -14,6 +14,7 @@ use crate::sending::copy_frame;
 use crate::voltages::put_floor;
 use pm_device::{Config, Converter, DeviceFault, Ending, Heard, OutputStart};
 use pm_table::{Cell, Code, Coefficients, Reg, cell_of};
+use std::array::from_fn;
 use std::mem::size_of;
 
 /// An output's VOUT_MODE and the words of its registers.
@@ -24,18 +25,8 @@ pub struct OutputWords {
     pub mode: u8,
     /// No meaning.
     pub unused: u8,
-    /// OPERATION, one byte.
-    pub operation: u16,
-    /// VOUT_COMMAND.
-    pub command: u16,
-    /// VOUT_MAX.
-    pub max: u16,
-    /// VOUT_MARGIN_HIGH.
-    pub high: u16,
-    /// VOUT_MARGIN_LOW.
-    pub low: u16,
-    /// VOUT_MIN.
-    pub min: u16,
+    /// The words, in the order of `Reg::ALL`.
+    pub words: [u16; Reg::COUNT],
 }
 
 /// A converter: what it was made with, but for the words, which are those that its cells hold now.
@@ -77,15 +68,7 @@ impl OutputWords {
     fn start(&self) -> OutputStart
         ensures { result ≡ output_start self.now }
     {
-        OutputStart {
-            mode: self.mode,
-            operation: self.operation,
-            command: self.command,
-            max: self.max,
-            high: self.high,
-            low: self.low,
-            min: self.min,
-        }
+        OutputStart::of(self.mode, self.words)
     }
 }
 
@@ -145,12 +128,7 @@ fn output_words(converter: &Converter, output: u8, mode: u8) -> OutputWords
     OutputWords {
         mode,
         unused: 0,
-        operation: converter.word(Cell::Out(output, Reg::Operation)),
-        command: converter.word(Cell::Out(output, Reg::VoutCommand)),
-        max: converter.word(Cell::Out(output, Reg::VoutMax)),
-        high: converter.word(Cell::Out(output, Reg::MarginHigh)),
-        low: converter.word(Cell::Out(output, Reg::MarginLow)),
-        min: converter.word(Cell::Out(output, Reg::VoutMin)),
+        words: from_fn(|place| converter.word(Cell::Out(output, Reg::ALL[place]))),
     }
 }
 

@@ -17,12 +17,7 @@ use pm_host::{FormatImage, Image, WordsImage};
 const OUTPUT: OutputWords = OutputWords {
     mode: 0x14,
     unused: 0,
-    operation: 0x80,
-    command: 0x1000,
-    max: 0x4000,
-    high: 0x1100,
-    low: 0x0F00,
-    min: 0x0000,
+    words: [0x80, 0x1000, 0x4000, 0x1100, 0x0F00, 0x0000],
 };
 
 const DESK: Desk = Desk {

@@ -1,12 +1,7 @@
 use Rattle.std.proofs.Common.{◌≡◌, ◌<◌, get_or, length, sym, ◌∙◌, rules}
 use Rattle.std.proofs.lemmas.List.{same_lists, length-map, get_or-map}
-use Rattle.pm_c.specs.declared.desk.OutputWords.{OutputWords}
-use Rattle.pm_c.specs.Desk.{output_start}
+use Rattle.pm_c.specs.Desk.{no_output, output_start}
 use Rattle.pm_c.proofs.desk.starts_of.Goals as goal
-
--- an output all of whose numbers are 0
-blank : OutputWords
-blank = record { mode = 0; unused = 0; operation = 0; command = 0; max = 0; high = 0; low = 0; min = 0 }
 
 pub returns : goal.returns
 returns c =
@@ -16,6 +11,6 @@ returns c =
     same_lists _ _ (items.long ∙ sym (length-map words output_start ∙ eight)) (λ k d h.
     let small : k < 8 = let l = items.long in search rules in
     let there : k < length words = search rules in
-    let each = items.at k blank d small in
-    let here : get_or c.map.result k d ≡ output_start (get_or words k blank) = search rules in
-    here ∙ sym (get_or-map output_start words k blank d there))
+    let each = items.at k no_output d small in
+    let here : get_or c.map.result k d ≡ output_start (get_or words k no_output) = search rules in
+    here ∙ sym (get_or-map output_start words k no_output d there))

@@ -10,7 +10,7 @@ loop-output-preserved c =
     let few : n < 8 = search rules in
     let small : n < length c.loop-output.words = rw long few in
     rw c.from-in-loop-output.ensures (record {
-      kept = kept-more c.loop-output.words n c.output_words.result small
+      kept = kept-more _ c.loop-output.words n c.output_words.result small
           c.loop-output.invariant.kept c.output_words.ensures.words;
       long = length-set c.loop-output.words n c.output_words.result ∙ long;
       modes = modes-more c.args.words.now c.loop-output.words n c.output_words.result small
