@@ -1,3 +1,4 @@
+-- Spares the search: it finds some of these too, in 37 seconds.
 use Rattle.std.proofs.Common.{◌≡◌, ◌∙◌, ◌<◌, ◌+◌, List, [], Ok, Err, ap, ap₂, length, rules, sym}
 use Rattle.pm_text.specs.declared.scenario.fault.ScenarioFault.TheVariants.{BadHex}
 use Rattle.pm_session.specs.declared.ask.Ask.TheVariants.{Got}

@@ -1,3 +1,4 @@
+-- Spares the search: it finds some of these too, in 8 seconds.
 use Rattle.std.proofs.Common.{◌≡◌, ◌∙◌, ap, codes, refl, subst, true, sym, unwrap_or, [], List}
 use Rattle.clap.specs.Walk.{texts}
 use Rattle.clap.specs.Words.{App, HasKind, HasMatchesOf, Row, Text, app_of, fault_of, first_of, is_simple_and_free}
