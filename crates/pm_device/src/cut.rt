@@ -2,7 +2,7 @@
 
 ghost use Rattle.std.specs.Prelude.{◌≡◌, ◌<◌, ◌≤◌, ◌||◌, ℕ, length};
 ghost use Rattle.pm_device.specs.Start.{AreFormats};
-ghost use Rattle.pm_device.specs.Status.{is_output_cut as spec_is_over, cut_at};
+ghost use Rattle.pm_device.specs.Status.{is_output_cut as spec_is_output_cut, cut_at};
 ghost use Rattle.pm_device.specs.History.{each_output};
 
 use crate::config::Config;
@@ -19,7 +19,7 @@ pub(crate) fn is_output_cut(
     requires shapes { AreFormats config.now formats.now.each }
     requires count { settings.now.count ≡ config.now.count }
     requires few { config.now.count ≤ 8 }
-    ensures { result ≡ spec_is_over config.now settings.now.words output }
+    ensures { result ≡ spec_is_output_cut config.now settings.now.words output }
 {
     output < usize::from(config.count) && settings.is_cut(formats, output as u8)
 }
@@ -29,7 +29,7 @@ pub(crate) fn each_cut(config: &Config, formats: &Formats, settings: &Plain) -> 
     requires shapes { AreFormats config.now formats.now.each }
     requires count { settings.now.count ≡ config.now.count }
     requires few { config.now.count ≤ 8 }
-    ensures { result ≡ each_output (spec_is_over config.now settings.now.words) }
+    ensures { result ≡ each_output (spec_is_output_cut config.now settings.now.words) }
 {
     place_by_place(config, formats, settings)
 }
@@ -46,7 +46,7 @@ pub(crate) fn latch_each(
     requires count { settings.now.count ≡ config.now.count }
     requires few { config.now.count ≤ 8 }
     ensures { result ≡ each_output (λ output.
-        cut_at cut output || spec_is_over config.now settings.now.words output) }
+        cut_at cut output || spec_is_output_cut config.now settings.now.words output) }
 {
     latch_places(cut, config, formats, settings)
 }
@@ -59,7 +59,7 @@ fn latch_places(cut: [bool; 8], config: &Config, formats: &Formats, settings: &P
     ensures long { length result ≡ 8 }
     ensures each { (output : ℕ) → output < 8 →
         cut_at result output
-        ≡ (cut_at cut output || spec_is_over config.now settings.now.words output) }
+        ≡ (cut_at cut output || spec_is_output_cut config.now settings.now.words output) }
 {
     std::array::from_fn(|output| is_latched(&cut, config, formats, settings, output))
 }
@@ -77,7 +77,7 @@ fn is_latched(
     requires count { settings.now.count ≡ config.now.count }
     requires few { config.now.count ≤ 8 }
     ensures { result
-        ≡ (cut_at cut.now output || spec_is_over config.now settings.now.words output) }
+        ≡ (cut_at cut.now output || spec_is_output_cut config.now settings.now.words output) }
 {
     cut[output] || is_output_cut(config, formats, settings, output)
 }
@@ -89,7 +89,7 @@ fn place_by_place(config: &Config, formats: &Formats, settings: &Plain) -> [bool
     requires few { config.now.count ≤ 8 }
     ensures long { length result ≡ 8 }
     ensures each { (output : ℕ) → output < 8 →
-        cut_at result output ≡ spec_is_over config.now settings.now.words output }
+        cut_at result output ≡ spec_is_output_cut config.now settings.now.words output }
 {
     std::array::from_fn(|output| is_output_cut(config, formats, settings, output))
 }

@@ -1,7 +1,22 @@
 //! Scenarios, and the names of all texts that the program reads and writes. A scenario is a text that
 //! says what both ends of a bus are made from, and what happens between them, event by event. It is
-//! read (`read_scenario`), its events happen, and a report says what they come to (`render_report`);
-//! `replay` does all three, from a reader to a writer.
+//! read ([`read_scenario`]), its events happen, and a report says what they come to ([`render_report`]);
+//! [`replay`] does all three, from a reader to a writer. By its parts, for a text of four events:
+//!
+//! ```
+//! fn report_by_parts(alloc: Global, text: &str) -> Result<String, TextFault> {
+//!     let scenario = read_scenario(alloc, text.as_bytes())?; // X1, X2: its first faulty line
+//!     let events = scenario.events.as_slice();
+//!     let (world, stop) = World::run(scenario.config, scenario.passes, events)?; // X7: no world is made
+//!     let run = Ran {
+//!         version: scenario.version,
+//!         world,
+//!         taken: 4, // where none stopped it
+//!         stop,
+//!     };
+//!     render_report(alloc, &run)
+//! }
+//! ```
 //!
 //! Traces and streams are told in crates of their own; their types and calls are named here too, so
 //! that a caller needs this crate alone. What a world does is not here.

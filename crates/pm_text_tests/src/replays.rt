@@ -296,18 +296,19 @@ fn a_run_made_by_hand_is_reported(rt: HostRuntime) -> Result<(), Fail> {
     is_told(&rt, 3, Some(nothing), "stopped 7 S2 NothingSent")
 }
 
-// The report of a scenario of four events, by the parts of a replay.
-fn report_by_parts(alloc: Global, text: &str) -> Result<String, Fail> {
-    let scenario = read_scenario(alloc, text.as_bytes())?;
+// The report of a scenario of four events, by the parts of a replay: the example of the root of `pm_text`,
+// word for word.
+fn report_by_parts(alloc: Global, text: &str) -> Result<String, TextFault> {
+    let scenario = read_scenario(alloc, text.as_bytes())?; // X1, X2: its first faulty line
     let events = scenario.events.as_slice();
-    let (world, stop) = World::run(scenario.config, scenario.passes, events)?;
+    let (world, stop) = World::run(scenario.config, scenario.passes, events)?; // X7: no world is made
     let run = Ran {
         version: scenario.version,
         world,
-        taken: 4,
+        taken: 4, // where none stopped it
         stop,
     };
-    Ok(render_report(alloc, &run)?)
+    render_report(alloc, &run)
 }
 
 #[test]

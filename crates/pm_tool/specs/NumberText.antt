@@ -133,3 +133,8 @@ IsOfNumber (fault.Text text.Write) = ⊤
 IsOfNumber (fault.Text text.Memory) = ⊤
 IsOfNumber (fault.Text _) = ⊥
 IsOfNumber _ = ⊤
+
+-- of a format that can be, a question has one text at most
+abbrev pub NumberHasOneText : Type 0
+NumberHasOneText = (asked : Question) → IsFormat asked.format → (a b : List ℕ) →
+    IsNumberText (Ok asked) a → IsNumberText (Ok asked) b → a ≡ b

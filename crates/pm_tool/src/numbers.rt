@@ -1,12 +1,11 @@
 //! One word of a number format, as a line of text.
-ghost use Rattle.std.specs.Prelude.{◌≡◌, ◌≢◌, ◌↔◌, ℕ, List, Err, IfErr, IfOk, IsErrOf, IsFalse, Ok};
+ghost use Rattle.std.specs.Prelude.{◌≡◌, ◌≢◌, ◌↔◌, ℕ, List, Err, IfErr, IfOk, IsErrOf, IsFalse};
 ghost use Rattle.std.specs.Prelude.{IsTrue, OnOk, string_bytes};
 ghost use Rattle.std.specs.Io.KnownBytes.{Appends};
 ghost use Rattle.pm_num.specs.declared.fault.NumFault.{NumFault};
 ghost use Rattle.pm_tool.specs.declared.numbers.fault.NumberFault.{NumberFault};
-ghost use Rattle.pm_tool.specs.declared.numbers.question.Question.{Question};
-ghost use Rattle.pm_tool.specs.NumberText.{IsAnswer, IsCommandLineFault, IsFormat};
-ghost use Rattle.pm_tool.specs.NumberText.{IsNumberText, IsOfNumber, Refuses, RefusesNumber};
+ghost use Rattle.pm_tool.specs.NumberText.{IsAnswer, IsCommandLineFault};
+ghost use Rattle.pm_tool.specs.NumberText.{IsNumberText, IsOfNumber, NumberHasOneText, Refuses, RefusesNumber};
 ghost use Rattle.pm_tool.specs.NumberText.{rank_in, value_in};
 ghost use Rattle.pm_tool.specs.Question.{HasExponent, asked_by};
 ghost use Rattle.pm_lines.specs.Streams.{AppendsFront};
@@ -95,8 +94,7 @@ fn line_asked(
 /// What `number` writes is a function of its three texts: of a format that can be, a question has
 /// one text at most.
 pub fn number_has_one_text()
-    ensures { (asked : Question) → IsFormat asked.format → (a b : List ℕ)
-        → IsNumberText (Ok asked) a → IsNumberText (Ok asked) b → a ≡ b }
+    ensures { NumberHasOneText }
 {}
 
 /// The answer to a question. Faults come in this order: N1 or N2, then N5, then N3 or N4.

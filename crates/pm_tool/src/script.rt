@@ -189,6 +189,6 @@ fn line_at(converter: &Converter, output: u8) -> [u8; 27]
     requires { output < converter.now.config.count }
     ensures { result ≡ output_at converter.now output }
 {
-    let _count = converter.count();
+    let _count = converter.count(); // hands the prover that there are eight outputs at most
     output_line(output, converter.word(Cell::Out(output, Reg::VoutCommand)))
 }

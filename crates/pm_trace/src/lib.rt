@@ -1,9 +1,17 @@
 //! Traces of captured bytes: what their lines say of the packets that went over the bus, and a
 //! streaming decoder that is fed the bytes in any pieces.
 //!
-//! A line is the write part of a packet in hexadecimal, and optionally `/` and the read part. The
-//! decoder keeps no line as text, and takes memory for the counts of codes alone; `decode` runs it
-//! from a reader to a writer.
+//! A line is the write part of a packet in hexadecimal, and optionally `/` and the read part. A
+//! [`Decoder`] keeps no line as text, and takes memory for the counts of codes alone; [`decode`] runs
+//! it from a reader to a writer. A line by itself, `B0 05 04 00 21 CD 34 5A` of number 1, says
+//! `1 58 page 0 VOUT_COMMAND write 34CD`:
+//!
+//! ```
+//! fn rendered(alloc: Global, line: &str, number: u64) -> Result<String, TextFault> {
+//!     let parts = read_trace_line(alloc, line.as_bytes())?;
+//!     render_line(alloc, number, &parts)
+//! }
+//! ```
 #![tactic(auto)]
 
 mod byte_list;

@@ -53,7 +53,7 @@ fn a_trace_is_written_line_by_line(rt: HostRuntime) {
     }
 }
 
-// What a line says by itself, with this number.
+// What a line says by itself, with this number: the example of the root of `pm_trace`, word for word.
 fn rendered(alloc: Global, line: &str, number: u64) -> Result<String, TextFault> {
     let parts = read_trace_line(alloc, line.as_bytes())?;
     render_line(alloc, number, &parts)
