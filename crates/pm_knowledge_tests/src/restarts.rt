@@ -4,7 +4,7 @@
 ghost use Rattle.std.specs.Prelude.{◌≡◌, ◌<◌};
 
 use crate::checks::{equal, is_true};
-use crate::watch::{Watch, are_ordered, happens};
+use crate::watch::{Watch, are_ordered, happens, may_be};
 use pm_device::Ending;
 use pm_device_tests::{CELLS, FIRST, SECOND, START};
 use pm_frame::Frame;
@@ -15,17 +15,10 @@ use pm_tests::{ACKED, CHECK, LOST, Look, NOT_ACKED, ORDER, READ, READ_LOST, WHOL
 use pm_world::{Arrival, Event, SetupFault, World};
 use std::process::Abort;
 
-// Whether the host says that the cell may hold the word.
-fn may_be(world: &World, cell: Cell, word: u16) -> bool {
-    match cell {
-        Cell::Out(output, _) if output >= world.device().count() => false,
-        _ => world.host().possible(cell).allows(word),
-    }
-}
-
 // The settings are those of the machine. Where the converter didn't restart since the last good
 // answer, a confirmed word is held, and the word that is held is possible. A restart is seen where
-// the converter restarted since the host's start. Of cells that were never read nothing is said.
+// the converter restarted since the host's start, and a word that wasn't possible is answered where
+// it did since a good answer for that cell. Of cells that were never read nothing is said.
 fn agrees(rt: &impl Abort, world: &World, watch: &Watch, at: usize) {
     are_ordered(rt, world, &watch.machine, at);
     let [first, second] = watch.since_answer;
@@ -38,6 +31,7 @@ fn agrees(rt: &impl Abort, world: &World, watch: &Watch, at: usize) {
     }
     let seen = world.sees_restart();
     is_true(rt, watch.since_start || !seen, &at);
+    is_true(rt, watch.is_explained, &at);
 }
 
 // Where the converter didn't restart since the last good answer, what is said of a cell is true.

@@ -5,7 +5,7 @@ ghost use Rattle.std.specs.Prelude.{◌≡◌, ◌<◌};
 
 use crate::checks::equal;
 use pm_device::{Ending, Heard};
-use pm_device_tests::CELLS;
+use pm_device_tests::{CELLS, FIRST, SECOND};
 use pm_model::{OrderMachine, PendingJob};
 use pm_table::Cell;
 use pm_tests::Look;
@@ -13,12 +13,16 @@ use pm_world::{Arrival, Back, Event, World};
 use std::process::Abort;
 
 /// What is seen from outside: the settings and the store under jobs alone, whether the converter restarted since
-/// the last good answer for VOUT_COMMAND of either output, and whether it did since the host's start.
+/// the last good answer for VOUT_COMMAND of either output, and whether it did since the host's start; which of the
+/// two had a good answer since then; and whether each good answer with a word that wasn't possible came after
+/// another one and a restart since that one.
 #[derive(Drop)]
 pub(crate) struct Watch {
     pub(crate) machine: OrderMachine,
     pub(crate) since_answer: [bool; 2],
     pub(crate) since_start: bool,
+    was_read: [bool; 2],
+    pub(crate) is_explained: bool,
 }
 
 impl Watch {
@@ -28,6 +32,8 @@ impl Watch {
             machine,
             since_answer: [true; 2],
             since_start: false,
+            was_read: [false; 2],
+            is_explained: true,
         }
     }
 
@@ -47,8 +53,14 @@ impl Watch {
             self.machine.take();
         }
         match read {
-            Some(true) => self.since_answer[1] = false,
-            Some(false) => self.since_answer[0] = false,
+            Some(true) => {
+                self.since_answer[1] = false;
+                self.was_read[1] = true;
+            }
+            Some(false) => {
+                self.since_answer[0] = false;
+                self.was_read[0] = true;
+            }
             None => {}
         }
         match event {
@@ -66,6 +78,7 @@ impl Watch {
             Event::RestartHost => {
                 self.machine.end();
                 self.since_start = false;
+                self.was_read = [false; 2];
             }
             _ => {}
         }
@@ -94,6 +107,19 @@ fn reads(world: &World) -> Option<bool> {
     }
 }
 
+/// Whether the host says that the cell may hold the word.
+pub(crate) fn may_be(world: &World, cell: Cell, word: u16) -> bool {
+    match cell {
+        Cell::Out(output, _) if output >= world.device().count() => false,
+        _ => world.host().possible(cell).allows(word),
+    }
+}
+
+// Whether the host says that the cell may hold the word that it holds.
+fn is_possible(world: &World, cell: Cell) -> bool {
+    may_be(world, cell, world.word(cell))
+}
+
 /// Lets events happen that are all taken.
 pub(crate) fn takes(rt: &impl Abort, world: &mut World, events: &[Event]) {
     for event in events {
@@ -108,7 +134,13 @@ pub(crate) fn happens(world: &mut World, watch: &mut Watch, event: &Event) {
         Event::Exchange(Arrival::Whole, Back::Whole) => reads(world),
         _ => None,
     };
+    let is_explained = match answered {
+        Some(true) => is_possible(world, SECOND) || watch.was_read[1] && watch.since_answer[1],
+        Some(false) => is_possible(world, FIRST) || watch.was_read[0] && watch.since_answer[0],
+        None => true,
+    };
     if world.meets(event).is_ok() {
+        watch.is_explained = watch.is_explained && is_explained;
         watch.sees(event, delivered, answered, world.ended().is_some());
     }
 }

@@ -7,6 +7,8 @@ mod checks;
 #[cfg(test)]
 mod fakes;
 #[cfg(test)]
+mod faults;
+#[cfg(test)]
 mod lines;
 #[cfg(test)]
 mod ports;

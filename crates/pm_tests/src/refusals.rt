@@ -66,7 +66,7 @@ const IDLE: [Row; 22] = [
 ];
 
 // While no job is open and the format of output 0 is known, ULINEAR16 with N = -12.
-const LEARNED: [Row; 13] = [
+const LEARNED: [Row; 14] = [
     (Event::OrderMicro(FIRST, -1), N3),
     (Event::OrderMicro(FIRST, -1_000_000_000_000_000), N3),
     (Event::OrderMicro(FIRST, -FAR), N5),
@@ -79,6 +79,7 @@ const LEARNED: [Row; 13] = [
     (Event::OrderMicro(NO_COMMAND, 3_300_000), H4),
     (Event::OrderMicro(OPERATION, FAR), H5),
     (Event::OrderMicro(OPERATION, -1), H5),
+    (Event::OrderMicro(OPERATION, 16_000_000), H5),
     (Event::OrderMicro(Cell::Protect, 0), H5),
 ];
 

@@ -94,7 +94,7 @@ static REFUSALS: [Refusal; 46] = [
 ];
 
 // Bytes that can be refused for more than one thing, in the same form.
-static PAIRS: [Refusal; 22] = [
+static PAIRS: [Refusal; 31] = [
     (0x80, "B0 00 02 E4", K4, 0x40),
     (0x80, "B0 05 04 02 21 00 10 8E", K4, 0x40),
     (0x80, "B0 05 03 02 7A 08 50", K4, 0x40),
@@ -117,6 +117,15 @@ static PAIRS: [Refusal; 22] = [
     (0x80, "B0 05 03 02 21 00 F3", K1_F4, 0x02),
     (0x80, "B0 05 04 02 21 00 10 00", K1_F5_7, 0x20),
     (0x80, "B0 05 03 02 99 00 00", K1_F5_6, 0x20),
+    (0x80, "B0 06 02 02 /", K1_F2_4, 0x02),
+    (0x80, "B0 06 02 02 21 00 /", K1_F3_5, 0x02),
+    (0x80, "B0 06 01 02 21 /", K1_F4, 0x02),
+    (0x00, "B0 30 02 01 /", K1_F2_4, 0x02),
+    (0x00, "B0 30 02 01 02 00 /", K1_F3_5, 0x02),
+    (0x80, "B0 01 B0 00", K1_F5_3, 0x20),
+    (0x80, "B0 05 02 02 15 18", K4, 0x40),
+    (0x80, "B0 05 02 02 16 11", K4, 0x40),
+    (0x80, "B0 05 03 02 7E 80 B5", K4, 0x40),
 ];
 
 // A refusal sets its one bit, which every output's STATUS_WORD shows, and leaves every word.
@@ -218,7 +227,7 @@ fn coefficients_are_refused_for_code_side_and_mode(rt: HostRuntime) -> Result<()
 }
 
 // Each write at each value of WRITE_PROTECT: 80h, 40h, 20h and 00h, whether it is taken.
-static PROTECTION: [(&str, [bool; 4]); 21] = [
+static PROTECTION: [(&str, [bool; 4]); 25] = [
     ("B0 00 01 ED", [false, true, true, true]),
     ("B0 01 40 38", [false, true, true, true]),
     ("B0 05 03 01 01 40 27", [false, true, true, true]),
@@ -240,6 +249,10 @@ static PROTECTION: [(&str, [bool; 4]); 21] = [
     ("B0 05 03 01 7A 08 ED", [false, false, false, true]),
     ("B0 7E 80 17", [false, false, false, true]),
     ("B0 05 03 01 7E 80 08", [false, false, false, true]),
+    ("B0 15 24", [false, false, false, true]),
+    ("B0 05 02 01 15 27", [false, false, false, true]),
+    ("B0 16 2D", [false, false, false, true]),
+    ("B0 05 02 01 16 2E", [false, false, false, true]),
 ];
 
 fn is_allowed(rt: &impl Abort, protect: u16, row: &str, is_taken: bool) -> Result<(), ConfigFault> {
