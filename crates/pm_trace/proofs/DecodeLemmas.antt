@@ -9,7 +9,7 @@ use Rattle.std.proofs.lemmas.List.Sums.{fold-append}
 use Rattle.pm_trace.specs.declared.decode_end.DecodeEnd.{DecodeEnd}
 use Rattle.pm_trace.specs.declared.fed.Fed.{Fed}
 use Rattle.pm_lines.specs.declared.fault.TextFault.TheVariants.{TooLong}
-use Rattle.pm_trace.specs.declared.decoder.standing.Standing.TheVariants.{Open}
+use Rattle.pm_trace.specs.declared.decoder.intake.Intake.TheVariants.{Open}
 use Rattle.pm_lines.specs.Streams.{max_text}
 use Rattle.pm_lines.specs.Lines.{is_line_feed, has_bytes}
 use Rattle.pm_trace.specs.Trace.{trace_of}
@@ -51,7 +51,7 @@ some_first (x ∷ xs) some = by (is_line_feed x)
     by false = omega arith
 
 -- a piece that isn't refused finds room
-room_left : (old : Holding) (piece : List ℕ) → old.standing ≡ Open → 0 < length piece → refusal_of old piece ≡ None
+room_left : (old : Holding) (piece : List ℕ) → old.intake ≡ Open → 0 < length piece → refusal_of old piece ≡ None
     → old.kept.taken < max_text
 room_left old [] open' some none = absurd (omega arith)
 room_left old (x ∷ xs) open' some none = by (leb max_text old.kept.taken) refl
@@ -64,7 +64,7 @@ room_left old (x ∷ xs) open' some none = by (leb max_text old.kept.taken) refl
     by false free = grind (arith, nat_tests)
 
 -- a call takes a byte of a piece that isn't refused
-pub some_taken : (old : Holding) (piece : List ℕ) → old.standing ≡ Open → 0 < length piece → refusal_of old piece ≡ None
+pub some_taken : (old : Holding) (piece : List ℕ) → old.intake ≡ Open → 0 < length piece → refusal_of old piece ≡ None
     → 0 < length (taken_of old piece)
 some_taken old piece open' some none =
     let room = room_left old piece open' some none in
@@ -75,7 +75,7 @@ some_taken old piece open' some none =
     omega (arith, ap length taken)
 
 -- X3 comes where as many bytes were taken as a text may have
-pub room_none : (old : Holding) (piece : List ℕ) → old.standing ≡ Open → refusal_of old piece ≡ Some TooLong → max_text ≤ old.kept.taken
+pub room_none : (old : Holding) (piece : List ℕ) → old.intake ≡ Open → refusal_of old piece ≡ Some TooLong → max_text ≤ old.kept.taken
 room_none old piece open' refused = by (has_bytes piece) (leb max_text old.kept.taken) refl (ap (λ s. refusal_by s old.kept piece)
     (sym open') ∙ refused)
   where
@@ -99,13 +99,13 @@ pushes_more {text} {mid_text} {new_text} {old} {mid} {new} {front} {rest} before
           ∙ ap (λ l. text ++ l) (sym (flat_map-append told_line (told old.kept front) (told (next old.kept front) bytes)))
           ∙ ap (λ l. text ++ told_lines l) (sym (told-append old.kept front bytes));
       kept = feeds.kept ∙ ap (λ k. next k bytes) before.kept ∙ sym (fold-append kept_takes old.kept front bytes);
-      standing = feeds.standing ∙ before.standing;
+      intake = feeds.intake ∙ before.intake;
       room = room;
     }
 
 -- the piece is then what was taken of it, and the rest
 pub split_more : {piece rest : List ℕ} {mid : Holding} {fed : Fed} {new : Holding} (front : List ℕ)
-    → mid.standing ≡ Open → piece ≡ front ++ rest → Feeds mid rest fed new → piece ≡ (front ++ taken_of mid rest) ++ drop fed.taken rest
+    → mid.intake ≡ Open → piece ≡ front ++ rest → Feeds mid rest fed new → piece ≡ (front ++ taken_of mid rest) ++ drop fed.taken rest
 split_more {piece} {rest} {mid} {fed} front open' split feeds =
     let (left, whole) = taken_front mid rest open' in
     let taken : take fed.taken rest ≡ taken_of mid rest = front_taken (taken_of mid rest) rest left fed.taken whole feeds.taken in
@@ -118,7 +118,7 @@ pub pushed_front : {text mid_text new_text : List ℕ} {old mid new : Holding} {
     → refusal_of mid rest ≡ Some TooLong → new_text ≡ mid_text
     → PushesFront text new_text old new piece false
 pushed_front {old = old} {mid = mid} front rest split some pushes refused same =
-    let full = room_none mid rest pushes.standing refused in
+    let full = room_none mid rest pushes.intake refused in
     let many : mid.kept.taken ≡ old.kept.taken + length front = ap (λ k. k.taken) pushes.kept ∙ next-taken old.kept front in
     record {
       front = front;
@@ -166,7 +166,7 @@ written_none r w holding fresh =
     record {
       given = Consumes-nil r;
       kept = fresh.kept;
-      standing = fresh.standing;
+      intake = fresh.intake;
       short = omega arith;
       text = subst P (sym lines_none) (Appends-nil w);
     }
@@ -257,7 +257,7 @@ module _ (r0 r1 r2 w0 w1 w2 : Option (List ℕ)) (bytes piece text : List ℕ) (
       record {
         given = consumed;
         kept = pushes.kept ∙ ap (λ k. next k pushed.front) written.kept ∙ ap (next (now bytes)) all ∙ sym (now-append bytes piece);
-        standing = pushes.standing;
+        intake = pushes.intake;
         short = omega (arith, count, grown, ap length all, pushes.room, length-append bytes piece);
         text =
             subst Q (ap (λ l. told_lines (said bytes) ++ l) part ∙ sym (lines-append bytes piece))

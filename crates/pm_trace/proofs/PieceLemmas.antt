@@ -6,7 +6,7 @@ use Rattle.std.specs.List.{concat, count_by}
 use Rattle.std.proofs.lemmas.List.Sums.{sum_by-cons}
 use Rattle.std.proofs.Math.Seq.{take-append_seam}
 use Rattle.pm_lines.specs.Streams.{max_text}
-use Rattle.pm_trace.specs.declared.decoder.standing.Standing.TheVariants.{Open}
+use Rattle.pm_trace.specs.declared.decoder.intake.Intake.TheVariants.{Open}
 use Rattle.pm_lines.specs.Lines.{is_line_feed}
 use Rattle.pm_trace.specs.Counts.{counts_of, counts_with, lines_in, is_accepted, is_faulty, is_bad}
 use Rattle.pm_trace.specs.Trace.{Told, Accepted, Faulty, BadSyntax, BadHex, trace_of}
@@ -27,7 +27,7 @@ first_front (x ∷ xs) = by (is_line_feed x) (first_front xs)
     by false tail = (tail.0, ap (λ l. x ∷ l) tail.1)
 
 -- what a call takes is a prefix of its piece
-pub taken_front : (old : Holding) (piece : List ℕ) → old.standing ≡ Open → (rest : List ℕ) × (piece ≡ taken_of old piece ++ rest)
+pub taken_front : (old : Holding) (piece : List ℕ) → old.intake ≡ Open → (rest : List ℕ) × (piece ≡ taken_of old piece ++ rest)
 taken_front old piece open' =
     let room = take (max_text - old.kept.taken) piece in
     let left = drop (max_text - old.kept.taken) piece in
@@ -45,7 +45,7 @@ front_taken front all rest n whole count = ap (λ k. take k all) count ∙ ap (t
 -- what a decoder holds that took these bytes and takes more
 pub record Took (bytes : List ℕ) (holding : Holding) : Type 0 where
   pub kept : holding.kept ≡ now bytes
-  pub standing : holding.standing ≡ Open
+  pub intake : holding.intake ≡ Open
 
 -- one call
 pub record Takes (bytes : List ℕ) (call : Call) (new : Holding) : Type 0 where
@@ -55,7 +55,7 @@ pub record Takes (bytes : List ℕ) (call : Call) (new : Holding) : Type 0 where
 -- what one call leaves
 takes : (bytes : List ℕ) (old new : Holding) (call : Call) → Took bytes old → Feeds old call.piece call.fed new → Takes bytes call new
 takes bytes old new call took feeds =
-    let (rest, whole) = taken_front old call.piece took.standing in
+    let (rest, whole) = taken_front old call.piece took.intake in
     let same : taken_in call ≡ taken_of old call.piece = front_taken
     (taken_of old call.piece) call.piece rest call.fed.taken whole feeds.taken in
     record {
@@ -63,7 +63,7 @@ takes bytes old new call took feeds =
         kept =
             feeds.kept ∙ ap (λ k. next k (taken_of old call.piece)) took.kept ∙ sym (now-append bytes (taken_of old call.piece))
             ∙ ap (λ l. now (bytes ++ l)) (sym same);
-        standing = feeds.standing ∙ took.standing;
+        intake = feeds.intake ∙ took.intake;
       };
       lines =
           said-append bytes (taken_in call) ∙ ap (λ l. said bytes ++ told (now bytes) l) same
@@ -138,9 +138,9 @@ counts-end bytes =
 ends : (bytes : List ℕ) (old new : Holding) (ended : Bool) → Took bytes old → Finishes old ended new → Ends bytes new
 ends bytes old new ended took finishes =
     let shown : new.shown ≡ told_at_end (now bytes) =
-    finishes.shown ∙ ap (λ s. told_by s old.kept) took.standing ∙ ap told_at_end took.kept in
+    finishes.shown ∙ ap (λ s. told_by s old.kept) took.intake ∙ ap told_at_end took.kept in
     let kept : new.kept ≡ kept_at_end (now bytes) =
-    finishes.kept ∙ ap (λ s. kept_by s old.kept) took.standing ∙ ap kept_at_end took.kept in
+    finishes.kept ∙ ap (λ s. kept_by s old.kept) took.intake ∙ ap kept_at_end took.kept in
     record {
       lines = trace_of-end bytes ∙ ap (λ o. said bytes ++ some_told o) (sym shown);
       counts =
@@ -221,7 +221,7 @@ said_none = refl
 
 -- a fresh decoder took no byte
 fresh : (old : Holding) → IsFresh old → Took [] old
-fresh old is = record { kept = is.kept; standing = is.standing }
+fresh old is = record { kept = is.kept; intake = is.intake }
 
 -- the lines shown are those of the pieces joined
 pub decoded_lines : (old new : Holding) (pieces : List (List ℕ)) (lines : List Told) → IsFresh old → Decodes old pieces lines new

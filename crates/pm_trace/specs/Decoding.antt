@@ -6,8 +6,8 @@ use Rattle.std.specs.List.{list_any, fold, enumerate_from}
 use Rattle.pm_lines.specs.declared.fault.TextFault.{TextFault}
 use Rattle.pm_lines.specs.declared.fault.TextFault.TheVariants.{TooLong}
 use Rattle.pm_lines.specs.Streams.{max_text}
-use Rattle.pm_trace.specs.declared.decoder.standing.Standing.{Standing}
-use Rattle.pm_trace.specs.declared.decoder.standing.Standing.TheVariants.{Open, Finished, Failed}
+use Rattle.pm_trace.specs.declared.decoder.intake.Intake.{Intake}
+use Rattle.pm_trace.specs.declared.decoder.intake.Intake.TheVariants.{Open, Finished, Failed}
 use Rattle.pm_trace.specs.declared.fed.Fed.{Fed}
 use Rattle.pm_trace.specs.declared.decoder.open_line.OpenLine.{OpenLine}
 use Rattle.pm_lines.specs.Lines.{has_bytes, is_line_feed, is_unskipped, without_return}
@@ -91,13 +91,13 @@ told_at_end kept = if is_begun kept.line then line_told kept else None
 pub record Holding : Type 0 where
   pub kept : Kept
   pub shown : Option Told
-  pub standing : Standing
+  pub intake : Intake
 
 -- a decoder that took no byte
 pub record IsFresh (holding : Holding) : Type 0 where
   pub kept : holding.kept ≡ now []
   pub shown : holding.shown ≡ None
-  pub standing : holding.standing ≡ Open
+  pub intake : holding.intake ≡ Open
 
 -- bytes up to the first line feed, and with it
 abbrev pub first_line : List ℕ → List ℕ
@@ -106,24 +106,24 @@ first_line (byte ∷ bytes) = if is_line_feed byte then byte ∷ [] else byte �
 
 -- the bytes that one call takes of a piece: up to the first line feed, with it, and no more than a
 -- text may have
-abbrev pub taken_by : Standing → Kept → List ℕ → List ℕ
+abbrev pub taken_by : Intake → Kept → List ℕ → List ℕ
 taken_by Open kept piece = first_line (take (max_text - kept.taken) piece)
 taken_by Finished kept piece = []
 taken_by (Failed fault) kept piece = []
 
 abbrev pub taken_of : Holding → List ℕ → List ℕ
-taken_of holding piece = taken_by holding.standing holding.kept piece
+taken_of holding piece = taken_by holding.intake holding.kept piece
 
 -- the refusal that a piece meets, before any of its bytes is taken: X3 for a byte past the most that
 -- a text may have, and the refusal of a decoder that failed
-abbrev pub refusal_by : Standing → Kept → List ℕ → Option TextFault
+abbrev pub refusal_by : Intake → Kept → List ℕ → Option TextFault
 refusal_by Open kept piece =
     if has_bytes piece && nat_le max_text kept.taken then Some TooLong else None
 refusal_by Finished kept piece = None
 refusal_by (Failed fault) kept piece = Some fault
 
 abbrev pub refusal_of : Holding → List ℕ → Option TextFault
-refusal_of holding piece = refusal_by holding.standing holding.kept piece
+refusal_of holding piece = refusal_by holding.intake holding.kept piece
 
 -- a call takes bytes of a piece
 pub record Feeds (old : Holding) (piece : List ℕ) (fed : Fed) (new : Holding) : Type 0 where
@@ -131,11 +131,11 @@ pub record Feeds (old : Holding) (piece : List ℕ) (fed : Fed) (new : Holding) 
   pub ended : fed.ended ≡ list_any is_line_feed (taken_of old piece)
   pub kept : new.kept ≡ next old.kept (taken_of old piece)
   pub shown : some_told new.shown ≡ told old.kept (taken_of old piece)
-  pub standing : new.standing ≡ old.standing
+  pub intake : new.intake ≡ old.intake
 
 -- a decoder that refuses: it shows nothing, counts nothing more, and refuses from then on
 pub record Fails (old : Holding) (fault : TextFault) (new : Holding) : Type 0 where
-  pub standing : new.standing ≡ Failed fault
+  pub intake : new.intake ≡ Failed fault
   pub shown : new.shown ≡ None
   pub counts : new.kept.counts ≡ old.kept.counts
 
@@ -145,25 +145,25 @@ pub record CarriesNew (counts : Counts) (lines : List Told) : Type 0 where
   pub one : lines ≡ line ∷ []
   pub is_new : IsNewCode counts line.1
 
--- the end of all bytes, in each standing
-abbrev pub is_ended_by : Standing → Kept → Bool
+-- the end of all bytes, by whether more are taken
+abbrev pub is_ended_by : Intake → Kept → Bool
 is_ended_by Open kept = is_begun kept.line
 is_ended_by Finished kept = false
 is_ended_by (Failed fault) kept = false
 
-abbrev pub kept_by : Standing → Kept → Kept
+abbrev pub kept_by : Intake → Kept → Kept
 kept_by Open kept = kept_at_end kept
 kept_by Finished kept = kept
 kept_by (Failed fault) kept = kept
 
-abbrev pub told_by : Standing → Kept → Option Told
+abbrev pub told_by : Intake → Kept → Option Told
 told_by Open kept = told_at_end kept
 told_by Finished kept = None
 told_by (Failed fault) kept = None
 
 -- a call ends the bytes
 pub record Finishes (old : Holding) (ended : Bool) (new : Holding) : Type 0 where
-  pub ended_is : ended ≡ is_ended_by old.standing old.kept
-  pub kept : new.kept ≡ kept_by old.standing old.kept
-  pub shown : new.shown ≡ told_by old.standing old.kept
-  pub standing : new.standing ≡ Finished
+  pub ended_is : ended ≡ is_ended_by old.intake old.kept
+  pub kept : new.kept ≡ kept_by old.intake old.kept
+  pub shown : new.shown ≡ told_by old.intake old.kept
+  pub intake : new.intake ≡ Finished

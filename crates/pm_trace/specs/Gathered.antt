@@ -4,8 +4,8 @@ use Rattle.std.specs.List.{fold, list_any}
 use Rattle.pm_lines.specs.Lines.{is_line_feed}
 use Rattle.pm_lines.specs.Streams.{max_text}
 use Rattle.pm_trace.specs.declared.decoder.gathered.Gathered.{Gathered}
-use Rattle.pm_trace.specs.declared.decoder.standing.Standing.{Standing}
-use Rattle.pm_trace.specs.declared.decoder.standing.Standing.TheVariants.{Open, Finished, Failed}
+use Rattle.pm_trace.specs.declared.decoder.intake.Intake.{Intake}
+use Rattle.pm_trace.specs.declared.decoder.intake.Intake.TheVariants.{Open, Finished, Failed}
 use Rattle.pm_trace.specs.declared.fed.Fed.{Fed}
 use Rattle.pm_trace.specs.Counts.{lines_in}
 use Rattle.pm_trace.specs.Decoding.{Kept, next, told, some_told, first_line}
@@ -34,7 +34,7 @@ pub record IsBounded (more : ℕ) (g : Gathered) : Type 0 where
   pub taken : g.taken ≤ max_text
 
 -- the end of all bytes may end one line more, and after a refusal no line ends
-abbrev pub lines_at_end : Standing → ℕ
+abbrev pub lines_at_end : Intake → ℕ
 lines_at_end Open = 0
 lines_at_end Finished = 1
 lines_at_end (Failed fault) = 1

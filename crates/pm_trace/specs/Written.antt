@@ -1,7 +1,7 @@
 -- What a decoder took of a reader, and what was written of it.
 use Rattle.std.specs.Prelude.{◌≡◌, ℕ, ◌+◌, ◌<◌, ◌≤◌, Bool, true, false, List, [], ◌++◌, length, Option}
 use Rattle.std.specs.Io.KnownBytes.{Appends, Consumes}
-use Rattle.pm_trace.specs.declared.decoder.standing.Standing.TheVariants.{Open}
+use Rattle.pm_trace.specs.declared.decoder.intake.Intake.TheVariants.{Open}
 use Rattle.pm_lines.specs.Streams.{max_text}
 use Rattle.pm_trace.specs.Decoding.{Holding, now, next, said, told}
 use Rattle.pm_trace.specs.TraceText.{told_lines}
@@ -10,7 +10,7 @@ use Rattle.pm_trace.specs.TraceText.{told_lines}
 pub record Pushes (text new_text : List ℕ) (old new : Holding) (bytes : List ℕ) : Type 0 where
   pub text_is : new_text ≡ text ++ told_lines (told old.kept bytes)
   pub kept : new.kept ≡ next old.kept bytes
-  pub standing : new.standing ≡ Open
+  pub intake : new.intake ≡ Open
   pub room : new.kept.taken ≤ max_text
 
 -- a prefix of a piece was taken, and what its lines say was written after a text: the whole piece, or
@@ -29,6 +29,6 @@ pub record Written (read new_read written new_written : Option (List ℕ)) (byte
     (holding : Holding) : Type 0 where
   pub given : Consumes read new_read bytes
   pub kept : holding.kept ≡ now bytes
-  pub standing : holding.standing ≡ Open
+  pub intake : holding.intake ≡ Open
   pub short : length bytes ≤ max_text
   pub text : Appends written new_written (told_lines (said bytes))

@@ -1,15 +1,15 @@
 mod gathered;
+mod intake;
 mod line_kind;
 pub(crate) mod open_line;
 mod part;
 mod slashes;
-mod standing;
 
 ghost use Rattle.std.specs.Prelude.{◌≡◌};
 
 use crate::decoder::gathered::Gathered;
+use crate::decoder::intake::Intake;
 pub use crate::decoder::part::PART_BYTES;
-use crate::decoder::standing::Standing;
 use crate::fed::Fed;
 use crate::shown::Shown;
 use crate::tally::Tally;
@@ -23,7 +23,7 @@ use std::marker::Model;
 #[derive(Debug, Drop)]
 pub struct Decoder {
     gathered: Gathered,
-    standing: Standing,
+    intake: Intake,
 }
 
 impl Model for Decoder {
@@ -35,10 +35,10 @@ impl Model for Decoder {
     ghost view = { λ d. record {
       kept = kept_in d.gathered;
       shown = shown_in d.gathered;
-      standing = d.standing;
+      intake = d.intake;
     } };
 
-    ghost invariant = { λ d. IsBounded (lines_at_end d.standing) d.gathered };
+    ghost invariant = { λ d. IsBounded (lines_at_end d.intake) d.gathered };
 }
 
 impl Decoder {
@@ -56,7 +56,7 @@ impl Decoder {
     {
         Decoder {
             gathered: Gathered::new(alloc),
-            standing: Standing::Open,
+            intake: Intake::Open,
         }
     }
 
@@ -141,14 +141,14 @@ impl Decoder {
     fn room(&self, piece: &[u8]) -> Result<usize, TextFault>
         ensures within { IfOk result (λ room. room ≤ length piece.now) }
         ensures room { IfOk result (λ room. self.now.kept.taken + room ≤ max_text) }
-        ensures open { IfOk result (λ room. 0 < room → self.now.standing ≡ Standing.Open) }
+        ensures open { IfOk result (λ room. 0 < room → self.now.intake ≡ Intake.Open) }
         ensures taken { IfOk result (λ room. taken_of self.now piece.now ≡ first_line (take room piece.now)) }
         ensures refused { result_err result ≡ refusal_of self.now piece.now }
     {
-        match self.standing {
-            Standing::Open => {}
-            Standing::Finished => return Ok(0),
-            Standing::Failed(fault) => return Err(fault),
+        match self.intake {
+            Intake::Open => {}
+            Intake::Finished => return Ok(0),
+            Intake::Failed(fault) => return Err(fault),
         }
         let room = MAX_TEXT - self.gathered.taken;
         if room == 0 && !piece.is_empty() {
@@ -163,7 +163,7 @@ impl Decoder {
         ensures room { self.new.kept.taken ≤ max_text }
     {
         self.gathered.begin();
-        self.standing = Standing::Failed(fault);
+        self.intake = Intake::Failed(fault);
     }
 
     /// Ends the trace: a last line ends here that has bytes and no line feed, and the answer is
@@ -180,7 +180,7 @@ impl Decoder {
         ensures taken { OnOk result (refusal_of self.old [] ≡ None) }
         ensures refused { IfErr result (λ fault. (refusal_of self.old [] ≡ Some fault)
             ⊎ ((refusal_of self.old [] ≡ None) × (fault ≡ TextFault.Memory)
-            × CarriesNew self.old.kept.counts (some_told (told_by self.old.standing self.old.kept)))) }
+            × CarriesNew self.old.kept.counts (some_told (told_by self.old.intake self.old.kept)))) }
     {
         let ended = self.end();
         if let Err(fault) = ended {
@@ -196,19 +196,19 @@ impl Decoder {
         ensures taken { OnOk result (refusal_of self.old [] ≡ None) }
         ensures refused { IfErr result (λ fault. (refusal_of self.old [] ≡ Some fault)
             ⊎ ((refusal_of self.old [] ≡ None) × (fault ≡ TextFault.Memory)
-            × CarriesNew self.old.kept.counts (some_told (told_by self.old.standing self.old.kept)))) }
+            × CarriesNew self.old.kept.counts (some_told (told_by self.old.intake self.old.kept)))) }
     {
-        let is_open = match self.standing {
-            Standing::Open => true,
-            Standing::Finished => false,
-            Standing::Failed(fault) => return Err(fault),
+        let is_open = match self.intake {
+            Intake::Open => true,
+            Intake::Finished => false,
+            Intake::Failed(fault) => return Err(fault),
         };
         self.gathered.begin();
         let ends = is_open && self.gathered.line.is_begun();
         if ends {
             self.gathered.end_line()?;
         }
-        self.standing = Standing::Finished;
+        self.intake = Intake::Finished;
         Ok(ends)
     }
 

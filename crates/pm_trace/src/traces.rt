@@ -2,7 +2,7 @@
 ghost use Rattle.std.specs.Prelude.{◌≡◌, ◌⊎◌, ◌+◌, ◌<◌, ◌≤◌, ◌↔◌, ℕ, List, ◌++◌, length, drop};
 ghost use Rattle.std.specs.Prelude.{IfSome, IfOk, IfErr, OnOk, IsErrOf, IsTrue, IsFalse, string_bytes};
 ghost use Rattle.std.specs.Io.KnownBytes.{Appends, Consumes, IsAtEnd};
-ghost use Rattle.pm_trace.specs.declared.decoder.standing.Standing.{Standing};
+ghost use Rattle.pm_trace.specs.declared.decoder.intake.Intake.{Intake};
 ghost use Rattle.pm_lines.specs.Streams.{max_text};
 ghost use Rattle.pm_trace.specs.Counts.{counts_of};
 ghost use Rattle.pm_trace.specs.Decoding.{said, told, some_told, told_at_end, kept_at_end, IsFresh};
@@ -138,7 +138,7 @@ fn decode_pieces<R: Read, W: Write>(
 // Feeds the decoder until the piece is used up, and appends the text of each line that ends. False
 // where the trace grows past its limit; the lines that ended before that are in the text.
 fn push_lines(text: &mut String, decoder: &mut Decoder, piece: &[u8]) -> Result<bool, TextFault>
-    requires open { decoder.old.standing ≡ Standing.Open }
+    requires open { decoder.old.intake ≡ Intake.Open }
     requires room { decoder.old.kept.taken ≤ max_text }
     ensures pushed { IfOk result (PushesFront (string_bytes text.old) (string_bytes text.new)
         decoder.old decoder.new piece.now) }
@@ -177,7 +177,7 @@ fn push_shown_line(text: &mut String, decoder: &Decoder) -> Result<(), AllocErro
 // Ends the trace, and returns the rest of the output: an unfinished last line, and the counts.
 #[tactic(auto, using(crate::proofs::Joins::joins))]
 fn text_at_end(alloc: Global, decoder: &mut Decoder) -> Result<String, TextFault>
-    requires { decoder.old.standing ≡ Standing.Open }
+    requires { decoder.old.intake ≡ Intake.Open }
     ensures text { IfOk result (λ text. string_bytes text
         ≡ told_lines (some_told (told_at_end decoder.old.kept))
         ++ counts_text (kept_at_end decoder.old.kept).counts) }

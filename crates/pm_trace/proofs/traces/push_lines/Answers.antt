@@ -20,7 +20,7 @@ pub pieces-smaller : goal.pieces-smaller
 pieces-smaller c =
     let (front, split, pushes) = c.pieces.invariant in
     let some : 0 < length c.pieces.rest.now = grind (arith, nat_tests) in
-    let taken = some_taken c.pieces.decoder c.pieces.rest.now pushes.standing some c.in-Ok.ensures.taken in
+    let taken = some_taken c.pieces.decoder c.pieces.rest.now pushes.intake some c.in-Ok.ensures.taken in
     omega (
       arith,
       ap length c.past-rest.ensures,
@@ -33,7 +33,7 @@ pub pieces-preserved : goal.pieces-preserved
 pieces-preserved c =
     let (front, split, pushes) = c.pieces.invariant in (
       front ++ taken_of c.pieces.decoder c.pieces.rest.now,
-      split_more front pushes.standing split c.in-Ok.ensures.fed
+      split_more front pushes.intake split c.in-Ok.ensures.fed
           ∙ ap (λ r. (front ++ taken_of c.pieces.decoder c.pieces.rest.now) ++ r) (sym c.past-rest.ensures),
       pushes_more pushes c.in-Ok.ensures.fed c.in-Ok.ensures.room c.in-Ok.ensures.text,
     )

@@ -2,7 +2,7 @@ use pm_lines::TextFault;
 
 /// Whether a decoder takes bytes.
 #[derive(Clone, Copy, Debug)]
-pub(crate) enum Standing {
+pub(crate) enum Intake {
     /// It takes bytes.
     Open,
     /// All bytes were taken.
