@@ -78,6 +78,18 @@ def stopped(words):
             f"status 00 0000 00\ncml 00\nrestart seen no\njob {job}\n").encode()
 
 
+def contents(path):
+    with open(path, "rb") as file:
+        return file.read()
+
+
+def stopped_after_order():
+    """The run of the worked scenario, where an event of the host's isn't taken after the order."""
+    wanted = contents(os.path.join(ROOT, "examples/one-order.report"))
+    wanted = wanted.replace(b"ran 4\n", b"stopped 4 S4 Host H5 BadWord\n", 1)
+    return ["replay"], scenario([OUTPUT] * 2, [*ORDER, "volts 0 OPERATION 5"]), 1, wanted, b""
+
+
 # A trace of each code that is counted, once, and what it says.
 CODES = [
     ("B0 00 01 ED", "PAGE", "write 01"), ("B0 01 00 FF", "OPERATION", "write 00"),
@@ -173,6 +185,7 @@ RUNS = [
      stopped("1 S1 NotBetrayed"), b""),
     (["replay"], scenario([OUTPUT], ["learn 1"]), 1, stopped("0 S4 Host H4 UnknownOutput"), b""),
     (["replay"], scenario([OUTPUT], ["volts 0 OPERATION 5"]), 1, stopped("0 S4 Host H5 BadWord"), b""),
+    stopped_after_order(),
     (["replay"], scenario([OUTPUT], ["volts 0 VOUT_MAX 5"]), 1, stopped("0 S4 Host H7 FormatUnknown"), b""),
     (["replay"], scenario([OUTPUT], ["check 0 VOUT_MAX", "clear 0"]), 1, stopped("1 S4 Host H3 Busy"), b""),
     *codes(),
@@ -185,6 +198,7 @@ RUNS = [
      b"count CLEAR_FAULTS 1\nlines 3 accepted 1 faults 0 bad 2\n", b""),
     (["decode"], b"B0 / B1 / B2\nB0 / B1 / B\n", 1,
      b"1 X1 Syntax\n2 X2 BadHex\nlines 2 accepted 0 faults 0 bad 2\n", b""),
+    (["decode"], b"05" * 301 + b"\n", 1, b"1 X1 Syntax\nlines 1 accepted 0 faults 0 bad 1\n", b""),
     (["decode"], b"/\n" + b"#" * 1_048_575, 1, b"1 -- write F1 NotOurs\n", b"pmb: X3 TooLong\n"),
     (LINEAR11 + ["--word=87FF"], b"", 0, b"word 87FF value -1/65536 micro -16\n", b""),
     (["number", DIRECT + "1:-32768:-12", "--word=7FFF"], b"", 0,
@@ -256,11 +270,6 @@ def examples():
             wanted = contents(path.removesuffix(text) + answer)
             is_bad = wanted.startswith(b"stopped") or command == "decode" and not wanted.endswith(b" bad 0\n")
             yield [command], contents(path), int(is_bad), wanted, b""
-
-
-def contents(path):
-    with open(path, "rb") as file:
-        return file.read()
 
 
 def ran_by_bytes(arguments, text):

@@ -3,9 +3,55 @@ use crate::checks::{equal, is_true};
 use pm_lines::{Line, Lines, Sink, Source, TextFault, Words, cut_at, push_bytes, read_text};
 use pm_text_fixtures::{FAILURES, Failure, Paper, Pieces, blank_paper, in_pieces};
 use std::alloc::Global;
-use std::io::ErrorKind;
+use std::io::{self, ErrorKind, Write};
 use std::process::Abort;
 use std::test::Fail;
+
+/// Every kind of error.
+static KINDS: [ErrorKind; 42] = [
+    ErrorKind::NotFound,
+    ErrorKind::PermissionDenied,
+    ErrorKind::ConnectionRefused,
+    ErrorKind::ConnectionReset,
+    ErrorKind::HostUnreachable,
+    ErrorKind::NetworkUnreachable,
+    ErrorKind::ConnectionAborted,
+    ErrorKind::NotConnected,
+    ErrorKind::AddrInUse,
+    ErrorKind::AddrNotAvailable,
+    ErrorKind::NetworkDown,
+    ErrorKind::BrokenPipe,
+    ErrorKind::AlreadyExists,
+    ErrorKind::WouldBlock,
+    ErrorKind::NotADirectory,
+    ErrorKind::IsADirectory,
+    ErrorKind::DirectoryNotEmpty,
+    ErrorKind::ReadOnlyFilesystem,
+    ErrorKind::FilesystemLoop,
+    ErrorKind::StaleNetworkFileHandle,
+    ErrorKind::InvalidInput,
+    ErrorKind::InvalidData,
+    ErrorKind::TimedOut,
+    ErrorKind::WriteZero,
+    ErrorKind::StorageFull,
+    ErrorKind::NotSeekable,
+    ErrorKind::QuotaExceeded,
+    ErrorKind::FileTooLarge,
+    ErrorKind::ResourceBusy,
+    ErrorKind::ExecutableFileBusy,
+    ErrorKind::Deadlock,
+    ErrorKind::CrossesDevices,
+    ErrorKind::TooManyLinks,
+    ErrorKind::InvalidFilename,
+    ErrorKind::ArgumentListTooLong,
+    ErrorKind::Interrupted,
+    ErrorKind::Unsupported,
+    ErrorKind::UnexpectedEof,
+    ErrorKind::OutOfMemory,
+    ErrorKind::InProgress,
+    ErrorKind::Other,
+    ErrorKind::Uncategorized,
+];
 
 // A source over a reader that fails at this call, which is called once.
 fn is_called_once(
@@ -28,8 +74,10 @@ fn is_called_once(
 
 #[test]
 fn a_source_calls_its_reader_once_and_tells_its_failure(rt: HostRuntime) {
-    for kind in [ErrorKind::Other, ErrorKind::Interrupted] {
+    for &kind in &KINDS {
         is_called_once(&rt, 1, kind, Err(TextFault::Read));
+    }
+    for kind in [ErrorKind::Other, ErrorKind::Interrupted] {
         is_called_once(&rt, 2, kind, Ok(3));
         is_called_once(&rt, 0, kind, Ok(3));
     }
@@ -115,6 +163,39 @@ fn a_sink_writes_to_the_first_failure(rt: HostRuntime) {
                 is_put_to(&rt, piece, fails_at, failure);
             }
         }
+    }
+}
+
+/// A writer whose calls all fail, with an error of this kind.
+#[derive(Drop)]
+struct Broken {
+    kind: ErrorKind,
+    calls: usize,
+}
+
+impl Write for Broken {
+    fn write(&mut self, _buf: &[u8]) -> io::Result<usize> {
+        self.calls = self.calls.saturating_add(1);
+        Err(self.kind.into())
+    }
+
+    fn flush(&mut self) -> io::Result<()> {
+        Err(self.kind.into())
+    }
+}
+
+// A sink over such a writer, which is called once.
+fn is_written_once(rt: &impl Abort, kind: ErrorKind) {
+    let mut sink = Sink::new(Broken { kind, calls: 0 });
+    equal(rt, &sink.put(TEXT), &Err(TextFault::Write), &kind);
+    is_true(rt, sink.failed(), &kind);
+    equal(rt, &sink.into_inner().calls, &1, &kind);
+}
+
+#[test]
+fn a_sink_calls_its_writer_once_and_tells_its_failure(rt: HostRuntime) {
+    for &kind in &KINDS {
+        is_written_once(&rt, kind);
     }
 }
 
