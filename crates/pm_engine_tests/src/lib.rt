@@ -5,6 +5,10 @@
 #[cfg(test)]
 mod checks;
 #[cfg(test)]
+mod counts;
+#[cfg(test)]
+mod doubts;
+#[cfg(test)]
 mod engines;
 #[cfg(test)]
 mod faults;

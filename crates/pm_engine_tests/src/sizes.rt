@@ -1,9 +1,9 @@
 //! Each call that can answer want of memory, with ample memory at the far end of each of its dimensions:
-//! the codes that are counted, lines, events, outputs, possible words, the bytes of a line or of a part, digits, words.
+//! the codes that are counted, lines, events, outputs, the bytes of a line or of a part, digits, words.
 
 use crate::checks::{equal, is_true};
 use clap::error::ErrorKind;
-use pm_text::{Decoder, TextFault, TraceLine, read_scenario, read_trace_line, render_line};
+use pm_text::{TextFault, TraceLine, read_scenario, read_trace_line, render_line};
 use pm_text_fixtures::{
     CODES, CODES_SAID, Engine, Engines, FRAME, REPORT, SCENARIO, TAKEN, in_pieces,
 };
@@ -26,10 +26,10 @@ const OUTPUT_7: &str =
     "output 7 on commanded 4096/4096 1000000 uV\nOPERATION 80 host unknown\nVOUT_COMMAND 1000 host unknown\nVOUT_MAX 4000 host unknown\nVOUT_MARGIN_HIGH 1100 host unknown\nVOUT_MARGIN_LOW 0F00 host unknown\nstatus 00 0000 00\ncml 00\nrestart seen no\njob done\n";
 
 /// A text: how it begins, what is repeated and how often, and how it ends.
-type Long = ([&'static str; 2], &'static str, usize, &'static str);
+pub(crate) type Long = ([&'static str; 2], &'static str, usize, &'static str);
 
 // The whole text.
-fn text_of(alloc: Global, long: Long) -> Result<Vec<u8>, AllocError> {
+pub(crate) fn text_of(alloc: Global, long: Long) -> Result<Vec<u8>, AllocError> {
     let (heads, part, count, tail) = long;
     let mut text = Vec::new(alloc);
     for head in heads {
@@ -43,10 +43,15 @@ fn text_of(alloc: Global, long: Long) -> Result<Vec<u8>, AllocError> {
 }
 
 /// How many lines are written, and how they begin and end.
-type Written = (usize, &'static str, &'static str);
+pub(crate) type Written = (usize, &'static str, &'static str);
 
 // An engine takes a text, and writes these lines.
-fn is_written(rt: &(impl Abort + AllocGlobal), engine: Engine, text: &[u8], written: Written) {
+pub(crate) fn is_written(
+    rt: &(impl Abort + AllocGlobal),
+    engine: Engine,
+    text: &[u8],
+    written: Written,
+) {
     let (lines, first, last) = written;
     let (end, written) = engine.text_of(rt.alloc(), in_pieces(text, 4096));
     is_true(rt, end.is_ok(), &last);
@@ -100,46 +105,6 @@ fn long_traces_are_decoded(rt: HostRuntime) -> Result<(), Fail> {
     Ok(())
 }
 
-// What a decoder counts of a whole text, which it gets up to a line's end at a time.
-fn counts_of(alloc: Global, text: &[u8]) -> Result<(u64, u64, u64, u64), TextFault> {
-    let mut decoder = Decoder::new(alloc);
-    let mut rest = text;
-    for _ in 0..text.len() {
-        if rest.is_empty() {
-            break;
-        }
-        let taken = decoder.feed(rest)?.taken;
-        rest = &rest[taken..];
-    }
-    decoder.finish()?;
-    Ok(decoder.counts())
-}
-
-// The lines that count, and the accepted, faulty and bad ones among them.
-static COUNTED: [(Long, (u64, u64, u64, u64)); 2] = [
-    ((["", ""], "B0 03 46\n", 40_000, ""), (40_000, 40_000, 0, 0)),
-    ((["", ""], "\n", 1_048_575, "0"), (1, 0, 0, 1)),
-];
-
-fn is_counted(
-    rt: &(impl Abort + AllocGlobal),
-    long: Long,
-    counts: (u64, u64, u64, u64),
-) -> Result<(), AllocError> {
-    let text = text_of(rt.alloc(), long)?;
-    equal(rt, &counts_of(rt.alloc(), &text), &Ok(counts), &text.len());
-    Ok(())
-}
-
-#[test]
-fn long_traces_are_counted(rt: HostRuntime) -> Result<(), Fail> {
-    is_counted(&rt, (["", ""], "", 0, CODES), (23, 23, 0, 0))?;
-    for &(long, counts) in &COUNTED {
-        is_counted(&rt, long, counts)?;
-    }
-    Ok(())
-}
-
 // How many events a scenario has, and why a text is none.
 fn count_events(alloc: Global, text: &[u8]) -> Result<usize, TextFault> {
     Ok(read_scenario(alloc, text)?.events.as_slice().len())
@@ -177,73 +142,6 @@ fn long_scenarios_are_replayed(rt: HostRuntime) -> Result<(), Fail> {
     expect_lines(&rt, Engine::Replay, &rows)?;
     let text = text_of(rt.alloc(), ([ONE, ""], "learn 0\n", 100_000, ""))?;
     equal(&rt, &count_events(rt.alloc(), &text)?, &100_000, &1);
-    Ok(())
-}
-
-/// The setup of a report of version 2, with eight outputs.
-static EIGHT_TOLD: &str =
-    "scenario 2\naddress 58\npasses 1\nprotect 00\ncoefficients 1 0 0\noutput 14 80 1000 4000 1100 0F00 0000\noutput 14 80 1000 4000 1100 0F00 0000\noutput 14 80 1000 4000 1100 0F00 0000\noutput 14 80 1000 4000 1100 0F00 0000\noutput 14 80 1000 4000 1100 0F00 0000\noutput 14 80 1000 4000 1100 0F00 0000\noutput 14 80 1000 4000 1100 0F00 0000\noutput 14 80 1000 4000 1100 0F00 0000\nbegin\n";
-
-/// The outputs.
-static NUMBERS: [&str; 8] = ["0", "1", "2", "3", "4", "5", "6", "7"];
-
-/// The registers, and the front and the last digits of the words that each is ordered to hold.
-static REGISTERS: [(&str, &str, &[u8]); 6] = [
-    ("OPERATION", "4", b"0123456789ABCDE"),
-    ("VOUT_COMMAND", "200", b"123456789ABCDEF"),
-    ("VOUT_MAX", "200", b"123456789ABCDEF"),
-    ("VOUT_MARGIN_HIGH", "200", b"123456789ABCDEF"),
-    ("VOUT_MARGIN_LOW", "200", b"123456789ABCDEF"),
-    ("VOUT_MIN", "200", b"123456789ABCDEF"),
-];
-
-/// The end of the report.
-const VOUT_MIN_7: &str =
-    "\nVOUT_MIN 0000 host unknown possible 0000 2001 2002 2003 2004 2005 2006 2007 2008 2009 200A 200B 200C 200D 200E 200F\nstatus 00 0000 00\ncml 00\nrestart seen no\njob unknown\n";
-
-// Adds the texts one after another.
-fn push_all(text: &mut Vec<u8>, parts: &[&str]) -> Result<(), AllocError> {
-    for part in parts {
-        text.extend_from_slice(part.as_bytes())?;
-    }
-    Ok(())
-}
-
-// Adds events after which a register may hold what it held, or any of the words.
-fn push_doubts(
-    text: &mut Vec<u8>,
-    output: &str,
-    name: &str,
-    front: &str,
-    digits: &[u8],
-) -> Result<(), AllocError> {
-    push_all(
-        text,
-        &["check ", output, " ", name, "\nexchange whole whole\n"],
-    )?;
-    for digit in digits {
-        push_all(text, &["order ", output, " ", name, " ", front])?;
-        text.push(*digit)?;
-        push_all(text, &["\nfinish nack\nexchange whole cut 0\n"])?;
-    }
-    Ok(())
-}
-
-// A scenario after which each register of eight outputs may hold any of 16 words.
-fn doubts(alloc: Global) -> Result<Vec<u8>, AllocError> {
-    let mut text = Vec::from_slice(alloc, EIGHT_TOLD.as_bytes())?;
-    for output in &NUMBERS {
-        for &(name, front, digits) in &REGISTERS {
-            push_doubts(&mut text, output, name, front, digits)?;
-        }
-    }
-    Ok(text)
-}
-
-#[test]
-fn many_possible_words_are_reported(rt: HostRuntime) -> Result<(), Fail> {
-    let text = doubts(rt.alloc())?;
-    is_written(&rt, Engine::Replay, &text, (69, "ran 2256\n", VOUT_MIN_7));
     Ok(())
 }
 
