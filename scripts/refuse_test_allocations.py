@@ -7,7 +7,7 @@ The tests of memory.rt hold whichever allocation is refused, and must pass. The 
 pass, give the refusal back as its own result, or stop at an assertion of its own. No other end is right, as a bad
 access or a stop in a library. What ends otherwise is printed with its N, and the status is then 1. The last line counts.
 
-N goes up to 200, or the number of `--most`. Each N builds the tests anew and takes some minutes.
+N goes up to 20, or the number of `--most`. Each N builds the tests anew and takes a minute or two.
 """
 import os
 import re
@@ -17,7 +17,7 @@ import sys
 from program import ROOT, answer_help
 
 CRATE = os.path.join(ROOT, "crates/pm_engine_tests")
-MOST = 200
+MOST = 20
 OUTCOME = re.compile(r"^test (\S+) \.\.\. (.*)$")
 # How a test ends that gives a refusal back, and one that stops at an assertion.
 GIVEN = "the test exited with status 101"
