@@ -5,10 +5,13 @@ use Rattle.std.specs.List.{slice_split, before_first, after_first, position_or_l
 use Rattle.std.proofs.lemmas.Bool.{cases_lt}
 use Rattle.std.proofs.lemmas.List.{take_all, length-drop, nil_from_length}
 use Rattle.std.proofs.Math.ListN.{drop_of_length-le}
-use Rattle.std.proofs.lemmas.List.Sums.{fails_before_first}
+use Rattle.std.proofs.lemmas.List.{length-map}
+use Rattle.std.proofs.lemmas.List.Sums.{count_by-le-length, fails_before_first, length-filter}
+use Rattle.std.specs.List.{enumerate_from}
+use Rattle.std.proofs.lemmas.List.FromFn.{length-enumerate_from}
 use Rattle.std.proofs.lemmas.List.Splits.{slice_split_first, slice_split_none, length-slice_split}
 use Rattle.std.proofs.lemmas.Bool.Decides.{nat_tests}
-use Rattle.pm_lines.specs.Lines.{is_line_feed, is_space, without_empty_last, without_return, lines_of, is_skipped, unskipped_from, words_of}
+use Rattle.pm_lines.specs.Lines.{is_line_feed, is_space, without_empty_last, without_return, lines_of, is_skipped, is_unskipped, unskipped_from, words_of}
 
 -- what the first mark leaves of a list
 pub record Last (p : ℕ → Bool) (xs : List ℕ) : Type 0 where
@@ -70,6 +73,30 @@ pub lines-first : (text : List ℕ) → 0 < length text
     → lines_of text ≡ without_return (before_first is_line_feed text) ∷ lines_of (after_first is_line_feed text)
 unfolding lines_of
 lines-first text some = ap (map without_return) (ended_first is_line_feed text some)
+
+-- an empty last piece counts for none
+fewer : (pieces : List (List ℕ)) → length (without_empty_last pieces) ≤ length pieces
+fewer [] = omega arith
+fewer ([] ∷ []) = omega arith
+fewer ((byte ∷ bytes) ∷ []) = omega arith
+fewer (piece ∷ next ∷ pieces) = omega (arith, fewer (next ∷ pieces))
+
+-- a text has at most one line more than bytes, so they can be counted
+pub unskipped-few : (first : ℕ) (text : List ℕ) → length (unskipped_from first text) ≤ length text + 1
+unfolding unskipped_from lines_of
+unskipped-few first text =
+    let pieces = slice_split is_line_feed text in
+    let lines = map without_return (without_empty_last pieces) in
+    omega (
+      arith,
+      length-filter is_unskipped (enumerate_from first lines),
+      count_by-le-length is_unskipped (enumerate_from first lines),
+      length-enumerate_from first lines,
+      length-map (without_empty_last pieces) without_return,
+      fewer pieces,
+      length-slice_split is_line_feed text,
+      count_by-le-length is_line_feed text,
+    )
 
 -- nor one that is not skipped
 pub unskipped-nil : (first : ℕ) → unskipped_from first [] ≡ []

@@ -1,11 +1,11 @@
 -- That `std` reads a text without a leading `+` as the definitions of `specs/Digits.antt` do.
 use Rattle.std.proofs.Common.{◌≡◌, ◌≢◌, ◌∙◌, ◌+◌, ◌-◌, ◌*◌, ◌^◌, ◌<◌, ◌≤◌, ◌&&◌, ℕ, ℤ, pos, neg_ℤ, Bool, true, false, cond, zero, suc, refl}
 use Rattle.std.proofs.Common.{lit<, lit≤, sym, ap, ap₂, subst, Decides, arith, List, [], ◌∷◌, length, get_or, Option, Some, None, Result}
-use Rattle.std.proofs.Common.{Ok, Err, option_map, eqb, nat_lt, lt-ltb, ltb-true, true≢false, eq-eqb}
+use Rattle.std.proofs.Common.{Ok, Err, option_map, eqb, nat_lt, lt-ltb, ltb-true, true≢false}
 use Rattle.std.specs.Option.{IfNone, option_and_then}
 use Rattle.std.specs.Result.{MatchResult, OkIff, result_ok}
 use Rattle.std.specs.Int.{IsInRange}
-use Rattle.hex.specs.Hex.{hex_digit_value, is_hex_digit}
+use Rattle.hex.specs.Hex.{hex_digit_value}
 use Rattle.std.specs.Str.{IsAscii, IsUtf8}
 use Rattle.std.specs.Str.Parse.{ParsesSigned, ParsesUnsigned}
 use Rattle.std.proofs.lemmas.Str.Parse.{IsDigitsTest, IsNumeralModel, WeighsDigits, numerals_by_weight, parse_plain, parse_signed_minus}
@@ -15,7 +15,7 @@ use Rattle.std.proofs.lemmas.Nat.{pow_pos}
 use Rattle.std.proofs.lemmas.Str.{IsUtf8-from_ascii}
 use mir.Syntax.{Width}
 use mir.Val.{hbits}
-use Rattle.pm_lines.specs.Pairs.{byte_of, digit_value, pair_of}
+use Rattle.pm_lines.specs.Pairs.{pair_of}
 use Rattle.pm_lines.specs.Digits.{are_digits, decimal_of, digit, fits, hex_of, natural_of, place_sum, signed_of, small_of}
 
 -- two tests that hold

@@ -44,6 +44,19 @@ impl<'a> Lines<'a> {
         }
     }
 
+    /// How many lines are left that are not skipped.
+    pub fn left(&self) -> usize
+        ensures { result ≡ length self.now.unskipped }
+    {
+        let Lines { rest, number } = *self;
+        let mut lines = Lines { rest, number };
+        let mut count = 0usize;
+        'lines: while let Some(_line) = lines.next_line() {
+            count += 1;
+        }
+        count
+    }
+
     /// The next line that is not skipped. After None every line of the text was passed.
     pub fn next_line(&mut self) -> Option<Line<'a>>
         ensures unskipped { MatchOption result (self.old.unskipped ≡ [])

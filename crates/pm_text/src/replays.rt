@@ -22,7 +22,7 @@ use std::io::{Read, Write};
 /// Reads a scenario, lets its events happen between a host and a converter, up to the first that isn't
 /// taken, and writes the report. Neither stream may have failed before.
 ///
-/// Takes memory for the text as it is read, for the events as they come, and once for the report.
+/// Takes memory for the text as it is read, and once each for the events and the report.
 ///
 /// # Errors
 ///

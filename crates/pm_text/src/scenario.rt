@@ -49,7 +49,7 @@ pub struct Scenario {
 /// Whether a world can be made of the scenario isn't judged here: more than eight outputs are
 /// counted, up to 255, and the starts of the first eight are kept.
 ///
-/// Takes memory for the events alone, which grows as they come.
+/// Takes memory once, for as many events as there are lines for them, as the first one was read.
 ///
 /// # Errors
 ///
@@ -92,10 +92,14 @@ fn events_left(alloc: Global, form: Form, rows: &mut Rows<'_>) -> Result<Vec<Eve
     ensures faults { IfErr result IsOfText }
     ensures memory { IsErrOf result Memory → HasFirst form rows.old.lines }
 {
+    let count = rows.left();
     let mut events = Vec::new(alloc);
     'lines: while let Some(line) = rows.next() {
         let mut event = Event::RestartHost;
         event_line(form, line, &mut event)?;
+        if events.is_empty() {
+            events.reserve_exact(count)?;
+        }
         events.push(event)?;
     }
     Ok(events)

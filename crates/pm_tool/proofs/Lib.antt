@@ -1,5 +1,6 @@
 pub mod EndLemmas
 pub mod GivenOptions
+pub mod Joins
 pub mod OneText
 pub mod OutcomeLemmas
 pub mod PartLemmas
@@ -7,5 +8,4 @@ pub mod RangeLemmas
 pub mod RefusalLemmas
 pub mod ScriptLemmas
 pub mod SetupLemmas
-pub mod WordLemmas
 pub mod Writing

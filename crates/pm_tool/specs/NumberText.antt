@@ -1,8 +1,8 @@
 -- What `number` prints and what it refuses: the word that is asked for, its value in the format,
 -- the whole millionths of that value, and the line of these. The line's form is this project's own.
-use Rattle.std.specs.Prelude.{◌≡◌, ◌≢◌, ℕ, ℤ, pos, ◌/◌, ◌%◌, ◌^◌, ◌<◌, ◌≤◌, ◌≤ℤ◌, true, ⊤}
-use Rattle.std.specs.Prelude.{List, [], ◌∷◌, ◌++◌, Result, Ok, Err, codes, unsigned_abs}
-use Rattle.std.specs.Fmt.{decimal, digit_glyph, signed_decimal}
+use Rattle.std.specs.Prelude.{◌≡◌, ◌≢◌, ℕ, ℤ, pos, ◌^◌, ◌<◌, ◌≤◌, ◌≤ℤ◌, ⊤}
+use Rattle.std.specs.Prelude.{List, ◌++◌, Result, Ok, Err, codes, unsigned_abs}
+use Rattle.std.specs.Fmt.{decimal, signed_decimal}
 use Rattle.pm_num.specs.Formats.{IsDecimal}
 use Rattle.pm_num.specs.Nearest.{IsNearest, IsOutside, linear11_rank, one_rank}
 use Rattle.pm_num.specs.Ratio.{AtMost, Ratio, micros}
@@ -18,6 +18,7 @@ use Rattle.pm_tool.specs.declared.numbers.question.Asked.TheVariants.{Word, Near
 use Rattle.pm_tool.specs.declared.numbers.question.Question.{Question}
 use Rattle.pm_tool.specs.declared.numbers.answer.Answer.{Answer}
 use Rattle.pm_lines.specs.declared.fault.TextFault.TheVariants as text
+use Rattle.pm_lines.specs.Numbers.{hex_word}
 use Rattle.pm_tool.specs.declared.numbers.fault.NumberFault.{NumberFault}
 use Rattle.pm_tool.specs.declared.numbers.fault.NumberFault.TheVariants as fault
 
@@ -98,11 +99,6 @@ pub record IsAnswer (value : ℕ → Ratio) (rank : ℕ → ℕ) (asked : Asked)
   pub floor : IsFloorMicro answer.value answer.millionths
 
 -- ---- the line
-
--- the four digits of a word in base 16, in upper case
-abbrev pub hex_word : ℕ → List ℕ
-hex_word word = digit_glyph true (word / 4096) ∷ digit_glyph true (word / 256 % 16)
-    ∷ digit_glyph true (word / 16 % 16) ∷ digit_glyph true (word % 16) ∷ []
 
 -- `word HHHH value NUM/DEN micro K` and LF
 abbrev pub line_of : Answer → List ℕ

@@ -33,6 +33,13 @@ impl<'a> Rows<'a> {
         }
     }
 
+    /// How many lines are left.
+    pub(crate) fn left(&self) -> usize
+        ensures { result ≡ length self.now.lines }
+    {
+        self.lines.left()
+    }
+
     /// The next line, if there is one.
     pub(crate) fn next(&mut self) -> Option<Line<'a>>
         ensures lines { MatchOption result (self.old.lines ≡ [])

@@ -5,6 +5,7 @@ ghost use Rattle.pm_tool.specs.NumberText.{IsAnswer, IsFloorMicro, IsWordFor, Re
 ghost use Rattle.pm_tool.specs.NumberText.{line_of};
 
 use crate::numbers::question::Asked;
+use pm_lines::{push_hex_word, push_signed};
 use pm_num::{Frac, NumFault, NumFormat, micro};
 use std::alloc::{AllocError, Global};
 
@@ -52,13 +53,23 @@ fn with_value(word: u16, value: Frac) -> Answer
     }
 }
 
-/// The line of an answer.
+/// The bytes that are reserved for a line: the longest, of a word of DIRECT, has 68.
+const ROOM: usize = 96;
+
+/// The line of an answer. Takes memory once.
+#[tactic(auto, using(crate::proofs::Joins::joins))]
 pub(crate) fn line(alloc: Global, answer: &Answer) -> Result<String, AllocError>
     ensures { IfOk result (λ text. string_bytes text ≡ line_of answer.now) }
 {
-    let word = answer.word;
-    let num = answer.value.num();
-    let den = answer.value.den();
-    let millionths = answer.millionths;
-    format!(in alloc; "word {word:04X} value {num}/{den} micro {millionths}\n")
+    let mut text = String::with_capacity(alloc, ROOM)?;
+    text.push_str("word ")?;
+    push_hex_word(&mut text, answer.word)?;
+    text.push_str(" value ")?;
+    push_signed(&mut text, answer.value.num())?;
+    text.push_str("/")?;
+    push_signed(&mut text, answer.value.den())?;
+    text.push_str(" micro ")?;
+    push_signed(&mut text, answer.millionths)?;
+    text.push_str("\n")?;
+    Ok(text)
 }

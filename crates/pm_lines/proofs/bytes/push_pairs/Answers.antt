@@ -1,4 +1,4 @@
-use Rattle.std.proofs.Common.{◌≡◌, ◌∙◌, ◌-◌, ◌<◌, ◌++◌, ◌∷◌, [], ap, arith, append_assoc, drop, length, length-append, refl, sym, take}
+use Rattle.std.proofs.Common.{◌∙◌, ◌-◌, ◌<◌, ◌++◌, ◌∷◌, [], ap, arith, append_assoc, drop, length, length-append, refl, sym, take}
 use Rattle.pm_lines.specs.Pairs.{paired_bytes}
 use Rattle.pm_lines.proofs.PairLemmas.{pair_taken}
 use Rattle.pm_lines.proofs.Writing.{on_err}
