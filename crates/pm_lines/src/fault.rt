@@ -35,6 +35,13 @@ pub enum TextFault {
 impl TextFault {
     ghost use Rattle.pm_lines.specs.Faults.{fault_words, fault_line, fault_setup};
 
+    /// The words of X6, for a caller who has no fault at hand: `X6 Memory`.
+    pub fn want_of_memory() -> &'static str
+        ensures { result.now ≡ fault_words Memory }
+    {
+        "X6 Memory"
+    }
+
     /// The letters and the name of the fault, as a program prints them: `X1 Syntax`, `X3 TooLong`.
     /// The line follows them, where the fault has one, or why no world is made.
     pub fn words(&self) -> &'static str
@@ -46,7 +53,7 @@ impl TextFault {
             TextFault::TooLong => "X3 TooLong",
             TextFault::Read => "X4 Read",
             TextFault::Write => "X5 Write",
-            TextFault::Memory => "X6 Memory",
+            TextFault::Memory => TextFault::want_of_memory(),
             TextFault::Setup(_) => "X7 Setup",
         }
     }

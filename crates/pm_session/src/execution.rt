@@ -14,24 +14,24 @@ use crate::streams::Streams;
 use crate::talk::converse;
 use clap::error::ErrorKind;
 use pm_lines::{Sink, Source, TextFault};
-use std::alloc::{AllocError, Global};
-use std::env;
+use std::alloc::Global;
+use std::env::{self, Env};
 use std::io::{self, Read, Write};
 use std::process::ExitCode;
-use std::rt::Runtime;
 
-/// Runs the program over the parts of a runtime: its arguments and its input, standard output and
-/// standard error. What `main` does is this one call. No clause can say what a terminal or a pipe
-/// gives or takes: `run` says what is read and written. The status is at most 2.
-pub fn program<R: Runtime + AllocGlobal, W: Write + Drop, E: Write + Drop>(
+/// Runs the program over the arguments of a runtime, and its standard input, output and error. What
+/// `main` does is this one call. No clause can say what a terminal or a pipe gives or takes: `run` says
+/// what is read and written. The status is at most 2. Takes memory for the arguments, and then as `run`.
+pub fn program<R: Env + AllocGlobal, I: Read + Drop, W: Write + Drop, E: Write + Drop>(
     rt: &R,
+    input: I,
     output: W,
     errors: E,
 ) -> ExitCode
     ensures { exit_status result ≤ 2 }
 {
     let mut streams = Streams {
-        source: Source::new(rt.reader()),
+        source: Source::new(input),
         sink: Sink::new(output),
     };
     let mut errors = Sink::new(errors);
@@ -41,7 +41,7 @@ pub fn program<R: Runtime + AllocGlobal, W: Write + Drop, E: Write + Drop>(
             .iter()
             .map(|text| text.as_str())
             .collect(rt.alloc())
-            .map_err(|_| io::ErrorKind::OutOfMemory),
+            .map_err(|error| io::Error::from(error).kind()),
         Err(kind) => Err(*kind),
     };
     let words = words
@@ -52,11 +52,11 @@ pub fn program<R: Runtime + AllocGlobal, W: Write + Drop, E: Write + Drop>(
 }
 
 // The arguments as texts, or why they can't be had as such.
-fn arguments<R: Runtime + AllocGlobal>(rt: &R) -> Result<Vec<String>, io::ErrorKind> {
+fn arguments<R: Env + AllocGlobal>(rt: &R) -> Result<Vec<String>, io::ErrorKind> {
     let arguments = env::args(rt).map_err(|error| error.kind())?;
     arguments
         .collect(rt.alloc())
-        .map_err(|_| io::ErrorKind::OutOfMemory)
+        .map_err(|error| io::Error::from(error).kind())
 }
 
 /// Runs the program: makes the host that the words of the command line ask for, answers the lines that
@@ -221,7 +221,8 @@ fn refuse_memory<E: Write>(errors: &mut Sink<E>) -> u8
     ensures status { result ≡ 1 }
     ensures said { Says E.contents errors.old errors.new (refusal_line (fault_words Memory)) }
 {
-    refuse(errors, TextFault::from(AllocError))
+    say(errors, TextFault::want_of_memory());
+    1
 }
 
 // Says the fault of a stream or of memory, and gives its status.

@@ -13,23 +13,23 @@ use crate::refusal::{say, say_fault};
 use crate::script::hear;
 use clap::error::ErrorKind;
 use pm_text::{DecodeEnd, ReplayEnd, Sink, Source, TextFault, decode, replay};
-use std::alloc::{AllocError, Global};
-use std::env;
+use std::alloc::Global;
+use std::env::{self, Env};
 use std::io::{self, Read, Write};
 use std::process::ExitCode;
-use std::rt::Runtime;
 
-/// Runs the program over the parts of a runtime: its arguments and its input, standard output and
-/// standard error. What `main` does is this one call. No clause can say what a terminal or a file
-/// gives or takes: `run` says what is read and written. The status is at most 2.
-pub fn program<R: Runtime + AllocGlobal, W: Write + Drop, E: Write + Drop>(
+/// Runs the program over the arguments of a runtime, and its standard input, output and error. What
+/// `main` does is this one call. No clause can say what a terminal or a file gives or takes: `run` says
+/// what is read and written. The status is at most 2. Takes memory for the arguments, and then as `run`.
+pub fn program<R: Env + AllocGlobal, I: Read + Drop, W: Write + Drop, E: Write + Drop>(
     rt: &R,
+    input: I,
     output: W,
     errors: E,
 ) -> ExitCode
     ensures { exit_status result ≤ 2 }
 {
-    let mut input = Source::new(rt.reader());
+    let mut input = Source::new(input);
     let mut output = Sink::new(output);
     let mut errors = Sink::new(errors);
     let texts = arguments(rt);
@@ -38,7 +38,7 @@ pub fn program<R: Runtime + AllocGlobal, W: Write + Drop, E: Write + Drop>(
             .iter()
             .map(|text| text.as_str())
             .collect(rt.alloc())
-            .map_err(|_| io::ErrorKind::OutOfMemory),
+            .map_err(|error| io::Error::from(error).kind()),
         Err(kind) => Err(*kind),
     };
     let words = words
@@ -49,11 +49,11 @@ pub fn program<R: Runtime + AllocGlobal, W: Write + Drop, E: Write + Drop>(
 }
 
 // The arguments as texts, or why they can't be had as such.
-fn arguments<R: Runtime + AllocGlobal>(rt: &R) -> Result<Vec<String>, io::ErrorKind> {
+fn arguments<R: Env + AllocGlobal>(rt: &R) -> Result<Vec<String>, io::ErrorKind> {
     let arguments = env::args(rt).map_err(|error| error.kind())?;
     arguments
         .collect(rt.alloc())
-        .map_err(|_| io::ErrorKind::OutOfMemory)
+        .map_err(|error| io::Error::from(error).kind())
 }
 
 /// Runs the program: does what the words of the command line ask, over any reader and any two
@@ -293,6 +293,6 @@ fn refuse_memory<E: Write>(errors: &mut Sink<E>) -> u8
     ensures status { result ≡ status_of wants_memory }
     ensures said { Says E.contents errors.old errors.new (said_by wants_memory) }
 {
-    say(errors, TextFault::from(AllocError).words(), None);
+    say(errors, TextFault::want_of_memory(), None);
     1
 }

@@ -11,6 +11,8 @@ mod hear;
 #[cfg(test)]
 mod numbers;
 #[cfg(test)]
+mod program;
+#[cfg(test)]
 mod run;
 #[cfg(test)]
 mod setups;

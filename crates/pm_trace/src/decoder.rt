@@ -71,8 +71,8 @@ impl Decoder {
     /// }
     /// ```
     ///
-    /// After `finish` it takes nothing, and refuses nothing. Takes memory for the count of a code that is
-    /// new, once for each.
+    /// After `finish` it takes nothing, and refuses nothing. Takes memory for the counts alone, and only
+    /// where a code is new.
     ///
     /// # Errors
     ///

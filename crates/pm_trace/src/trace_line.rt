@@ -49,8 +49,11 @@ pub fn read_trace_line(alloc: Global, line: &[u8]) -> Result<TraceLine, TextFaul
     Ok(TraceLine { write, read })
 }
 
+/// The bytes that are reserved for a line's text: the longest, of COEFFICIENTS, has 81.
+const ROOM: usize = 96;
+
 /// The text of a packet's line with its number, as `decode` writes it but without a line feed: what
-/// the packet says, or its first fault with the place. Takes memory for the text, as it grows.
+/// the packet says, or its first fault with the place. Takes memory once, for the text.
 ///
 /// # Errors
 ///
@@ -64,7 +67,7 @@ pub fn render_line(alloc: Global, number: u64, line: &TraceLine) -> Result<Strin
         Some(read) => Some(read.as_slice()),
         None => None,
     };
-    let mut text = String::new(alloc);
+    let mut text = String::with_capacity(alloc, ROOM)?;
     push_line(
         &mut text,
         number,

@@ -29,8 +29,8 @@ const PIECE: usize = 512;
 /// before.
 ///
 /// A bad line is written by its letters, and ends nothing: `BadLines` says that there is one. Takes
-/// memory for what the lines of a piece of 512 bytes say and for the text of the counts, as these grow,
-/// and for the count of each code, once: none of it grows with the trace.
+/// memory for what the lines of a piece of 512 bytes say, for the text of the counts, and for the counts of
+/// codes, as these grow: none of it grows with the trace, but by a code that is new.
 ///
 /// # Errors
 ///

@@ -6,5 +6,10 @@ use pm_tool::program;
 use std::process::ExitCode;
 
 fn main(rt: HostRuntime) -> ExitCode {
-    program(&rt, rt.stdout().lock(), rt.stderr().lock())
+    program(
+        &rt,
+        rt.stdin().lock(),
+        rt.stdout().lock(),
+        rt.stderr().lock(),
+    )
 }

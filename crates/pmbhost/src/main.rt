@@ -5,5 +5,10 @@ use pm_session::program;
 use std::process::ExitCode;
 
 fn main(rt: HostRuntime) -> ExitCode {
-    program(&rt, rt.stdout().lock(), rt.stderr().lock())
+    program(
+        &rt,
+        rt.stdin().lock(),
+        rt.stdout().lock(),
+        rt.stderr().lock(),
+    )
 }

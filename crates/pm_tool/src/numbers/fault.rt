@@ -78,7 +78,7 @@ impl From<TextFault> for NumberFault {
 impl From<AllocError> for NumberFault {
     ghost from_gives = { λ _ refusal. refusal ≡ refusals.Text Memory };
 
-    fn from(_error: AllocError) -> NumberFault {
-        NumberFault::Text(TextFault::Memory)
+    fn from(error: AllocError) -> NumberFault {
+        NumberFault::Text(error.into())
     }
 }
