@@ -5,7 +5,7 @@ use crate::checks::{equal, is_true};
 use crate::worked::worked;
 use pm_text::TextFault;
 use pm_text_fixtures::{
-    Engine, Engines, FAILURES, FRAME, Failure, Halves, Paper, Pieces, SCENARIO, TRACE, blank_paper,
+    Engine, Engines, FRAME, Failure, Halves, KINDS, Paper, Pieces, SCENARIO, TRACE, blank_paper,
     in_pieces,
 };
 use std::alloc::Global;
@@ -62,13 +62,6 @@ fn an_engine_reads_to_the_end_and_no_further(rt: HostRuntime) {
         makes_calls(&rt, Engine::Hear, FRAME, piece, hears);
     }
 }
-
-static KINDS: [ErrorKind; 4] = [
-    ErrorKind::Interrupted,
-    ErrorKind::WouldBlock,
-    ErrorKind::UnexpectedEof,
-    ErrorKind::Other,
-];
 
 // How many lines a trace has in the bytes that so many calls read; 0 for another engine's text.
 fn lines_read(engine: Engine, input: &str, piece: usize, calls: usize) -> usize {
@@ -169,15 +162,28 @@ fn ends_at_write(
     );
 }
 
+// The same of each way in which a write fails; where each byte is written alone, of one kind of error at each place.
+fn ends_at_each_write(
+    rt: &(impl Abort + AllocGlobal),
+    worked: (Engine, &str, &str),
+    piece: usize,
+    fails_at: usize,
+) {
+    ends_at_write(rt, worked, piece, fails_at, Failure::Nothing);
+    for (at, &kind) in KINDS.iter().enumerate() {
+        if piece > 1 || at == fails_at % KINDS.len() {
+            ends_at_write(rt, worked, piece, fails_at, Failure::Error(kind));
+        }
+    }
+}
+
 #[test]
 fn a_failed_write_ends_an_engine_at_once(rt: HostRuntime) {
     for (engine, input, text, _) in worked() {
         for &piece in &PIECES {
             let (_, calls) = calls_made(rt.alloc(), engine, input, piece);
             for fails_at in 1..=calls {
-                for &failure in &FAILURES {
-                    ends_at_write(&rt, (engine, input, text), piece, fails_at, failure);
-                }
+                ends_at_each_write(&rt, (engine, input, text), piece, fails_at);
             }
         }
     }

@@ -46,41 +46,71 @@ fn an_engine_without_memory_writes_nothing_else(rt: HostRuntime) {
     );
 }
 
-#[test]
-fn a_decoder_without_memory_refuses_from_then_on(rt: HostRuntime) {
+// A decoder is fed the first lines of a trace, this many, each with another code. The last one has no line feed, and
+// ends at the end. Once memory was refused it refuses from then on.
+fn is_counted(rt: &(impl Abort + AllocGlobal), lines: usize) {
     let mut decoder = Decoder::new(rt.alloc());
-    let mut rest = CODES.as_bytes();
+    let mut rest = first_lines(CODES.as_bytes(), lines);
     let mut accepted = 0u64;
     let mut is_refused = false;
-    for _ in 0..23 {
+    for _ in 0..lines {
         match decoder.feed(rest) {
             Ok(fed) => {
                 rest = &rest[fed.taken..];
-                is_true(&rt, decoder.line().is_some() == fed.ended, &1);
+                is_true(rt, decoder.line().is_some() == fed.ended, &1);
                 accepted = accepted.saturating_add(u64::from(fed.ended));
             }
             Err(fault) => {
-                equal(&rt, &fault, &TextFault::Memory, &2);
+                equal(rt, &fault, &TextFault::Memory, &2);
                 is_refused = true;
                 break;
             }
         }
     }
-    // The last line has no line feed, and ends here.
     let end = if is_refused {
         Ok(true)
     } else {
         decoder.finish()
     };
     match end {
-        Ok(true) if !is_refused => equal(&rt, &decoder.counts(), &(23, 23, 0, 0), &3),
-        _ => {
-            is_true(&rt, decoder.line().is_none(), &4);
-            equal(&rt, &decoder.feed(b"x").err(), &Some(TextFault::Memory), &5);
-            equal(&rt, &decoder.feed(b"").err(), &Some(TextFault::Memory), &6);
-            equal(&rt, &decoder.finish(), &Err(TextFault::Memory), &7);
-            equal(&rt, &decoder.counts(), &(accepted, accepted, 0, 0), &8);
+        Ok(true) if !is_refused => equal(
+            rt,
+            &decoder.counts(),
+            &(lines as u64, lines as u64, 0, 0),
+            &3,
+        ),
+        _ => is_failed(rt, &mut decoder, accepted),
+    }
+}
+
+// A decoder that wanted memory shows no line, counts nothing more and refuses all.
+fn is_failed(rt: &impl Abort, decoder: &mut Decoder, accepted: u64) {
+    is_true(rt, decoder.line().is_none(), &4);
+    equal(rt, &decoder.feed(b"x").err(), &Some(TextFault::Memory), &5);
+    equal(rt, &decoder.feed(b"").err(), &Some(TextFault::Memory), &6);
+    equal(rt, &decoder.finish(), &Err(TextFault::Memory), &7);
+    equal(rt, &decoder.counts(), &(accepted, accepted, 0, 0), &8);
+}
+
+// This many lines, without the last one's line feed.
+fn first_lines(text: &[u8], lines: usize) -> &[u8] {
+    let mut left = lines;
+    for (at, byte) in text.iter().enumerate() {
+        if *byte == b'\n' {
+            left = left.saturating_sub(1);
+            if left == 0 {
+                return &text[..at];
+            }
         }
+    }
+    text
+}
+
+// The counts grow at the first code, at the tenth and at the nineteenth: each of these as the trace ends too.
+#[test]
+fn a_decoder_without_memory_refuses_from_then_on(rt: HostRuntime) {
+    for lines in [1, 10, 19, 23] {
+        is_counted(&rt, lines);
     }
 }
 

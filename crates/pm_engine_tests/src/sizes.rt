@@ -16,6 +16,10 @@ use std::test::Fail;
 static ONE: &str =
     "scenario 1\naddress 58\npasses 2\nprotect 00\ncoefficients 1 0 0\noutput 14 80 1000 4000 1100 0F00\nbegin\n";
 
+/// The same, with an event.
+static ONE_EVENT: &str =
+    "scenario 1\naddress 58\npasses 2\nprotect 00\ncoefficients 1 0 0\noutput 14 80 1000 4000 1100 0F00\nbegin\nclear 0\n";
+
 static EIGHT: &str =
     "scenario 1\naddress 58\npasses 2\nprotect 00\ncoefficients 1 0 0\noutput 14 80 1000 4000 1100 0F00\noutput 14 80 1000 4000 1100 0F00\noutput 14 80 1000 4000 1100 0F00\noutput 14 80 1000 4000 1100 0F00\noutput 14 80 1000 4000 1100 0F00\noutput 14 80 1000 4000 1100 0F00\noutput 14 80 1000 4000 1100 0F00\noutput 14 80 1000 4000 1100 0F00\nbegin\n";
 
@@ -74,8 +78,16 @@ fn expect_lines(
 
 #[test]
 fn long_traces_are_decoded(rt: HostRuntime) -> Result<(), Fail> {
-    let rows: [(Long, Written); 4] = [
+    let rows: [(Long, Written); 5] = [
         ((["", ""], "", 0, CODES), (47, CODES_SAID, CODES_SAID)),
+        (
+            (["", ""], "/\n", 524_288, ""),
+            (
+                524_289,
+                "1 -- write F1 NotOurs\n",
+                "\n524288 -- write F1 NotOurs\nlines 524288 accepted 0 faults 524288 bad 0\n",
+            ),
+        ),
         (
             (["", ""], "B0 03 46\n", 40_000, ""),
             (
@@ -116,7 +128,11 @@ fn fault_of(alloc: Global, text: &[u8]) -> Option<TextFault> {
 
 #[test]
 fn long_scenarios_are_replayed(rt: HostRuntime) -> Result<(), Fail> {
-    let rows: [(Long, Written); 5] = [
+    let rows: [(Long, Written); 6] = [
+        (
+            (["", ""], "\n", 900_000, ONE_EVENT),
+            (12, "ran 1\n", "\njob pending\n"),
+        ),
         (
             ([EIGHT, ""], "clear 0\nfinish ack\n", 50_000, ""),
             (
@@ -142,6 +158,9 @@ fn long_scenarios_are_replayed(rt: HostRuntime) -> Result<(), Fail> {
     expect_lines(&rt, Engine::Replay, &rows)?;
     let text = text_of(rt.alloc(), ([ONE, ""], "learn 0\n", 100_000, ""))?;
     equal(&rt, &count_events(rt.alloc(), &text)?, &100_000, &1);
+    // Memory was taken once: there is room for these events and no more.
+    let events = read_scenario(rt.alloc(), &text)?.events.into_vec();
+    equal(&rt, &events.capacity(), &100_000, &2);
     Ok(())
 }
 
@@ -294,7 +313,19 @@ fn is_rendered(
 }
 
 // The line, how many bytes its parts have, its number, and what it says.
-static LONG_PARTS: [(Long, (usize, Option<usize>), u64, &str); 4] = [
+static LONG_PARTS: [(Long, (usize, Option<usize>), u64, &str); 6] = [
+    (
+        (["B0 03", ""], " ", 1_000_000, "46"),
+        (3, None),
+        u64::MAX,
+        "18446744073709551615 58 CLEAR_FAULTS send",
+    ),
+    (
+        (["B0 30 02 FF FF / B1 05", ""], " 00 80", 2, " 80 AE"),
+        (5, Some(8)),
+        u64::MAX,
+        "18446744073709551615 58 COEFFICIENTS of FF side 255 read m -32768 b -32768 r -128",
+    ),
     (
         (["B0", ""], " 05", 299, ""),
         (300, None),
@@ -327,6 +358,11 @@ fn long_parts_are_rendered_with_great_numbers(rt: HostRuntime) -> Result<(), Fai
     for &(long, parts, number, wanted) in &LONG_PARTS {
         is_rendered(&rt, &text_of(alloc, long)?, parts, number, wanted)?;
     }
+    // Both parts are as long as they may be.
+    let mut line = text_of(alloc, (["B0 20", ""], " 05", 298, " /"))?;
+    line.extend_from_slice(&text_of(alloc, (["", ""], " B1", 300, ""))?)?;
+    let wanted = "18446744073709551615 58 write F3 Long 2";
+    is_rendered(&rt, &line, (300, Some(300)), u64::MAX, wanted)?;
     Ok(())
 }
 

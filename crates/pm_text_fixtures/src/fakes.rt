@@ -98,19 +98,60 @@ impl Read for Endless<'_> {
     }
 }
 
+/// Every kind of error.
+pub static KINDS: [ErrorKind; 42] = [
+    ErrorKind::NotFound,
+    ErrorKind::PermissionDenied,
+    ErrorKind::ConnectionRefused,
+    ErrorKind::ConnectionReset,
+    ErrorKind::HostUnreachable,
+    ErrorKind::NetworkUnreachable,
+    ErrorKind::ConnectionAborted,
+    ErrorKind::NotConnected,
+    ErrorKind::AddrInUse,
+    ErrorKind::AddrNotAvailable,
+    ErrorKind::NetworkDown,
+    ErrorKind::BrokenPipe,
+    ErrorKind::AlreadyExists,
+    ErrorKind::WouldBlock,
+    ErrorKind::NotADirectory,
+    ErrorKind::IsADirectory,
+    ErrorKind::DirectoryNotEmpty,
+    ErrorKind::ReadOnlyFilesystem,
+    ErrorKind::FilesystemLoop,
+    ErrorKind::StaleNetworkFileHandle,
+    ErrorKind::InvalidInput,
+    ErrorKind::InvalidData,
+    ErrorKind::TimedOut,
+    ErrorKind::WriteZero,
+    ErrorKind::StorageFull,
+    ErrorKind::NotSeekable,
+    ErrorKind::QuotaExceeded,
+    ErrorKind::FileTooLarge,
+    ErrorKind::ResourceBusy,
+    ErrorKind::ExecutableFileBusy,
+    ErrorKind::Deadlock,
+    ErrorKind::CrossesDevices,
+    ErrorKind::TooManyLinks,
+    ErrorKind::InvalidFilename,
+    ErrorKind::ArgumentListTooLong,
+    ErrorKind::Interrupted,
+    ErrorKind::Unsupported,
+    ErrorKind::UnexpectedEof,
+    ErrorKind::OutOfMemory,
+    ErrorKind::InProgress,
+    ErrorKind::Other,
+    ErrorKind::Uncategorized,
+];
+
 /// How a writer fails.
 #[derive(Clone, Copy, Debug, PartialEq, Eq)]
 pub enum Failure {
-    /// By an error of no kind.
-    Error,
-    /// By an error that says that the call was interrupted.
-    Interrupted,
+    /// By an error of this kind.
+    Error(ErrorKind),
     /// By taking none of the bytes.
     Nothing,
 }
-
-/// Each way in which a writer fails.
-pub static FAILURES: [Failure; 3] = [Failure::Error, Failure::Interrupted, Failure::Nothing];
 
 /// A writer that takes this many bytes at a time. The call with this number fails, and the others
 /// don't; 0 for none. A flush is counted apart, and fails where it is said to.
@@ -139,8 +180,7 @@ impl Write for Paper {
         self.calls = self.calls.saturating_add(1);
         if self.calls == self.fails_at {
             return match self.failure {
-                Failure::Error => Err(ErrorKind::Other.into()),
-                Failure::Interrupted => Err(ErrorKind::Interrupted.into()),
+                Failure::Error(kind) => Err(kind.into()),
                 Failure::Nothing => Ok(0),
             };
         }
@@ -167,7 +207,7 @@ pub fn blank_paper(alloc: Global, piece: usize) -> Paper
         taken: Vec::new(alloc),
         piece,
         fails_at: 0,
-        failure: Failure::Error,
+        failure: Failure::Nothing,
         calls: 0,
         flushes: 0,
         flush_fails: false,

@@ -7,5 +7,5 @@ mod fakes;
 mod worked;
 
 pub use engine::{Ended, Engine, Engines};
-pub use fakes::{Endless, FAILURES, Failure, Halves, Paper, Pieces, Sheet, blank_paper, in_pieces};
+pub use fakes::{Endless, Failure, Halves, KINDS, Paper, Pieces, Sheet, blank_paper, in_pieces};
 pub use worked::{CODES, CODES_SAID, FRAME, LINES, REPORT, SCENARIO, TAKEN, TRACE};

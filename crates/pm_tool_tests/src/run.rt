@@ -2,7 +2,7 @@ ghost use Rattle.std.specs.Prelude.{IsFalse};
 
 use crate::checks::{equal, is_true};
 use pm_text_fixtures::{
-    FAILURES, FRAME, Failure, LINES, Paper, Pieces, REPORT, SCENARIO, TAKEN, TRACE, blank_paper,
+    FRAME, Failure, KINDS, LINES, Paper, Pieces, REPORT, SCENARIO, TAKEN, TRACE, blank_paper,
     in_pieces,
 };
 use pm_tool::{Sink, Source, run};
@@ -191,6 +191,7 @@ fn ends_at_write(
     };
     let found = run_into(rt.alloc(), words, output);
     equal(rt, &found.output.calls, &fails_at, &words);
+    equal(rt, &found.output.flushes, &0, &fails_at);
     let front = &text.as_bytes()[..fails_at.saturating_sub(1).min(text.len())];
     equal(rt, &found.output.taken.as_slice(), &front, &fails_at);
     has_ended(rt, &found, 1, "pmb: X5 Write\n");
@@ -205,8 +206,9 @@ fn has_ended(rt: &impl Abort, found: &Ran, status: u8, errors: &str) {
 // Each call of an output fails in each way, and its flush.
 fn holds_a_front(rt: &(impl Abort + AllocGlobal), words: &[&str], text: &str) {
     for fails_at in 1..=text.len() {
-        for &failure in &FAILURES {
-            ends_at_write(rt, words, text, fails_at, failure);
+        ends_at_write(rt, words, text, fails_at, Failure::Nothing);
+        for &kind in &KINDS {
+            ends_at_write(rt, words, text, fails_at, Failure::Error(kind));
         }
     }
     let output = Paper {

@@ -1,57 +1,11 @@
 //! Tests of `pm_lines`: its readers and writers, whole texts, lines, words and bytes.
 use crate::checks::{equal, is_true};
 use pm_lines::{Line, Lines, Sink, Source, TextFault, Words, cut_at, push_bytes, read_text};
-use pm_text_fixtures::{FAILURES, Failure, Paper, Pieces, blank_paper, in_pieces};
+use pm_text_fixtures::{Failure, KINDS, Paper, Pieces, blank_paper, in_pieces};
 use std::alloc::Global;
 use std::io::{self, ErrorKind, Write};
 use std::process::Abort;
 use std::test::Fail;
-
-/// Every kind of error.
-static KINDS: [ErrorKind; 42] = [
-    ErrorKind::NotFound,
-    ErrorKind::PermissionDenied,
-    ErrorKind::ConnectionRefused,
-    ErrorKind::ConnectionReset,
-    ErrorKind::HostUnreachable,
-    ErrorKind::NetworkUnreachable,
-    ErrorKind::ConnectionAborted,
-    ErrorKind::NotConnected,
-    ErrorKind::AddrInUse,
-    ErrorKind::AddrNotAvailable,
-    ErrorKind::NetworkDown,
-    ErrorKind::BrokenPipe,
-    ErrorKind::AlreadyExists,
-    ErrorKind::WouldBlock,
-    ErrorKind::NotADirectory,
-    ErrorKind::IsADirectory,
-    ErrorKind::DirectoryNotEmpty,
-    ErrorKind::ReadOnlyFilesystem,
-    ErrorKind::FilesystemLoop,
-    ErrorKind::StaleNetworkFileHandle,
-    ErrorKind::InvalidInput,
-    ErrorKind::InvalidData,
-    ErrorKind::TimedOut,
-    ErrorKind::WriteZero,
-    ErrorKind::StorageFull,
-    ErrorKind::NotSeekable,
-    ErrorKind::QuotaExceeded,
-    ErrorKind::FileTooLarge,
-    ErrorKind::ResourceBusy,
-    ErrorKind::ExecutableFileBusy,
-    ErrorKind::Deadlock,
-    ErrorKind::CrossesDevices,
-    ErrorKind::TooManyLinks,
-    ErrorKind::InvalidFilename,
-    ErrorKind::ArgumentListTooLong,
-    ErrorKind::Interrupted,
-    ErrorKind::Unsupported,
-    ErrorKind::UnexpectedEof,
-    ErrorKind::OutOfMemory,
-    ErrorKind::InProgress,
-    ErrorKind::Other,
-    ErrorKind::Uncategorized,
-];
 
 // A source over a reader that fails at this call, which is called once.
 fn is_called_once(
@@ -159,8 +113,9 @@ fn a_sink_writes_to_the_first_failure(rt: HostRuntime) {
     for (piece, calls) in [(1, 20), (7, 3), (20, 1), (4096, 1)] {
         is_put(&rt, piece, calls);
         for fails_at in 1..=calls {
-            for &failure in &FAILURES {
-                is_put_to(&rt, piece, fails_at, failure);
+            is_put_to(&rt, piece, fails_at, Failure::Nothing);
+            for &kind in &KINDS {
+                is_put_to(&rt, piece, fails_at, Failure::Error(kind));
             }
         }
     }
