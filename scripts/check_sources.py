@@ -5,7 +5,8 @@
 
 It prints a line for each finding, and has status 1 if there is one. With --places it lists where X6 arises instead.
 
-    memory     a body makes a want of memory (an AllocError, TextFault::Memory) but in a `From`, or in a named function
+    memory     a line of code makes a want of memory (AllocError, TextFault::Memory, OutOfMemory) outside the one `From` of
+               its crate, or could hide one; scripts/try_sources.py plants such lines
     letter     the letter of a fault stands away from its type: in code in a file with no `fn words`, in definitions in one
                that doesn't define words; or it stands in two files
     code       a command code in two digits outside pm_table, where it has a name
@@ -29,15 +30,20 @@ LETTER = re.compile(r'"([FHKNSTVX][1-9][0-9]?)(?: [A-Z][A-Za-z]+)?[" ]')
 HEX = re.compile(r"0x[0-9A-F]{2}(?![0-9A-Fa-f_])")
 # Bytes that are often no code: a value of WRITE_PROTECT or of a side, a space, a digit, the number of N5 for C.
 OTHERS = {"0x00", "0x01", "0x10", "0x15", "0x20", "0x30"}
-# A want of memory, and texts and characters.
-WANT = re.compile(r"\bAllocError\b|\b(?:TextFault|Self)::Memory\b")
-QUOTED = r"\"(?:\\.|[^\"\\\n])*\"|'(?:\\[^'\n]+|[^'\\\n])'"
-# The functions that make one outside a `From`, and why.
-NO_ERROR = "it is told by the kind OutOfMemory, with no AllocError"
-MAKERS = {
-    ("crates/pm_tool/src/execution.rt", "refuse_memory"): NO_ERROR,
-    ("crates/pm_session/src/execution.rt", "refuse_memory"): NO_ERROR,
-}
+# What wants memory, or tells that it was wanted; a clause writes `TextFault.Memory` or has an `≡`, and code neither.
+WANT = re.compile(r"\bAllocError\b|\bAllocFailed\b|\bOutOfMemory\b|::Memory\b")
+QUOTED = re.compile(r"\"(?:\\.|[^\"\\\n])*\"")
+# The lines that may name one: an import under its own name, the type of a result, an arm that tells one apart.
+NAMES_ONE = re.compile(
+    r"use std::alloc::(?:AllocError|\{(?:AllocError|AllocFailed|Global)(?:, (?:AllocError|AllocFailed|Global))*\});"
+    r"|(?:.*\)|\)) -> Result<.*, AllocError>(?: \{)?"
+    r"|(?:(?:io::)?ErrorKind::OutOfMemory|TextFault::Memory) => (?P<rest>.*)")
+# What would hide one: another name for a type, a variant without its type, room that no machine has.
+HIDES_ONE = re.compile(
+    r"\b(?:TextFault|AllocError|AllocFailed|ErrorKind)\s+as\b|^(?:pub )?use .*TextFault::|\btype \w+(?:<.*>)? = .*TextFault"
+    r"|<TextFault>::|\b(?:with_capacity|reserve\w*)\(.*\bMAX\b")
+# The one place where each crate makes X6 of a refused allocation.
+FROM = re.compile(r"^impl(?:<T: Drop>)? From<(AllocError|AllocFailed<T>)> for (\w+) \{$")
 # A file of numbers that are no codes.
 NUMBERS = ("crates/pm_frame/src/packet_error_code.rt", "crates/pm_lines/src/hex_digit.rt")
 
@@ -62,98 +68,63 @@ def code_of(path):
             if found and path.endswith(".rt") and not path.endswith("lib.rt"):
                 break
             continue
-        found.append(re.sub(r"(^|\s)(//|--( |$)).*", "", line))
+        found.append(without_comment(line))
     return found
 
 
+def without_comment(line):
+    """A line up to its comment, which no text of it begins."""
+    blank = QUOTED.sub(lambda text: "x" * len(text.group()), line)
+    found = re.search(r"(^|\s)(//|--( |$))", blank)
+    return line[:found.start()] if found else line
+
+
 def memory(path, lines):
-    """A body that makes a want of memory, but in a `From` and in a named function."""
-    for number, line, _, allowed in makings(path, lines):
-        if not allowed:
+    """A line that makes a want of memory, or could hide one, outside the `From` of an allocator's error."""
+    for number, line, place in makings(path, lines):
+        if not place:
             yield path, number, "memory", line
 
 
 def makings(path, lines):
-    """Each line that makes a want of memory, its number, its function, and why it may, or None."""
-    text = re.sub(QUOTED, lambda found: " " * len(found.group()), "\n".join(lines))
-    froms = [found.span() for found in re.finditer(r"^impl(<.*>)? From<[\s\S]*?^}", text, re.M)]
-    for found in WANT.finditer(text):
-        start, end = found.span()
-        number = text.count("\n", 0, start) + 1
-        line = lines[number - 1].strip()
-        is_import = re.match(r"(pub(\(\w+\))? )?(ghost )?use ", line)
-        if is_import or is_type(text, start, end) or is_pattern(text, start, end):
-            continue
-        function = (re.findall(r"\bfn (\w+)", text[:start]) or [""])[-1]
-        in_from = any(first <= start < last for first, last in froms)
-        yield number, line, function, "a From" if in_from else MAKERS.get((path, function))
+    """Each line that makes a want of memory or could hide one, with its number and the `From` that it stands in."""
+    place = ""
+    for number, whole in enumerate(lines, 1):
+        line = QUOTED.sub('""', whole)
+        found = FROM.match(line)
+        place = found.group(0) if found else "" if line.startswith("}") else place
+        text = line.strip()
+        if HIDES_ONE.search(text) or is_making(text):
+            yield number, whole.strip(), place
 
 
-def is_type(text, start, end):
-    """Whether a name stands as a type: in angle brackets, behind an arrow, of a parameter, a field or a variable."""
-    if "::" in text[start:end] or text.startswith("::", end):
+def is_making(text):
+    """Whether a line of code names what wants memory, and not only to import it, to type a result or to tell it apart."""
+    if not WANT.search(text) or "≡" in text or text.startswith("ghost "):
         return False
-    before = re.sub(r"(&\s*('\w+\s+)?(mut\s+)?)+$", "", text[:start]).rstrip()
-    if text.startswith(">", end) or before.endswith(("<", "->")) or re.search(r"\b(for|impl|dyn)$", before):
-        return True
-    if re.search(r"\b(let|const|static)\b[^=;]*:$", before):
-        return True
-    openers = list(openers_before(text, start))
-    heads = [text[:at].rstrip() for at in openers]
-    if any(re.search(r"\b(struct|enum) \w+(<[^{}();]*>)?$|\buse [\w:]+::$", head) for head in heads):
-        return True
-    return bool(heads) and before.endswith(":") and bool(re.search(r"\bfn \w+(<[^{}();]*>)?$", heads[0]))
+    named = NAMES_ONE.fullmatch(text)
+    return not named or bool(WANT.search(named.group("rest") or ""))
 
 
-def is_pattern(text, start, end):
-    """Whether a name stands in a pattern: of a match arm, behind `let`, or of `matches!`."""
-    if stands_as_pattern(text, start, end):
-        return True
-    for at in openers_before(text, start):
-        if text[at] == "{":
-            return False
-        close = closer_of(text, at)
-        if text[:at].endswith("matches!") and "," in text[at:start]:
-            return True
-        if stands_as_pattern(text, at, close + 1):
-            return True
-    return False
-
-
-def stands_as_pattern(text, start, end):
-    """Whether what follows is an arrow, an alternative, a guard, or the value of a `let`."""
-    if re.match(r"\s*(=>|\|(?!\|)|if\b)", text[end:]):
-        return True
-    return bool(re.match(r"\s*=(?!=)", text[end:]) and re.search(r"\blet\b[^=;{}]*$", text[:start]))
-
-
-def openers_before(text, at):
-    """The places of the brackets around a place, the inmost first."""
-    depth = 0
-    for place in range(at - 1, -1, -1):
-        if text[place] in ")]}":
-            depth += 1
-        elif text[place] in "([{":
-            if depth == 0:
-                yield place
-            depth = max(depth - 1, 0)
-
-
-def closer_of(text, at):
-    """The place of the bracket that closes this one."""
-    depth = 0
-    for place in range(at, len(text)):
-        depth += (text[place] in "([{") - (text[place] in ")]}")
-        if depth == 0:
-            return place
-    return len(text)
+def twice(files):
+    """A second place of a crate that makes X6 of one error of the allocator."""
+    seen = set()
+    for path, lines in files:
+        for number, line in enumerate(lines, 1):
+            found = FROM.match(line)
+            key = found and (path.split("/")[1], *found.groups())
+            if key in seen:
+                yield path, number, "memory", line
+            if key:
+                seen.add(key)
 
 
 def places(crates):
-    """Where X6 arises, and why it may there."""
+    """Where X6 arises."""
     for path, lines in sources(crates, ["src"]):
-        for number, line, function, allowed in makings(path, lines):
-            yield "%s:%d: fn %s: %s (%s)" % (path, number, function, line, allowed or "not allowed")
+        for number, line in enumerate(lines, 1):
+            if FROM.match(line):
+                yield "%s:%d: %s" % (path, number, line)
 
 
 def letters(files):
@@ -216,7 +187,7 @@ def page(src):
     types = {}
     for path, lines in src:
         for number, line in enumerate(lines, 1):
-            found = re.search(r'::\w+(?:\(.*\))? => "([A-Z][1-9]) (\w+)",$', line)
+            found = re.search(r'(?:::\w+(?:\(.*\))? => |^ *)"([A-Z][1-9]) (\w+)",?$', line)
             if found:
                 types[found.groups()] = path, number
     told = [(letter, name) for letter, name, _ in refusals.rows()]
@@ -235,6 +206,7 @@ def findings(crates):
     known = table_codes()
     for path, lines in src:
         yield from memory(path, lines)
+    yield from twice(src)
     yield from letters(src + specs)
     if "pm_num" in crates and "pm_tool" in crates:
         yield from page(src)
@@ -251,7 +223,7 @@ def main():
     words = [word for word in sys.argv[1:] if word != "--places"]
     if any(word.startswith("-") for word in words):
         sys.exit(__doc__)
-    crates = words or [name for name in crates_below() if not name.endswith("_tests")]
+    crates = words or [name for name in crates_below() if not name.endswith(("_tests", "_fixtures"))]
     if "--places" in sys.argv[1:]:
         print("\n".join(places(crates)))
         sys.exit(0)

@@ -1,0 +1,75 @@
+#!/usr/bin/env python3
+"""Plants lines that make a want of memory, or hide one, and asks scripts/check_sources.py whether it sees them.
+
+    scripts/try_sources.py
+
+It prints each form that isn't seen, and has status 1 if there is one. The last line counts.
+"""
+import sys
+
+import check_sources
+from program import answer_help
+
+# Each is a body, or what stands beside one.
+FORMS = [
+    "    if x { return Err(TextFault::Memory); }",
+    "    return Err(AllocError);",
+    "    Err(io::ErrorKind::OutOfMemory)",
+    "    Err(Error::new(ErrorKind::OutOfMemory))",
+    "        Err(_kind) => Err(io::ErrorKind::OutOfMemory),",
+    "    Err(VarError::OutOfMemory)",
+    "    Err(io::Error::from(AllocError).kind())",
+    "use pm_lines::TextFault as Fault;",
+    "use pm_lines::TextFault::Memory;",
+    "use pm_lines::TextFault::*;",
+    "pub use pm_lines::TextFault::{Memory, Read};",
+    "use std::alloc::AllocError as Refused;",
+    "type Fault = TextFault;",
+    "    Err(<TextFault>::Memory)",
+    "    Err(std::alloc::AllocError.into())",
+    "    let room: Vec<u8> = Vec::with_capacity(alloc, usize::MAX)?;",
+    "    text.reserve(usize::MAX / 2)?;",
+    "    Err(AllocFailed { value: () }.into())",
+    "        y if bad(y, TextFault::Memory) => 1,",
+    "const WANT: TextFault = TextFault::Memory;",
+    "    x.ok_or(TextFault::Memory)?;",
+    "    matches!(x, 1) && g(TextFault::Memory)",
+    "    Err(NumberFault::Text(TextFault::Memory))",
+    "    x.unwrap_or(Err(Self::Memory))",
+    "    let e = TextFault::Memory; return Err(e);",
+    "    let Ok(x) = y.map_err(|_| TextFault::Memory) else {",
+    "        TextFault::Read => TextFault::Memory,",
+    "        ErrorKind::OutOfMemory => Err(AllocError),",
+    "macro_rules! want { () => { TextFault::Memory } }",
+    "    if t == \"a // b\" { return Err(TextFault::Memory); }",
+    "impl From<ScenarioFault> for TextFault {\n    fn from(f: ScenarioFault) -> TextFault {\n        TextFault::Memory\n    }\n}",
+]
+# What stands in the sources, and is right.
+RIGHT = [
+    "use std::alloc::{AllocError, Global};",
+    "fn line(alloc: Global, answer: &Answer) -> Result<String, AllocError>",
+    ") -> Result<Command<'a>, AllocError>",
+    "        ErrorKind::OutOfMemory => refuse_memory(errors),",
+    "    ensures { IfErr result (λ fault. fault ≡ TextFault.Memory) }",
+    "impl From<AllocError> for TextFault {\n    fn from(_error: AllocError) -> TextFault {\n        TextFault::Memory\n    }\n}",
+]
+
+
+def is_seen(form):
+    return bool(list(check_sources.memory("x.rt", [check_sources.without_comment(line) for line in form.split("\n")])))
+
+
+def main():
+    answer_help(__doc__)
+    missed = [form for form in FORMS if not is_seen(form)]
+    blamed = [form for form in RIGHT if is_seen(form)]
+    for form in missed:
+        print("not seen: %s" % form.strip())
+    for form in blamed:
+        print("seen, and right: %s" % form.strip())
+    print("%d forms, %d not seen; %d that are right, %d seen" % (len(FORMS), len(missed), len(RIGHT), len(blamed)))
+    return 1 if missed or blamed else 0
+
+
+if __name__ == "__main__":
+    sys.exit(main())
