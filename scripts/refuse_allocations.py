@@ -11,44 +11,13 @@ It runs the built program, or the one that the environment variable PMB names, a
 and glibc. With the toolchain alone `rt try --fail-alloc N -- hear < stdin` in crates/pmb does the same for one
 allocation, the Nth, of one run, and takes some 20 seconds.
 """
-import shutil
-import subprocess
 import sys
 import tempfile
 
 sys.dont_write_bytecode = True
 
 import program  # noqa: E402
-
-# Stands before the C library: counts the allocations, refuses one, and tells how many there were.
-REFUSER = r"""
-#include <errno.h>
-#include <stddef.h>
-#include <stdio.h>
-#include <stdlib.h>
-#include <unistd.h>
-extern void *__libc_malloc(size_t size);
-extern void *__libc_realloc(void *block, size_t size);
-extern void *__libc_calloc(size_t count, size_t size);
-static long made, refused = -1;
-static int is_refused(void) {
-    if (refused < 0) {
-        const char *number = getenv("REFUSED_ALLOCATION");
-        refused = number ? atol(number) : 0;
-    }
-    if (++made != refused) return 0;
-    errno = ENOMEM;
-    return 1;
-}
-void *malloc(size_t size) { return is_refused() ? NULL : __libc_malloc(size); }
-void *realloc(void *block, size_t size) { return is_refused() ? NULL : __libc_realloc(block, size); }
-void *calloc(size_t count, size_t size) { return is_refused() ? NULL : __libc_calloc(count, size); }
-__attribute__((destructor)) static void tell(void) {
-    char line[64];
-    int length = snprintf(line, sizeof line, "allocations %ld\n", made);
-    if (write(2, line, length) != length) _exit(99);
-}
-"""
+import refuser  # noqa: E402
 
 HEAD = b"scenario 1\naddress 58\npasses 2\nprotect 00\ncoefficients 1 0 0\n"
 OUTPUT = b"output 14 80 1000 4000 1100 0F00\n"
@@ -169,31 +138,24 @@ def wants_memory(arguments, found, whole):
     return status == 1 and is_first_part and told == WANT_OF_MEMORY
 
 
-def result_of(refuser, arguments, text, refused=0):
+def result_of(shared, arguments, text, number=0):
     """The status and what was written on either stream, and how many allocations were made."""
-    environment = {"LD_PRELOAD": refuser, "REFUSED_ALLOCATION": str(refused)}
-    ran = subprocess.run([program.PROGRAM, *arguments], input=text, capture_output=True, env=environment)
-    told, _, made = ran.stderr.rpartition(b"allocations ")
-    return (ran.returncode, ran.stdout, told), int(made)
+    *found, made = refuser.ended(shared, [program.PROGRAM, *arguments], number, input=text)
+    return tuple(found), made
 
 
 def main():
     program.answer_help(__doc__)
     program.needed()
-    if not shutil.which("cc"):
-        sys.exit("no C compiler: cc")
     faults = seen = 0
     with tempfile.TemporaryDirectory() as folder:
-        source, refuser = f"{folder}/refuser.c", f"{folder}/refuser.so"
-        with open(source, "w", encoding="utf-8") as file:
-            file.write(REFUSER)
-        subprocess.run(["cc", "-O1", "-shared", "-fPIC", source, "-o", refuser], check=True)
+        shared = refuser.built_in(folder)
         for arguments, text in RUNS:
-            whole, made = result_of(refuser, arguments, text)
+            whole, made = result_of(shared, arguments, text)
             wanting = unneeded = 0
             seen += made
             for refused in range(1, made + 1):
-                found, _ = result_of(refuser, arguments, text, refused)
+                found, _ = result_of(shared, arguments, text, refused)
                 is_wanting = wants_memory(arguments, found, whole)
                 wanting += is_wanting
                 unneeded += found == whole

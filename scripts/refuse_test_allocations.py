@@ -1,89 +1,112 @@
 #!/usr/bin/env python3
-"""Makes the Nth allocation of each test of `pm_engine_tests` fail, for N = 1, 2, .., by `rt try --test --fail-alloc N`.
+"""Makes each allocation of each test of `pm_engine_tests` fail in turn.
 
-    scripts/refuse_test_allocations.py [--most N]
+    scripts/refuse_test_allocations.py
 
 The tests of memory.rt hold whichever allocation is refused, and must pass. The others presume ample memory: each may
 pass, give the refusal back as its own result, or stop at an assertion of its own. No other end is right, as a bad
-access or a stop in a library. What ends otherwise is printed with its N, and the status is then 1. The last line counts.
+access or a stop in a library. What ends otherwise is printed with its number, and the status is then 1. A line for
+each test counts.
 
-N goes up to 20, or the number of `--most`. Each N builds the tests anew and takes a minute or two.
+Of a test outside memory.rt with more than 2,000 allocations the first 500 are refused, and then every so many-th, about
+1,500 of them; its line says which.
+
+It has the tests proved and built first, by `rt test` in crates/pm_engine_tests, or runs those that the environment
+variable ENGINE_TESTS names, and needs a C compiler and glibc. It takes some minutes.
 """
 import os
 import re
 import subprocess
 import sys
+import tempfile
 
-from program import ROOT, answer_help
+sys.dont_write_bytecode = True
+
+import refuser  # noqa: E402
+from program import ROOT, answer_help  # noqa: E402
 
 CRATE = os.path.join(ROOT, "crates/pm_engine_tests")
-MOST = 20
-OUTCOME = re.compile(r"^test (\S+) \.\.\. (.*)$")
+MOST, FIRST = 2000, 500
+SECONDS = 60
 # How a test ends that gives a refusal back, and one that stops at an assertion.
-GIVEN = "the test exited with status 101"
-STOPPED = re.compile(r"(src/\S+\.rt):\d+:\d+: the test was killed by signal 6 \(SIGABRT\)")
+GIVEN = b"the test failed: its result gives status 1"
+STOPPED = re.compile(rb"^test stopped at (src/\S+\.rt):\d+:\d+$", re.M)
+GIVES, STOPS = 101, -6
 
 
-def outcomes(text):
-    """Each test's outcome, with the lines that tell of a failure."""
-    found, name = {}, None
-    for line in text.split("\n"):
-        told = OUTCOME.match(line)
-        if told:
-            name = told.group(1)
-            found[name] = [told.group(2)]
-        elif name and line.startswith("    "):
-            found[name].append(line.strip())
+def built():
+    """The program of the tests."""
+    if os.environ.get("ENGINE_TESTS"):
+        return os.path.abspath(os.environ["ENGINE_TESTS"])
+    words = ["rt", "test"]
+    ran = subprocess.run(words, cwd=CRATE, stdout=subprocess.PIPE, stderr=subprocess.STDOUT, text=True)
+    if ran.returncode:
+        sys.exit(f"{' '.join(words)} in {CRATE} failed:\n{ran.stdout[-1000:]}")
+    return os.path.join(CRATE, "out/pm_engine_tests_tests")
+
+
+def tests_of(tests):
+    """The full name of each test of the program."""
+    told = subprocess.run([tests, "--list"], capture_output=True, text=True, check=True).stdout
+    return re.findall(r"^(\S+): test$", told, re.M)
+
+
+def has_passed(found):
+    return found.status == 0 and found.written.endswith(b"test result: ok\n")
+
+
+def is_refusal(found):
+    """Whether a test gave the refusal back as its result, or stopped at an assertion of its own."""
+    if found.status == GIVES:
+        return GIVEN in found.told
+    stopped = STOPPED.search(found.written)
+    return found.status == STOPS and bool(stopped) and os.path.exists(os.path.join(CRATE, stopped.group(1).decode()))
+
+
+def step_of(name, made):
+    """Every so many-th allocation is refused after the first ones."""
+    is_short = name.startswith("memory::") or made <= MOST
+    return 1 if is_short else -(-(made - FIRST) // (MOST - FIRST))
+
+
+def refused_numbers(made, step):
+    return range(1, made + 1) if step == 1 else [*range(1, FIRST + 1), *range(FIRST + step, made + 1, step)]
+
+
+def tried(shared, tests, name):
+    """Refuses one allocation of a test after another. Gives the number of the faults, and prints what came."""
+    whole = refuser.ended(shared, [tests, name], timeout=SECONDS)
+    if not has_passed(whole) or whole.made is None:
+        print(f"{name}: it fails with ample memory: {whole}")
+        return 1
+    step, passed, refused, faults = step_of(name, whole.made), 0, 0, 0
+    numbers = refused_numbers(whole.made, step)
+    for number in numbers:
+        found = refuser.ended(shared, [tests, name], number, timeout=SECONDS)
+        if has_passed(found):
+            passed += 1
+        elif is_refusal(found) and not name.startswith("memory::"):
+            refused += 1
         else:
-            name = None
-    return found
-
-
-def is_right(name, lines):
-    """Whether a test ended as it may where an allocation was refused."""
-    if lines == ["ok"]:
-        return True
-    stopped = STOPPED.fullmatch(lines[-1])
-    is_refusal = lines[-1] == GIVEN or stopped and os.path.exists(os.path.join(CRATE, stopped.group(1)))
-    return bool(is_refusal) and lines[0] == "FAILED" and not name.startswith("memory::")
-
-
-def tried(number):
-    """The outcomes of the tests where this allocation of each is refused."""
-    words = ["rt", "try", "--test", "--seconds", "600", "--fail-alloc", str(number)]
-    ran = subprocess.run(words, cwd=CRATE, stdout=subprocess.PIPE, stderr=subprocess.STDOUT, text=True,
-                         errors="replace")
-    told = re.search(r"^tests: (\d+)$", ran.stdout, re.M)
-    found = outcomes(ran.stdout)
-    if not told or len(found) != int(told.group(1)):
-        sys.exit(f"{' '.join(words)} in {CRATE} doesn't tell of every test:\n{ran.stdout[-1000:]}")
-    return found
-
-
-def most_of(words):
-    """The number of `--most`, or the script ends with its usage."""
-    if not words:
-        return MOST
-    if len(words) != 2 or words[0] != "--most" or not re.fullmatch(r"[1-9][0-9]{0,5}", words[1]):
-        sys.exit(__doc__.strip())
-    return int(words[1])
+            faults += 1
+            print(f"{number}: {name}: {found}"[:500], flush=True)
+    which = "each" if step == 1 else f"the first {FIRST} and then one of {step}"
+    print(f"{name}: {whole.made} allocations, {which} refused ({len(numbers)}):"
+          f" {passed} passes, {refused} refusals, {faults} faults", flush=True)
+    return faults
 
 
 def main():
     answer_help(__doc__)
-    most = most_of(sys.argv[1:])
-    passed = refused = faults = 0
-    for number in range(1, most + 1):
-        for name, lines in tried(number).items():
-            if not is_right(name, lines):
-                faults += 1
-                print(f"{number}: {name}: {' / '.join(lines)[:300]}", flush=True)
-            elif lines == ["ok"]:
-                passed += 1
-            else:
-                refused += 1
-    print(f"{most} allocations refused in each test: {passed} passes, {refused} refusals, {faults} faults")
-    return 1 if faults else 0
+    if len(sys.argv) > 1:
+        sys.exit(__doc__.strip())
+    tests = built()
+    with tempfile.TemporaryDirectory() as folder:
+        shared = refuser.built_in(folder)
+        names = tests_of(tests)
+        faults = sum(tried(shared, tests, name) for name in names)
+    print(f"{len(names)} tests, {faults} faults")
+    return 1 if faults or not names else 0
 
 
 if __name__ == "__main__":

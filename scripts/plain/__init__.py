@@ -6,6 +6,7 @@ among all 65,536, the converter's status and the host's knowledge are found by l
 happened. `python3 -m plain` (in scripts/) tries it on worked cases.
 
 `numbers`, `packets`, `converter`, `host` and `world` are the model; `lines`, `scenario`, `report`,
-`trace` and `commands` are the texts; `draw_lines`, `draw_scenarios`, `draw_scenario_faults` and
-`draw_traces` draw random ones; `promises` holds the model to what is promised of both ends.
+`trace` and `commands` are the texts; `draw_lines`, `draw_scenarios`, `draw_scenario_faults`,
+`draw_faulty_setups` and `draw_traces` draw random ones; `promises` holds the model to what is promised of
+both ends, by `past`, which looks back over what was sent and answered.
 """

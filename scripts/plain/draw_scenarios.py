@@ -166,10 +166,10 @@ def whole_order(cell, word):
 
 
 def draw_uncertain(dice, world, setup):
-    """Orders whose answers are all lost: in the end the host refuses another word."""
+    """Orders that are all heard, or all lost, and whose answers are lost: in the end the host refuses another word."""
     cell = (0, 0x21)
     yield from [("check", cell), ("exchange", ("whole",), ("whole",))]
-    words, other = dice.sample(range(65536), 17), None
+    words, other, is_heard = dice.sample(range(65536), 17), None, chance(dice, 0.5)
     if chance(dice, 0.4):
         other = (0, 0x25)
         yield from whole_order(other, dice.randrange(65536))
@@ -177,7 +177,8 @@ def draw_uncertain(dice, world, setup):
         yield "order", cell, word if chance(dice, 0.97) else words[0]
         while world.host.sending() is not None:
             if not world.host.sending_reads():
-                yield "deliver", ("whole",)
+                if is_heard:
+                    yield "deliver", ("whole",)
                 yield ("finish", chance(dice, 0.5))
             else:
                 yield "exchange", ("whole",), ("cut", 1)

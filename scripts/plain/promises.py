@@ -1,6 +1,7 @@
 """What is promised of both ends together, tried on lists of events: so that the plain model, too, is held
 to something that it wasn't written from. Nothing here asks a converter or a host what it promises: it
-looks at the events, at the words of the cells and of the store, and at what the host says."""
+looks at the events, at what is sent and answered, at the words of the cells and of the store, and at what
+the host says."""
 from fractions import Fraction
 
 from .converter import ALLOWED, HIGH, LOW, COMMAND, MAX, MIN, OPERATION, PROTECT, REGISTERS
@@ -8,6 +9,7 @@ from .draw_scenarios import scenario_text
 from .host import ANY, JOBS, write_of
 from .numbers import value_of
 from .packets import write_part
+from .past import Past, marks_of
 from .scenario import read_scenario
 from .world import World, world_fault
 
@@ -22,28 +24,32 @@ class Watch:
         self.cells = [PROTECT, *((it, register) for it in self.world.device.outputs for register in REGISTERS)]
         self.own = {cell: {word} for cell, word in self.start.items()}
         self.settings, self.store, self.pending = dict(self.start), outputs_of(self.start), None
-        self.events, self.at, self.last_restart, self.host_start = [], [], -1, -1
+        self.events, self.past = [], Past()
         self.frames, self.job_at, self.was_allowed, self.reached = 0, None, False, set()
         self.learned = set()
 
     def step(self, event):
         """The cause why the event isn't taken, if there is one, and the promises that it breaks."""
-        host, place = self.world.host, len(self.events)
-        before, known = len(host.transcript), {cell: host.possible(cell) for cell in self.cells}
-        sent, protect = host.sending(), self.world.device.cells[PROTECT]
+        host = self.world.host
+        before, protect = len(host.transcript), self.world.device.cells[PROTECT]
+        request, answer = host.sending(), self.answer_to(event)
         cause = self.world.step(event)
         if cause:
-            self.reached.add(cause)
+            self.reached.add(f"a stop by {cause}")
             return cause, []
         self.events.append(event)
-        added = host.transcript[before:]
-        self.at += [place] * (len(host.marks) - len(self.at))
-        if event == ("restart", "device"):
-            self.last_restart = place
+        known = len(self.past.marks)
+        self.past.marks += marks_of(event, self.cells, host.address, request, answer, host.sending())
         if event == ("restart", "host"):
-            self.host_start, self.pending, self.learned = place, None, set()
-        return None, [*self.of_jobs(event, added, protect), *self.of_settings(event, sent),
-                      *self.of_voltages(), *self.of_knowledge(known)]
+            self.pending, self.learned = None, set()
+        return None, [*self.of_jobs(event, host.transcript[before:], protect), *self.of_settings(event),
+                      *self.of_voltages(), *self.of_knowledge(), *self.of_surprises(known)]
+
+    def answer_to(self, event):
+        """The bytes that an exchange gives the host."""
+        if event[0] != "exchange" or not self.world.host.sending_reads():
+            return None
+        return self.world.came_back(*self.world.heard(event[1]), event[2])
 
     def of_jobs(self, event, added, protect):
         """A job's frames, formats and orders in microvolts, and undisturbed orders."""
@@ -62,9 +68,9 @@ class Watch:
         if self.frames + (host.sending() is not None) > 2 * self.passes:
             yield "a job sends no more than twice as many frames as passes"
         if host.job() == "done" and self.frames > 2 and self.pending and self.pending[0] == "order":
-            self.reached.add("an order done in a later pass")
+            self.reached.add("an order that went through in a later pass")
         if host.job().startswith("differs"):
-            self.reached.add("differs")
+            self.reached.add("a Differs")
         if self.is_undisturbed() and self.was_allowed:
             self.reached.add("an undisturbed order")
             _, cell, word = self.pending
@@ -89,7 +95,7 @@ class Watch:
         heard = [event[1] for event in events[1:-2] if event[0] == "deliver"]
         return len(heard) == len(events) - 3 and any(is_whole(frame, arrival) for arrival in heard)
 
-    def of_settings(self, event, sent):
+    def of_settings(self, event):
         """The settings and the store are those of plain jobs: an order, a store or a restore takes only at
         a delivery, while its job is open."""
         found = self.world.device.cells, self.world.device.store
@@ -99,7 +105,9 @@ class Watch:
                 self.reached.add("a restart that loads other words than the start words")
         elif event[0] == "deliver" and found == self.taken():
             if self.pending[0] == "restore" and self.settings != found[0]:
-                self.reached.add("a restore that changes words")
+                self.reached.add("a restore that changed words")
+            if self.pending[0] == "store":
+                self.reached.add("a store")
             self.settings, self.store = self.taken()
         if (self.settings, self.store) != found:
             yield "the settings and the store are those of a run of plain orders, stores and restores"
@@ -129,33 +137,42 @@ class Watch:
             if not any(voltage == min(max(one, low), high) for one in selected for low in least for high in most):
                 yield "an output commands a value of its own, cut to its own VOUT_MIN and VOUT_MAX"
 
-    def of_knowledge(self, known):
-        host = self.world.host
+    def of_knowledge(self):
+        host, past = self.world.host, self.past
         for cell in self.cells:
-            yield from self.of_cell(cell, self.world.device.cells[cell], known[cell])
-            if self.pending == ("restore",) and cell != PROTECT and host.possible(cell) is not ANY:
-                yield "while a restore is open, an output's cell may hold any word"
+            yield from self.of_cell(cell, self.world.device.cells[cell])
+        if host.restart_seen() != bool(past.surprises()):
+            yield "a restart is seen exactly where a surprising answer came since the host's start"
         if host.restart_seen():
-            self.reached.add("a restart that is seen")
-            if self.last_restart < self.host_start or self.last_restart == -1:
+            self.reached.add("a restart that was seen")
+            if not past.restarted_since_start():
                 yield "a restart is seen only where the converter restarted since the host's start"
+            if not any(past.restarted_before(place) for cell in self.cells for place in past.reads(cell)):
+                yield "a restart is seen only where one came between two good answers for one cell"
 
-    def of_cell(self, cell, word, known):
-        host, marks, place = self.world.host, self.world.host.marks, len(self.events) - 1
-        good = [it for it, mark in enumerate(marks) if mark[0] == "good" and mark[1] == cell]
-        has_restarted = not good or self.last_restart > self.at[good[-1]]
+    def of_cell(self, cell, word):
+        host, past = self.world.host, self.past
         confirmed, possible = host.standing(cell), host.possible(cell)
-        if confirmed is not None and not has_restarted and confirmed != word:
+        if confirmed != past.confirmed(cell):
+            yield "confirmed is the word of the last good answer, where no write, restore or restart came later"
+        if possible != past.possible(cell):
+            yield "possible are the words that the last good answer and the writes since leave"
+        if confirmed is not None and not past.restarted_since(cell) and confirmed != word:
             yield "a confirmed word is held until the converter restarts"
-        if possible is not ANY and not has_restarted and word not in possible:
+        if possible is not ANY and not past.restarted_since(cell) and word not in possible:
             yield "the converter's word is among the possible ones until it restarts"
-        if possible is not ANY and (len(possible) > 16 or self.at[good[-1]] <= self.host_start):
+        if possible is not ANY and (len(possible) > 16 or not past.reads(cell)):
             yield "at most 16 words are possible, counted from an answer since the host's start"
         if possible is not ANY and len(possible) == 16:
             self.reached.add("16 possible words")
-        if good and self.at[good[-1]] == place and known is not ANY and marks[good[-1]][2] not in known:
-            if len(good) < 2 or not self.at[good[-2]] < self.last_restart < place:
-                yield "an answer surprises only where the converter restarted since the one before"
+        if self.pending == ("restore",) and cell != PROTECT and possible is not ANY:
+            yield "while a restore is open, an output's cell may hold any word"
+
+    def of_surprises(self, known):
+        """Of the marks of the event, those after the ones that were known before it."""
+        for place in range(known, len(self.past.marks)):
+            if self.past.is_surprise(place) and not self.past.restarted_before(place):
+                yield "an answer surprises only where the converter restarted since the one before for that cell"
 
 
 def outputs_of(cells):

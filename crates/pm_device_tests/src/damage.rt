@@ -19,6 +19,8 @@ static WRITES: [&str; 4] = [
 
 const MODE: Message = Message::ReadCommand { code: 0x20 };
 
+const STATUS: Message = Message::ReadCommand { code: 0x7E };
+
 const COMMAND: Message = Message::PagePlusRead {
     page: 0,
     code: 0x21,
@@ -29,10 +31,11 @@ const COEFFICIENTS: Message = Message::ReadCoefficients {
     side: 0x00,
 };
 
-// A frame of each layout that is read, and its answer.
-static READS: [(Message, &str, &str); 3] = [
+// Frames of each layout that is read, and their answers by a converter that refused a request.
+static READS: [(Message, &str, &str); 4] = [
     (COMMAND, "B0 06 02 00 21", "B1 02 CD 34 B9"),
     (MODE, "B0 20", "B1 14 ED"),
+    (STATUS, "B0 7E", "B1 80 00"),
     (COEFFICIENTS, "B0 30 02 21 00", "B1 05 01 00 00 00 03 6B"),
 ];
 
@@ -72,6 +75,13 @@ const BITS: [u8; 8] = [0x80, 0x40, 0x20, 0x10, 0x08, 0x04, 0x02, 0x01];
 // A converter of that configuration.
 fn mixed() -> Result<Converter, ConfigFault> {
     made(MIXED)
+}
+
+// One that refused a request of CLEAR_FAULTS, which can only be written: STATUS_CML is 80h.
+fn refusing() -> Result<Converter, ConfigFault> {
+    let mut converter = mixed()?;
+    let _ = hear(&mut converter, &[0xB0, 0x03], Ending::Restart);
+    Ok(converter)
 }
 
 // Every cell and PAGE are as at the start.
@@ -134,7 +144,7 @@ fn a_damaged_write_is_none(rt: HostRuntime) -> Result<(), Fail> {
 // refused by a host that sent the first.
 fn is_another_request(rt: &impl Abort, sent: &Message, bytes: &[u8]) -> Result<(), ConfigFault> {
     for ending in [Ending::Restart, Ending::Stop] {
-        let mut converter = mixed()?;
+        let mut converter = refusing()?;
         let heard = hear(&mut converter, bytes, ending);
         if let Heard::Answer(answer) = &heard {
             let is_good = is_answer(sent, answer.as_slice());
@@ -193,7 +203,7 @@ fn is_betrayed_answer(rt: &impl Abort, sent: &Message, whole: &Frame, place: usi
 
 // The converter answers a request so.
 fn is_answered(rt: &impl Abort, request: &str, whole: &Frame) -> Result<(), ConfigFault> {
-    let mut converter = mixed()?;
+    let mut converter = refusing()?;
     let heard = hear(
         &mut converter,
         frame(rt, request).as_slice(),

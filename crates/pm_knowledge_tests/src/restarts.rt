@@ -50,7 +50,7 @@ fn is_unknown(rt: &impl Abort, world: &World, cell: Cell, at: usize) {
     equal(rt, &world.says(cell), &Some(Standing::Unknown), &1);
 }
 
-// The events with one more before the one at this place.
+// The events with one more before the one at this place, or after the last.
 fn follow(rt: &impl Abort, events: &[Event], more: &Event, place: usize) -> Result<(), SetupFault> {
     let mut world = World::begin(World::base(), 2)?;
     let mut watch = Watch::new(open());
@@ -61,6 +61,10 @@ fn follow(rt: &impl Abort, events: &[Event], more: &Event, place: usize) -> Resu
         }
         happens(&mut world, &mut watch, event);
         agrees(rt, &world, &watch, at);
+    }
+    if place == events.len() {
+        happens(&mut world, &mut watch, more);
+        agrees(rt, &world, &watch, place);
     }
     Ok(())
 }
