@@ -65,6 +65,12 @@ restart device
 restart host
 """
 
+
+def first_codes(count):
+    """The first codes of a trace, the last one without a line feed: the counts grow at each of these numbers."""
+    return b"\n".join(CODES.split(b"\n")[:count])
+
+
 # The arguments and the standard input of each run.
 RUNS = [
     (["hear"], b"B0 05 04 00 21 CD 34 5A\n"),
@@ -105,6 +111,7 @@ RUNS = [
     (["decode"], CODES),
     (["decode"], CODES * 300),
     (["decode"], CODES[:-1]),
+    *((["decode"], first_codes(count)) for count in (1, 10, 19)),
     (["decode"], b"\n" * 1_048_575 + b"0"),
     (["decode"], b"B0 03 46\n" * 40_000),
     (["decode"], b"99" * 300 + b"/" + b"99" * 300 + b"\n"),

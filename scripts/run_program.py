@@ -163,6 +163,29 @@ def restarts():
         yield ["replay"], scenario([OUTPUT], events), int(first.startswith("stopped")), report, b""
 
 
+def far_ends():
+    """Texts at the far end of a limit, where a needless want of memory would show."""
+    yield ["hear"], b"\n" * 1_048_575 + b"/", 0, b"silent\n" + NONE, b""
+    yield ["hear"], b"B0\n" * 349_525, 0, b"refused K1 Frame F2 Short 1\n" * 349_525 + NONE, b""
+    told = b"".join(b"%d 58 CLEAR_FAULTS send\n" % number for number in range(1, 40_001))
+    counted = b"count CLEAR_FAULTS 40000\nlines 40000 accepted 40000 faults 0 bad 0\n"
+    yield ["decode"], b"B0 03 46\n" * 40_000, 0, told + counted, b""
+    yield ["decode"], b"B020" + b"05" * 298 + b"/" + b"B1" * 300, 0, \
+        b"1 58 write F3 Long 2\nlines 1 accepted 0 faults 1 bad 0\n", b""
+    jobs = scenario([OUTPUT] * 8, ["clear 0", "finish ack"] * 50_000)
+    head, output, tail = parts_of_report()
+    outputs = b"".join(output.replace(b"output 0", b"output %d" % number) for number in range(8))
+    yield ["replay"], jobs, 0, b"ran 100000\n" + head + outputs + tail.replace(b"job none", b"job done"), b""
+    late = b"\n" * 900_000 + scenario([OUTPUT], ["clear 0"])
+    yield ["replay"], late, 0, b"ran 1\n" + head + output + tail.replace(b"job none", b"job pending"), b""
+
+
+def parts_of_report():
+    """Of a report of one output: the line of WRITE_PROTECT, those of the output, and those after it."""
+    lines = stopped("0 S2 NothingSent").splitlines(keepends=True)
+    return lines[1], b"".join(lines[2:-3]), b"".join(lines[-3:])
+
+
 # The arguments, the standard input, the status, standard output, standard error. None for a text
 # that is the parser's own, and isn't empty.
 RUNS = [
@@ -191,6 +214,7 @@ RUNS = [
     *codes(),
     *faulty_lines(),
     *restarts(),
+    *far_ends(),
     (["decode"], b"", 0, b"lines 0 accepted 0 faults 0 bad 0\n", b""),
     (["decode"], b"B0 03 47\n/\n", 0,
      b"1 58 write F5 WrongPec 2\n2 -- write F1 NotOurs\nlines 2 accepted 0 faults 2 bad 0\n", b""),
