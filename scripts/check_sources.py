@@ -12,7 +12,7 @@ It prints a line for each finding, and has status 1 if there is one. With --plac
     code       a command code in two digits outside pm_table, where it has a name
     registers  the registers are listed outside pm_table
     laws       a record of laws in proofs, where the law has a name in the definitions of its crate
-    page       a refusal of a type isn't in docs/refusals.md, or one of the page is in no type, or has another name
+    page       a refusal of a type isn't in docs/refusals.md, or one of the page or of a help is in no type
 
 Tests are left out.
 """
@@ -44,6 +44,8 @@ HIDES_ONE = re.compile(
     r"|<TextFault>::|\b(?:with_capacity|reserve\w*)\(.*\bMAX\b")
 # The one place where each crate makes X6 of a refused allocation.
 FROM = re.compile(r"^impl(?:<T: Drop>)? From<(AllocError|AllocFailed<T>)> for (\w+) \{$")
+# The files of the programs' helps, which tell refusals by their letters and names.
+HELPS = ("crates/pm_tool/src/commandline/helps.rt", "crates/pm_session/src/options.rt")
 # A file of numbers that are no codes.
 NUMBERS = ("crates/pm_frame/src/packet_error_code.rt", "crates/pm_lines/src/hex_digit.rt")
 
@@ -197,6 +199,12 @@ def page(src):
     for letter, name in told:
         if (letter, name) not in types:
             yield "docs/refusals.md", 1, "page", "no type has %s %s" % (letter, name)
+    for path, lines in src:
+        if path in HELPS:
+            for number, line in enumerate(lines, 1):
+                for refusal in refusals.LETTER.findall(line):
+                    if refusal not in types:
+                        yield path, number, "page", "no type has %s %s" % refusal
 
 
 def findings(crates):

@@ -144,12 +144,6 @@ words-first line byte bytes word =
 empty_nil : (xs : List ℕ) → eqb (length xs) 0 ≡ true → xs ≡ []
 empty_nil xs empty = nil_from_length xs (grind (arith, nat_tests))
 
--- how a call that cuts a line at its first space goes on
-pub words-after_empty : (line word rest : List ℕ) → word ≡ before_first is_space line → rest ≡ after_first is_space line
-    → eqb (length word) 0 ≡ true → words_of line ≡ words_of rest
-words-after_empty line word rest before after empty =
-    words-spaced line (sym before ∙ empty_nil word empty) ∙ ap words_of (sym after)
-
 -- a word, and what follows its space
 pub words-after : (line word rest : List ℕ) → word ≡ before_first is_space line → rest ≡ after_first is_space line
     → eqb (length word) 0 ≡ false → words_of line ≡ word ∷ words_of rest

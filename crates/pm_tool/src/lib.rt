@@ -8,12 +8,14 @@
 
 mod commandline;
 mod execution;
+mod laws;
 mod numbers;
 mod refusal;
 mod script;
 
 pub use commandline::{Chosen, chosen};
 pub use execution::{program, run};
-pub use numbers::{NumberFault, number, number_has_one_text};
+pub use laws::number_has_one_text;
+pub use numbers::{NumberFault, number};
 pub use pm_text::{MAX_TEXT, Sink, Source, TextFault};
 pub use script::hear;

@@ -5,7 +5,7 @@ ghost use Rattle.std.specs.Io.KnownBytes.{Appends};
 ghost use Rattle.pm_num.specs.declared.fault.NumFault.{NumFault};
 ghost use Rattle.pm_tool.specs.declared.numbers.fault.NumberFault.{NumberFault};
 ghost use Rattle.pm_tool.specs.NumberText.{IsAnswer, IsCommandLineFault};
-ghost use Rattle.pm_tool.specs.NumberText.{IsNumberText, IsOfNumber, NumberHasOneText, Refuses, RefusesNumber};
+ghost use Rattle.pm_tool.specs.NumberText.{IsNumberText, IsOfNumber, Refuses, RefusesNumber};
 ghost use Rattle.pm_tool.specs.NumberText.{rank_in, value_in};
 ghost use Rattle.pm_tool.specs.Question.{HasExponent, asked_by};
 ghost use Rattle.pm_lines.specs.Streams.{AppendsFront};
@@ -90,12 +90,6 @@ fn line_asked(
     let answer = answer_to(question)?;
     Ok(line(alloc, &answer)?)
 }
-
-/// What `number` writes is a function of its three texts: of a format that can be, a question has
-/// one text at most.
-pub fn number_has_one_text()
-    ensures { NumberHasOneText }
-{}
 
 /// The answer to a question. Faults come in this order: N1 or N2, then N5, then N3 or N4.
 fn answer_to(asked: Question) -> Result<Answer, NumFault>

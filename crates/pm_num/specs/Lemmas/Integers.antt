@@ -2,7 +2,7 @@ use Rattle.std.specs.Prelude.{◌≡◌, ℕ, ◌+◌, ◌*◌, ◌<◌, ◌≤�
 use Rattle.std.proofs.Common.{arith, ap}
 use Rattle.std.proofs.Math.Nat.{mul-le-mul_right}
 use Rattle.std.proofs.lemmas.Int.{ints, by_lt_z}
-use borrow.Author.Differences.{up, down, sum_is_lem, product_is, le_out, lt_out}
+use borrow.Author.Differences.{up, down, product_is, le_out, lt_out}
 
 -- Whole numbers times positive ones, which `omega` does not multiply by itself.
 
@@ -10,10 +10,6 @@ use borrow.Author.Differences.{up, down, sum_is_lem, product_is, le_out, lt_out}
 pub back_from_size : {A : Type 0} (f : ℤ → A) (d : ℤ) → pos 1 ≤ℤ d → f (pos (unsigned_abs d)) ≡ f d
 back_from_size f (pos n) h = refl
 back_from_size f (negsuc n) h = absurd (omega (arith, ints))
-
--- a product goes through a sum,
-pub add-times : (a b : ℤ) (n : ℕ) → (a +ℤ b) *ℤ pos n ≡ a *ℤ pos n +ℤ b *ℤ pos n
-add-times a b n = let e = ap (λ (k : ℕ). k * n) (sum_is_lem a b) in omega (arith, ints)
 
 -- a difference, by the parts above and below 0 of its numbers
 difference_is : (a b : ℤ) → up (a -ℤ b) + down a + up b ≡ down (a -ℤ b) + up a + down b
@@ -58,11 +54,3 @@ same_from_times a b n h e =
     let q : b ≤ℤ a = le_from_times b a n h (omega (arith, ints)) in
     omega (arith, ints)
 
--- The difference of two products of one factor.
-pub sub-times_both : (a b : ℤ) (m n : ℕ) → (a *ℤ pos n -ℤ b *ℤ pos n) *ℤ pos m ≡ (a *ℤ pos m -ℤ b *ℤ pos m) *ℤ pos n
-sub-times_both a b m n =
-    let e = sub-times (a *ℤ pos n) (b *ℤ pos n) m in
-    let f = sub-times (a *ℤ pos m) (b *ℤ pos m) n in
-    let g = times-swap a m n in
-    let h = times-swap b m n in
-    omega (arith, ints)

@@ -1,5 +1,5 @@
 use Rattle.pm_tool.proofs.OneText.{one_text}
-use Rattle.pm_tool.proofs.numbers.number_has_one_text.Goals as goal
+use Rattle.pm_tool.proofs.laws.number_has_one_text.Goals as goal
 
 pub returns : goal.returns
 returns c = one_text
