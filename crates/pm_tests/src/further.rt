@@ -66,6 +66,7 @@ pub fn orders_after_a_step(
         CommandsOwn c passes (more.now ∷ reverse events.now) output
         (commanded (value_for world.device.config output) world.device.words output))) }
 {
+    // Hands its law to the prover.
     lives_are_orders();
     run_and_step(c, passes, events, more)
 }
@@ -80,6 +81,7 @@ pub fn orders_go_through_after_a_step(
     ensures few { IfOk result (λ found. OnSome found (AreFewFrames c passes (more.now ∷ reverse events.now))) }
     ensures through { IfOk result (λ found. OnSome found (OrdersGoThrough c passes (more.now ∷ reverse events.now))) }
 {
+    // These hand their laws to the prover.
     frames_are_few();
     honest_orders_go_through();
     run_and_step(c, passes, events, more)
@@ -95,6 +97,7 @@ pub fn formats_after_a_step(
     ensures formats { IfOk result (λ found. OnSome found (FormatsAgree c passes (more.now ∷ reverse events.now))) }
     ensures nearest { IfOk result (λ found. OnSome found (MicrosAreNearest c passes (more.now ∷ reverse events.now))) }
 {
+    // Hands its law to the prover.
     learned_formats_are_true();
     run_and_step(c, passes, events, more)
 }
@@ -113,6 +116,7 @@ pub fn words_after_a_step(
     ensures seen { IfOk result (λ found. IfSome found (λ world.
         SeenIsTrue c passes (more.now ∷ reverse events.now) world)) }
 {
+    // These hand their laws to the prover.
     confirmed_settings_are_held();
     possible_words_are_held();
     run_and_step(c, passes, events, more)
