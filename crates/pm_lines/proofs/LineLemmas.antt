@@ -7,7 +7,7 @@ use Rattle.std.proofs.lemmas.List.{take_all, length-drop, nil_from_length}
 use Rattle.std.proofs.Math.ListN.{drop_of_length-le}
 use Rattle.std.proofs.lemmas.List.{length-map}
 use Rattle.std.proofs.lemmas.List.Sums.{count_by-le-length, fails_before_first, length-filter}
-use Rattle.std.specs.List.{enumerate_from}
+use Rattle.std.specs.List.{count_by, enumerate_from}
 use Rattle.std.proofs.lemmas.List.FromFn.{length-enumerate_from}
 use Rattle.std.proofs.lemmas.List.Splits.{slice_split_first, slice_split_none, length-slice_split}
 use Rattle.std.proofs.lemmas.Bool.Decides.{nat_tests}
@@ -81,22 +81,15 @@ fewer ([] ∷ []) = omega arith
 fewer ((byte ∷ bytes) ∷ []) = omega arith
 fewer (piece ∷ next ∷ pieces) = omega (arith, fewer (next ∷ pieces))
 
--- a text has at most one line more than bytes, so they can be counted
-pub unskipped-few : (first : ℕ) (text : List ℕ) → length (unskipped_from first text) ≤ length text + 1
+-- a text has at most one line more than line feeds
+pub unskipped-few : (first : ℕ) (text : List ℕ) → length (unskipped_from first text) ≤ count_by is_line_feed text + 1
 unfolding unskipped_from lines_of
 unskipped-few first text =
     let pieces = slice_split is_line_feed text in
     let lines = map without_return (without_empty_last pieces) in
-    omega (
-      arith,
-      length-filter is_unskipped (enumerate_from first lines),
-      count_by-le-length is_unskipped (enumerate_from first lines),
-      length-enumerate_from first lines,
-      length-map (without_empty_last pieces) without_return,
-      fewer pieces,
-      length-slice_split is_line_feed text,
-      count_by-le-length is_line_feed text,
-    )
+    omega (arith, length-filter is_unskipped (enumerate_from first lines), count_by-le-length is_unskipped (enumerate_from first lines),
+    length-enumerate_from first lines, length-map (without_empty_last pieces) without_return, fewer pieces,
+    length-slice_split is_line_feed text)
 
 -- nor one that is not skipped
 pub unskipped-nil : (first : ℕ) → unskipped_from first [] ≡ []

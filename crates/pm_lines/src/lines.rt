@@ -1,9 +1,10 @@
-ghost use Rattle.std.specs.Prelude.{◌≡◌, ◌<◌, ◌+◌, ◌^◌, [], ◌∷◌, length, MatchOption, IfNone};
+ghost use Rattle.std.specs.Prelude.{◌≡◌, ◌<◌, ◌≤◌, ◌+◌, ◌^◌, [], ◌∷◌, length, MatchOption, IfNone};
 ghost use Rattle.std.specs.List.{list_all};
 ghost use Rattle.pm_lines.specs.Lines.{lines_of, unskipped_from, is_line_feed, is_skipped, is_space, without_return};
 
 use crate::cut::cut_at;
 use crate::line::Line;
+use memchr::memchr_iter;
 use std::marker::Model;
 
 /// The lines of a text that are not skipped, one after another. A line ends at a line feed or at the
@@ -44,17 +45,12 @@ impl<'a> Lines<'a> {
         }
     }
 
-    /// How many lines are left that are not skipped.
-    pub fn left(&self) -> usize
-        ensures { result ≡ length self.now.unskipped }
+    /// The most lines that may be left, without those that are skipped: as many as there are line feeds,
+    /// and one.
+    pub fn most_left(&self) -> usize
+        ensures { length self.now.unskipped ≤ result }
     {
-        let Lines { rest, number } = *self;
-        let mut lines = Lines { rest, number };
-        let mut count = 0usize;
-        'lines: while let Some(_line) = lines.next_line() {
-            count += 1;
-        }
-        count
+        memchr_iter(b'\n', self.rest).count() + 1
     }
 
     /// The next line that is not skipped. After None every line of the text was passed.

@@ -24,6 +24,9 @@ use pm_world::Event;
 use rows::Rows;
 use std::alloc::Global;
 
+/// The bytes of the shortest event line: `store` and a line feed.
+const SHORTEST: usize = 6;
+
 /// What a scenario says.
 #[derive(Debug, Drop)]
 pub struct Scenario {
@@ -49,7 +52,8 @@ pub struct Scenario {
 /// Whether a world can be made of the scenario isn't judged here: more than eight outputs are
 /// counted, up to 255, and the starts of the first eight are kept.
 ///
-/// Takes memory once, for as many events as there are lines for them, as the first one was read.
+/// Takes memory once, as the first event was read: for as many as there are lines left, and no more than
+/// have room in the text.
 ///
 /// # Errors
 ///
@@ -75,7 +79,7 @@ pub fn read_scenario(alloc: Global, text: &[u8]) -> Result<Scenario, TextFault>
         config,
         passes,
     } = read_header(&mut rows)?;
-    let events = events_left(alloc, form, &mut rows)?;
+    let events = events_left(alloc, form, &mut rows, text.len() / SHORTEST + 1)?;
     Ok(Scenario {
         version: form.version(),
         config,
@@ -84,21 +88,26 @@ pub fn read_scenario(alloc: Global, text: &[u8]) -> Result<Scenario, TextFault>
     })
 }
 
-// The events of the lines that are left.
-fn events_left(alloc: Global, form: Form, rows: &mut Rows<'_>) -> Result<Vec<Event>, TextFault>
+// The events of the lines that are left, with room for so many at most.
+fn events_left(
+    alloc: Global,
+    form: Form,
+    rows: &mut Rows<'_>,
+    most: usize,
+) -> Result<Vec<Event>, TextFault>
     ensures events { IfOk result (λ events. events_in form rows.old.lines ≡ Ok events.items) }
     ensures fault { IfErr result (λ fault. (fault ≡ Memory)
         ⊎ (as_text_fault (events_in form rows.old.lines) ≡ Err fault)) }
     ensures faults { IfErr result IsOfText }
     ensures memory { IsErrOf result Memory → HasFirst form rows.old.lines }
 {
-    let count = rows.left();
+    let room = rows.most_left().min(most);
     let mut events = Vec::new(alloc);
     'lines: while let Some(line) = rows.next() {
         let mut event = Event::RestartHost;
         event_line(form, line, &mut event)?;
         if events.is_empty() {
-            events.reserve_exact(count)?;
+            events.reserve_exact(room)?;
         }
         events.push(event)?;
     }

@@ -1,5 +1,5 @@
 //! The lines of a scenario, one after another.
-ghost use Rattle.std.specs.Prelude.{◌≡◌, ◌<◌, ◌+◌, ◌^◌, Ok, Err, [], ◌∷◌, length, MatchOption, MatchResult};
+ghost use Rattle.std.specs.Prelude.{◌≡◌, ◌<◌, ◌≤◌, ◌+◌, ◌^◌, Ok, Err, [], ◌∷◌, length, MatchOption, MatchResult};
 ghost use Rattle.pm_text.specs.Readers.{row as next_row};
 ghost use Rattle.pm_text.specs.ScenarioText.{rest_of};
 ghost use Rattle.pm_text.specs.declared.scenario.fault.ScenarioFault.TheVariants.{Syntax};
@@ -33,11 +33,11 @@ impl<'a> Rows<'a> {
         }
     }
 
-    /// How many lines are left.
-    pub(crate) fn left(&self) -> usize
-        ensures { result ≡ length self.now.lines }
+    /// The most lines that may be left.
+    pub(crate) fn most_left(&self) -> usize
+        ensures { length self.now.lines ≤ result }
     {
-        self.lines.left()
+        self.lines.most_left()
     }
 
     /// The next line, if there is one.
