@@ -22,7 +22,7 @@ use pm_device::Config;
 use pm_lines::{MAX_TEXT, TextFault};
 use pm_world::Event;
 use rows::Rows;
-use std::alloc::Global;
+use std::alloc::{AllocError, Global};
 
 /// The bytes of the shortest event line: `store` and a line feed.
 const SHORTEST: usize = 6;
@@ -107,9 +107,18 @@ fn events_left(
         let mut event = Event::RestartHost;
         event_line(form, line, &mut event)?;
         if events.is_empty() {
-            events.reserve_exact(room)?;
+            make_room(&mut events, room)?;
         }
         events.push(event)?;
     }
     Ok(events)
+}
+
+// Takes memory for so many events. It stands apart since it's called once, and what it does would weigh on
+// each line if it stood there.
+#[cold]
+fn make_room(events: &mut Vec<Event>, room: usize) -> Result<(), AllocError>
+    ensures { events.new.items ≡ events.old.items }
+{
+    events.reserve_exact(room)
 }
