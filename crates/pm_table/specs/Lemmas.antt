@@ -1,5 +1,5 @@
 -- Facts on the definitions that proofs above take by name. No public clause cites them.
-use Rattle.std.specs.Prelude.{◌≡◌, ℕ, ◌<◌, Bool, true, false, cond, length, nat_lt, unwrap_or, Some, None, refl}
+use Rattle.std.specs.Prelude.{◌≡◌, ℕ, ◌<◌, Bool, true, false, cond, nat_lt, unwrap_or, Some, None, refl}
 use Rattle.std.specs.List.{position_or_len}
 use Rattle.std.proofs.Common.{lit<}
 use Rattle.std.proofs.lemmas.Bool.{ltb-true}

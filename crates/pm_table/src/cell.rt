@@ -1,4 +1,4 @@
-ghost use Rattle.std.specs.Prelude.{◌≡◌, ◌<◌, ◌≤◌, Some, None};
+ghost use Rattle.std.specs.Prelude.{◌≡◌, ◌<◌, ◌≤◌, Some, None, IfSome};
 ghost use Rattle.pm_table.specs.declared.cell.Cell.{Cell};
 ghost use Rattle.pm_table.specs.Cell.{cell_at};
 
@@ -164,6 +164,7 @@ impl Cell {
     pub fn at_place(place: usize) -> Option<Cell>
         ensures within { place < places → result ≡ Some (cell_in place) }
         ensures past { places ≤ place → result ≡ None }
+        ensures there { IfSome result (λ cell. IsCell 8 cell) }
     {
         if place >= Cell::PLACES {
             return None;
@@ -339,7 +340,10 @@ mod tests {
 
     // The place of the cell that has this place.
     fn place_again(place: usize) -> Option<usize> {
-        Cell::at_place(place).map(|cell| cell.place())
+        match Cell::at_place(place) {
+            Some(cell) => Some(cell.place()),
+            None => None,
+        }
     }
 
     #[test]
