@@ -1,7 +1,6 @@
 -- Two bits that are 127 apart leave the packet error code as it was.
 use Rattle.std.proofs.Common.{◌≡◌, ℕ, zero, suc, ◌<◌, ◌^◌, List, [], ◌∷◌, ◌++◌, replicate, refl, arith, lit<}
 use Rattle.std.specs.Int.Count.{ones, ones_in}
-use Rattle.pm_frame.specs.Damage.{EndsInPec}
 use Rattle.pm_frame.specs.Laws.{FarBitsPass}
 use Rattle.pm_frame.specs.Layout.{AreBytes}
 use Rattle.pm_frame.specs.Pec.{doubled, residue, residues_of, pec_of}
