@@ -4,6 +4,7 @@ mod Burst
 mod Carryless
 mod Codes
 mod DamageLemmas
+mod FarBits
 mod FewBits
 mod Fold
 mod Numbers

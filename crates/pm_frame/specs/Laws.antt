@@ -3,7 +3,7 @@
 use Rattle.std.specs.Prelude.{◌≡◌, ◌≢◌, ◌<◌, ◌≤◌, ◌%◌, ℕ, List, [], ◌∷◌, ◌++◌, length, None, true, false}
 use Rattle.pm_frame.specs.declared.message.Message.{Message}
 use Rattle.pm_frame.specs.Betrayal.{is_betrayed}
-use Rattle.pm_frame.specs.Damage.{DifferWithinEight, EndsInPec, changed_bits}
+use Rattle.pm_frame.specs.Damage.{DifferWithinEight, EndsInPec, changed_bits, message_bit}
 use Rattle.pm_frame.specs.Fault.{write_fault, request_fault, answer_fault, whole_answer}
 use Rattle.pm_frame.specs.Layout.{AreBytes, IsWrite, IsRequest, IsAnswer, sent, is_read_message, fits_layout}
 use Rattle.pm_frame.specs.Pec.{pec_of}
@@ -102,6 +102,21 @@ pub record BurstsAreBetrayed : Type 0 where
       length sent ≡ length heard → sent ≢ heard → DifferWithinEight sent heard →
       EndsInPec sent → ¬ EndsInPec heard
 
+-- Two messages of 16 bytes that differ in their first bit and their last one, which are 127 apart, and
+-- in no other, and that both end in their PEC.
+pub record FarBitsPass : Type 0 where
+  pub sent : List ℕ
+  pub heard : List ℕ
+  pub sent_size : length sent ≡ 16
+  pub heard_size : length heard ≡ 16
+  pub sent_bytes : AreBytes sent
+  pub heard_bytes : AreBytes heard
+  pub first : message_bit sent 0 ≢ message_bit heard 0
+  pub last : message_bit sent 127 ≢ message_bit heard 127
+  pub no_other : changed_bits sent heard ≡ 2
+  pub sent_ends : EndsInPec sent
+  pub heard_ends : EndsInPec heard
+
 -- A change of one, two or three bits anywhere in a message of at most 15 bytes, its PEC included, is
 -- betrayed, and so is a change of an odd number of bits in a message of any length. Two bits that
 -- are 127 apart, as the first and the last of 16 bytes, are not.
@@ -117,6 +132,7 @@ pub record FewChangesAreBetrayed : Type 0 where
   pub odd_whole : (sent heard : List ℕ) → AreBytes sent → AreBytes heard →
       length sent ≡ length heard → changed_bits sent heard % 2 ≡ 1 →
       EndsInPec sent → ¬ EndsInPec heard
+  pub far_pass : FarBitsPass
 
 -- What the PEC always betrays, in a part of a packet that wasn't betrayed as it was sent, its last
 -- byte included, whatever stood before it in the packet: a change within eight neighbouring bits, a

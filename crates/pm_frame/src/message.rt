@@ -154,9 +154,10 @@ impl Message {
     }
 
     /// How many bytes its whole answer has: the address, a count where there is one, the payload and
-    /// the PEC. 2 for a write, which has no answer.
+    /// the PEC. 2 to 8; 2 for a write, which has no answer.
     pub fn whole_answer(&self) -> usize
-        ensures { result ≡ whole_answer self.now }
+        ensures length { result ≡ whole_answer self.now }
+        ensures short { result ≤ 8 }
     {
         self.payload_place() + self.answer_length() + 1
     }

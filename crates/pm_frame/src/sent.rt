@@ -10,7 +10,7 @@ ghost use Rattle.pm_frame.specs.Layout.{sent as sent_bytes, answered as answered
 use crate::Frame;
 use crate::message::{Message, Payload};
 use crate::packet_error_code::{pec, pec_after};
-use pm_table::Code;
+use pm_table::{Code, payloads_are_short};
 
 /// What the host puts on the wire for the message to the device of this address: a whole packet,
 /// PEC included, for a write; the request before the repeated start for a read. At most 8 bytes.
@@ -38,8 +38,8 @@ pub fn answer(addr: u8, request: &Message, payload: &[u8]) -> Frame
     requires counted { length payload.now ≡ answer_length request.now }
     ensures { IsAnswer addr request.now payload.now result.items }
 {
-    let length = request.answer_length();
-    prove!(payload.len() == length);
+    // A law for the prover: it does nothing.
+    payloads_are_short();
     let mut frame = answered(addr, request, payload);
     let code = pec_after(pec(sent(addr, request).as_slice()), frame.as_slice());
     frame.push(code);

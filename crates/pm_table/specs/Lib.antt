@@ -9,3 +9,5 @@ pub mod Format
 pub mod Laws
 pub mod Protection
 pub mod VoutMode
+-- How it is kept.
+pub mod Lemmas

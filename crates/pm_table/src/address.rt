@@ -13,7 +13,7 @@ pub fn address_ok(addr: u8) -> bool
 #[cfg(test)]
 mod tests {
     use super::*;
-    use crate::row::agrees;
+    use crate::tests::agrees;
 
     // The addresses 0000xxx and 1111xxx are reserved, and an address has seven bits.
     #[test]

@@ -1,7 +1,6 @@
-ghost use Rattle.std.specs.Prelude.{◌≡◌, ◌<◌, ◌≤◌, ◌↔◌, Some, IsTrue};
+ghost use Rattle.std.specs.Prelude.{◌≡◌, ◌<◌, ◌≤◌, Some, None, IfSome};
 ghost use Rattle.pm_table.specs.declared.cell.Cell.{Cell};
 ghost use Rattle.pm_table.specs.Cell.{cell_at};
-ghost use Rattle.pm_table.specs.Laws.{CellsAreToldApart, CellsHavePlaces, RegistersAreInTheTable};
 
 use crate::commands::Code;
 
@@ -90,7 +89,7 @@ pub enum Cell {
 }
 
 impl Cell {
-    ghost use Rattle.pm_table.specs.Cell.{cell_accepts, cell_bytes, cell_code, cell_name, is_voltage_cell, output_of, place_of, places, IsCell};
+    ghost use Rattle.pm_table.specs.Cell.{cell_accepts, cell_bytes, cell_code, cell_in, cell_name, is_voltage_cell, output_of, place_of, places, IsCell};
 
     /// How many cells a device with eight outputs has.
     pub const PLACES: usize = 8 * Reg::COUNT + 1;
@@ -160,6 +159,22 @@ impl Cell {
             Cell::Protect => Cell::PLACES - 1,
         }
     }
+
+    /// The cell that has this place; `None` from `PLACES` on. It leads back from `place`.
+    pub fn at_place(place: usize) -> Option<Cell>
+        ensures within { place < places → result ≡ Some (cell_in place) }
+        ensures past { places ≤ place → result ≡ None }
+        ensures there { IfSome result (λ cell. IsCell 8 cell) }
+    {
+        if place >= Cell::PLACES {
+            return None;
+        }
+        if place == Cell::PLACES - 1 {
+            return Some(Cell::Protect);
+        }
+        let output = (place / Reg::COUNT) as u8;
+        Some(Cell::Out(output, Reg::ALL[place % Reg::COUNT]))
+    }
 }
 
 /// The cell that a command code reads and writes: OPERATION and the codes of the voltages mean a
@@ -177,27 +192,10 @@ pub fn cell_of(code: Code, output: u8) -> Option<Cell>
     }
 }
 
-/// Two cells are one exactly where `same_cell` says so: a law of the definitions.
-pub fn cells_are_told_apart()
-    ensures { CellsAreToldApart }
-{}
-
-/// Each cell of at most eight outputs has a place of its own, and each place a cell: a law of the
-/// definitions.
-pub fn cells_have_places()
-    ensures { CellsHavePlaces }
-{}
-
-/// What the command table says of the codes of the registers: a law of the definitions.
-#[tactic(auto, unfolding(crate::specs::Commands::line_of))]
-pub fn registers_are_in_the_table()
-    ensures { RegistersAreInTheTable }
-{}
-
 #[cfg(test)]
 mod tests {
     use super::*;
-    use crate::row::agrees;
+    use crate::tests::agrees;
 
     // The bytes of OPERATION that have a meaning: the bits that are fixed, and their values.
     static OPERATIONS: [(u16, u16); 7] = [
@@ -317,6 +315,41 @@ mod tests {
         for (row, (code, register)) in REGISTERS.iter().enumerate() {
             agrees(&rt, row, &code_of(Cell::Out(0, *register)), code);
             agrees(&rt, row, &code_of(Cell::Out(255, *register)), code);
+        }
+    }
+
+    // A cell of each kind of place: the first, the last of an output, the first of the next, the
+    // last of the last output, and the device's own.
+    static PLACED: [(usize, Option<Cell>); 8] = [
+        (0, Some(Cell::Out(0, Reg::Operation))),
+        (5, Some(Cell::Out(0, Reg::VoutMin))),
+        (6, Some(Cell::Out(1, Reg::Operation))),
+        (22, Some(Cell::Out(3, Reg::MarginLow))),
+        (47, Some(Cell::Out(7, Reg::VoutMin))),
+        (48, Some(Cell::Protect)),
+        (49, None),
+        (usize::MAX, None),
+    ];
+
+    #[test]
+    fn places_have_their_cells(rt: HostRuntime) {
+        for (place, wanted) in &PLACED {
+            agrees(&rt, *place, &Cell::at_place(*place), wanted);
+        }
+    }
+
+    // The place of the cell that has this place.
+    fn place_again(place: usize) -> Option<usize> {
+        match Cell::at_place(place) {
+            Some(cell) => Some(cell.place()),
+            None => None,
+        }
+    }
+
+    #[test]
+    fn each_place_leads_to_its_cell_and_back(rt: HostRuntime) {
+        for place in 0..Cell::PLACES {
+            agrees(&rt, place, &place_again(place), &Some(place));
         }
     }
 }

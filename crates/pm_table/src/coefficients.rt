@@ -43,7 +43,7 @@ impl Coefficients {
 #[cfg(test)]
 mod tests {
     use super::*;
-    use crate::row::agrees;
+    use crate::tests::agrees;
 
     static ROWS: [([u8; 5], (i16, i16, i8)); 5] = [
         ([0x01, 0x00, 0x00, 0x00, 0x03], (1, 0, 3)),

@@ -1,6 +1,5 @@
 ghost use Rattle.std.specs.Prelude.{◌≡◌, ◌≤◌, IfSome, true, false};
 ghost use Rattle.std.specs.Option.{option_map};
-ghost use Rattle.pm_table.specs.Laws.{PayloadsAreShort};
 ghost use Rattle.pm_table.specs.Commands.{line_of, line_seen, attributes};
 
 // The command table, a row for each code: its name, and what is known of it besides. `true` is the scope of
@@ -251,12 +250,6 @@ fn action(length: u8, paged: bool) -> Attributes
         ..setting(length, paged)
     }
 }
-
-/// No payload in the command table is longer than two bytes: a law of the definitions, of codes of
-/// any size.
-pub fn payloads_are_short()
-    ensures { PayloadsAreShort }
-{}
 
 #[cfg(test)]
 mod tests;

@@ -39,7 +39,7 @@ impl TableFault {
 #[cfg(test)]
 mod tests {
     use super::*;
-    use crate::row::agrees;
+    use crate::tests::agrees;
     use std::alloc::AllocError;
 
     static ROWS: [(TableFault, &str); 4] = [

@@ -26,7 +26,7 @@ pub fn format_of(mode: VoutMode, c: Coefficients) -> Result<AnyFormat, NumFault>
 #[cfg(test)]
 mod tests {
     use super::*;
-    use crate::row::agrees;
+    use crate::tests::agrees;
     use pm_num::NumFormat;
 
     static ROWS: [((i16, i16, i8), Option<NumFault>); 8] = [

@@ -13,18 +13,20 @@ mod coefficients;
 mod commands;
 mod fault;
 mod format;
+mod laws;
 mod protection;
 #[cfg(test)]
-mod row;
+mod tests;
 mod vout_mode;
 
 pub use address::address_ok;
-pub use cell::{
-    Cell, Reg, cell_of, cells_are_told_apart, cells_have_places, registers_are_in_the_table,
-};
+pub use cell::{Cell, Reg, cell_of};
 pub use coefficients::Coefficients;
-pub use commands::{Attributes, Code, Info, known, payloads_are_short};
+pub use commands::{Attributes, Code, Info, known};
 pub use fault::TableFault;
 pub use format::format_of;
+pub use laws::{
+    cells_are_told_apart, cells_have_places, payloads_are_short, registers_are_in_the_table,
+};
 pub use protection::is_allowed;
 pub use vout_mode::VoutMode;

@@ -23,7 +23,7 @@ pub fn is_allowed(protect: u16, code: Code) -> bool
 #[cfg(test)]
 mod tests {
     use super::*;
-    use crate::row::agrees;
+    use crate::tests::agrees;
     use std::process::Abort;
 
     // The codes that each value allows beside CLEAR_FAULTS.

@@ -48,7 +48,7 @@ fn exponent(bits: u8) -> i8
 #[cfg(test)]
 mod tests {
     use super::*;
-    use crate::row::agrees;
+    use crate::tests::agrees;
 
     // By single bits, one fault after another in their order.
     fn slow_mode(byte: u8) -> Result<VoutMode, TableFault> {

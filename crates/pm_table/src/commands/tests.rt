@@ -1,5 +1,5 @@
 use super::*;
-use crate::row::agrees;
+use crate::tests::agrees;
 
 // The table as the standard's codes and this project's directions give it: code, name, bytes,
 // paged, read, written.

@@ -1,4 +1,5 @@
 use Rattle.pm_frame.proofs.Burst.{ends-same}
+use Rattle.pm_frame.proofs.FarBits.{far-pass}
 use Rattle.pm_frame.proofs.FewBits.{few-betrayed, odd-betrayed}
 use Rattle.pm_frame.proofs.laws.few_changes_are_betrayed.Goals as goal
 
@@ -9,4 +10,5 @@ returns c = record {
       (ends-same sent heard first second);
   odd = odd-betrayed;
   odd_whole = λ sent heard h k size odd first second. odd-betrayed sent heard h k size odd (ends-same sent heard first second);
+  far_pass = far-pass;
 }

@@ -1,15 +1,11 @@
 -- The words of the registers stand at their places, whatever registers there are.
 use Rattle.std.proofs.Common.{◌≡◌, ℕ, ◌+◌, ◌*◌, ◌/◌, ◌%◌, ◌<◌, true, List, [], get_or, arith, sym, subst, ap₂, ◌∙◌}
-use Rattle.pm_table.specs.declared.cell.Reg.{Reg}
 use Rattle.pm_table.specs.declared.cell.Cell.{Cell}
 use Rattle.pm_table.specs.declared.cell.Cell.TheVariants.{Out, Protect}
 use Rattle.pm_table.specs.Cell.{IsCell, cell_accepts, protect_place, register_accepts, register_count, register_number}
+use Rattle.pm_table.specs.Lemmas.{register_number-below}
 use Rattle.pm_model.specs.Settings.{word_at}
 use Rattle.pm_model.proofs.plain.Plain.new.Goals as goal
-
--- a register's number is below the number of registers
-number-below : (register : Reg) → register_number register < register_count
-number-below register = grind arith
 
 -- the place of a register is among those of the outputs, and its parts are the output and the number
 place-below : (output number : ℕ) → output < 8 → number < register_count →
@@ -28,7 +24,7 @@ pub returns-clause-registers : goal.returns-clause-registers
 unfolding word_at
 returns-clause-registers c output register here =
     let number = register_number register in
-    let below = number-below register in
+    let below = register_number-below register in
     c.in_places.ensures.registers (output * register_count + number) (place-below output number here below)
     ∙ row-of_place c.args.words output number below
 

@@ -1,4 +1,4 @@
-//! A row of a test's table.
+//! What the tests of this crate share: a row of a test's table.
 
 use std::fmt::Debug;
 use std::process::Abort;

@@ -4,11 +4,8 @@ use Rattle.pm_table.specs.declared.cell.Reg.{Reg}
 use Rattle.pm_table.specs.declared.cell.Cell.{Cell}
 use Rattle.pm_table.specs.declared.cell.Cell.TheVariants.{Out, Protect}
 use Rattle.pm_table.specs.Cell.{register_number, register_at, register_count, place_of, places, protect_place, cell_in, IsCell}
-use Rattle.pm_table.proofs.cell.cells_have_places.Goals as goal
-
--- a register's number is below the number of registers
-register_number-below : (register : Reg) → register_number register < register_count
-register_number-below register = grind arith
+use Rattle.pm_table.specs.Lemmas.{register_number-below}
+use Rattle.pm_table.proofs.laws.cells_have_places.Goals as goal
 
 -- it leads back to the register
 register_at-number : (register : Reg) → register_at (register_number register) ≡ register
