@@ -33,7 +33,7 @@ impl Image {
     pub const MARK: u16 = 0x504D;
 
     /// The number of this layout.
-    pub const VERSION: u16 = 1;
+    pub const VERSION: u16 = 2;
 
     /// Zeros, which are the image of no host.
     #[tactic(auto, unfolding(crate::specs::Image::host_of))]
