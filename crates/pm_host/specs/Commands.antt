@@ -1,6 +1,6 @@
 -- The commands that a job sends until they are acknowledged, by their codes of PMBus 1.3 Part II and the
 -- outputs that they name: a code and an output, or none, mean at most one of them.
-use Rattle.std.specs.Prelude.{◌≡◌, ℕ, if◌then◌else◌, ◌==◌, Option, Some, None}
+use Rattle.std.specs.Prelude.{ℕ, if◌then◌else◌, ◌==◌, Option, Some, None}
 use Rattle.pm_table.specs.Codes as command
 use Rattle.pm_host.specs.declared.command.Command.{Command}
 use Rattle.pm_host.specs.declared.command.Command.TheVariants.{ClearFaults, StoreUserAll, RestoreUserAll}

@@ -1,6 +1,6 @@
 -- What a host holds of its transcript, and what one more entry makes of it: this project's own choice
 -- of how an order, a check, a learn and a command that is sent go.
-use Rattle.std.specs.Prelude.{ℕ, ◌+◌, Bool, if◌then◌else◌, ◌==◌, List, [], ◌∷◌, replicate, slice_index_or, slice_set, Option, Some, None, Result, Ok, Err, option_map}
+use Rattle.std.specs.Prelude.{ℕ, ◌+◌, Bool, if◌then◌else◌, ◌==◌, List, replicate, slice_index_or, slice_set, Option, Some, None, Result, Ok, Err, option_map}
 use Rattle.std.specs.Result.{result_ok}
 use Rattle.pm_num.specs.AnyFormat.{Shape, InUlinear16}
 use Rattle.pm_table.specs.declared.cell.Cell.{Cell}
@@ -21,7 +21,7 @@ use Rattle.pm_host.specs.declared.job_end.JobEnd.TheVariants.{Done, Differs, Unk
 use Rattle.pm_host.specs.declared.step.Step.{Step}
 use Rattle.pm_host.specs.declared.step.Step.TheVariants.{Next, Ended}
 use Rattle.pm_host.specs.Answers.{good_word, good_mode, good_coefficients}
-use Rattle.pm_host.specs.Known.{Known, known_possible, known_standing, known_after, nothing_known}
+use Rattle.pm_host.specs.Known.{Known, known_possible, known_standing, known_after, known_more, nothing_known}
 use Rattle.pm_host.specs.Marks.{Mark, Put, Good, send_marks}
 use Rattle.pm_host.specs.Messages.{cell_write, cell_read, mode_read, coefficients_read, command_message}
 use Rattle.pm_host.specs.Transcript.{Setup, Job, Order, Check, Learn, Send, Entry, Accepted, Finished, Got, Restarted}
@@ -105,14 +105,10 @@ marked s mark = record s { known = known_after s.known mark }
 abbrev pub writes : Summary → Cell → ℕ → ℕ → Change
 writes s cell word pass = goes_on (marked s (Put cell word)) (Writes cell word pass)
 
--- more marks, newest first
-abbrev pub all_marked : Summary → List Mark → Summary
-all_marked s [] = s
-all_marked s (mark ∷ before) = marked (all_marked s before) mark
-
 -- a command begins to be sent, after these tries, and leaves its marks
 abbrev pub sends : Summary → Command → ℕ → Change
-sends s command tries = goes_on (all_marked s (send_marks command)) (Sends command tries)
+sends s command tries =
+    goes_on (record s { known = known_more s.known (send_marks command) }) (Sends command tries)
 
 -- the stage, which is one more try, where one is left after these
 abbrev pub another : Summary → ℕ → Stage → Change
