@@ -60,6 +60,7 @@ pub extern "C" fn pm_host_order(host: &mut Image, output: u8, code: u8, word: u1
         return NO_CELL;
     };
     let outcome = host.state.order(cell, word);
+    // Hands the prover that this is the image of a host.
     host.holds_a_host();
     number_of(outcome)
 }
@@ -80,6 +81,7 @@ pub extern "C" fn pm_host_order_micro(host: &mut Image, output: u8, code: u8, mi
         return NO_CELL;
     };
     let outcome = host.state.order_micro(cell, microvolts);
+    // Hands the prover that this is the image of a host.
     host.holds_a_host();
     number_of(outcome)
 }
@@ -100,6 +102,7 @@ pub extern "C" fn pm_host_check(host: &mut Image, output: u8, code: u8) -> u8
         return NO_CELL;
     };
     let outcome = host.state.check(cell);
+    // Hands the prover that this is the image of a host.
     host.holds_a_host();
     number_of(outcome)
 }
@@ -116,6 +119,7 @@ pub extern "C" fn pm_host_learn(host: &mut Image, output: u8) -> u8
         return NO_HOST;
     }
     let outcome = host.state.learn(output);
+    // Hands the prover that this is the image of a host.
     host.holds_a_host();
     number_of(outcome)
 }
@@ -131,6 +135,7 @@ fn send(host: &mut Image, command: Command) -> u8
         return NO_HOST;
     }
     let outcome = host.state.send(command);
+    // Hands the prover that this is the image of a host.
     host.holds_a_host();
     number_of(outcome)
 }
@@ -179,6 +184,7 @@ pub extern "C" fn pm_host_restart(host: &mut Image) -> u8
         return NO_HOST;
     }
     host.state.restart();
+    // Hands the prover that this is the image of a host.
     host.holds_a_host();
     ACCEPTED
 }

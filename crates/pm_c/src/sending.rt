@@ -9,6 +9,7 @@ ghost use Rattle.pm_c.specs.Host.{IsNothing, IsSending, IsSent, memory_number};
 use crate::numbers::{ACCEPTED, NO_HOST};
 use pm_frame::{Frame, Message, write_part};
 use pm_host::Image;
+use pm_table::payloads_are_short;
 
 /// A frame that is to be sent now.
 #[repr(C)]
@@ -45,8 +46,8 @@ impl Sending {
         let frame = write_part(address, message);
         self.length = copy_frame(&mut self.bytes, &frame);
         if message.is_read() {
-            // Hands the prover that an answer has at most five bytes of payload.
-            let _ = message.answer_length();
+            // A law, which costs nothing: no code has a payload of more than two bytes.
+            payloads_are_short();
             self.kind = 2;
             self.answer = message.whole_answer() as u8;
         } else {

@@ -23,6 +23,7 @@ pub extern "C" fn pm_host_finished(host: &mut Image, acked: u8) -> HostStep
     match host.state.message() {
         Some(message) if !message.is_read() => {
             let step = host.state.told(Told::Finished { acked: acked != 0 });
+            // Hands the prover that this is the image of a host.
             host.holds_a_host();
             step_after(step)
         }
@@ -45,6 +46,7 @@ pub extern "C" fn pm_host_got(host: &mut Image, bytes: &[u8]) -> HostStep
     match host.state.message() {
         Some(message) if message.is_read() => {
             let step = host.state.told(Told::Got(bytes));
+            // Hands the prover that this is the image of a host.
             host.holds_a_host();
             step_after(step)
         }

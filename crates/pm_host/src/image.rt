@@ -59,6 +59,7 @@ impl Image {
         self.state.start(addr, outputs, passes)?;
         self.mark = Image::MARK;
         self.version = Image::VERSION;
+        // Hands the prover that this is the image of a host.
         self.holds_a_host();
         Ok(())
     }
