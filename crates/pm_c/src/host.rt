@@ -6,6 +6,7 @@ ghost use Rattle.pm_host.specs.Image.{host_of, image_version};
 ghost use Rattle.pm_host.specs.Summary.{start};
 ghost use Rattle.pm_host.specs.Transcript.{Setup, Order, Check, Learn, Send, Restarted};
 ghost use Rattle.pm_host.specs.declared.command.Command.TheVariants.{ClearFaults, StoreUserAll, RestoreUserAll};
+ghost use Rattle.pm_c.specs.Sizes.{host_size};
 ghost use Rattle.pm_c.specs.Host.{new_number, job_number, job_begun, micro_number, micro_begun, memory_number, after};
 
 use crate::numbers::{ACCEPTED, NO_ADDRESS, NO_CELL, NO_HOST, number_of};
@@ -16,7 +17,7 @@ use std::mem::size_of;
 /// How many bytes a host has.
 #[unsafe(no_mangle)]
 pub extern "C" fn pm_host_size() -> usize
-    ensures { result ≡ 1926 }
+    ensures { result ≡ host_size }
 {
     size_of::<Image>()
 }

@@ -7,11 +7,11 @@ use self::calls::{
     shown, standing, store, written,
 };
 use self::checks::{equal, is_true};
-use crate::desk::{
-    Desk, OutputWords, Reply, pm_desk_commanded, pm_desk_hear, pm_desk_size, pm_desk_word,
-};
+use crate::desk::{Desk, pm_desk_commanded, pm_desk_hear, pm_desk_size, pm_desk_word};
 use crate::host::{pm_host_size, pm_host_version};
+use crate::output_words::OutputWords;
 use crate::packet::pm_pec;
+use crate::reply_image::ReplyImage;
 use pm_host::{FormatImage, Image, WordsImage};
 
 const OUTPUT: OutputWords = OutputWords {
@@ -276,8 +276,8 @@ fn numbers_stand_alone(rt: HostRuntime) {
 }
 
 // What the desk says of a frame, and its answer.
-fn hear(desk: &mut Desk, bytes: &[u8], is_request: u8) -> (u8, Reply) {
-    let mut reply = Reply {
+fn hear(desk: &mut Desk, bytes: &[u8], is_request: u8) -> (u8, ReplyImage) {
+    let mut reply = ReplyImage {
         length: 0,
         unused: 0,
         bytes: [0; 16],

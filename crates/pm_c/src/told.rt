@@ -5,7 +5,8 @@ ghost use Rattle.pm_host.specs.Image.{host_of};
 ghost use Rattle.pm_host.specs.Transcript.{Finished, Got};
 ghost use Rattle.pm_c.specs.Host.{is_told, told_answer, after};
 
-use crate::numbers::{HostStep, NO_HOST, OTHER_FRAME, no_step, step_after};
+use crate::host_step::{HostStep, no_step, step_after};
+use crate::numbers::{NO_HOST, OTHER_FRAME};
 use pm_host::{Image, Told};
 
 /// A write was sent, and acknowledged or not (0). E0h, E2h where no write is being sent.
