@@ -1,5 +1,6 @@
 mod asking;
 mod microvolts;
+mod soundness;
 mod turns;
 
 ghost use Rattle.std.specs.Prelude.{◌≡◌, ◌*◌, ◌<◌, ◌≤◌, true, length, None, OnOk, OnErr, IfSome, IsSomeAnd};
