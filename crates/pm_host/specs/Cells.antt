@@ -6,7 +6,7 @@ use Rattle.pm_table.specs.declared.cell.Cell.{Cell}
 use Rattle.pm_table.specs.declared.cell.Cell.TheVariants.{Out, Protect}
 use Rattle.pm_table.specs.Cell.{cell_in}
 use Rattle.pm_host.specs.declared.command.Command.{Command}
-use Rattle.pm_host.specs.Commands.{command_output}
+use Rattle.pm_host.specs.Command.{command_output}
 
 -- the cell is a register of one of this many outputs, or the device's own
 abbrev pub is_cell : ℕ → Cell → Bool

@@ -23,7 +23,7 @@ use Rattle.pm_host.specs.declared.standing_image.StandingImage.{StandingImage}
 use Rattle.pm_host.specs.declared.state.State.{State}
 use Rattle.pm_host.specs.declared.words_image.WordsImage.{WordsImage}
 use Rattle.pm_host.specs.Cells.{is_cell, is_command}
-use Rattle.pm_host.specs.Commands.{command_of}
+use Rattle.pm_host.specs.Command.{command_of}
 use Rattle.pm_host.specs.Known.{Known}
 use Rattle.pm_host.specs.Possible.{is_possible}
 use Rattle.pm_host.specs.Refusals.{is_within}

@@ -14,7 +14,7 @@ use Rattle.pm_frame.specs.declared.message.Payload.{Payload}
 use Rattle.pm_frame.specs.declared.message.Payload.TheVariants.{Empty, Byte, Word}
 use Rattle.pm_frame.specs.Layout.{IsWrite, IsRequest, is_read_message}
 use Rattle.pm_host.specs.declared.command.Command.{Command}
-use Rattle.pm_host.specs.Commands.{command_code, command_output}
+use Rattle.pm_host.specs.Command.{command_code, command_output}
 
 -- the word of a register on the wire: OPERATION has one byte, a voltage two
 abbrev pub register_payload : Reg → ℕ → Payload

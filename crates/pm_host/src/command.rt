@@ -1,6 +1,6 @@
 ghost use Rattle.std.specs.Prelude.{◌≡◌, Some, IfSome};
 ghost use Rattle.pm_host.specs.Cells.{is_command};
-ghost use Rattle.pm_host.specs.Commands.{command_code, command_of, command_output};
+ghost use Rattle.pm_host.specs.Command.{command_code, command_of, command_output};
 
 use pm_table::Code;
 
@@ -56,7 +56,7 @@ impl Command {
         }
     }
 
-    /// Whether the output that it names is one of this many.
+    /// Whether the output that it names, if it names one, is one of this many.
     pub(crate) fn is_there(self, outputs: u8) -> bool
         ensures { result ≡ is_command outputs self }
     {
