@@ -24,8 +24,8 @@ use Rattle.pm_model.specs.Commanded.{commanded}
 use Rattle.pm_model.specs.Settings.{Words, word_at}
 use Rattle.pm_num.specs.Ratio.{Ratio}
 use Rattle.pm_c.specs.declared.desk.Desk.{Desk}
-use Rattle.pm_c.specs.declared.desk.OutputWords.{OutputWords}
-use Rattle.pm_c.specs.declared.desk.Reply.{Reply}
+use Rattle.pm_c.specs.declared.output_words.OutputWords.{OutputWords}
+use Rattle.pm_c.specs.declared.reply_image.ReplyImage.{ReplyImage}
 use Rattle.pm_c.specs.Numbers.{accepted, no_cell, no_converter, host_number}
 
 -- an output's mode and words
@@ -74,7 +74,7 @@ abbrev pub heard_bytes : Heard → List ℕ
 heard_bytes (Answer frame) = frame.items
 heard_bytes _ = []
 
-abbrev pub IsReply : Option Heard → Reply → Type 0
+abbrev pub IsReply : Option Heard → ReplyImage → Type 0
 IsReply heard reply = take reply.length reply.bytes ≡ option_map_or heard_bytes heard []
 
 -- a stop ends the frame, or a repeated start where this isn't 0

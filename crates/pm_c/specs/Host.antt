@@ -18,8 +18,8 @@ use Rattle.pm_host.specs.Messages.{IsFrameOf}
 use Rattle.pm_host.specs.Refusals.{is_within, setup_fault, job_fault, micro_fault, micro_word, may_come}
 use Rattle.pm_host.specs.Summary.{Summary, next, step_of, sending_in, possible_at, standing_at}
 use Rattle.pm_host.specs.Transcript.{Job, Order, Entry, Accepted}
-use Rattle.pm_c.specs.declared.numbers.HostStep.{HostStep}
-use Rattle.pm_c.specs.declared.sending.Sending.{Sending}
+use Rattle.pm_c.specs.declared.host_step.HostStep.{HostStep}
+use Rattle.pm_c.specs.declared.sending_image.SendingImage.{SendingImage}
 use Rattle.pm_c.specs.Numbers.{accepted, no_host, no_cell, other_frame, no_address, outcome, host_number}
 
 -- a host is made
@@ -62,15 +62,15 @@ write_kind = 1
 abbrev pub request_kind : ℕ
 request_kind = 2
 
-abbrev pub IsNothing : Sending → Type 0
+abbrev pub IsNothing : SendingImage → Type 0
 IsNothing sending = (sending.kind ≡ idle_kind) × (sending.length ≡ 0) × (sending.answer ≡ 0)
 
-pub record IsSending (addr : ℕ) (message : Message) (sending : Sending) : Type 0 where
+pub record IsSending (addr : ℕ) (message : Message) (sending : SendingImage) : Type 0 where
   pub kind : sending.kind ≡ (if is_read_message message then request_kind else write_kind)
   pub answer : sending.answer ≡ (if is_read_message message then whole_answer message else 0)
   pub frame : IsFrameOf addr message (take sending.length sending.bytes)
 
-abbrev pub IsSent : Option Summary → Sending → Type 0
+abbrev pub IsSent : Option Summary → SendingImage → Type 0
 IsSent None sending = IsNothing sending
 IsSent (Some s) sending = MatchOption (sending_in s) (IsNothing sending)
     (λ message. IsSending s.setup.addr message sending)

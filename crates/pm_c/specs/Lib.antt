@@ -3,4 +3,5 @@ pub mod Desk
 pub mod Host
 pub mod Numbers
 pub mod Packets
+pub mod Sizes
 pub mod Voltages

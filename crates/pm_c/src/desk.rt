@@ -1,33 +1,23 @@
 //! A model converter on a desk.
 
-ghost use Rattle.std.specs.Prelude.{◌≡◌, ◌≢◌, ◌↔◌, ◌<◌, ◌≤◌, ◌⊎◌, true, map, take, None, option_map, IfSome, IsSomeAnd};
+ghost use Rattle.std.specs.Prelude.{◌≡◌, ◌≢◌, ◌↔◌, ◌<◌, ◌≤◌, ◌⊎◌, true, map, None, option_map, IfSome, IsSomeAnd};
 ghost use Rattle.pm_table.specs.Cell.{cell_at, IsCell};
 ghost use Rattle.pm_device.specs.Effect.{Hearing};
 ghost use Rattle.pm_device.specs.Reply.{reply_of};
 ghost use Rattle.pm_model.specs.Settings.{word_at};
 ghost use Rattle.pm_host.specs.Cells.{is_cell};
-ghost use Rattle.pm_c.specs.Desk.{asked_number, commanded_now, desk_config, desk_of, desk_number, device_number, ending_of, heard_bytes, heard_number, output_start, AreKept, HasWords, HaveSameModes, IsAfter, IsReply, IsSameDevice, IsWord};
+ghost use Rattle.pm_c.specs.Desk.{asked_number, commanded_now, desk_config, desk_of, desk_number, ending_of, output_start, AreKept, HasWords, HaveSameModes, IsAfter, IsReply, IsSameDevice, IsWord};
+ghost use Rattle.pm_c.specs.Sizes.{desk_size};
 ghost use Rattle.pm_c.specs.Voltages.{IsFar, IsFloor};
 
 use crate::numbers::{ACCEPTED, NO_CELL, NO_CONVERTER, NO_OUTPUT};
-use crate::sending::copy_frame;
+use crate::output_words::OutputWords;
+use crate::reply_image::ReplyImage;
 use crate::voltages::put_floor;
-use pm_device::{Config, Converter, DeviceFault, Ending, Heard, OutputStart};
+use pm_device::{Config, Converter, Ending, OutputStart};
 use pm_table::{Cell, Code, Coefficients, Reg, cell_of};
 use std::array::from_fn;
 use std::mem::size_of;
-
-/// An output's VOUT_MODE and the words of its registers.
-#[repr(C)]
-#[derive(Clone, Copy, Debug)]
-pub struct OutputWords {
-    /// VOUT_MODE.
-    pub mode: u8,
-    /// No meaning.
-    pub unused: u8,
-    /// The words, in the order of `Reg::ALL`.
-    pub words: [u16; Reg::COUNT],
-}
 
 /// A converter: what it was made with, but for the words, which are those that its cells hold now.
 #[repr(C)]
@@ -49,27 +39,6 @@ pub struct Desk {
     pub protect: u16,
     /// The outputs; those that aren't there mean nothing.
     pub words: [OutputWords; 8],
-}
-
-/// What a converter answers to a request.
-#[repr(C)]
-#[derive(Clone, Copy, Debug)]
-pub struct Reply {
-    /// How many bytes it has, the read address first; 0 where there is no answer.
-    pub length: u8,
-    /// No meaning.
-    pub unused: u8,
-    /// The bytes; after them anything.
-    pub bytes: [u8; 16],
-}
-
-impl OutputWords {
-    // As a converter starts with it.
-    fn start(&self) -> OutputStart
-        ensures { result ≡ output_start self.now }
-    {
-        OutputStart::of(self.mode, self.words)
-    }
 }
 
 // As a converter starts with them.
@@ -132,42 +101,10 @@ fn output_words(converter: &Converter, output: u8, mode: u8) -> OutputWords
     }
 }
 
-// The number of a converter's fault.
-fn of_device(fault: DeviceFault) -> u8
-    ensures { result ≡ device_number fault }
-{
-    match fault {
-        DeviceFault::Frame(_) => 0x41,
-        DeviceFault::UnsupportedCode => 0x42,
-        DeviceFault::UnsupportedData => 0x43,
-        DeviceFault::BadPage => 0x44,
-        DeviceFault::Protected => 0x45,
-        DeviceFault::Nested => 0x46,
-        DeviceFault::ReadOnly => 0x47,
-    }
-}
-
-// Its number, and its bytes where it has any.
-fn give(heard: Heard, reply: &mut Reply) -> u8
-    ensures number { result ≡ heard_number heard }
-    ensures reply { take reply.new.length reply.new.bytes ≡ heard_bytes heard }
-{
-    reply.length = 0;
-    match heard {
-        Heard::Silent => 0,
-        Heard::Taken => 1,
-        Heard::Answer(frame) => {
-            reply.length = copy_frame(&mut reply.bytes, &frame);
-            2
-        }
-        Heard::Refused(fault) => of_device(fault),
-    }
-}
-
 /// How many bytes a converter has.
 #[unsafe(no_mangle)]
 pub extern "C" fn pm_desk_size() -> usize
-    ensures { result ≡ 122 }
+    ensures { result ≡ desk_size }
 {
     size_of::<Desk>()
 }
@@ -180,7 +117,7 @@ pub extern "C" fn pm_desk_hear(
     desk: &mut Desk,
     bytes: &[u8],
     is_request: u8,
-    reply: &mut Reply,
+    reply: &mut ReplyImage,
 ) -> u8
     ensures number { let heard = option_map (λ held. reply_of held bytes.now (ending_of is_request))
         (desk_of desk.old) in
@@ -196,7 +133,7 @@ pub extern "C" fn pm_desk_hear(
         Ok(converter) => {
             let heard = converter.hear(bytes, ending(is_request));
             desk.take(converter);
-            give(heard, reply)
+            reply.give(heard)
         }
         Err(_) => {
             reply.length = 0;

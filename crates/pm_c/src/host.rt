@@ -6,6 +6,7 @@ ghost use Rattle.pm_host.specs.Image.{host_of, image_version};
 ghost use Rattle.pm_host.specs.Summary.{start};
 ghost use Rattle.pm_host.specs.Transcript.{Setup, Order, Check, Learn, Send, Restarted};
 ghost use Rattle.pm_host.specs.declared.command.Command.TheVariants.{ClearFaults, StoreUserAll, RestoreUserAll};
+ghost use Rattle.pm_c.specs.Sizes.{host_size};
 ghost use Rattle.pm_c.specs.Host.{new_number, job_number, job_begun, micro_number, micro_begun, memory_number, after};
 
 use crate::numbers::{ACCEPTED, NO_ADDRESS, NO_CELL, NO_HOST, number_of};
@@ -16,7 +17,7 @@ use std::mem::size_of;
 /// How many bytes a host has.
 #[unsafe(no_mangle)]
 pub extern "C" fn pm_host_size() -> usize
-    ensures { result ≡ 1926 }
+    ensures { result ≡ host_size }
 {
     size_of::<Image>()
 }
@@ -60,6 +61,7 @@ pub extern "C" fn pm_host_order(host: &mut Image, output: u8, code: u8, word: u1
         return NO_CELL;
     };
     let outcome = host.state.order(cell, word);
+    // Hands the prover that this is the image of a host.
     host.holds_a_host();
     number_of(outcome)
 }
@@ -80,6 +82,7 @@ pub extern "C" fn pm_host_order_micro(host: &mut Image, output: u8, code: u8, mi
         return NO_CELL;
     };
     let outcome = host.state.order_micro(cell, microvolts);
+    // Hands the prover that this is the image of a host.
     host.holds_a_host();
     number_of(outcome)
 }
@@ -100,6 +103,7 @@ pub extern "C" fn pm_host_check(host: &mut Image, output: u8, code: u8) -> u8
         return NO_CELL;
     };
     let outcome = host.state.check(cell);
+    // Hands the prover that this is the image of a host.
     host.holds_a_host();
     number_of(outcome)
 }
@@ -116,6 +120,7 @@ pub extern "C" fn pm_host_learn(host: &mut Image, output: u8) -> u8
         return NO_HOST;
     }
     let outcome = host.state.learn(output);
+    // Hands the prover that this is the image of a host.
     host.holds_a_host();
     number_of(outcome)
 }
@@ -131,6 +136,7 @@ fn send(host: &mut Image, command: Command) -> u8
         return NO_HOST;
     }
     let outcome = host.state.send(command);
+    // Hands the prover that this is the image of a host.
     host.holds_a_host();
     number_of(outcome)
 }
@@ -179,6 +185,7 @@ pub extern "C" fn pm_host_restart(host: &mut Image) -> u8
         return NO_HOST;
     }
     host.state.restart();
+    // Hands the prover that this is the image of a host.
     host.holds_a_host();
     ACCEPTED
 }

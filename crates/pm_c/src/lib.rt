@@ -8,10 +8,14 @@
 
 mod desk;
 mod host;
+mod host_step;
 mod known;
 mod numbers;
+mod output_words;
 mod packet;
+mod reply_image;
 mod sending;
+mod sending_image;
 #[cfg(test)]
 mod tests;
 mod told;

@@ -2,12 +2,13 @@
 
 ghost use Rattle.std.specs.Prelude.{◌≡◌, ◌≢◌};
 ghost use Rattle.std.specs.Result.{result_err};
-ghost use Rattle.pm_c.specs.Host.{host_step, refused_step};
+ghost use Rattle.pm_c.specs.Desk.{device_number};
 ghost use Rattle.pm_c.specs.Numbers.{host_number, num_number, outcome as spec_outcome};
 ghost use Rattle.pm_c.specs.Packets.{frame_number};
 
+use pm_device::DeviceFault;
 use pm_frame::FrameFault;
-use pm_host::{HostFault, JobEnd, Step};
+use pm_host::HostFault;
 use pm_num::NumFault;
 
 /// Nothing is refused.
@@ -33,41 +34,6 @@ pub const NO_CONVERTER: u8 = 0xE5;
 
 /// H4, the output isn't there.
 pub const NO_OUTPUT: u8 = 4;
-
-/// What a call answers that tells what became of a frame: how the job stands, or a refusal.
-#[repr(C)]
-#[derive(Clone, Copy, Debug, PartialEq, Eq)]
-pub struct HostStep {
-    /// 0 where the job goes on, 1 to 4 where it ended as Done, Differs, Unknown or Learned; otherwise
-    /// the number of a refusal.
-    pub kind: u16,
-    /// The word that was read where the end is Differs, otherwise 0.
-    pub word: u16,
-}
-
-/// How the job stands after a call.
-pub fn step_after(step: Step) -> HostStep
-    ensures { result ≡ host_step step }
-{
-    let (kind, word) = match step {
-        Step::Next => (0, 0),
-        Step::Ended(JobEnd::Done) => (1, 0),
-        Step::Ended(JobEnd::Differs(word)) => (2, word),
-        Step::Ended(JobEnd::Unknown) => (3, 0),
-        Step::Ended(JobEnd::Learned) => (4, 0),
-    };
-    HostStep { kind, word }
-}
-
-/// A refused call.
-pub fn no_step(number: u8) -> HostStep
-    ensures { result ≡ refused_step number }
-{
-    HostStep {
-        kind: u16::from(number),
-        word: 0,
-    }
-}
 
 /// The number of a fault of a number.
 pub fn of_number(fault: NumFault) -> u8
@@ -124,5 +90,20 @@ pub fn of_frame(fault: FrameFault) -> u8
         FrameFault::UnknownCode(_) => 0x36,
         FrameFault::WrongDirection(_) => 0x37,
         FrameFault::Nested(_) => 0x38,
+    }
+}
+
+/// The number of a converter's fault.
+pub fn of_device(fault: DeviceFault) -> u8
+    ensures { result ≡ device_number fault }
+{
+    match fault {
+        DeviceFault::Frame(_) => 0x41,
+        DeviceFault::UnsupportedCode => 0x42,
+        DeviceFault::UnsupportedData => 0x43,
+        DeviceFault::BadPage => 0x44,
+        DeviceFault::Protected => 0x45,
+        DeviceFault::Nested => 0x46,
+        DeviceFault::ReadOnly => 0x47,
     }
 }

@@ -8,7 +8,7 @@ ghost use Rattle.pm_c.specs.Host.{IsSending};
 ghost use Rattle.pm_c.specs.Packets.{packet_message, payload_in, read_number, written_number};
 
 use crate::numbers::{ACCEPTED, NO_ADDRESS, NO_PACKET, of_frame};
-use crate::sending::Sending;
+use crate::sending_image::SendingImage;
 use pm_frame::{Message, Payload, fits, pec, read_request, read_write};
 use pm_table::address_ok;
 
@@ -123,7 +123,7 @@ pub extern "C" fn pm_pec(bytes: &[u8]) -> u8
 /// The bytes of a packet before its stop or its repeated start. E3h, E4h where the numbers mean no
 /// packet, or its code doesn't have this layout.
 #[unsafe(no_mangle)]
-pub extern "C" fn pm_packet_write(address: u8, packet: &Packet, frame: &mut Sending) -> u8
+pub extern "C" fn pm_packet_write(address: u8, packet: &Packet, frame: &mut SendingImage) -> u8
     ensures number { result ≡ written_number address (packet_message packet.now) }
     ensures frame { result ≡ 0 → IsSomeAnd (packet_message packet.now)
         (λ message. IsSending address message frame.new) }

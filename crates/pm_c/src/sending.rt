@@ -1,65 +1,17 @@
 //! The frame that a host is sending.
 
-ghost use Rattle.std.specs.Prelude.{◌≡◌, true, length, take};
-ghost use Rattle.pm_table.specs.Address.{IsAddress};
-ghost use Rattle.pm_frame.specs.Layout.{fits_layout};
+ghost use Rattle.std.specs.Prelude.{◌≡◌};
 ghost use Rattle.pm_host.specs.Image.{host_of};
-ghost use Rattle.pm_c.specs.Host.{IsNothing, IsSending, IsSent, memory_number};
+ghost use Rattle.pm_c.specs.Host.{IsSent, memory_number};
 
 use crate::numbers::{ACCEPTED, NO_HOST};
-use pm_frame::{Frame, Message, write_part};
+use crate::sending_image::SendingImage;
 use pm_host::Image;
-
-/// A frame that is to be sent now.
-#[repr(C)]
-#[derive(Clone, Copy, Debug)]
-pub struct Sending {
-    /// 0 for nothing; 1 for a write, which a stop ends; 2 for a request, which a repeated start ends.
-    pub kind: u8,
-    /// How many bytes it has.
-    pub length: u8,
-    /// For a request how many bytes a whole answer has, 3 to 8, the read address first; otherwise 0.
-    pub answer: u8,
-    /// No meaning.
-    pub unused: u8,
-    /// The bytes, the address first; after them anything.
-    pub bytes: [u8; 16],
-}
-
-impl Sending {
-    // Nothing is to be sent.
-    fn clear(&mut self)
-        ensures { IsNothing self.new }
-    {
-        self.kind = 0;
-        self.length = 0;
-        self.answer = 0;
-    }
-
-    /// The frame of a message is to be sent.
-    pub(crate) fn put(&mut self, address: u8, message: &Message)
-        requires address { IsAddress address }
-        requires fits { fits_layout message.now ≡ true }
-        ensures { IsSending address message.now self.new }
-    {
-        let frame = write_part(address, message);
-        self.length = copy_frame(&mut self.bytes, &frame);
-        if message.is_read() {
-            // Hands the prover that an answer has at most five bytes of payload.
-            let _ = message.answer_length();
-            self.kind = 2;
-            self.answer = message.whole_answer() as u8;
-        } else {
-            self.kind = 1;
-            self.answer = 0;
-        }
-    }
-}
 
 /// The frame that is to be sent now. E0h where the memory holds no host; then, and where no job is
 /// open, it is nothing.
 #[unsafe(no_mangle)]
-pub extern "C" fn pm_host_sending(host: &Image, sending: &mut Sending) -> u8
+pub extern "C" fn pm_host_sending(host: &Image, sending: &mut SendingImage) -> u8
     ensures number { result ≡ memory_number (host_of host.now) }
     ensures frame { IsSent (host_of host.now) sending.new }
 {
@@ -73,14 +25,4 @@ pub extern "C" fn pm_host_sending(host: &Image, sending: &mut Sending) -> u8
     };
     sending.put(host.state.address, &message);
     ACCEPTED
-}
-
-/// Copies a frame to the front of the bytes, and answers how many it has.
-pub(crate) fn copy_frame(bytes: &mut [u8; 16], frame: &Frame) -> u8
-    ensures length { result ≡ length frame.now.items }
-    ensures copied { take result bytes.new ≡ frame.now.items }
-{
-    let count = frame.len();
-    bytes[..count].copy_from_slice(frame.as_slice());
-    count as u8
 }

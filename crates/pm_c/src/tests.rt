@@ -7,11 +7,11 @@ use self::calls::{
     shown, standing, store, written,
 };
 use self::checks::{equal, is_true};
-use crate::desk::{
-    Desk, OutputWords, Reply, pm_desk_commanded, pm_desk_hear, pm_desk_size, pm_desk_word,
-};
+use crate::desk::{Desk, pm_desk_commanded, pm_desk_hear, pm_desk_size, pm_desk_word};
 use crate::host::{pm_host_size, pm_host_version};
+use crate::output_words::OutputWords;
 use crate::packet::pm_pec;
+use crate::reply_image::ReplyImage;
 use pm_host::{FormatImage, Image, WordsImage};
 
 const OUTPUT: OutputWords = OutputWords {
@@ -34,7 +34,7 @@ const DESK: Desk = Desk {
 #[test]
 fn sizes_are_those_of_the_header(rt: HostRuntime) {
     equal(&rt, &(pm_host_size(), pm_desk_size()), &(1926, 122), &1);
-    equal(&rt, &pm_host_version(), &1, &2);
+    equal(&rt, &pm_host_version(), &2, &2);
 }
 
 #[test]
@@ -182,12 +182,12 @@ fn changed(change: u8) -> Image {
     let _ = order(&mut image, 0, 0x21, 0x34CD);
     let state = &mut image.state;
     match change {
-        0 => image.version = 2,
+        0 => image.version = 1,
         1 => image.mark = 0,
         2 => state.address = 0x78,
         3 => state.outputs = 9,
         4 => state.passes = 0,
-        5 => state.stage.kind = 9,
+        5 => state.stage.kind = 8,
         6 => state.stage.code = 0x20,
         7 => state.stage.count = 2,
         8 => state.stage.output = 2,
@@ -196,6 +196,8 @@ fn changed(change: u8) -> Image {
             words: [0; 16],
         },
         10 => state.known.standing[1].is_confirmed = 1,
+        11 => state.stage.kind = 6,
+        12 => state.stage.kind = 7,
         _ => {}
     }
     image
@@ -204,10 +206,10 @@ fn changed(change: u8) -> Image {
 #[test]
 fn memory_that_holds_no_host_is_refused(rt: HostRuntime) {
     is_true(&rt, is_refused(&mut Image::blank()), &"zeros");
-    for change in 0..11 {
+    for change in 0..13 {
         is_true(&rt, is_refused(&mut changed(change)), &change);
     }
-    is_true(&rt, !is_refused(&mut changed(11)), &"no change");
+    is_true(&rt, !is_refused(&mut changed(13)), &"no change");
 }
 
 // What damaged memory says of output 1, that still reads as a host: a count past the words, a flag that is
@@ -274,8 +276,8 @@ fn numbers_stand_alone(rt: HostRuntime) {
 }
 
 // What the desk says of a frame, and its answer.
-fn hear(desk: &mut Desk, bytes: &[u8], is_request: u8) -> (u8, Reply) {
-    let mut reply = Reply {
+fn hear(desk: &mut Desk, bytes: &[u8], is_request: u8) -> (u8, ReplyImage) {
+    let mut reply = ReplyImage {
         length: 0,
         unused: 0,
         bytes: [0; 16],

@@ -5,7 +5,8 @@ ghost use Rattle.pm_host.specs.Image.{host_of};
 ghost use Rattle.pm_host.specs.Transcript.{Finished, Got};
 ghost use Rattle.pm_c.specs.Host.{is_told, told_answer, after};
 
-use crate::numbers::{HostStep, NO_HOST, OTHER_FRAME, no_step, step_after};
+use crate::host_step::{HostStep, no_step, step_after};
+use crate::numbers::{NO_HOST, OTHER_FRAME};
 use pm_host::{Image, Told};
 
 /// A write was sent, and acknowledged or not (0). E0h, E2h where no write is being sent.
@@ -23,6 +24,7 @@ pub extern "C" fn pm_host_finished(host: &mut Image, acked: u8) -> HostStep
     match host.state.message() {
         Some(message) if !message.is_read() => {
             let step = host.state.told(Told::Finished { acked: acked != 0 });
+            // Hands the prover that this is the image of a host.
             host.holds_a_host();
             step_after(step)
         }
@@ -45,6 +47,7 @@ pub extern "C" fn pm_host_got(host: &mut Image, bytes: &[u8]) -> HostStep
     match host.state.message() {
         Some(message) if message.is_read() => {
             let step = host.state.told(Told::Got(bytes));
+            // Hands the prover that this is the image of a host.
             host.holds_a_host();
             step_after(step)
         }

@@ -3,6 +3,7 @@ use Rattle.std.proofs.Common.{◌≡◌, ℕ, ◌+◌, ◌-◌, ◌*◌, ◌<◌
 use Rattle.std.proofs.Common.{subst, arith, rules}
 use Rattle.pm_table.specs.declared.cell.Cell.{Cell}
 use Rattle.pm_table.specs.declared.coefficients.Coefficients.{Coefficients}
+use Rattle.pm_table.specs.Laws.{CellsHavePlaces}
 use Rattle.pm_host.specs.declared.stage.Stage.{Stage}
 use Rattle.pm_host.specs.declared.stage.Stage.TheVariants.{Writes, Reads, Checks, AsksMode, AsksCoefficients, Sends}
 use Rattle.pm_host.specs.Answers.{good_word, good_mode, good_coefficients}
@@ -65,31 +66,33 @@ one_left : (s : Summary) → IsLeft s.setup.passes s.stage → cond (is_busy s) 
 one_left = search rules
 
 -- what was sent of the last job, and what it has left, is at most that
-sent_and_left : (setup : Setup) (entries : List Entry) → IsSetup setup → AreTold setup entries
+sent_and_left : CellsHavePlaces → (setup : Setup) (entries : List Entry) → IsSetup setup → AreTold setup entries
     → length (told_since entries) + frames_left (now setup entries) ≤ 2 * setup.passes
 unfolding now
-sent_and_left setup [] made told = unfold stage_of in unfold open_job in unfold end_of in omega arith
-sent_and_left setup (Accepted job ∷ entries) made told =
+sent_and_left law setup [] made told = unfold stage_of in unfold open_job in unfold end_of in omega arith
+sent_and_left law setup (Accepted job ∷ entries) made told =
     subst (λ (t : Change). 0 + frames_left t.after ≤ 2 * setup.passes)
-    (change-now setup entries (Accepted job) made (IsJob-told setup entries told.1) told.0)
+    (change-now law setup entries (Accepted job) made (IsJob-told setup entries told.1) told.0)
     (let bound = begins-bounded (now setup entries) job in omega arith)
-sent_and_left setup (Finished acked ∷ entries) made told =
-    let before = sent_and_left setup entries made told.1 in
-    let spends = finished-spends (idle (now setup entries)) (stage_of setup entries) acked (told-left setup entries made told.1) told.0 in
+sent_and_left law setup (Finished acked ∷ entries) made told =
+    let before = sent_and_left law setup entries made told.1 in
+    let spends = finished-spends (idle (now setup entries)) (stage_of setup entries) acked
+    (told-left law setup entries made told.1) told.0 in
     subst (λ (t : Change). length (told_since (Finished acked ∷ entries)) + frames_left t.after ≤ 2 * setup.passes)
-    (change-now setup entries (Finished acked) made (IsJob-told setup entries told.1) told.0) (omega arith)
-sent_and_left setup (Got bytes ∷ entries) made told =
-    let before = sent_and_left setup entries made told.1 in
-    let spends = answered-spends (idle (now setup entries)) (stage_of setup entries) bytes (told-left setup entries made told.1) told.0 in
+    (change-now law setup entries (Finished acked) made (IsJob-told setup entries told.1) told.0) (omega arith)
+sent_and_left law setup (Got bytes ∷ entries) made told =
+    let before = sent_and_left law setup entries made told.1 in
+    let spends = answered-spends (idle (now setup entries)) (stage_of setup entries) bytes
+    (told-left law setup entries made told.1) told.0 in
     subst (λ (t : Change). length (told_since (Got bytes ∷ entries)) + frames_left t.after ≤ 2 * setup.passes)
-    (change-now setup entries (Got bytes) made (IsJob-told setup entries told.1) told.0) (omega arith)
-sent_and_left setup (Restarted ∷ entries) made told = unfold stage_of in unfold open_job in unfold end_of in omega arith
+    (change-now law setup entries (Got bytes) made (IsJob-told setup entries told.1) told.0) (omega arith)
+sent_and_left law setup (Restarted ∷ entries) made told = unfold stage_of in unfold open_job in unfold end_of in omega arith
 
 -- no job sends more than twice as many frames as it has passes
-pub frames-bound : (setup : Setup) (entries : List Entry) → IsSetup setup → AreTold setup entries
+pub frames-bound : CellsHavePlaces → (setup : Setup) (entries : List Entry) → IsSetup setup → AreTold setup entries
     → frames_of setup entries ≤ 2 * setup.passes
 unfolding now
-frames-bound setup entries made told =
-    let bound = sent_and_left setup entries made told in
-    let one = one_left (now setup entries) (told-left setup entries made told) in
+frames-bound law setup entries made told =
+    let bound = sent_and_left law setup entries made told in
+    let one = one_left (now setup entries) (told-left law setup entries made told) in
     rw (← now-busy setup entries) (omega arith)

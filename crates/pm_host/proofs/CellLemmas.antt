@@ -1,47 +1,13 @@
 -- Cells, their places, and lists with an element for each place.
-use Rattle.std.proofs.Common.{◌≡◌, ℕ, ◌+◌, ◌*◌, ◌/◌, ◌%◌, ◌<◌, true, false, length, get_or, set, replicate, refl, sym, ap, ap₂, ◌∙◌}
+use Rattle.std.proofs.Common.{◌≡◌, ℕ, ◌<◌, true, false, length, get_or, set, replicate, sym, ap, ◌∙◌}
 use Rattle.std.proofs.Common.{inl, inr, arith, rules}
 use Rattle.std.proofs.lemmas.List.{same_lists, length-set, get_or-set_same, get_or-set_other, length-replicate, get_or-replicate}
 use Rattle.std.proofs.lemmas.List.FromFn.{length-map-range_with_len, get_or-map-range_with_len}
 use Rattle.std.proofs.lemmas.Bool.{cases_eq}
 use Rattle.pm_table.specs.declared.cell.Cell.{Cell}
-use Rattle.pm_table.specs.declared.cell.Cell.TheVariants.{Out, Protect}
-use Rattle.pm_table.specs.declared.cell.Reg.{Reg}
-use Rattle.pm_table.specs.Cell.{IsCell, cell_in, place_of, places, register_at, register_count, register_number, same_cell}
+use Rattle.pm_table.specs.Cell.{IsCell, cell_in, place_of, places, same_cell}
+use Rattle.pm_table.specs.Laws.{CellsHavePlaces}
 use Rattle.pm_host.specs.Cells.{table}
-
--- a register's number is below the number of registers, and leads back to it
-number-below : (register : Reg) → register_number register < register_count
-number-below register = grind arith
-
--- the other way round
-register_at-number : (register : Reg) → register_at (register_number register) ≡ register
-register_at-number register = grind arith
-
--- the parts of a place of an output's cell
-parts-of : (output number : ℕ) → output < 8 → number < register_count
-    → cell_in (output * register_count + number) ≡ Out output (register_at number)
-parts-of output number there below =
-    let row : (output * register_count + number) / register_count ≡ output = omega arith in
-    let place : (output * register_count + number) % register_count ≡ number = omega arith in
-    parted (output * register_count + number) (omega arith)
-    ∙ ap₂ (λ o n. Out o (register_at n)) row place
-  where
-    parted : (place : ℕ) → place < 8 * register_count
-        → cell_in place ≡ Out (place / register_count) (register_at (place % register_count))
-    parted place below = grind arith
-
--- the cell of a cell's place is that cell: of the law of places, which a lemma can't take from the function
--- that has it
-placed : (cell : Cell) → IsCell 8 cell → cell_in (place_of cell) ≡ cell
-placed (Out output register) there =
-    parts-of output (register_number register) there (number-below register)
-    ∙ ap (λ r. Out output r) (register_at-number register)
-placed Protect there = refl
-
--- a cell of eight outputs has a place
-pub place_below : (cell : Cell) → IsCell 8 cell → place_of cell < places
-place_below = search rules
 
 -- a cell is the same as itself
 pub same_cell_itself : (cell : Cell) → same_cell cell cell ≡ true
@@ -62,20 +28,21 @@ unfolding table
 get_or-table n f k d below = get_or-map-range_with_len (λ place. f (cell_in place)) 0 n k k d below (omega arith)
 
 -- what a list has at a cell's place
-pub table-at : {X : Type 0} (f : Cell → X) (c : Cell) (d : X) → IsCell 8 c → get_or (table places f) (place_of c) d ≡ f c
-table-at f c d there = get_or-table places f (place_of c) d (place_below c there) ∙ ap f (placed c there)
+pub table-at : {X : Type 0} → CellsHavePlaces → (f : Cell → X) (c : Cell) (d : X) → IsCell 8 c
+    → get_or (table places f) (place_of c) d ≡ f c
+table-at law f c d there = get_or-table places f (place_of c) d (law.below c there) ∙ ap f (law.back c there)
 
 -- two lists that differ at one cell
-pub table-set : {X : Type 0} (f g : Cell → X) (c : Cell) (v : X) → IsCell 8 c → g c ≡ v
+pub table-set : {X : Type 0} → CellsHavePlaces → (f g : Cell → X) (c : Cell) (v : X) → IsCell 8 c → g c ≡ v
     → ((d : Cell) → same_cell c d ≡ false → g d ≡ f d) → table places g ≡ set (table places f) (place_of c) v
-table-set f g c v there at others =
+table-set law f g c v there at others =
     let n = places in
-    let below = place_below c there in
+    let below = law.below c there in
     same_lists _ _ (length-table n g ∙ sym (length-set (table n f) (place_of c) v ∙ length-table n f)) (λ k d h.
     let within : k < n = let l = length-table n g in omega arith in
     let inside : place_of c < length (table n f) = let l = length-table n f in omega arith in
     elim (cases_eq k (place_of c)) [
-      | inl e ↦ rw e (table-at g c d there ∙ at ∙ sym (get_or-set_same (table n f) (place_of c) v d inside))
+      | inl e ↦ rw e (table-at law g c d there ∙ at ∙ sym (get_or-set_same (table n f) (place_of c) v d inside))
       | inr apart ↦
           get_or-table n g k d within ∙ others (cell_in k) (other_place c k within apart) ∙ sym (get_or-table n f k d within)
           ∙ sym (get_or-set_other (table n f) (place_of c) k v d apart)

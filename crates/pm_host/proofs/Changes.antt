@@ -15,7 +15,7 @@ use Rattle.pm_frame.specs.Layout.{is_read_message}
 use Rattle.pm_host.specs.declared.stage.Stage.{Stage}
 use Rattle.pm_host.specs.declared.job_end.JobEnd.{JobEnd}
 use Rattle.pm_host.specs.Answers.{good_word, good_mode, good_coefficients}
-use Rattle.pm_host.specs.Known.{Known, known_after}
+use Rattle.pm_host.specs.Known.{known_more}
 use Rattle.pm_host.specs.Marks.{Mark, Good, put_by, read_by}
 use Rattle.pm_host.specs.Now.{job_stage}
 use Rattle.pm_host.specs.Summary.{Summary, Change, stage_message, step_by, begins, finished, answered}
@@ -44,11 +44,6 @@ abbrev pub goods_by : Setup → Option Job → List Entry → List ℕ → List 
 goods_by setup job told bytes = option_to_list (option_and_then
     (λ cell. option_map (λ word. Good cell word) (good_word setup.addr cell bytes))
     (read_by (open_by setup job told) told))
-
--- more marks, newest first
-abbrev pub known_more : Known → List Mark → Known
-known_more known [] = known
-known_more known (m ∷ ms) = known_after (known_more known ms) m
 
 -- the formats with the one that a learn found
 abbrev pub formats_set : List (Option Shape) → ℕ → Option Shape → List (Option Shape)

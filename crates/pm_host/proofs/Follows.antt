@@ -6,11 +6,12 @@ use Rattle.std.specs.List.{range_with_len}
 use Rattle.pm_num.specs.AnyFormat.{Shape}
 use Rattle.pm_table.specs.declared.cell.Cell.{Cell}
 use Rattle.pm_table.specs.Cell.{cell_accepts, IsCell}
+use Rattle.pm_table.specs.Laws.{CellsHavePlaces}
 use Rattle.pm_host.specs.declared.stage.Stage.{Stage}
 use Rattle.pm_host.specs.declared.step.Step.{Step}
 use Rattle.pm_host.specs.Answers.{good_word}
 use Rattle.pm_host.specs.Cells.{is_command}
-use Rattle.pm_host.specs.Known.{Known, known_after, known_now}
+use Rattle.pm_host.specs.Known.{Known, known_after, known_now, known_more}
 use Rattle.pm_host.specs.Marks.{Mark, Good, Restart, marks, puts, goods, put_by, read_by}
 use Rattle.pm_host.specs.Now.{now, stage_of, AreTold}
 use Rattle.pm_host.specs.Refusals.{IsSetup, may_come}
@@ -18,7 +19,7 @@ use Rattle.pm_host.specs.Summary.{Summary, Change, change, idle, start, step_by,
 use Rattle.pm_host.specs.Transcript.{Setup, Job, Order, Check, Learn, Send, Entry, Accepted, Finished, Got, Restarted, last_job, told_since}
 use Rattle.pm_host.specs.Transcript.{end_of, open_job, found_for, format_of_output}
 use Rattle.pm_host.proofs.KnownLaws.{IsMark, known_now-nil, known_now-next}
-use Rattle.pm_host.proofs.Changes.{end_by, puts_by, goods_by, known_more, formats_more, WritesBy, WritesBy-from, ReadsBy-from}
+use Rattle.pm_host.proofs.Changes.{end_by, puts_by, goods_by, formats_more, WritesBy, WritesBy-from, ReadsBy-from}
 use Rattle.pm_host.proofs.Changes.{accepted_follows, finished_follows, got_follows}
 
 -- a job that wasn't refused for its cell, its word or its output
@@ -39,10 +40,11 @@ AreMarks [] = Unit {0}
 AreMarks (mark ∷ marks) = IsMark mark × AreMarks marks
 
 -- what is known after marks is what they make, one after another, of what was known before
-pub known_now-more : (later before : List Mark) → AreMarks later → known_now (later ++ before) ≡ known_more (known_now before) later
-known_now-more [] before are = refl
-known_now-more (mark ∷ later) before are =
-    known_now-next (later ++ before) mark are.0 ∙ ap (λ known. known_after known mark) (known_now-more later before are.1)
+pub known_now-more : CellsHavePlaces → (later before : List Mark) → AreMarks later
+    → known_now (later ++ before) ≡ known_more (known_now before) later
+known_now-more law [] before are = refl
+known_now-more law (mark ∷ later) before are =
+    known_now-next law (later ++ before) mark are.0 ∙ ap (λ known. known_after known mark) (known_now-more law later before are.1)
 
 -- the marks of an entry name cells of eight outputs: the write that begins
 put_by-marks : (setup : Setup) (job : Option Job) (told : List Entry) → setup.outputs ≤ 8 → IsJob setup job → (open' : Bool)
@@ -93,18 +95,18 @@ same_change : {setup : Setup} {stage : Option Stage} {f g : List (Option Shape)}
 same_change = search rules
 
 -- what the call that brings an entry does, and what the look back says after it
-pub change-now : (setup : Setup) (entries : List Entry) (entry : Entry) → IsSetup setup → IsJob setup (last_job entries)
+pub change-now : CellsHavePlaces → (setup : Setup) (entries : List Entry) (entry : Entry) → IsSetup setup → IsJob setup (last_job entries)
     → may_come (now setup entries) entry ≡ true
     → change (now setup entries) entry ≡ record { after = now setup (entry ∷ entries); step = step_by (end_of setup (entry ∷ entries)) }
 unfolding now stage_of end_of open_job puts goods no_formats
-change-now setup entries (Accepted job) made there may =
+change-now law setup entries (Accepted job) made there may =
     let job_there = IsJob-from (now setup entries) job may in
     let formats = formats_found setup (Some job) [] (format_of_output setup entries) made.few_outputs job_there in
     let are = put_by-marks setup (Some job) [] made.few_outputs job_there (is_none (end_by setup (Some job) [])) in
     accepted_follows (now setup entries) job made.one_pass
     ∙ same_change (sym (formats ∙ formats_accepted setup job _))
-    (sym (known_now-more (puts_by setup (Some job) []) (marks setup entries) are))
-change-now setup entries (Finished acked) made there may =
+    (sym (known_now-more law (puts_by setup (Some job) []) (marks setup entries) are))
+change-now law setup entries (Finished acked) made there may =
     let last = last_job entries in
     let told = told_since entries in
     let writes = WritesBy-from setup last told may in
@@ -114,8 +116,8 @@ change-now setup entries (Finished acked) made there may =
     put_by-marks setup last (Finished acked ∷ told) made.few_outputs there (is_none (end_by setup last (Finished acked ∷ told))) in
     finished_follows (idle (now setup entries)) last told acked writes
     ∙ same_change (sym (formats ∙ formats_finished setup last told (Finished acked) _ writes))
-    (sym (known_now-more begun (marks setup entries) are))
-change-now setup entries (Got bytes) made there may =
+    (sym (known_now-more law begun (marks setup entries) are))
+change-now law setup entries (Got bytes) made there may =
     let last = last_job entries in
     let told = told_since entries in
     let begun = puts_by setup last (Got bytes ∷ told) in
@@ -126,10 +128,10 @@ change-now setup entries (Got bytes) made there may =
     let are_read = goods_by-marks setup last told bytes made.few_outputs there (is_none (end_by setup last told)) in
     got_follows (idle (now setup entries)) last told bytes made.one_pass reads
     ∙ same_change (sym formats)
-    (sym (known_now-more begun _ are_begun
-    ∙ ap (λ known. known_more known begun) (known_now-more (goods_by setup last told bytes) (marks setup entries) are_read)))
-change-now setup entries Restarted made there may =
-    same_change refl (sym (known_now-next (marks setup entries) Restart tt))
+    (sym (known_now-more law begun _ are_begun
+    ∙ ap (λ known. known_more known begun) (known_now-more law (goods_by setup last told bytes) (marks setup entries) are_read)))
+change-now law setup entries Restarted made there may =
+    same_change refl (sym (known_now-next law (marks setup entries) Restart tt))
 
 -- no entry
 pub now-nil : (setup : Setup) → IsSetup setup → now setup [] ≡ start setup

@@ -10,6 +10,7 @@ use Rattle.pm_host.specs.declared.possible.Possible.TheVariants.{Any, Words}
 use Rattle.pm_host.specs.declared.standing.Standing.{Standing}
 use Rattle.pm_host.specs.declared.standing.Standing.TheVariants.{Confirmed, Unknown}
 use Rattle.pm_table.specs.Cell.{IsCell, place_of, places, same_cell}
+use Rattle.pm_table.specs.Laws.{CellsHavePlaces}
 use Rattle.pm_host.specs.Cells.{table}
 use Rattle.pm_host.specs.Marks.{Mark, Put, Good, Restored, Restart}
 use Rattle.pm_host.specs.Standing.{standing_of}
@@ -68,16 +69,16 @@ standing_of-other : (before : List Mark) (cell d : Cell) (word : ℕ) → same_c
 standing_of-other = search rules
 
 -- what is held of a cell
-pub known_now-possible : (before : List Mark) (cell : Cell) → IsCell 8 cell
+pub known_now-possible : CellsHavePlaces → (before : List Mark) (cell : Cell) → IsCell 8 cell
     → known_possible (known_now before) cell ≡ possible_of before cell
 unfolding known_now
-known_now-possible before cell there = table-at (possible_of before) cell Any there
+known_now-possible law before cell there = table-at law (possible_of before) cell Any there
 
 -- what is said of it
-pub known_now-standing : (before : List Mark) (cell : Cell) → IsCell 8 cell
+pub known_now-standing : CellsHavePlaces → (before : List Mark) (cell : Cell) → IsCell 8 cell
     → known_standing (known_now before) cell ≡ standing_of before cell
 unfolding known_now
-known_now-standing before cell there = table-at (standing_of before) cell Unknown there
+known_now-standing law before cell there = table-at law (standing_of before) cell Unknown there
 
 -- whether a restart was seen
 pub known_now-seen : (before : List Mark) → (known_now before).seen ≡ restart_seen_of before
@@ -88,11 +89,6 @@ known_now-seen = search rules
 same_known : {p q : List Possible} {s t : List Standing} {seen other : Bool} → p ≡ q → s ≡ t → seen ≡ other
     → ◌≡◌ {A = Known} (record { possible = p; standing = s; seen = seen }) (record { possible = q; standing = t; seen = other })
 same_known = search rules
-
--- without a mark any word is possible, in each place
-possible_of-nil : (cell : Cell) → possible_of [] cell ≡ Any
-unfolding possible_of
-possible_of-nil = search rules
 
 -- any word in each place
 any_table : table places (λ _. Any) ≡ all_any
@@ -105,40 +101,40 @@ unfolding known_now nothing_known all_any all_unknown table possible_of
 known_now-nil = search rules
 
 -- the list of possible words after a write
-put_possible : (before : List Mark) (cell : Cell) (word : ℕ) → IsCell 8 cell
+put_possible : CellsHavePlaces → (before : List Mark) (cell : Cell) (word : ℕ) → IsCell 8 cell
     → table places (possible_of (Put cell word ∷ before))
     ≡ set (table places (possible_of before)) (place_of cell) (joined (possible_of before cell) word)
-put_possible before cell word there =
-    table-set (possible_of before) (possible_of (Put cell word ∷ before)) cell (joined (possible_of before cell) word) there
+put_possible law before cell word there =
+    table-set law (possible_of before) (possible_of (Put cell word ∷ before)) cell (joined (possible_of before cell) word) there
     (possible_of-put_same before cell word) (λ d other. possible_of-put_other before cell d word other)
 
 -- the list after a good answer, which was possible or not
-good_possible : (before : List Mark) (cell : Cell) (word : ℕ) → IsCell 8 cell → (expected : Bool)
+good_possible : CellsHavePlaces → (before : List Mark) (cell : Cell) (word : ℕ) → IsCell 8 cell → (expected : Bool)
     → is_possible word (possible_of before cell) ≡ expected
     → table places (possible_of (Good cell word ∷ before))
     ≡ set (cond expected (table places (possible_of before)) all_any) (place_of cell) (only word)
-good_possible before cell word there true e =
-    table-set (possible_of before) (possible_of (Good cell word ∷ before)) cell (only word) there
+good_possible law before cell word there true e =
+    table-set law (possible_of before) (possible_of (Good cell word ∷ before)) cell (only word) there
     (possible_of-good_same before cell word)
     (λ d other. possible_of-good_other before cell d word other ∙ ap (λ b. cond b (possible_of before d) Any) e)
-good_possible before cell word there false e =
-    table-set (λ _. Any) (possible_of (Good cell word ∷ before)) cell (only word) there
+good_possible law before cell word there false e =
+    table-set law (λ _. Any) (possible_of (Good cell word ∷ before)) cell (only word) there
     (possible_of-good_same before cell word)
     (λ d other. possible_of-good_other before cell d word other ∙ ap (λ b. cond b (possible_of before d) Any) e)
     ∙ ap (λ xs. set xs (place_of cell) (only word)) any_table
 
 -- what is said of the cells after a write
-put_standing : (before : List Mark) (cell : Cell) (word : ℕ) → IsCell 8 cell
+put_standing : CellsHavePlaces → (before : List Mark) (cell : Cell) (word : ℕ) → IsCell 8 cell
     → table places (standing_of (Put cell word ∷ before)) ≡ set (table places (standing_of before)) (place_of cell) Unknown
-put_standing before cell word there =
-    table-set (standing_of before) (standing_of (Put cell word ∷ before)) cell Unknown there
+put_standing law before cell word there =
+    table-set law (standing_of before) (standing_of (Put cell word ∷ before)) cell Unknown there
     (rw (same_cell_itself cell) refl) (λ d other. (standing_of-other before cell d word other).0)
 
 -- after a good answer
-good_standing : (before : List Mark) (cell : Cell) (word : ℕ) → IsCell 8 cell
+good_standing : CellsHavePlaces → (before : List Mark) (cell : Cell) (word : ℕ) → IsCell 8 cell
     → table places (standing_of (Good cell word ∷ before)) ≡ set (table places (standing_of before)) (place_of cell) (Confirmed word)
-good_standing before cell word there =
-    table-set (standing_of before) (standing_of (Good cell word ∷ before)) cell (Confirmed word) there
+good_standing law before cell word there =
+    table-set law (standing_of before) (standing_of (Good cell word ∷ before)) cell (Confirmed word) there
     (rw (same_cell_itself cell) refl) (λ d other. (standing_of-other before cell d word other).1)
 
 -- after a restart it is as without a mark
@@ -163,41 +159,42 @@ unfolding possible_of
 restored_cell = search rules
 
 -- the list of possible words after a restore
-restored_possible : (before : List Mark)
+restored_possible : CellsHavePlaces → (before : List Mark)
     → table places (possible_of (Restored ∷ before)) ≡ set all_any (place_of Protect) (known_possible (known_now before) Protect)
 unfolding possible_of
-restored_possible before =
-    table-set (λ _. Any) (possible_of (Restored ∷ before)) Protect (possible_of before Protect) tt refl
+restored_possible law before =
+    table-set law (λ _. Any) (possible_of (Restored ∷ before)) Protect (possible_of before Protect) tt refl
     (λ d other. (restored_cell before d other).0)
     ∙ ap (λ xs. set xs (place_of Protect) (possible_of before Protect)) any_table
-    ∙ ap (λ p. set all_any (place_of Protect) p) (sym (known_now-possible before Protect tt))
+    ∙ ap (λ p. set all_any (place_of Protect) p) (sym (known_now-possible law before Protect tt))
 
 -- and what is said of the cells
-restored_standing : (before : List Mark)
+restored_standing : CellsHavePlaces → (before : List Mark)
     → table places (standing_of (Restored ∷ before)) ≡ set all_unknown (place_of Protect) (known_standing (known_now before) Protect)
-restored_standing before =
-    table-set (λ _. Unknown) (standing_of (Restored ∷ before)) Protect (standing_of before Protect) tt refl
+restored_standing law before =
+    table-set law (λ _. Unknown) (standing_of (Restored ∷ before)) Protect (standing_of before Protect) tt refl
     (λ d other. (restored_cell before d other).1)
     ∙ ap (λ xs. set xs (place_of Protect) (standing_of before Protect)) (table-same places (λ _. Unknown) Unknown (λ _. refl) ∙ unknown_all)
-    ∙ ap (λ s. set all_unknown (place_of Protect) s) (sym (known_now-standing before Protect tt))
+    ∙ ap (λ s. set all_unknown (place_of Protect) s) (sym (known_now-standing law before Protect tt))
 
 -- one more mark makes of what is known what `known_after` says
-pub known_now-next : (before : List Mark) (m : Mark) → IsMark m → known_now (m ∷ before) ≡ known_after (known_now before) m
+pub known_now-next : CellsHavePlaces → (before : List Mark) (m : Mark) → IsMark m
+    → known_now (m ∷ before) ≡ known_after (known_now before) m
 unfolding known_now nothing_known
-known_now-next before (Put cell word) there =
+known_now-next law before (Put cell word) there =
     same_known
-    (put_possible before cell word there
-    ∙ ap (λ p. set (table places (possible_of before)) (place_of cell) (joined p word)) (sym (known_now-possible before cell there)))
-    (put_standing before cell word there) refl
-known_now-next before (Good cell word) there =
-    let held = known_now-possible before cell there in
+    (put_possible law before cell word there
+    ∙ ap (λ p. set (table places (possible_of before)) (place_of cell) (joined p word)) (sym (known_now-possible law before cell there)))
+    (put_standing law before cell word there) refl
+known_now-next law before (Good cell word) there =
+    let held = known_now-possible law before cell there in
     same_known
-    (good_possible before cell word there (is_possible word (possible_of before cell)) refl
+    (good_possible law before cell word there (is_possible word (possible_of before cell)) refl
     ∙ ap (λ p. set (cond (is_possible word p) (table places (possible_of before)) all_any) (place_of cell) (only word)) (sym held))
-    (good_standing before cell word there)
+    (good_standing law before cell word there)
     (ap (λ p. not (is_possible word p) || restart_seen_of before) (sym held))
-known_now-next before Restored there = same_known (restored_possible before) (restored_standing before) refl
-known_now-next before Restart there =
+known_now-next law before Restored there = same_known (restored_possible law before) (restored_standing law before) refl
+known_now-next law before Restart there =
     same_known
     (table-agree places (possible_of (Restart ∷ before)) (possible_of []) (λ cell. restart_possible before cell) ∙ nil_possible)
     (table-same places (standing_of (Restart ∷ before)) Unknown (λ _. refl) ∙ unknown_all) refl

@@ -3,6 +3,7 @@ use Rattle.std.proofs.Common.{rules, ℕ, ◌<◌, ◌≤◌, Bool, List, [], �
 use Rattle.std.proofs.Common.{subst}
 use Rattle.pm_table.specs.declared.cell.Cell.{Cell}
 use Rattle.pm_table.specs.declared.coefficients.Coefficients.{Coefficients}
+use Rattle.pm_table.specs.Laws.{CellsHavePlaces}
 use Rattle.pm_host.specs.declared.stage.Stage.{Stage}
 use Rattle.pm_host.specs.declared.stage.Stage.TheVariants.{Writes, Reads, Checks, AsksMode, AsksCoefficients, Sends}
 use Rattle.pm_host.specs.Answers.{good_word, good_mode, good_coefficients}
@@ -72,10 +73,10 @@ turn-left s (Got bytes) some left = answered-left (idle s) s.stage bytes left
 turn-left s Restarted some left = tt
 
 -- so in each transcript
-pub told-left : (setup : Setup) (entries : List Entry) → IsSetup setup → AreTold setup entries
+pub told-left : CellsHavePlaces → (setup : Setup) (entries : List Entry) → IsSetup setup → AreTold setup entries
     → IsLeft setup.passes (stage_of setup entries)
 unfolding now
-told-left setup [] made told = unfold stage_of in unfold open_job in unfold end_of in tt
-told-left setup (e ∷ entries) made told =
-    subst (λ (t : Change). IsLeft setup.passes t.after.stage) (change-now setup entries e made (IsJob-told setup entries told.1) told.0)
-    (turn-left (now setup entries) e made.one_pass (told-left setup entries made told.1))
+told-left law setup [] made told = unfold stage_of in unfold open_job in unfold end_of in tt
+told-left law setup (e ∷ entries) made told =
+    subst (λ (t : Change). IsLeft setup.passes t.after.stage) (change-now law setup entries e made (IsJob-told setup entries told.1) told.0)
+    (turn-left (now setup entries) e made.one_pass (told-left law setup entries made told.1))

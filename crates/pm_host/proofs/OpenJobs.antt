@@ -8,6 +8,7 @@ use Rattle.pm_table.specs.declared.cell.Cell.{Cell}
 use Rattle.pm_table.specs.declared.cell.Cell.TheVariants.{Out, Protect}
 use Rattle.pm_table.specs.declared.cell.Reg.{Reg}
 use Rattle.pm_table.specs.Cell.{cell_accepts, IsCell}
+use Rattle.pm_table.specs.Laws.{CellsHavePlaces}
 use Rattle.pm_frame.specs.declared.message.Message.{Message}
 use Rattle.pm_host.specs.declared.command.Command.TheVariants.{RestoreUserAll}
 use Rattle.pm_host.specs.declared.possible.Possible.{Possible}
@@ -184,18 +185,19 @@ order_there setup entries cell word told is =
     job_there setup (last_job entries) (Order cell word) (open_is_last setup entries (Order cell word) is).0 (IsJob-told setup entries told)
 
 -- what holds of an open order, in a pass that is left
-ordering : {setup : Setup} {cell : Cell} {word : ℕ} (entries : List Entry) (pass : ℕ) → IsSetup setup → AreTold setup entries
-    → open_job setup entries ≡ Some (Order cell word) → pass < setup.passes → IsOrdering (now setup entries) cell word pass
+ordering : {setup : Setup} {cell : Cell} {word : ℕ} → CellsHavePlaces → (entries : List Entry) (pass : ℕ) → IsSetup setup
+    → AreTold setup entries → open_job setup entries ≡ Some (Order cell word) → pass < setup.passes
+    → IsOrdering (now setup entries) cell word pass
 unfolding now
-ordering {setup = setup} {cell = cell} {word = word} entries pass made told is left =
+ordering {setup = setup} {cell = cell} {word = word} law entries pass made told is left =
     let there = order_there setup entries cell word told is in
     let facts = open_order setup entries cell word made told is in
     let eight = IsCell-eight setup.outputs cell made.few_outputs there.0 in
     record {
       there = there.0;
       accepted = there.1;
-      possible = ap (is_possible word) (known_now-possible (marks setup entries) cell eight) ∙ facts.0;
-      unknown = known_now-standing (marks setup entries) cell eight ∙ facts.1;
+      possible = ap (is_possible word) (known_now-possible law (marks setup entries) cell eight) ∙ facts.0;
+      unknown = known_now-standing law (marks setup entries) cell eight ∙ facts.1;
       left = left;
     }
 
@@ -213,27 +215,27 @@ unfolding now
 learning = search rules
 
 -- so is that of each open job
-stage_sound : (setup : Setup) (entries : List Entry) (job : Option Job) → IsSetup setup → AreTold setup entries
+stage_sound : CellsHavePlaces → (setup : Setup) (entries : List Entry) (job : Option Job) → IsSetup setup → AreTold setup entries
     → open_job setup entries ≡ job
     → IsLeft setup.passes (option_map (λ j. job_stage setup j (told_since entries)) job)
     → IsStage (now setup entries) (option_map (λ j. job_stage setup j (told_since entries)) job)
 unfolding now
-stage_sound setup entries None made told is left = tt
-stage_sound setup entries (Some (Order cell word)) made told is left =
+stage_sound law setup entries None made told is left = tt
+stage_sound law setup entries (Some (Order cell word)) made told is left =
     let pass = length (told_since entries) / 2 in
-    order_sound (now setup entries) cell word pass (is_write_turn (told_since entries)) (ordering entries pass made told is) left
-stage_sound setup entries (Some (Check cell)) made told is left =
+    order_sound (now setup entries) cell word pass (is_write_turn (told_since entries)) (ordering law entries pass made told is) left
+stage_sound law setup entries (Some (Check cell)) made told is left =
     record {
       there = job_there setup (last_job entries) (Check cell) (open_is_last setup entries (Check cell) is).0
           (IsJob-told setup entries told);
       left = left;
     }
-stage_sound setup entries (Some (Learn output)) made told is left =
+stage_sound law setup entries (Some (Learn output)) made told is left =
     learning setup entries output (coefficients_tries setup output (told_since entries)) (length (told_since entries))
     (is_some (mode_told setup output (told_since entries)))
     (job_there setup (last_job entries) (Learn output) (open_is_last setup entries (Learn output) is).0 (IsJob-told setup entries told))
     left
-stage_sound setup entries (Some (Send sent)) made told is left =
+stage_sound law setup entries (Some (Send sent)) made told is left =
     record {
       there = job_there setup (last_job entries) (Send sent) (open_is_last setup entries (Send sent) is).0
           (IsJob-told setup entries told);
@@ -241,12 +243,13 @@ stage_sound setup entries (Some (Send sent)) made told is left =
     }
 
 -- and with it what the host holds
-pub now-sound : (setup : Setup) (entries : List Entry) → IsSetup setup → AreTold setup entries → IsSound (now setup entries)
+pub now-sound : CellsHavePlaces → (setup : Setup) (entries : List Entry) → IsSetup setup → AreTold setup entries
+    → IsSound (now setup entries)
 unfolding now stage_of
-now-sound setup entries made told = record {
+now-sound law setup entries made told = record {
   setup = made;
   formats = length-map-range_with_len (format_of_output setup entries) 0 8;
-  stage = stage_sound setup entries (open_job setup entries) made told refl (told-left setup entries made told);
+  stage = stage_sound law setup entries (open_job setup entries) made told refl (told-left law setup entries made told);
 }
 
 -- the frames that are sent

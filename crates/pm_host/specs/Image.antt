@@ -9,7 +9,6 @@ use Rattle.pm_table.specs.declared.cell.Cell.{Cell}
 use Rattle.pm_table.specs.declared.vout_mode.VoutMode.TheVariants.{Direct}
 use Rattle.pm_table.specs.Cell.{cell_at, cell_accepts}
 use Rattle.pm_table.specs.Format.{shape_in}
-use Rattle.pm_host.specs.declared.command.Command.TheVariants.{ClearFaults, StoreUserAll, RestoreUserAll}
 use Rattle.pm_host.specs.declared.format_image.FormatImage.{FormatImage}
 use Rattle.pm_host.specs.declared.image.Image.{Image}
 use Rattle.pm_host.specs.declared.knowledge.Knowledge.{Knowledge}
@@ -24,6 +23,7 @@ use Rattle.pm_host.specs.declared.standing_image.StandingImage.{StandingImage}
 use Rattle.pm_host.specs.declared.state.State.{State}
 use Rattle.pm_host.specs.declared.words_image.WordsImage.{WordsImage}
 use Rattle.pm_host.specs.Cells.{is_cell, is_command}
+use Rattle.pm_host.specs.Command.{command_of}
 use Rattle.pm_host.specs.Known.{Known}
 use Rattle.pm_host.specs.Possible.{is_possible}
 use Rattle.pm_host.specs.Refusals.{is_within}
@@ -73,6 +73,11 @@ nowhere = AsksMode 255 255
 abbrev pub at_cell : StageImage → (Cell → Stage) → Stage
 at_cell i stage = option_map_or stage (cell_at i.code i.output) nowhere
 
+-- the stage that sends the command of the code that the image has, at this output or at the device
+abbrev pub at_command : StageImage → Option ℕ → Stage
+at_command i output =
+    option_map_or (λ command. Sends command i.count) (command_of i.code output) nowhere
+
 abbrev pub stage_in : StageImage → Stage
 stage_in i =
     if i.kind == 1 then at_cell i (λ cell. Writes cell i.word i.count)
@@ -80,10 +85,9 @@ stage_in i =
     else (if i.kind == 3 then at_cell i (λ cell. Checks cell i.count)
     else (if i.kind == 4 then AsksMode i.output i.count
     else (if i.kind == 5 then AsksCoefficients i.output i.count
-    else (if i.kind == 6 then Sends (ClearFaults i.output) i.count
-    else (if i.kind == 7 then Sends StoreUserAll i.count
-    else (if i.kind == 8 then Sends RestoreUserAll i.count
-    else nowhere)))))))
+    else (if i.kind == 6 then at_command i (Some i.output)
+    else (if i.kind == 7 then at_command i None
+    else nowhere))))))
 
 -- kind 0 is no open job
 unfoldable pub stage_held : StageImage → Option Stage
@@ -134,7 +138,7 @@ abbrev pub image_mark : ℕ
 image_mark = 0x504D
 
 abbrev pub image_version : ℕ
-image_version = 1
+image_version = 2
 
 -- the image has this layout
 abbrev pub is_current : Image → Bool

@@ -1,5 +1,5 @@
 -- What the host holds of its marks, and what one more mark makes of it.
-use Rattle.std.specs.Prelude.{Bool, false, not, ◌||◌, if◌then◌else◌, List, replicate, slice_index_or, slice_set}
+use Rattle.std.specs.Prelude.{Bool, false, not, ◌||◌, if◌then◌else◌, List, [], ◌∷◌, replicate, slice_index_or, slice_set}
 use Rattle.pm_table.specs.declared.cell.Cell.{Cell}
 use Rattle.pm_table.specs.declared.cell.Cell.TheVariants.{Protect}
 use Rattle.pm_table.specs.Cell.{place_of, places, protect_place}
@@ -57,6 +57,11 @@ known_after known Restored = record {
   seen = known.seen;
 }
 known_after known Restart = nothing_known
+
+-- what more marks make of it, newest first
+abbrev pub known_more : Known → List Mark → Known
+known_more known [] = known
+known_more known (mark ∷ before) = known_after (known_more known before) mark
 
 -- what the definitions say of all marks, newest first
 unfoldable pub known_now : List Mark → Known

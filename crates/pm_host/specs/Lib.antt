@@ -1,6 +1,7 @@
 -- What the crate promises.
 pub mod Answers
 pub mod Cells
+pub mod Command
 pub mod FaultWords
 pub mod Frames
 pub mod Image

@@ -3,7 +3,7 @@
 use Rattle.std.specs.Prelude.{ℕ, if◌then◌else◌, List, [], ◌∷◌, ◌++◌, Option, Some, None, option_map, option_and_then, option_to_list}
 use Rattle.pm_table.specs.declared.cell.Cell.{Cell}
 use Rattle.pm_host.specs.declared.command.Command.{Command}
-use Rattle.pm_host.specs.declared.command.Command.TheVariants.{ClearFaults, StoreUserAll, RestoreUserAll}
+use Rattle.pm_host.specs.declared.command.Command.TheVariants.{RestoreUserAll}
 use Rattle.pm_host.specs.Answers.{good_word}
 use Rattle.pm_host.specs.Transcript.{Setup, Job, Order, Check, Learn, Send, Entry, Accepted, Finished, Got, Restarted, open_job, told_since, is_write_turn}
 
@@ -17,11 +17,10 @@ pub data Mark : Type 0 where
   -- the host restarted
   Restart : Mark
 
--- the mark of a command that begins to be sent
+-- the mark of a command that begins to be sent: a restore leaves one
 abbrev pub send_marks : Command → List Mark
-send_marks (ClearFaults output) = []
-send_marks StoreUserAll = []
 send_marks RestoreUserAll = Restored ∷ []
+send_marks _ = []
 
 -- the write of a cell, or the restore, that an open job sends, and the cell that it reads
 abbrev pub put_by : Option Job → List Entry → List Mark

@@ -2,6 +2,7 @@
 -- and PAGE_PLUS_READ, WRITE_PROTECT, which is the device's, by a plain write byte and a plain read:
 -- this project's own choice. PAGE is never sent.
 use Rattle.std.specs.Prelude.{◌≡◌, ℕ, true, false, List, if◌then◌else◌}
+use Rattle.std.specs.Option.{option_map_or}
 use Rattle.pm_table.specs.declared.cell.Reg.{Reg}
 use Rattle.pm_table.specs.declared.cell.Cell.{Cell}
 use Rattle.pm_table.specs.declared.cell.Cell.TheVariants.{Out, Protect}
@@ -13,7 +14,7 @@ use Rattle.pm_frame.specs.declared.message.Payload.{Payload}
 use Rattle.pm_frame.specs.declared.message.Payload.TheVariants.{Empty, Byte, Word}
 use Rattle.pm_frame.specs.Layout.{IsWrite, IsRequest, is_read_message}
 use Rattle.pm_host.specs.declared.command.Command.{Command}
-use Rattle.pm_host.specs.declared.command.Command.TheVariants.{ClearFaults, StoreUserAll, RestoreUserAll}
+use Rattle.pm_host.specs.Command.{command_code, command_output}
 
 -- the word of a register on the wire: OPERATION has one byte, a voltage two
 abbrev pub register_payload : Reg → ℕ → Payload
@@ -42,12 +43,11 @@ values_written = 0x00
 abbrev pub coefficients_read : Message
 coefficients_read = ReadCoefficients command.vout_command values_written
 
--- what a command sends: CLEAR_FAULTS of an output goes by PAGE_PLUS_WRITE, STORE_USER_ALL and
--- RESTORE_USER_ALL, which are the device's, by a plain send byte
+-- what a command sends: one that names an output goes by PAGE_PLUS_WRITE, with nothing after its code,
+-- one of the device by a plain send byte
 abbrev pub command_message : Command → Message
-command_message (ClearFaults output) = PagePlusWrite output command.clear_faults Empty
-command_message StoreUserAll = SendByte command.store_user_all
-command_message RestoreUserAll = SendByte command.restore_user_all
+command_message sent = option_map_or (λ output. PagePlusWrite output (command_code sent) Empty)
+    (command_output sent) (SendByte (command_code sent))
 
 -- these are the bytes that a host puts on the wire for a message
 pub record IsFrameOf (addr : ℕ) (message : Message) (bytes : List ℕ) : Type 0 where

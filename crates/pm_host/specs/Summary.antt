@@ -12,7 +12,6 @@ use Rattle.pm_table.specs.VoutMode.{mode_of}
 use Rattle.pm_table.specs.Format.{shape_in}
 use Rattle.pm_frame.specs.declared.message.Message.{Message}
 use Rattle.pm_host.specs.declared.command.Command.{Command}
-use Rattle.pm_host.specs.declared.command.Command.TheVariants.{ClearFaults, StoreUserAll, RestoreUserAll}
 use Rattle.pm_host.specs.declared.possible.Possible.{Possible}
 use Rattle.pm_host.specs.declared.standing.Standing.{Standing}
 use Rattle.pm_host.specs.declared.stage.Stage.{Stage}
@@ -22,8 +21,8 @@ use Rattle.pm_host.specs.declared.job_end.JobEnd.TheVariants.{Done, Differs, Unk
 use Rattle.pm_host.specs.declared.step.Step.{Step}
 use Rattle.pm_host.specs.declared.step.Step.TheVariants.{Next, Ended}
 use Rattle.pm_host.specs.Answers.{good_word, good_mode, good_coefficients}
-use Rattle.pm_host.specs.Known.{Known, known_possible, known_standing, known_after, nothing_known}
-use Rattle.pm_host.specs.Marks.{Mark, Put, Good, Restored}
+use Rattle.pm_host.specs.Known.{Known, known_possible, known_standing, known_after, known_more, nothing_known}
+use Rattle.pm_host.specs.Marks.{Mark, Put, Good, send_marks}
 use Rattle.pm_host.specs.Messages.{cell_write, cell_read, mode_read, coefficients_read, command_message}
 use Rattle.pm_host.specs.Transcript.{Setup, Job, Order, Check, Learn, Send, Entry, Accepted, Finished, Got, Restarted}
 
@@ -106,14 +105,10 @@ marked s mark = record s { known = known_after s.known mark }
 abbrev pub writes : Summary → Cell → ℕ → ℕ → Change
 writes s cell word pass = goes_on (marked s (Put cell word)) (Writes cell word pass)
 
--- a command begins to be sent, after these tries: a restore leaves a mark
-abbrev pub send_marked : Summary → Command → Summary
-send_marked s (ClearFaults output) = s
-send_marked s StoreUserAll = s
-send_marked s RestoreUserAll = marked s Restored
-
+-- a command begins to be sent, after these tries, and leaves its marks
 abbrev pub sends : Summary → Command → ℕ → Change
-sends s command tries = goes_on (send_marked s command) (Sends command tries)
+sends s command tries =
+    goes_on (record s { known = known_more s.known (send_marks command) }) (Sends command tries)
 
 -- the stage, which is one more try, where one is left after these
 abbrev pub another : Summary → ℕ → Stage → Change

@@ -1,3 +1,9 @@
+ghost use Rattle.std.specs.Prelude.{◌≡◌, Some, IfSome};
+ghost use Rattle.pm_host.specs.Cells.{is_command};
+ghost use Rattle.pm_host.specs.Command.{command_code, command_of, command_output};
+
+use pm_table::Code;
+
 /// A command that a job sends until it is acknowledged (PMBus 1.3 Part II).
 #[derive(Clone, Copy, Debug)]
 pub enum Command {
@@ -14,16 +20,49 @@ pub enum Command {
 }
 
 impl Command {
-    ghost use Rattle.std.specs.Prelude.{◌≡◌};
-    ghost use Rattle.pm_host.specs.Cells.{is_command};
+    /// Its command code. `of` leads back from it and the output that the command names.
+    pub(crate) fn code(self) -> Code
+        ensures code { result.0 ≡ command_code self }
+        ensures back { command_of result.0 (command_output self) ≡ Some self }
+    {
+        match self {
+            Command::ClearFaults { .. } => Code::CLEAR_FAULTS,
+            Command::StoreUserAll => Code::STORE_USER_ALL,
+            Command::RestoreUserAll => Code::RESTORE_USER_ALL,
+        }
+    }
 
-    /// Whether the output that it names is one of this many.
+    /// The output that it names, by its page; `None` for a command of the device.
+    pub(crate) fn output(self) -> Option<u8>
+        ensures { result ≡ command_output self }
+    {
+        match self {
+            Command::ClearFaults { output } => Some(output),
+            _ => None,
+        }
+    }
+
+    /// The command of a code, at an output or at the device; `None` where no job sends the code there.
+    pub(crate) fn of(code: Code, output: Option<u8>) -> Option<Command>
+        ensures command { result ≡ command_of code.0 output }
+        ensures code { IfSome result (λ command. command_code command ≡ code.0) }
+        ensures output { IfSome result (λ command. command_output command ≡ output) }
+    {
+        match (code, output) {
+            (Code::CLEAR_FAULTS, Some(output)) => Some(Command::ClearFaults { output }),
+            (Code::STORE_USER_ALL, None) => Some(Command::StoreUserAll),
+            (Code::RESTORE_USER_ALL, None) => Some(Command::RestoreUserAll),
+            _ => None,
+        }
+    }
+
+    /// Whether the output that it names, if it names one, is one of this many.
     pub(crate) fn is_there(self, outputs: u8) -> bool
         ensures { result ≡ is_command outputs self }
     {
-        match self {
-            Command::ClearFaults { output } => output < outputs,
-            Command::StoreUserAll | Command::RestoreUserAll => true,
+        match self.output() {
+            Some(output) => output < outputs,
+            None => true,
         }
     }
 }

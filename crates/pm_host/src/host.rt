@@ -23,7 +23,7 @@ use crate::step::Step;
 use crate::told::Told;
 use crate::turn::Turn;
 use pm_frame::Frame;
-use pm_table::Cell;
+use pm_table::{Cell, payloads_are_short};
 use std::marker::Model;
 
 /// The host: it says which frame to send next, and is told what came of it. It believes a setting only
@@ -224,9 +224,9 @@ impl Host {
         match &self.sending {
             None => Turn::Idle,
             Some(Sending { message, frame }) => {
-                // Hands the prover that an answer has at most five bytes of payload.
-                let _ = message.answer_length();
                 if message.is_read() {
+                    // A law, which costs nothing: no code has a payload of more than two bytes.
+                    payloads_are_short();
                     Turn::Request {
                         frame,
                         bytes: message.whole_answer(),

@@ -1,19 +1,14 @@
 ghost use Rattle.std.specs.Prelude.{◌≡◌, true, false, OnOk, OnErr, Some, None};
 ghost use Rattle.std.specs.Result.{result_err};
 ghost use Rattle.pm_table.specs.Address.{IsAddress};
-ghost use Rattle.pm_table.specs.Cell.{IsCell};
-ghost use Rattle.pm_host.specs.Image.{held, host_of, is_current, is_host, is_sound, is_stage};
-ghost use Rattle.pm_host.specs.Cells.{is_cell};
-ghost use Rattle.pm_host.specs.Refusals.{setup_fault, IsSetup};
-ghost use Rattle.pm_host.specs.Sound.{IsSound, IsStage};
+ghost use Rattle.pm_host.specs.Image.{held, host_of, is_current, is_host};
+ghost use Rattle.pm_host.specs.Refusals.{setup_fault};
+ghost use Rattle.pm_host.specs.Sound.{IsSound};
 ghost use Rattle.pm_host.specs.Summary.{start};
 ghost use Rattle.pm_host.specs.Transcript.{Setup};
 
 use crate::fault::HostFault;
-use crate::stage::Stage;
-use crate::standing::Standing;
 use crate::state::State;
-use pm_table::{Cell, address_ok};
 
 /// A host in memory that a caller keeps who isn't Rattle: a state after the mark and the number of its
 /// layout. It has no padding, holds no address of memory, and may be copied.
@@ -33,7 +28,7 @@ impl Image {
     pub const MARK: u16 = 0x504D;
 
     /// The number of this layout.
-    pub const VERSION: u16 = 1;
+    pub const VERSION: u16 = 2;
 
     /// Zeros, which are the image of no host.
     #[tactic(auto, unfolding(crate::specs::Image::host_of))]
@@ -59,6 +54,7 @@ impl Image {
         self.state.start(addr, outputs, passes)?;
         self.mark = Image::MARK;
         self.version = Image::VERSION;
+        // Hands the prover that this is the image of a host.
         self.holds_a_host();
         Ok(())
     }
@@ -83,55 +79,4 @@ impl Image {
         requires sound { IsSound (held self.now.state) }
         ensures { host_of self.now ≡ Some (held self.now.state) }
     {}
-}
-
-impl State {
-    /// Whether it is a state that a host holds.
-    #[tactic(auto, unfolding(crate::specs::Image::is_sound, crate::specs::Image::formats_held))]
-    pub fn is_sound(&self) -> bool
-        ensures sound { result ≡ is_sound (held self.now) }
-        ensures fact { result ≡ true → IsSound (held self.now) }
-    {
-        address_ok(self.address)
-            && (1..=8).contains(&self.outputs)
-            && (1..=15).contains(&self.passes)
-            && self.stage_is_sound()
-    }
-
-    // Whether an open job may stand at its stage.
-    fn stage_is_sound(&self) -> bool
-        requires { IsSetup (held self.now).setup }
-        ensures test { result ≡ is_stage (held self.now) (held self.now).stage }
-        ensures fact { result ≡ true → IsStage (held self.now) (held self.now).stage }
-    {
-        let passes = self.passes;
-        match self.stage.stage() {
-            None => true,
-            Some(Stage::Writes { cell, word, pass } | Stage::Reads { cell, word, pass }) => {
-                self.has_cell(cell)
-                    && cell.accepts(word)
-                    && self.known.possible(cell).allows(word)
-                    && self.known.standing(cell).standing() == Standing::Unknown
-                    && pass < passes
-            }
-            Some(Stage::Checks { cell, tries }) => self.has_cell(cell) && tries < passes,
-            Some(Stage::AsksMode { output, tries } | Stage::AsksCoefficients { output, tries }) => {
-                output < self.outputs && tries < passes
-            }
-            Some(Stage::Sends { command, tries }) => {
-                command.is_there(self.outputs) && tries < passes
-            }
-        }
-    }
-
-    /// Whether the cell is there.
-    pub fn has_cell(&self, cell: Cell) -> bool
-        ensures test { result ≡ is_cell self.now.outputs cell }
-        ensures fact { result ≡ true → IsCell self.now.outputs cell }
-    {
-        match cell {
-            Cell::Out(output, _) => output < self.outputs,
-            Cell::Protect => true,
-        }
-    }
 }

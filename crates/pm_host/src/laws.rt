@@ -3,17 +3,25 @@
 
 ghost use Rattle.pm_host.specs.Laws.{TranscriptsAreFollowed, JobsAreBounded, FramesAreNamed, OpenOrdersAreUncertain, OpenRestoresAreUncertain, PossibleWordsAreFollowed};
 
+use pm_table::cells_have_places;
+
 /// What a host holds after its transcript, which the definitions find by looking back over the whole
 /// of it, is what one entry after another makes of its start; so what the host answers is what they
 /// find.
 pub fn transcripts_are_followed()
     ensures { TranscriptsAreFollowed }
-{}
+{
+    // Each cell has a place of its own, where what is known of it stands.
+    cells_have_places();
+}
 
 /// No job sends more than twice as many frames as a job has passes.
 pub fn jobs_are_bounded()
     ensures { JobsAreBounded }
-{}
+{
+    // Each cell has a place of its own, where what is known of it stands.
+    cells_have_places();
+}
 
 /// The frames that a host sends are of a few kinds, each has its layout, and none means PAGE.
 pub fn frames_are_named()

@@ -79,17 +79,13 @@ pub(crate) fn command_message(command: Command) -> Message
     ensures message { result ≡ messages.command_message command }
     ensures fits { fits_layout result ≡ true }
 {
-    match command {
-        Command::ClearFaults { output } => Message::PagePlusWrite {
-            page: output,
-            code: Code::CLEAR_FAULTS.0,
+    let code = command.code().0;
+    match command.output() {
+        Some(page) => Message::PagePlusWrite {
+            page,
+            code,
             payload: Payload::Empty,
         },
-        Command::StoreUserAll => Message::SendByte {
-            code: Code::STORE_USER_ALL.0,
-        },
-        Command::RestoreUserAll => Message::SendByte {
-            code: Code::RESTORE_USER_ALL.0,
-        },
+        None => Message::SendByte { code },
     }
 }

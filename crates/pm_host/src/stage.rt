@@ -20,7 +20,7 @@ pub enum Stage {
     AsksMode { output: u8, tries: u8 },
     /// A learn reads COEFFICIENTS, after this many tries.
     AsksCoefficients { output: u8, tries: u8 },
-    /// A command is sent, after this many tries: CLEAR_FAULTS, STORE_USER_ALL or RESTORE_USER_ALL.
+    /// A command is sent, after this many tries.
     Sends { command: Command, tries: u8 },
 }
 

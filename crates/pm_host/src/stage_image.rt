@@ -1,6 +1,7 @@
 ghost use Rattle.std.specs.Prelude.{◌≡◌, Some, None, is_some};
 ghost use Rattle.pm_table.specs.Cell.{cell_at};
-ghost use Rattle.pm_host.specs.Image.{stage_held};
+ghost use Rattle.pm_host.specs.Image.{at_command, stage_held, stage_in};
+ghost use Rattle.pm_host.specs.declared.stage.Stage.TheVariants.{Sends};
 
 use crate::command::Command;
 use crate::stage::Stage;
@@ -11,12 +12,12 @@ use pm_table::{Cell, Code, cell_of};
 #[derive(Clone, Copy)]
 pub struct StageImage {
     /// 0 where no job is open; 1 and 2 for an order that writes or reads, 3 for a check, 4 and 5 for a
-    /// learn that asks VOUT_MODE or COEFFICIENTS, 6 for CLEAR_FAULTS, 7 for STORE_USER_ALL, 8 for
-    /// RESTORE_USER_ALL. No host has another number.
+    /// learn that asks VOUT_MODE or COEFFICIENTS, 6 for a command that is sent to an output, 7 for one
+    /// that is sent to the device. No host has another number.
     pub kind: u8,
-    /// The command code of the cell, for 1 to 3.
+    /// The command code: of the cell for 1 to 3, of the command for 6 and 7; otherwise 0.
     pub code: u8,
-    /// The output, by its page.
+    /// The output, by its page; 0 for WRITE_PROTECT, and for 7.
     pub output: u8,
     /// How many passes or tries came before.
     pub count: u8,
@@ -58,18 +59,7 @@ impl StageImage {
             Stage::Checks { cell, tries } => StageImage::at_cell(3, cell, 0, tries),
             Stage::AsksMode { output, tries } => StageImage::at_output(4, output, tries),
             Stage::AsksCoefficients { output, tries } => StageImage::at_output(5, output, tries),
-            Stage::Sends {
-                command: Command::ClearFaults { output },
-                tries,
-            } => StageImage::at_output(6, output, tries),
-            Stage::Sends {
-                command: Command::StoreUserAll,
-                tries,
-            } => StageImage::at_output(7, 0, tries),
-            Stage::Sends {
-                command: Command::RestoreUserAll,
-                tries,
-            } => StageImage::at_output(8, 0, tries),
+            Stage::Sends { command, tries } => StageImage::at_command(command, tries),
         }
     }
 
@@ -89,6 +79,23 @@ impl StageImage {
             },
             count,
             word,
+        }
+    }
+
+    // A stage of a command.
+    fn at_command(command: Command, count: u8) -> StageImage
+        ensures { stage_in result ≡ Sends command count }
+    {
+        let (kind, output) = match command.output() {
+            Some(output) => (6, output),
+            None => (7, 0),
+        };
+        StageImage {
+            kind,
+            code: command.code().0,
+            output,
+            count,
+            word: 0,
         }
     }
 
@@ -122,19 +129,22 @@ impl StageImage {
             (3, Some(cell)) => Stage::Checks { cell, tries },
             (4, _) => Stage::AsksMode { output, tries },
             (5, _) => Stage::AsksCoefficients { output, tries },
-            (6, _) => Stage::Sends {
-                command: Command::ClearFaults { output },
-                tries,
-            },
-            (7, _) => Stage::Sends {
-                command: Command::StoreUserAll,
-                tries,
-            },
-            (8, _) => Stage::Sends {
-                command: Command::RestoreUserAll,
-                tries,
-            },
+            (6, _) => self.sends(Some(output)),
+            (7, _) => self.sends(None),
             _ => NOWHERE,
         })
+    }
+
+    // The stage that sends the command of its code, at this output or at the device.
+    fn sends(&self, output: Option<u8>) -> Stage
+        ensures { result ≡ at_command self.now output }
+    {
+        match Command::of(Code(self.code), output) {
+            Some(command) => Stage::Sends {
+                command,
+                tries: self.count,
+            },
+            None => NOWHERE,
+        }
     }
 }

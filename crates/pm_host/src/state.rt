@@ -1,5 +1,6 @@
 mod asking;
 mod microvolts;
+mod soundness;
 mod turns;
 
 ghost use Rattle.std.specs.Prelude.{◌≡◌, ◌*◌, ◌<◌, ◌≤◌, true, length, None, OnOk, OnErr, IfSome, IsSomeAnd};
@@ -235,33 +236,32 @@ impl State {
         ensures left { frames_left (held self.new) < frames_left (held self.old) }
         ensures over { OnEnded result (frames_left (held self.new) ≡ 0) }
     {
-        let Some(stage) = self.stage.stage() else {
-            unreachable!()
-        };
+        let stage = self.stage.stage();
         self.stage = StageImage::idle();
         match (stage, told) {
-            (Stage::Writes { cell, word, pass }, Told::Finished { .. }) => {
+            (Some(Stage::Writes { cell, word, pass }), Told::Finished { .. }) => {
                 self.go_on(Stage::Reads { cell, word, pass })
             }
-            (Stage::Sends { command, tries }, Told::Finished { acked }) => {
+            (Some(Stage::Sends { command, tries }), Told::Finished { acked }) => {
                 self.sent(command, tries, acked)
             }
-            (Stage::Reads { cell, word, pass }, Told::Got(bytes)) => {
+            (Some(Stage::Reads { cell, word, pass }), Told::Got(bytes)) => {
                 let read = good_word(self.address, &cell_read(cell), bytes);
                 self.read_back(cell, word, pass, read)
             }
-            (Stage::Checks { cell, tries }, Told::Got(bytes)) => {
+            (Some(Stage::Checks { cell, tries }), Told::Got(bytes)) => {
                 let read = good_word(self.address, &cell_read(cell), bytes);
                 self.checked(cell, tries, read)
             }
-            (Stage::AsksMode { output, tries }, Told::Got(bytes)) => {
+            (Some(Stage::AsksMode { output, tries }), Told::Got(bytes)) => {
                 let byte = good_byte(self.address, &mode_read(output), bytes);
                 self.mode_told(output, tries, byte)
             }
-            (Stage::AsksCoefficients { output, tries }, Told::Got(bytes)) => {
+            (Some(Stage::AsksCoefficients { output, tries }), Told::Got(bytes)) => {
                 let told = good_coefficients(self.address, bytes);
                 self.coefficients_told(output, tries, told)
             }
+            // What is told is of the kind of the frame that is being sent.
             _ => unreachable!(),
         }
     }

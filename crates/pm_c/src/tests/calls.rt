@@ -6,12 +6,13 @@ use crate::host::{
 };
 use crate::known::{pm_host_possible, pm_host_restart_seen, pm_host_standing};
 use crate::packet::{Packet, pm_packet_read_request, pm_packet_read_write, pm_packet_write};
-use crate::sending::{Sending, pm_host_sending};
+use crate::sending::pm_host_sending;
+use crate::sending_image::SendingImage;
 use crate::told::{pm_host_finished, pm_host_got};
 use crate::voltages::{pm_host_format, pm_microvolts, pm_nearest_word};
 use pm_host::{FormatImage, Image, StandingImage, WordsImage};
 
-pub(super) const NOTHING: Sending = Sending {
+pub(super) const NOTHING: SendingImage = SendingImage {
     kind: 9,
     length: 9,
     answer: 9,
@@ -35,7 +36,7 @@ pub(super) fn host(passes: u8) -> Image {
 }
 
 // The frame that is being sent.
-pub(super) fn sending(image: &Image) -> Sending {
+pub(super) fn sending(image: &Image) -> SendingImage {
     let mut frame = NOTHING;
     let _ = pm_host_sending(image, &mut frame);
     frame

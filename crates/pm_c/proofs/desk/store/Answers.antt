@@ -10,8 +10,11 @@ loop-output-preserved c =
     let few : n < 8 = search rules in
     let small : n < length c.loop-output.words = rw long few in
     rw c.from-in-loop-output.ensures (record {
-      kept = kept-more _ c.loop-output.words n c.output_words.result small
-          c.loop-output.invariant.kept c.output_words.ensures.words;
+      kept = kept-more _ c.loop-output.words n c.output_words.result (record {
+        within = small;
+        before = c.loop-output.invariant.kept;
+        here = c.output_words.ensures.words;
+      });
       long = length-set c.loop-output.words n c.output_words.result ∙ long;
       modes = modes-more c.args.words.now c.loop-output.words n c.output_words.result small
           (search rules) c.loop-output.invariant.modes;

@@ -2,4 +2,4 @@ use Rattle.pm_host.proofs.Bounds.{frames-bound}
 use Rattle.pm_host.proofs.laws.jobs_are_bounded.Goals as goal
 
 pub returns : goal.returns
-returns c = frames-bound
+returns c = frames-bound c.cells_have_places.ensures

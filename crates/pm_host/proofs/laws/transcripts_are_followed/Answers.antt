@@ -10,17 +10,20 @@ use Rattle.pm_host.proofs.laws.transcripts_are_followed.Goals as goal
 
 pub returns : goal.returns
 unfolding now next step_of
-returns c = record {
-  none = now-nil;
-  more = λ setup entries entry made told. sym
-      (ap (λ t. t.after) (change-now setup entries entry made (IsJob-told setup entries told.1) told.0));
-  step = λ setup entries entry made told. ap (λ t. t.step) (change-now setup entries entry made (IsJob-told setup entries told.1) told.0);
-  kept = next-keeps;
-  busy = now-busy;
-  sending = now-sending;
-  format = now-format;
-  standing = λ setup entries cell there. known_now-standing (marks setup entries) cell there;
-  possible = λ setup entries cell there. known_now-possible (marks setup entries) cell there;
-  seen = λ setup entries. known_now-seen (marks setup entries);
-  sound = now-sound;
-}
+returns c =
+    let law = c.cells_have_places.ensures in
+    record {
+      none = now-nil;
+      more = λ setup entries entry made told. sym
+          (ap (λ t. t.after) (change-now law setup entries entry made (IsJob-told setup entries told.1) told.0));
+      step = λ setup entries entry made told. ap (λ t. t.step)
+          (change-now law setup entries entry made (IsJob-told setup entries told.1) told.0);
+      kept = next-keeps;
+      busy = now-busy;
+      sending = now-sending;
+      format = now-format;
+      standing = λ setup entries cell there. known_now-standing law (marks setup entries) cell there;
+      possible = λ setup entries cell there. known_now-possible law (marks setup entries) cell there;
+      seen = λ setup entries. known_now-seen (marks setup entries);
+      sound = now-sound law;
+    }

@@ -1,0 +1,33 @@
+-- How many bytes stand in a caller's memory, by the counts of outputs, registers and places. None is padding:
+-- a byte stands anywhere, a word of two bytes at an even place.
+use Rattle.std.specs.Prelude.{ℕ, ◌+◌, ◌*◌}
+use Rattle.pm_table.specs.Cell.{places, register_count}
+
+-- a word
+abbrev pub word_size : ℕ
+word_size = 2
+
+-- what is known of a cell: a count of words and 16 words; a flag and a word
+abbrev pub cell_size : ℕ
+cell_size = (1 + 16) * word_size + 2 * word_size
+
+-- where a job stands: four bytes and a word
+abbrev pub stage_size : ℕ
+stage_size = 4 + word_size
+
+-- the format of an output: two bytes and two words
+abbrev pub format_size : ℕ
+format_size = 2 + 2 * word_size
+
+-- a host: the mark, the version, four bytes of setup, its stage, the formats, what is known of each cell, and
+-- whether a restart was seen
+abbrev pub host_size : ℕ
+host_size = 2 * word_size + 4 + stage_size + 8 * format_size + places * cell_size + word_size
+
+-- an output of a converter: two bytes and a word for each register
+abbrev pub output_size : ℕ
+output_size = 2 + register_count * word_size
+
+-- a converter: four bytes and three words, and the outputs
+abbrev pub desk_size : ℕ
+desk_size = 4 + 3 * word_size + 8 * output_size
