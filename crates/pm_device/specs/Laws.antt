@@ -92,7 +92,8 @@ pub record RefusalsSetOneBit : Type 0 where
       cml_at (next held (Hearing bytes ending)).faults bit ≡ true →
       cml_at held.faults bit ≡ true
 
--- What is kept after one frame: the words of the cells, the store and PAGE. A request and a faulty write
+-- What a converter keeps of what an event makes of it, the words of the cells, the store and PAGE, is
+-- `kept_after` the event (`kept`), so the rest speaks of each call of `hear`. A request and a faulty write
 -- leave all (`request`, `faulty`); a write results in what its message results in (`write`). A write of a
 -- cell's code, plain by PAGE or carried, gives that cell the word where the output is there, WRITE_PROTECT
 -- allows the code and the cell accepts the word, otherwise all stays (`cell`); so does a
@@ -101,6 +102,7 @@ pub record RefusalsSetOneBit : Type 0 where
 -- STORE_USER_ALL, plain or carried with a page that is there, copies the outputs' words to the store, and
 -- RESTORE_USER_ALL brings them back, where WRITE_PROTECT allows it (`stores`, `restores`).
 pub record WritesReachOneCell : Type 0 where
+  pub kept : (held : Held) (event : Event) → kept_in (next held event) ≡ kept_after held event
   pub request : (held : Held) (bytes : List ℕ) →
       kept_after held (Hearing bytes Restart) ≡ kept_in held
   pub faulty : (held : Held) (bytes : List ℕ) →
