@@ -244,14 +244,46 @@ pub record UnknownCodesAreRefused : Type 0 where
 abbrev pub is_device_code : ℕ → Bool
 is_device_code code = option_map_or (λ line. not line.paged) (line_of code) false
 
--- A code of the device acts and answers alike on every page that exists, and whatever PAGE is.
+-- two writes that carry one code of the device and one payload, each with a page that exists
+pub record AreWritesAlike (held : Held) (bytes others : List ℕ) : Type 0 where
+  pub page : ℕ
+  pub other : ℕ
+  pub code : ℕ
+  pub payload : Payload
+  pub device : is_device_code code ≡ true
+  pub there : (page < held.config.count) × (other < held.config.count)
+  pub one : IsWrite held.config.addr (PagePlusWrite page code payload) bytes
+  pub two : IsWrite held.config.addr (PagePlusWrite other code payload) others
+
+-- two requests that carry one code of the device, each with a page that exists
+pub record AreRequestsAlike (held : Held) (bytes others : List ℕ) : Type 0 where
+  pub page : ℕ
+  pub other : ℕ
+  pub code : ℕ
+  pub device : is_device_code code ≡ true
+  pub there : (page < held.config.count) × (other < held.config.count)
+  pub one : IsRequest held.config.addr (PagePlusRead page code) bytes
+  pub two : IsRequest held.config.addr (PagePlusRead other code) others
+
+-- A code of the device acts and answers alike on every page that exists, and whatever PAGE is. Two writes
+-- that carry it are answered alike, and the converter holds the same after the one as after the other
+-- (`carried`). A plain write of it is answered alike whatever PAGE is, and what the converter holds after
+-- it differs in no more than PAGE (`plain`). Two requests that carry it are answered with one payload, and
+-- the converter holds the same after both (`asked`): their answers differ in the PEC alone, which covers
+-- the page. The code reads as the same word at each output (`read`).
 pub record DeviceCodesIgnorePages : Type 0 where
-  pub carried : (config : Config) (words : Words) (page output other code : ℕ) (payload : Payload) →
-      is_device_code code ≡ true → output < config.count → other < config.count →
-      write_verdict config words page (PagePlusWrite output code payload)
-      ≡ write_verdict config words page (PagePlusWrite other code payload)
-  pub plain : (config : Config) (words : Words) (page other : ℕ) (message : Message) →
-      is_device_code (message_code message) ≡ true →
-      write_verdict config words page message ≡ write_verdict config words other message
+  pub carried : (held : Held) (bytes others : List ℕ) → AreWritesAlike held bytes others →
+      (reply_of held bytes Stop ≡ reply_of held others Stop)
+      × (next held (Hearing bytes Stop) ≡ next held (Hearing others Stop))
+  pub plain : (held : Held) (page : ℕ) (message : Message) (bytes : List ℕ) →
+      is_device_code (message_code message) ≡ true → IsWrite held.config.addr message bytes →
+      let moved = record held { page = page } in
+      (reply_of held bytes Stop ≡ reply_of moved bytes Stop)
+      × (next held (Hearing bytes Stop)
+      ≡ record (next moved (Hearing bytes Stop)) { page = (next held (Hearing bytes Stop)).page })
+  pub asked : (held : Held) (bytes others : List ℕ) → (h : AreRequestsAlike held bytes others) →
+      ((payload : List ℕ) × AnswersWith held bytes (PagePlusRead h.page h.code) payload
+      × AnswersWith held others (PagePlusRead h.other h.code) payload)
+      × (next held (Hearing bytes Restart) ≡ next held (Hearing others Restart))
   pub read : (held : Held) (output other code : ℕ) → is_device_code code ≡ true →
       register_word held output code ≡ register_word held other code
