@@ -1,7 +1,7 @@
 -- What an event makes of the words of the cells, of the store and of PAGE. A refusal and a read change
 -- none of them.
 use Rattle.std.specs.Prelude.{ℕ, List}
-use Rattle.pm_model.specs.Settings.{Words, with_word, with_outputs}
+use Rattle.pm_model.specs.Settings.{Words, restart_words, with_word, with_outputs}
 use Rattle.pm_device.specs.declared.act.Act.{Act}
 use Rattle.pm_device.specs.declared.act.Act.TheVariants.{Put, Select, ClearFaults, ClearVout, ClearCml, Store, Restore}
 use Rattle.pm_device.specs.declared.config.Config.{Config}
@@ -47,7 +47,7 @@ started config = record { words = start_words config; store = start_words config
 
 -- what a restart gives: every cell its word in the store, and PAGE is 0
 abbrev pub restarted : Kept → Kept
-restarted kept = record kept { words = kept.store; page = 0 }
+restarted kept = record kept { words = restart_words kept.store; page = 0 }
 
 -- what is kept after an act
 abbrev pub kept_by_act : Kept → Act → Kept
