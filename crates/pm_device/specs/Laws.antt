@@ -16,7 +16,7 @@ use Rattle.pm_frame.specs.declared.message.Payload.{Payload}
 use Rattle.pm_frame.specs.Fault.{write_fault, request_fault}
 use Rattle.pm_frame.specs.Layout.{AreBytes, IsWrite, IsRequest, IsAnswer}
 use Rattle.pm_frame.specs.View.{payload_in, message_code}
-use Rattle.pm_model.specs.Settings.{Words, AreWords, word_at, with_word, with_outputs}
+use Rattle.pm_model.specs.Settings.{AreWords, word_at, with_word, with_outputs}
 use Rattle.pm_model.specs.Commanded.{is_cut}
 use Rattle.pm_device.specs.declared.config.Config.{Config}
 use Rattle.pm_device.specs.declared.fault.DeviceFault.{DeviceFault}
