@@ -19,7 +19,7 @@ use Rattle.pm_device.specs.Held.{Held, Measured, CmlFaults, no_readings, no_faul
 use Rattle.pm_device.specs.Start.{start_word}
 use Rattle.pm_device.specs.Verdict.{output_in, written_word}
 use Rattle.pm_device.specs.Effect.{Event, Hearing, Restarted, Reading, Outcome, Heard, Restarts, Measures, outcome_in, outcome_of, kept_by, kept_in, started}
-use Rattle.pm_device.specs.Status.{CmlBit, Command, Data, Pec, Other, has_bit, kept, is_output_cut, cut_at, vout_in, cml_in, clears, act_clears_cml, sets_cml}
+use Rattle.pm_device.specs.Status.{CmlBit, Command, Data, Pec, OtherCommunication, has_bit, kept, is_output_cut, cut_at, vout_in, cml_in, clears, act_clears_cml, sets_cml}
 use Rattle.pm_device.specs.Reply.{reply_of}
 
 -- one bit for each of the eight places for an output
@@ -52,7 +52,7 @@ now config past = record {
     command = cml_in config past Command;
     «data» = cml_in config past Data;
     pec = cml_in config past Pec;
-    other = cml_in config past Other;
+    other_communication = cml_in config past OtherCommunication;
   };
 }
 
@@ -102,7 +102,7 @@ faults_by faults outcome = record {
   command = fault_by outcome Command faults.command;
   «data» = fault_by outcome Data faults.data;
   pec = fault_by outcome Pec faults.pec;
-  other = fault_by outcome Other faults.other;
+  other_communication = fault_by outcome OtherCommunication faults.other_communication;
 }
 
 -- what a converter holds after what an event came to

@@ -28,25 +28,27 @@ pub data CmlBit : Type 0 where
   Command : CmlBit
   Data : CmlBit
   Pec : CmlBit
-  Other : CmlBit
+  OtherCommunication : CmlBit
 
 -- bit 7, 6, 5 and 1
 abbrev pub cml_mask : CmlBit → ℕ
 cml_mask Command = 0x80
 cml_mask Data = 0x40
 cml_mask Pec = 0x20
-cml_mask Other = 0x02
+cml_mask OtherCommunication = 0x02
 
--- the bit that a faulty frame sets: a wrong PEC its own, every other fault bit 1
+-- the bit that a faulty frame sets: a wrong PEC its own, every other fault bit 1. A frame for another
+-- device is no refusal, and one whose code is unknown, of the other direction or not carried is one of a
+-- kind of its own, so these four never come here.
 abbrev pub frame_bit : FrameFault → CmlBit
-frame_bit frame.NotOurs = Other
-frame_bit (frame.Short place) = Other
-frame_bit (frame.Long place) = Other
-frame_bit (frame.WrongCount place) = Other
+frame_bit frame.NotOurs = OtherCommunication
+frame_bit (frame.Short place) = OtherCommunication
+frame_bit (frame.Long place) = OtherCommunication
+frame_bit (frame.WrongCount place) = OtherCommunication
 frame_bit (frame.WrongPec place) = Pec
-frame_bit (frame.UnknownCode place) = Other
-frame_bit (frame.WrongDirection place) = Other
-frame_bit (frame.Nested place) = Other
+frame_bit (frame.UnknownCode place) = OtherCommunication
+frame_bit (frame.WrongDirection place) = OtherCommunication
+frame_bit (frame.Nested place) = OtherCommunication
 
 -- the bit that a refusal sets
 abbrev pub fault_bit : DeviceFault → CmlBit
@@ -146,7 +148,7 @@ status_vout held output = marked 0x08 (cut_at held.cut output)
 -- another communication fault
 abbrev pub cml_byte : CmlFaults → ℕ
 cml_byte faults = marked 0x80 faults.command + marked 0x40 faults.data + marked 0x20 faults.pec
-    + marked 0x02 faults.other
+    + marked 0x02 faults.other_communication
 
 abbrev pub status_cml : Held → ℕ
 status_cml held = cml_byte held.faults
@@ -170,10 +172,10 @@ abbrev pub cml_at : CmlFaults → CmlBit → Bool
 cml_at faults Command = faults.command
 cml_at faults Data = faults.data
 cml_at faults Pec = faults.pec
-cml_at faults Other = faults.other
+cml_at faults OtherCommunication = faults.other_communication
 
 abbrev pub with_bit : CmlFaults → CmlBit → CmlFaults
 with_bit faults Command = record faults { command = true }
 with_bit faults Data = record faults { «data» = true }
 with_bit faults Pec = record faults { pec = true }
-with_bit faults Other = record faults { other = true }
+with_bit faults OtherCommunication = record faults { other_communication = true }

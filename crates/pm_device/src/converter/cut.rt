@@ -58,6 +58,7 @@ impl Converter {
         let place = usize::from(output);
         self.cut[place] = self.is_output_cut(place);
     }
+
     /// The same of every output.
     pub(super) fn unlatch_all(&mut self)
         ensures { self.new ≡ record self.old {
