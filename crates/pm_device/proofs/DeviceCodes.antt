@@ -1,5 +1,6 @@
 -- The codes of the device, which act and answer alike whatever output a page names.
-use Rattle.std.proofs.Common.{◌≡◌, ℕ, ◌<◌, Bool, true, false, cond, eqb, not, ◌||◌, is_some, Option, Some, None, refl, sym, ◌∙◌, ap}
+use Rattle.std.proofs.Common.{◌≡◌, ◌≢◌, ℕ, ◌<◌, Bool, true, false, cond, eqb, not, ◌||◌, is_some, List, Option, Some, None, refl, sym, ◌∙◌}
+use Rattle.std.proofs.Common.{ap, subst}
 use Rattle.std.proofs.lemmas.Bool.{lt-ltb}
 use Rattle.std.specs.Option.{option_map, option_map_or}
 use Rattle.pm_table.specs.declared.cell.Cell.TheVariants.{Out, Protect}
@@ -7,25 +8,36 @@ use Rattle.pm_table.specs.declared.cell.Reg.{Reg}
 use Rattle.pm_table.specs.Cell.{register_of}
 use Rattle.pm_table.specs.Codes as command
 use Rattle.pm_table.specs.Commands.{Line, rows, line_of}
+use Rattle.pm_table.specs.Laws.{PayloadsAreShort}
 use Rattle.pm_table.specs.Protection.{is_allowed}
 use Rattle.pm_frame.specs.declared.message.Message.{Message}
-use Rattle.pm_frame.specs.declared.message.Message.TheVariants.{PagePlusWrite}
+use Rattle.pm_frame.specs.declared.message.Message.TheVariants.{PagePlusWrite, PagePlusRead}
 use Rattle.pm_frame.specs.declared.message.Payload.{Payload}
+use Rattle.pm_frame.specs.Laws.{WritesAreExact, RequestsAreExact}
+use Rattle.pm_frame.specs.Layout.{IsWrite}
 use Rattle.pm_frame.specs.View.{message_code}
 use Rattle.pm_model.specs.Settings.{Words, word_at}
 use Rattle.pm_device.specs.declared.act.Act.{Act}
 use Rattle.pm_device.specs.declared.act.Act.TheVariants.{Put, Select, ClearFaults, ClearVout, ClearCml, Store, Restore}
 use Rattle.pm_device.specs.declared.config.Config.{Config}
 use Rattle.pm_device.specs.declared.fault.DeviceFault.TheVariants.{UnsupportedCode, UnsupportedData, BadPage, Protected}
+use Rattle.pm_device.specs.declared.heard.Ending.{Ending}
+use Rattle.pm_device.specs.declared.heard.Ending.TheVariants.{Stop, Restart}
+use Rattle.pm_device.specs.declared.heard.Heard.TheVariants.{Answer}
 use Rattle.pm_device.specs.declared.verdict.Verdict.{Verdict}
-use Rattle.pm_device.specs.declared.verdict.Verdict.TheVariants.{Refuses, Takes}
+use Rattle.pm_device.specs.declared.verdict.Verdict.TheVariants.{Refuses, Takes, Answers}
 use Rattle.pm_device.specs.Held.{Held}
-use Rattle.pm_device.specs.Laws.{is_device_code}
+use Rattle.pm_device.specs.Effect.{Hearing, Outcome, Heard}
+use Rattle.pm_device.specs.History.{after, next}
+use Rattle.pm_device.specs.Laws.{is_device_code, AnswersWith, AreRequestsAlike, AreWritesAlike}
 use Rattle.pm_device.specs.Verdict.{act_in, act_verdict, is_accepted, output_in, payload_word, selects_no_output, write_verdict}
-use Rattle.pm_device.specs.Verdict.{written_word}
-use Rattle.pm_device.specs.Reply.{register_word}
-use Rattle.pm_device.proofs.Replies.{line-passes}
+use Rattle.pm_device.specs.Verdict.{verdict_of, written_word}
+use Rattle.pm_device.specs.Reply.{answer_bytes, register_bytes, register_word, reply_of, reply_to}
+use Rattle.pm_device.proofs.ReadAnswers.{request-answered}
+use Rattle.pm_device.proofs.Refusals.{next-answered}
+use Rattle.pm_device.proofs.Replies.{line-passes, stop-not_answer}
 use Rattle.pm_device.proofs.TakenActs.{or-false}
+use Rattle.pm_device.proofs.WriteEffects.{heard-write}
 
 -- a code is one of those that act on an output, or read something of one
 is_of_output : ℕ → Bool
@@ -113,7 +125,7 @@ act-alike code output other word h =
     go false false true one two facts e = let wrong : true ≡ false = facts.1 in cc
 
 -- a plain write of such a code, and a carried one
-pub plain-alike : (config : Config) (words : Words) (page other : ℕ) (message : Message) →
+plain-alike : (config : Config) (words : Words) (page other : ℕ) (message : Message) →
     is_device_code (message_code message) ≡ true →
     write_verdict config words page message ≡ write_verdict config words other message
 plain-alike config words page other message device =
@@ -142,7 +154,7 @@ module _ (config : Config) (words : Words) (page : ℕ) where
       (act_in code output (payload_word payload)) (Refuses UnsupportedCode)) (lt-ltb output config.count here)
 
   -- a carried write of a code of the device acts alike on two outputs that are there
-  pub carried-alike : (output other code : ℕ) (payload : Payload) →
+  carried-alike : (output other code : ℕ) (payload : Payload) →
       is_device_code code ≡ true → output < config.count → other < config.count →
       write_verdict config words page (PagePlusWrite output code payload)
       ≡ write_verdict config words page (PagePlusWrite other code payload)
@@ -165,3 +177,80 @@ read-alike held output other code device =
     let current = h.current in
     let register = h.register in
     simp (vout, mode, byte, word, voltage, current, register)
+
+-- two hearings that come to one are answered alike, and leave the same
+come-alike : (held : Held) (bytes others : List ℕ) (ending : Ending) →
+    verdict_of held.config held.words held.page bytes ending ≡ verdict_of held.config held.words held.page others ending →
+    (reply_of held bytes ending ≡ reply_of held others ending)
+    × (next held (Hearing bytes ending) ≡ next held (Hearing others ending))
+unfolding reply_of next
+come-alike held bytes others ending same = (ap (reply_to held) same, ap (λ verdict. after held (Heard verdict)) same)
+
+-- two carried writes
+pub carried-heard : WritesAreExact → (held : Held) (bytes others : List ℕ) → AreWritesAlike held bytes others →
+    (reply_of held bytes Stop ≡ reply_of held others Stop)
+    × (next held (Hearing bytes Stop) ≡ next held (Hearing others Stop))
+carried-heard exact held bytes others h =
+    come-alike held bytes others Stop (heard-write exact held (PagePlusWrite h.page h.code h.payload) bytes h.one
+    ∙ (carried-alike held.config held.words held.page h.page h.other h.code h.payload h.device h.there.0 h.there.1
+    ∙ sym (heard-write exact held (PagePlusWrite h.other h.code h.payload) others h.two)))
+
+-- the same where another page is selected
+moved : Held → ℕ → Held
+moved held page = record held { page = page }
+
+-- what isn't answered by bytes is answered alike there
+reply-moved : (held : Held) (page : ℕ) (verdict : Verdict) →
+    ((items : List ℕ) → reply_to held verdict ≢ Answer (record { items = items })) →
+    reply_to held verdict ≡ reply_to (moved held page) verdict
+reply-moved held page (Answers request) not_answer = absurd (not_answer (answer_bytes held request) refl)
+reply-moved held page verdict not_answer = refl
+
+-- and what it came to leaves the same but for PAGE
+after-moved : (held : Held) (page : ℕ) (outcome : Outcome) →
+    after held outcome ≡ record (after (moved held page) outcome) { page = (after held outcome).page }
+unfolding after moved
+after-moved held page (Heard (Takes (Select selected))) = refl
+after-moved held page outcome = refl
+
+-- a plain write
+pub plain-heard : WritesAreExact → (held : Held) (page : ℕ) (message : Message) (bytes : List ℕ) →
+    is_device_code (message_code message) ≡ true → IsWrite held.config.addr message bytes →
+    let other = record held { page = page } in
+    (reply_of held bytes Stop ≡ reply_of other bytes Stop)
+    × (next held (Hearing bytes Stop) ≡ record (next other (Hearing bytes Stop)) { page = (next held (Hearing bytes Stop)).page })
+unfolding reply_of next moved
+plain-heard exact held page message bytes device h =
+    let verdict = verdict_of held.config held.words held.page bytes Stop in
+    let same : verdict ≡ verdict_of held.config held.words page bytes Stop = heard-write exact held message bytes h
+    ∙ (plain-alike held.config held.words held.page page message device ∙ sym (heard-write exact (moved held page) message bytes h)) in (
+      reply-moved held page verdict (stop-not_answer held bytes) ∙ ap (reply_to (moved held page)) same,
+      after-moved held page (Heard verdict)
+          ∙ ap (λ v. record (after (moved held page) (Heard v)) { page = (after held (Heard verdict)).page }) same,
+    )
+
+-- a request that is answered leaves all
+leaves-read : (held : Held) (bytes items : List ℕ) → reply_of held bytes Restart ≡ Answer (record { items = items }) →
+    next held (Hearing bytes Restart) ≡ held
+leaves-read held bytes items e =
+    next-answered held bytes Restart (λ other. let wrong = sym e ∙ other in cc) (λ other. let wrong = sym e ∙ other in cc)
+    (λ fault other. let wrong = sym e ∙ other in cc)
+
+-- two requests
+pub asked-alike : RequestsAreExact → PayloadsAreShort → (held : Held) (bytes others : List ℕ) →
+    (h : AreRequestsAlike held bytes others) →
+    ((payload : List ℕ) × AnswersWith held bytes (PagePlusRead h.page h.code) payload
+    × AnswersWith held others (PagePlusRead h.other h.code) payload)
+    × (next held (Hearing bytes Restart) ≡ next held (Hearing others Restart))
+asked-alike exact short held bytes others h =
+    let one = request-answered exact short held (PagePlusRead h.page h.code) bytes h.one (lt-ltb h.page held.config.count h.there.0) in
+    let two = request-answered exact short held (PagePlusRead h.other h.code) others h.two
+    (lt-ltb h.other held.config.count h.there.1) in (
+      (
+        register_bytes h.code (register_word held h.page h.code),
+        one,
+        subst (AnswersWith held others (PagePlusRead h.other h.code))
+            (ap (register_bytes h.code) (read-alike held h.other h.page h.code h.device)) two,
+      ),
+      leaves-read held bytes one.0 one.1 ∙ sym (leaves-read held others two.0 two.1),
+    )

@@ -12,16 +12,16 @@ use Rattle.pm_table.specs.Cell.{same_cell, same_register, IsCell}
 use Rattle.pm_model.specs.Laws.{SettingsAreAMap, OutputsStandAlone}
 use Rattle.pm_model.specs.Settings.{Words, AreWords, with_word, with_outputs}
 use Rattle.pm_device.specs.declared.act.Act.{Act}
-use Rattle.pm_device.specs.declared.act.Act.TheVariants.{Put, Select, ClearFaults, ClearVout, ClearCml, Store, Restore}
+use Rattle.pm_device.specs.declared.act.Act.TheVariants.{Put, ClearFaults, ClearVout, Restore}
 use Rattle.pm_device.specs.declared.config.Config.{Config}
-use Rattle.pm_device.specs.declared.verdict.Verdict.TheVariants.{Ignores, Refuses, Takes, Answers}
+use Rattle.pm_device.specs.declared.verdict.Verdict.TheVariants.{Takes}
 use Rattle.pm_device.specs.Held.{Held, Measured, CmlFaults, value_for}
 use Rattle.pm_device.specs.Verdict.{CanAct}
-use Rattle.pm_device.specs.Effect.{Event, Hearing, Restarted, Reading, Kept, Outcome, Heard, Restarts, Measures, outcome_of, kept_by}
+use Rattle.pm_device.specs.Effect.{Event, Kept, Outcome, Heard, Restarts, outcome_of, kept_by}
 use Rattle.pm_device.specs.Effect.{started}
-use Rattle.pm_device.specs.Status.{CmlBit, Command, Data, Pec, Other, Moment, has_bit, kept, moments, from_last, act_clears_vout}
+use Rattle.pm_device.specs.Status.{CmlBit, Command, Data, Pec, OtherCommunication, Moment, has_bit, kept, moments, from_last, act_clears_vout}
 use Rattle.pm_device.specs.Status.{act_clears_cml, clears, sets_cml, is_output_cut, cut_at, vout_in, cml_in}
-use Rattle.pm_device.specs.History.{each_output, readings_in, readings_by, now, start_of, cleared, cut_by, fault_by, faults_by}
+use Rattle.pm_device.specs.History.{each_output, now, start_of, cleared, cut_by, fault_by, faults_by}
 use Rattle.pm_device.specs.History.{after, next}
 use Rattle.pm_device.proofs.CutLemmas.{each_output-by, length-each_output, cut_at-each_output}
 use Rattle.pm_device.proofs.KeptLemmas.{kept-full, kept-page, outcome-can}
@@ -259,9 +259,6 @@ module _ (map : SettingsAreAMap) (alone : OutputsStandAlone) (config : Config) (
   cut-step (Heard (Takes (Put (Out place register) word))) can =
       let able = can (Put (Out place register) word) refl in one-put place register word able.0
   cut-step (Heard (Takes (Put Protect word))) can = protect-put word
-  cut-step (Heard (Takes (Select page))) can = all-stay
-  cut-step (Heard (Takes (ClearCml byte))) can = all-stay
-  cut-step (Heard (Takes Store)) can = all-stay
   cut-step (Heard (Takes Restore)) can = all-restored
   cut-step (Heard (Takes (ClearFaults place))) can =
       one-cleared place true
@@ -272,14 +269,11 @@ module _ (map : SettingsAreAMap) (alone : OutputsStandAlone) (config : Config) (
       ap (λ b. is_output_cut config (kept config past).words output || cond b false (before output))
       (and-holds (eqb place output)))
   cut-step (Heard (Takes (ClearVout place byte))) can = one-cleared place (has_bit byte 0x08)
-  cut-step (Heard Ignores) can = all-stay
-  cut-step (Heard (Refuses fault)) can = all-stay
-  cut-step (Heard (Answers request)) can = all-stay
   cut-step Restarts can =
       let store = (kept config past).store in
       each_output-same (is_output_cut config store) (λ output. is_output_cut config store output || false)
       (λ output there. sym (or-fails (is_output_cut config store output)))
-  cut-step (Measures output code word) can = all-stay
+  cut-step _ can = all-stay
 
   -- the latches after one more event
   vout-table : (event : Event) → each_output (vout_in config (event ∷ past))
@@ -292,14 +286,6 @@ module _ (map : SettingsAreAMap) (alone : OutputsStandAlone) (config : Config) (
       ∙ sym (cut-step (came config past event)
       (λ act e. outcome-can config (kept config past) event act e (kept-page config past count.some)))
 
-  -- the readings after one more event
-  readings-step : (event : Event) →
-      readings_in config (event ∷ past) ≡ readings_by config (readings_in config past) (came config past event)
-  unfolding came
-  readings-step (Hearing bytes ending) = refl
-  readings-step Restarted = refl
-  readings-step (Reading output code word) = refl
-
   -- the bits of STATUS_CML after one more event
   faults-step : (event : Event) →
       (now config (event ∷ past)).faults ≡ faults_by (now config past).faults (came config past event)
@@ -308,7 +294,7 @@ module _ (map : SettingsAreAMap) (alone : OutputsStandAlone) (config : Config) (
       let command = cml-step config past event Command in
       let unsupported = cml-step config past event Data in
       let pec = cml-step config past event Pec in
-      let other = cml-step config past event Other in
+      let other = cml-step config past event OtherCommunication in
       cc
 
   -- what is held after one more event
@@ -316,7 +302,7 @@ module _ (map : SettingsAreAMap) (alone : OutputsStandAlone) (config : Config) (
   unfolding now next after kept came held-of
   now-next event =
       held-same config (kept_by (kept config past) (came config past event))
-      (readings-step event) (vout-table event) (faults-step event)
+      refl (vout-table event) (faults-step event)
 
 -- what is held at the start
 pub now-nil : (config : Config) → now config [] ≡ start_of config

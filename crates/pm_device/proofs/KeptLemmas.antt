@@ -3,12 +3,12 @@ use Rattle.std.proofs.Common.{◌≡◌, ◌<◌, ◌≤◌, List, [], ◌∷◌
 use Rattle.pm_model.specs.Laws.{SettingsAreAMap}
 use Rattle.pm_model.specs.Settings.{AreWords}
 use Rattle.pm_device.specs.declared.act.Act.{Act}
-use Rattle.pm_device.specs.declared.act.Act.TheVariants.{Put, Select, ClearFaults, ClearVout, ClearCml, Store, Restore}
+use Rattle.pm_device.specs.declared.act.Act.TheVariants.{Put, Select, Store, Restore}
 use Rattle.pm_device.specs.declared.config.Config.{Config}
-use Rattle.pm_device.specs.declared.verdict.Verdict.TheVariants.{Ignores, Refuses, Takes, Answers}
+use Rattle.pm_device.specs.declared.verdict.Verdict.TheVariants.{Takes}
 use Rattle.pm_device.specs.Start.{start_word, start_words}
 use Rattle.pm_device.specs.Verdict.{verdict_of, CanAct}
-use Rattle.pm_device.specs.Effect.{Event, Hearing, Restarted, Reading, Kept, Outcome, Heard, Restarts, Measures, outcome_of, kept_by}
+use Rattle.pm_device.specs.Effect.{Event, Hearing, Restarted, Reading, Kept, Outcome, Heard, Restarts, outcome_of, kept_by}
 use Rattle.pm_device.specs.Effect.{started}
 use Rattle.pm_device.specs.Status.{kept}
 use Rattle.pm_device.proofs.TakenActs.{verdict-can}
@@ -29,18 +29,12 @@ full-kept : SettingsAreAMap → (before : Kept) (outcome : Outcome) → AreFull 
 full-kept map before (Heard (Takes (Put cell word))) full =
     record { words = map.kept before.words cell word full.words; store = full.store }
 full-kept map before (Heard (Takes (Select page))) full = record { words = full.words; store = full.store }
-full-kept map before (Heard (Takes (ClearFaults output))) full = full
-full-kept map before (Heard (Takes (ClearVout output byte))) full = full
-full-kept map before (Heard (Takes (ClearCml byte))) full = full
 full-kept map before (Heard (Takes Store)) full =
     record { words = full.words; store = map.whole before.store before.words full.words }
 full-kept map before (Heard (Takes Restore)) full =
     record { words = map.whole before.words before.store full.store; store = full.store }
-full-kept map before (Heard Ignores) full = full
-full-kept map before (Heard (Refuses fault)) full = full
-full-kept map before (Heard (Answers request)) full = full
 full-kept map before Restarts full = record { words = full.store; store = full.store }
-full-kept map before (Measures output code word) full = full
+full-kept map before _ full = full
 
 -- so there is one for each after any past
 pub kept-full : SettingsAreAMap → (config : Config) (past : List Event) → AreFull (kept config past)
@@ -62,18 +56,9 @@ outcome-can config before (Reading output code word) act e there = cc
 page-kept : (config : Config) (before : Kept) (outcome : Outcome) →
     ((act : Act) → outcome ≡ Heard (Takes act) → CanAct config.count act) →
     1 ≤ config.count → before.page < config.count → (kept_by before outcome).page < config.count
-page-kept config before (Heard (Takes (Put cell word))) can some there = there
 page-kept config before (Heard (Takes (Select page))) can some there = can (Select page) refl
-page-kept config before (Heard (Takes (ClearFaults output))) can some there = there
-page-kept config before (Heard (Takes (ClearVout output byte))) can some there = there
-page-kept config before (Heard (Takes (ClearCml byte))) can some there = there
-page-kept config before (Heard (Takes Store)) can some there = there
-page-kept config before (Heard (Takes Restore)) can some there = there
-page-kept config before (Heard Ignores) can some there = there
-page-kept config before (Heard (Refuses fault)) can some there = there
-page-kept config before (Heard (Answers request)) can some there = there
 page-kept config before Restarts can some there = omega arith
-page-kept config before (Measures output code word) can some there = there
+page-kept config before _ can some there = there
 
 -- so it does after any past
 pub kept-page : (config : Config) (past : List Event) → 1 ≤ config.count → (kept config past).page < config.count

@@ -20,10 +20,10 @@ use Rattle.pm_device.specs.declared.config.Config.{Config}
 use Rattle.pm_device.specs.declared.heard.Ending.{Ending}
 use Rattle.pm_device.specs.declared.heard.Ending.TheVariants.{Stop}
 use Rattle.pm_device.specs.declared.heard.Heard.TheVariants.{Taken}
-use Rattle.pm_device.specs.declared.verdict.Verdict.TheVariants.{Ignores, Refuses, Takes, Answers}
+use Rattle.pm_device.specs.declared.verdict.Verdict.TheVariants.{Takes}
 use Rattle.pm_device.specs.Start.{start_word, start_words, IsSound}
 use Rattle.pm_device.specs.Verdict.{written_word, output_in, act_in, verdict_of}
-use Rattle.pm_device.specs.Effect.{Event, Hearing, Restarted, Reading, Outcome, Heard, Restarts, Measures, outcome_of, Kept, kept_by}
+use Rattle.pm_device.specs.Effect.{Event, Hearing, Restarted, Reading, Outcome, Heard, Restarts, outcome_of, Kept, kept_by}
 use Rattle.pm_device.specs.Status.{kept}
 use Rattle.pm_device.specs.Reply.{reply_to, reply_of}
 use Rattle.pm_device.specs.History.{now, AreHeard, WasCarried, loads, saves, loaded_word, stored_word}
@@ -177,44 +177,26 @@ module _ (map : SettingsAreAMap) (told : CellsAreToldApart) where
       (loads cell outcome ≡ false → P (word_at before.words cell)) →
       (loads cell outcome ≡ true → P (word_at before.store cell)) →
       P (word_at (kept_by before outcome).words cell)
-  outcome-word before (Heard Ignores) cell P facts put holds loaded = holds refl
-  outcome-word before (Heard (Refuses fault)) cell P facts put holds loaded = holds refl
-  outcome-word before (Heard (Answers request)) cell P facts put holds loaded = holds refl
   outcome-word before (Heard (Takes (Put other word))) cell P (full, there) put holds loaded =
       let puts = put other word refl in
       put-word before.words other cell word P (full.words, puts.0, there) puts.1 (holds (and-fails (is_output_cell cell)))
-  outcome-word before (Heard (Takes (Select page))) cell P facts put holds loaded = holds (and-fails (is_output_cell cell))
-  outcome-word before (Heard (Takes (ClearFaults output))) cell P facts put holds loaded = holds (and-fails (is_output_cell cell))
-  outcome-word before (Heard (Takes (ClearVout output byte))) cell P facts put holds loaded =
-      holds (and-fails (is_output_cell cell))
-  outcome-word before (Heard (Takes (ClearCml byte))) cell P facts put holds loaded = holds (and-fails (is_output_cell cell))
-  outcome-word before (Heard (Takes Store)) cell P facts put holds loaded = holds (and-fails (is_output_cell cell))
   outcome-word before (Heard (Takes Restore)) (Out output register) P (full, there) put holds loaded =
       subst P (sym (map.outputs before.words before.store output register full.store there)) (loaded refl)
   outcome-word before (Heard (Takes Restore)) Protect P (full, there) put holds loaded =
       subst P (sym (map.protect before.words before.store full.store)) (holds refl)
+  outcome-word before (Heard (Takes act)) cell P facts put holds loaded = holds (and-fails (is_output_cell cell))
   outcome-word before Restarts cell P facts put holds loaded = loaded refl
-  outcome-word before (Measures output code word) cell P facts put holds loaded = holds refl
+  outcome-word before _ cell P facts put holds loaded = holds refl
 
   -- a cell's word in the store after what an event came to
   outcome-stored : (before : Kept) (outcome : Outcome) (cell : Cell) → AreFull before × IsCell 8 cell →
       word_at (kept_by before outcome).store cell
       ≡ cond (saves cell outcome) (word_at before.words cell) (word_at before.store cell)
-  outcome-stored before (Heard Ignores) cell facts = refl
-  outcome-stored before (Heard (Refuses fault)) cell facts = refl
-  outcome-stored before (Heard (Answers request)) cell facts = refl
-  outcome-stored before (Heard (Takes (Put other word))) cell facts = sym (cond-false _ _ _ (and-fails (is_output_cell cell)))
-  outcome-stored before (Heard (Takes (Select page))) cell facts = sym (cond-false _ _ _ (and-fails (is_output_cell cell)))
-  outcome-stored before (Heard (Takes (ClearFaults output))) cell facts = sym (cond-false _ _ _ (and-fails (is_output_cell cell)))
-  outcome-stored before (Heard (Takes (ClearVout output byte))) cell facts =
-      sym (cond-false _ _ _ (and-fails (is_output_cell cell)))
-  outcome-stored before (Heard (Takes (ClearCml byte))) cell facts = sym (cond-false _ _ _ (and-fails (is_output_cell cell)))
-  outcome-stored before (Heard (Takes Restore)) cell facts = sym (cond-false _ _ _ (and-fails (is_output_cell cell)))
   outcome-stored before (Heard (Takes Store)) (Out output register) (full, there) =
       map.outputs before.store before.words output register full.words there
   outcome-stored before (Heard (Takes Store)) Protect (full, there) = map.protect before.store before.words full.words
-  outcome-stored before Restarts cell facts = refl
-  outcome-stored before (Measures output code word) cell facts = refl
+  outcome-stored before (Heard (Takes act)) cell facts = sym (cond-false _ _ _ (and-fails (is_output_cell cell)))
+  outcome-stored before _ cell facts = refl
 
   -- a cell's word as a converter starts
   start-at : (config : Config) (cell : Cell) → IsCell 8 cell → word_at (start_words config) cell ≡ start_word config cell

@@ -15,7 +15,7 @@ use Rattle.pm_device.specs.Held.{Held, CmlFaults, value_for}
 use Rattle.pm_device.specs.Verdict.{verdict_of}
 use Rattle.pm_device.specs.Effect.{Event, Hearing, Outcome}
 use Rattle.pm_device.specs.Effect as effect
-use Rattle.pm_device.specs.Status.{CmlBit, Command, Data, Pec, Other, fault_bit, cml_at, with_bit, act_clears_cml, is_output_cut, marked}
+use Rattle.pm_device.specs.Status.{CmlBit, Command, Data, Pec, OtherCommunication, fault_bit, cml_at, with_bit, act_clears_cml, is_output_cut, marked}
 use Rattle.pm_device.specs.Status.{status_vout, kept, vout_in, cml_in}
 use Rattle.pm_device.specs.Reply.{reply_to, reply_of}
 use Rattle.pm_device.specs.History.{faults_by, after, next, now}
@@ -28,7 +28,7 @@ noted : (faults : CmlFaults) (fault : DeviceFault) (bit : CmlBit) → fault_bit 
 noted faults fault Command e = rw e refl
 noted faults fault Data e = rw e refl
 noted faults fault Pec e = rw e refl
-noted faults fault Other e = rw e refl
+noted faults fault OtherCommunication e = rw e refl
 
 -- so a refusal changes that bit alone
 after-refused : (held : Held) (verdict : Verdict) (fault : DeviceFault) → reply_to held verdict ≡ Refused fault
@@ -101,7 +101,7 @@ after-taken held (Refuses found) bit e h = cc
 after-taken held (Takes act) Command e h = unset (act_clears_cml Command act) held.faults.command h
 after-taken held (Takes act) Data e h = unset (act_clears_cml Data act) held.faults.data h
 after-taken held (Takes act) Pec e h = unset (act_clears_cml Pec act) held.faults.pec h
-after-taken held (Takes act) Other e h = unset (act_clears_cml Other act) held.faults.other h
+after-taken held (Takes act) OtherCommunication e h = unset (act_clears_cml OtherCommunication act) held.faults.other_communication h
 
 -- the same of what was heard
 pub next-taken : (held : Held) (bytes : List ℕ) (ending : Ending) (bit : CmlBit) → reply_of held bytes ending ≡ Taken
@@ -121,7 +121,7 @@ unfolding now
 cml-looked_up config past Command = refl
 cml-looked_up config past Data = refl
 cml-looked_up config past Pec = refl
-cml-looked_up config past Other = refl
+cml-looked_up config past OtherCommunication = refl
 
 -- what is outside its limits now shows
 cut-now : (config : Config) (words : Words) (output : ℕ) → output < config.count → is_cut (value_for config output) words output ≡ true

@@ -194,9 +194,7 @@ can-act count output (Select page) here on selected accepted = go (ltb page coun
   go false is h = cc
 can-act count output (ClearFaults named) here on selected accepted = subst (λ n. n < count) (sym on) here
 can-act count output (ClearVout named byte) here on selected accepted = subst (λ n. n < count) (sym on) here
-can-act count output (ClearCml byte) here on selected accepted = tt
-can-act count output Store here on selected accepted = tt
-can-act count output Restore here on selected accepted = tt
+can-act count output _ here on selected accepted = tt
 
 -- so an act that is taken can be done
 pub taken-can : (config : Config) (words : Words) (page : ℕ) (message : Message) (act : Act) → IsTaken config words page message act

@@ -27,8 +27,14 @@ use Rattle.pm_device.specs.declared.verdict.Verdict.TheVariants.{Ignores, Refuse
 use Rattle.pm_device.specs.Held.{Held}
 use Rattle.pm_device.specs.Verdict.{payload_word, written_word, output_in, names_no_output, act_in, act_verdict, write_verdict}
 use Rattle.pm_device.specs.Verdict.{fault_verdict, unless_faulty, verdict_of}
-use Rattle.pm_device.specs.Effect.{Hearing, Heard, kept_by, kept_in, kept_after}
+use Rattle.pm_device.specs.Effect.{Event, Hearing, Heard, kept_by, kept_in, kept_after}
+use Rattle.pm_device.specs.History.{next, after}
 use Rattle.pm_device.proofs.TakenActs.{request-not_taken}
+
+-- an event leaves what is kept after it
+pub kept-next : (held : Held) (event : Event) → kept_in (next held event) ≡ kept_after held event
+unfolding next after
+kept-next held event = refl
 
 -- words, store and PAGE stay
 Stays : Held → Verdict → Type 0

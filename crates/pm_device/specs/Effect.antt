@@ -1,13 +1,13 @@
 -- What an event makes of the words of the cells, of the store and of PAGE. A refusal and a read change
 -- none of them.
 use Rattle.std.specs.Prelude.{ℕ, List}
-use Rattle.pm_model.specs.Settings.{Words, with_word, with_outputs}
+use Rattle.pm_model.specs.Settings.{Words, restart_words, with_word, with_outputs}
 use Rattle.pm_device.specs.declared.act.Act.{Act}
-use Rattle.pm_device.specs.declared.act.Act.TheVariants.{Put, Select, ClearFaults, ClearVout, ClearCml, Store, Restore}
+use Rattle.pm_device.specs.declared.act.Act.TheVariants.{Put, Select, Store, Restore}
 use Rattle.pm_device.specs.declared.config.Config.{Config}
 use Rattle.pm_device.specs.declared.heard.Ending.{Ending}
 use Rattle.pm_device.specs.declared.verdict.Verdict.{Verdict}
-use Rattle.pm_device.specs.declared.verdict.Verdict.TheVariants.{Ignores, Refuses, Takes, Answers}
+use Rattle.pm_device.specs.declared.verdict.Verdict.TheVariants.{Takes}
 use Rattle.pm_device.specs.Held.{Held}
 use Rattle.pm_device.specs.Start.{start_words}
 use Rattle.pm_device.specs.Verdict.{verdict_of}
@@ -47,26 +47,21 @@ started config = record { words = start_words config; store = start_words config
 
 -- what a restart gives: every cell its word in the store, and PAGE is 0
 abbrev pub restarted : Kept → Kept
-restarted kept = record kept { words = kept.store; page = 0 }
+restarted kept = record kept { words = restart_words kept.store; page = 0 }
 
 -- what is kept after an act
 abbrev pub kept_by_act : Kept → Act → Kept
 kept_by_act kept (Put cell word) = record kept { words = with_word kept.words cell word }
 kept_by_act kept (Select page) = record kept { page = page }
-kept_by_act kept (ClearFaults output) = kept
-kept_by_act kept (ClearVout output byte) = kept
-kept_by_act kept (ClearCml byte) = kept
 kept_by_act kept Store = record kept { store = with_outputs kept.store kept.words }
 kept_by_act kept Restore = record kept { words = with_outputs kept.words kept.store }
+kept_by_act kept _ = kept
 
 -- what is kept after what an event came to
 abbrev pub kept_by : Kept → Outcome → Kept
 kept_by kept (Heard (Takes act)) = kept_by_act kept act
-kept_by kept (Heard Ignores) = kept
-kept_by kept (Heard (Refuses fault)) = kept
-kept_by kept (Heard (Answers request)) = kept
 kept_by kept Restarts = restarted kept
-kept_by kept (Measures output code word) = kept
+kept_by kept _ = kept
 
 -- what an event results in at a converter that holds this, and what it keeps after it
 abbrev pub outcome_in : Held → Event → Outcome

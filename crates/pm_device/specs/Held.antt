@@ -59,10 +59,10 @@ pub record CmlFaults : Type 0 where
   pub command : Bool
   pub «data» : Bool
   pub pec : Bool
-  pub other : Bool
+  pub other_communication : Bool
 
 abbrev pub no_faults : CmlFaults
-no_faults = record { command = false; «data» = false; pec = false; other = false }
+no_faults = record { command = false; «data» = false; pec = false; other_communication = false }
 
 -- the whole of it; `cut` has bit 3 of STATUS_VOUT for each of the eight places for an output
 pub record Held : Type 0 where

@@ -3,23 +3,23 @@
 use Rattle.std.specs.Prelude.{◌≡◌, ℕ, ◌<◌, ◌^◌, Bool, false, ◌||◌, true, ◌&&◌, if◌then◌else◌, List, [], ◌∷◌, ◌++◌, map, slice_set, Some}
 use Rattle.std.specs.List.{range_with_len}
 use Rattle.pm_table.specs.declared.cell.Cell.{Cell}
-use Rattle.pm_table.specs.declared.cell.Cell.TheVariants.{Out, Protect}
+use Rattle.pm_table.specs.declared.cell.Cell.TheVariants.{Out}
 use Rattle.pm_table.specs.Cell.{cell_at, is_output_cell}
 use Rattle.pm_frame.specs.declared.message.Message.{Message}
 use Rattle.pm_frame.specs.Layout.{AreBytes, IsWrite}
 use Rattle.pm_frame.specs.View.{message_code}
 use Rattle.pm_model.specs.Settings.{Words, word_at}
 use Rattle.pm_device.specs.declared.act.Act.{Act}
-use Rattle.pm_device.specs.declared.act.Act.TheVariants.{Put, Select, ClearFaults, ClearVout, ClearCml, Store, Restore}
+use Rattle.pm_device.specs.declared.act.Act.TheVariants.{Put, ClearFaults, ClearVout, Store, Restore}
 use Rattle.pm_device.specs.declared.config.Config.{Config}
 use Rattle.pm_device.specs.declared.heard.Ending.TheVariants.{Stop}
 use Rattle.pm_device.specs.declared.heard.Heard.TheVariants.{Taken}
-use Rattle.pm_device.specs.declared.verdict.Verdict.TheVariants.{Ignores, Refuses, Takes, Answers}
+use Rattle.pm_device.specs.declared.verdict.Verdict.TheVariants.{Takes}
 use Rattle.pm_device.specs.Held.{Held, Measured, CmlFaults, no_readings, no_faults, is_reading, with_reading}
 use Rattle.pm_device.specs.Start.{start_word}
 use Rattle.pm_device.specs.Verdict.{output_in, written_word}
 use Rattle.pm_device.specs.Effect.{Event, Hearing, Restarted, Reading, Outcome, Heard, Restarts, Measures, outcome_in, outcome_of, kept_by, kept_in, started}
-use Rattle.pm_device.specs.Status.{CmlBit, Command, Data, Pec, Other, has_bit, kept, is_output_cut, cut_at, vout_in, cml_in, clears, act_clears_cml, sets_cml}
+use Rattle.pm_device.specs.Status.{CmlBit, Command, Data, Pec, OtherCommunication, has_bit, kept, is_output_cut, cut_at, vout_in, cml_in, clears, act_clears_cml, sets_cml}
 use Rattle.pm_device.specs.Reply.{reply_of}
 
 -- one bit for each of the eight places for an output
@@ -30,16 +30,13 @@ each_output bit_of = map bit_of (range_with_len 0 8)
 abbrev pub readings_by : Config → Measured → Outcome → Measured
 readings_by config readings (Measures output code word) =
     if is_reading config.count output code then with_reading readings output code word else readings
-readings_by config readings (Heard verdict) = readings
-readings_by config readings Restarts = readings
+readings_by config readings _ = readings
 
 -- the readings after a past: a restart keeps them
 abbrev pub readings_in : Config → List Event → Measured
 readings_in config [] = no_readings
-readings_in config (Reading output code word ∷ past) =
-    readings_by config (readings_in config past) (Measures output code word)
-readings_in config (Hearing bytes ending ∷ past) = readings_in config past
-readings_in config (Restarted ∷ past) = readings_in config past
+readings_in config (event ∷ past) =
+    readings_by config (readings_in config past) (outcome_of config (kept config past) event)
 
 -- what a converter holds after its past: words, store, page and readings one event after another, the
 -- status bits by looking back
@@ -55,7 +52,7 @@ now config past = record {
     command = cml_in config past Command;
     «data» = cml_in config past Data;
     pec = cml_in config past Pec;
-    other = cml_in config past Other;
+    other_communication = cml_in config past OtherCommunication;
   };
 }
 
@@ -82,24 +79,18 @@ latched config words cut output =
 -- the latches of STATUS_VOUT after an act, which leaves these words
 abbrev pub cut_by_act : Config → Words → List Bool → Act → List Bool
 cut_by_act config words cut (Put (Out output register) word) = latched config words cut output
-cut_by_act config words cut (Put Protect word) = cut
-cut_by_act config words cut (Select page) = cut
 cut_by_act config words cut (ClearFaults output) = cleared config words cut output
 cut_by_act config words cut (ClearVout output byte) =
     if has_bit byte 0x08 then cleared config words cut output else cut
-cut_by_act config words cut (ClearCml byte) = cut
-cut_by_act config words cut Store = cut
 cut_by_act config words cut Restore =
     each_output (λ output. cut_at cut output || is_output_cut config words output)
+cut_by_act config words cut _ = cut
 
 -- the latches after what an event came to
 abbrev pub cut_by : Config → Words → List Bool → Outcome → List Bool
 cut_by config words cut (Heard (Takes act)) = cut_by_act config words cut act
-cut_by config words cut (Heard Ignores) = cut
-cut_by config words cut (Heard (Refuses fault)) = cut
-cut_by config words cut (Heard (Answers request)) = cut
 cut_by config words cut Restarts = each_output (is_output_cut config words)
-cut_by config words cut (Measures output code word) = cut
+cut_by config words cut _ = cut
 
 -- a bit of STATUS_CML after what an event came to
 abbrev pub fault_by : Outcome → CmlBit → Bool → Bool
@@ -111,7 +102,7 @@ faults_by faults outcome = record {
   command = fault_by outcome Command faults.command;
   «data» = fault_by outcome Data faults.data;
   pec = fault_by outcome Pec faults.pec;
-  other = fault_by outcome Other faults.other;
+  other_communication = fault_by outcome OtherCommunication faults.other_communication;
 }
 
 -- what a converter holds after what an event came to

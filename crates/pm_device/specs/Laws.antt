@@ -16,7 +16,7 @@ use Rattle.pm_frame.specs.declared.message.Payload.{Payload}
 use Rattle.pm_frame.specs.Fault.{write_fault, request_fault}
 use Rattle.pm_frame.specs.Layout.{AreBytes, IsWrite, IsRequest, IsAnswer}
 use Rattle.pm_frame.specs.View.{payload_in, message_code}
-use Rattle.pm_model.specs.Settings.{Words, AreWords, word_at, with_word, with_outputs}
+use Rattle.pm_model.specs.Settings.{AreWords, word_at, with_word, with_outputs}
 use Rattle.pm_model.specs.Commanded.{is_cut}
 use Rattle.pm_device.specs.declared.config.Config.{Config}
 use Rattle.pm_device.specs.declared.fault.DeviceFault.{DeviceFault}
@@ -92,7 +92,8 @@ pub record RefusalsSetOneBit : Type 0 where
       cml_at (next held (Hearing bytes ending)).faults bit ≡ true →
       cml_at held.faults bit ≡ true
 
--- What is kept after one frame: the words of the cells, the store and PAGE. A request and a faulty write
+-- What a converter keeps of what an event makes of it, the words of the cells, the store and PAGE, is
+-- `kept_after` the event (`kept`), so the rest speaks of each call of `hear`. A request and a faulty write
 -- leave all (`request`, `faulty`); a write results in what its message results in (`write`). A write of a
 -- cell's code, plain by PAGE or carried, gives that cell the word where the output is there, WRITE_PROTECT
 -- allows the code and the cell accepts the word, otherwise all stays (`cell`); so does a
@@ -101,6 +102,7 @@ pub record RefusalsSetOneBit : Type 0 where
 -- STORE_USER_ALL, plain or carried with a page that is there, copies the outputs' words to the store, and
 -- RESTORE_USER_ALL brings them back, where WRITE_PROTECT allows it (`stores`, `restores`).
 pub record WritesReachOneCell : Type 0 where
+  pub kept : (held : Held) (event : Event) → kept_in (next held event) ≡ kept_after held event
   pub request : (held : Held) (bytes : List ℕ) →
       kept_after held (Hearing bytes Restart) ≡ kept_in held
   pub faulty : (held : Held) (bytes : List ℕ) →
@@ -242,14 +244,46 @@ pub record UnknownCodesAreRefused : Type 0 where
 abbrev pub is_device_code : ℕ → Bool
 is_device_code code = option_map_or (λ line. not line.paged) (line_of code) false
 
--- A code of the device acts and answers alike on every page that exists, and whatever PAGE is.
+-- two writes that carry one code of the device and one payload, each with a page that exists
+pub record AreWritesAlike (held : Held) (bytes others : List ℕ) : Type 0 where
+  pub page : ℕ
+  pub other : ℕ
+  pub code : ℕ
+  pub payload : Payload
+  pub device : is_device_code code ≡ true
+  pub there : (page < held.config.count) × (other < held.config.count)
+  pub one : IsWrite held.config.addr (PagePlusWrite page code payload) bytes
+  pub two : IsWrite held.config.addr (PagePlusWrite other code payload) others
+
+-- two requests that carry one code of the device, each with a page that exists
+pub record AreRequestsAlike (held : Held) (bytes others : List ℕ) : Type 0 where
+  pub page : ℕ
+  pub other : ℕ
+  pub code : ℕ
+  pub device : is_device_code code ≡ true
+  pub there : (page < held.config.count) × (other < held.config.count)
+  pub one : IsRequest held.config.addr (PagePlusRead page code) bytes
+  pub two : IsRequest held.config.addr (PagePlusRead other code) others
+
+-- A code of the device acts and answers alike on every page that exists, and whatever PAGE is. Two writes
+-- that carry it are answered alike, and the converter holds the same after the one as after the other
+-- (`carried`). A plain write of it is answered alike whatever PAGE is, and what the converter holds after
+-- it differs in no more than PAGE (`plain`). Two requests that carry it are answered with one payload, and
+-- the converter holds the same after both (`asked`): their answers differ in the PEC alone, which covers
+-- the page. The code reads as the same word at each output (`read`).
 pub record DeviceCodesIgnorePages : Type 0 where
-  pub carried : (config : Config) (words : Words) (page output other code : ℕ) (payload : Payload) →
-      is_device_code code ≡ true → output < config.count → other < config.count →
-      write_verdict config words page (PagePlusWrite output code payload)
-      ≡ write_verdict config words page (PagePlusWrite other code payload)
-  pub plain : (config : Config) (words : Words) (page other : ℕ) (message : Message) →
-      is_device_code (message_code message) ≡ true →
-      write_verdict config words page message ≡ write_verdict config words other message
+  pub carried : (held : Held) (bytes others : List ℕ) → AreWritesAlike held bytes others →
+      (reply_of held bytes Stop ≡ reply_of held others Stop)
+      × (next held (Hearing bytes Stop) ≡ next held (Hearing others Stop))
+  pub plain : (held : Held) (page : ℕ) (message : Message) (bytes : List ℕ) →
+      is_device_code (message_code message) ≡ true → IsWrite held.config.addr message bytes →
+      let moved = record held { page = page } in
+      (reply_of held bytes Stop ≡ reply_of moved bytes Stop)
+      × (next held (Hearing bytes Stop)
+      ≡ record (next moved (Hearing bytes Stop)) { page = (next held (Hearing bytes Stop)).page })
+  pub asked : (held : Held) (bytes others : List ℕ) → (h : AreRequestsAlike held bytes others) →
+      ((payload : List ℕ) × AnswersWith held bytes (PagePlusRead h.page h.code) payload
+      × AnswersWith held others (PagePlusRead h.other h.code) payload)
+      × (next held (Hearing bytes Restart) ≡ next held (Hearing others Restart))
   pub read : (held : Held) (output other code : ℕ) → is_device_code code ≡ true →
       register_word held output code ≡ register_word held other code

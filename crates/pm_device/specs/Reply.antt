@@ -8,7 +8,7 @@ use Rattle.pm_table.specs.Codes as command
 use Rattle.pm_table.specs.Commands.{payload_length}
 use Rattle.pm_table.specs.Coefficients.{coefficient_bytes}
 use Rattle.pm_frame.specs.declared.message.Message.{Message}
-use Rattle.pm_frame.specs.declared.message.Message.TheVariants.{SendByte, WriteByte, WriteWord, PagePlusWrite, ReadCommand, PagePlusRead, ReadCoefficients}
+use Rattle.pm_frame.specs.declared.message.Message.TheVariants.{ReadCommand, PagePlusRead, ReadCoefficients}
 use Rattle.pm_frame.specs.Layout.{sent, answered, with_pec}
 use Rattle.pm_model.specs.Settings.{word_at}
 use Rattle.pm_device.specs.declared.heard.Ending.{Ending}
@@ -47,10 +47,7 @@ abbrev pub payload_for : Held → Message → List ℕ
 payload_for held (ReadCoefficients code side) = coefficient_bytes held.config.coefficients
 payload_for held (PagePlusRead page code) = register_bytes code (register_word held page code)
 payload_for held (ReadCommand code) = register_bytes code (register_word held held.page code)
-payload_for held (SendByte code) = []
-payload_for held (WriteByte code byte) = []
-payload_for held (WriteWord code word) = []
-payload_for held (PagePlusWrite page code payload) = []
+payload_for held _ = []
 
 -- the bytes that answer a request
 abbrev pub answer_bytes : Held → Message → List ℕ

@@ -11,13 +11,13 @@ use Rattle.pm_frame.specs.declared.fault.FrameFault.TheVariants as frame
 use Rattle.pm_model.specs.Settings.{Words, word_at}
 use Rattle.pm_model.specs.Commanded.{is_cut}
 use Rattle.pm_device.specs.declared.act.Act.{Act}
-use Rattle.pm_device.specs.declared.act.Act.TheVariants.{Put, Select, ClearFaults, ClearVout, ClearCml, Store, Restore}
+use Rattle.pm_device.specs.declared.act.Act.TheVariants.{ClearFaults, ClearVout, ClearCml}
 use Rattle.pm_device.specs.declared.config.Config.{Config}
 use Rattle.pm_device.specs.declared.fault.DeviceFault.{DeviceFault}
 use Rattle.pm_device.specs.declared.fault.DeviceFault.TheVariants.{Frame, UnsupportedCode, UnsupportedData, BadPage, Protected, Nested, ReadOnly}
-use Rattle.pm_device.specs.declared.verdict.Verdict.TheVariants.{Ignores, Refuses, Takes, Answers}
+use Rattle.pm_device.specs.declared.verdict.Verdict.TheVariants.{Refuses, Takes}
 use Rattle.pm_device.specs.Held.{Held, CmlFaults, value_for}
-use Rattle.pm_device.specs.Effect.{Event, Kept, Outcome, Heard, Restarts, Measures, outcome_of, kept_by, started}
+use Rattle.pm_device.specs.Effect.{Event, Kept, Outcome, Heard, Restarts, outcome_of, kept_by, started}
 
 -- the byte has the bit set
 abbrev pub has_bit : ℕ → ℕ → Bool
@@ -28,25 +28,27 @@ pub data CmlBit : Type 0 where
   Command : CmlBit
   Data : CmlBit
   Pec : CmlBit
-  Other : CmlBit
+  OtherCommunication : CmlBit
 
 -- bit 7, 6, 5 and 1
 abbrev pub cml_mask : CmlBit → ℕ
 cml_mask Command = 0x80
 cml_mask Data = 0x40
 cml_mask Pec = 0x20
-cml_mask Other = 0x02
+cml_mask OtherCommunication = 0x02
 
--- the bit that a faulty frame sets: a wrong PEC its own, every other fault bit 1
+-- the bit that a faulty frame sets: a wrong PEC its own, every other fault bit 1. A frame for another
+-- device is no refusal, and one whose code is unknown, of the other direction or not carried is one of a
+-- kind of its own, so these four never come here.
 abbrev pub frame_bit : FrameFault → CmlBit
-frame_bit frame.NotOurs = Other
-frame_bit (frame.Short place) = Other
-frame_bit (frame.Long place) = Other
-frame_bit (frame.WrongCount place) = Other
+frame_bit frame.NotOurs = OtherCommunication
+frame_bit (frame.Short place) = OtherCommunication
+frame_bit (frame.Long place) = OtherCommunication
+frame_bit (frame.WrongCount place) = OtherCommunication
 frame_bit (frame.WrongPec place) = Pec
-frame_bit (frame.UnknownCode place) = Other
-frame_bit (frame.WrongDirection place) = Other
-frame_bit (frame.Nested place) = Other
+frame_bit (frame.UnknownCode place) = OtherCommunication
+frame_bit (frame.WrongDirection place) = OtherCommunication
+frame_bit (frame.Nested place) = OtherCommunication
 
 -- the bit that a refusal sets
 abbrev pub fault_bit : DeviceFault → CmlBit
@@ -85,32 +87,21 @@ from_last test (moment ∷ before) =
 
 -- an act clears the STATUS_VOUT of an output: CLEAR_FAULTS, or bit 3 written to it
 abbrev pub act_clears_vout : ℕ → Act → Bool
-act_clears_vout output (Put cell word) = false
-act_clears_vout output (Select page) = false
 act_clears_vout output (ClearFaults cleared) = cleared == output
 act_clears_vout output (ClearVout cleared byte) = cleared == output && has_bit byte 0x08
-act_clears_vout output (ClearCml byte) = false
-act_clears_vout output Store = false
-act_clears_vout output Restore = false
+act_clears_vout output _ = false
 
 -- an act clears a bit of STATUS_CML: CLEAR_FAULTS of any output, or that bit written to it
 abbrev pub act_clears_cml : CmlBit → Act → Bool
-act_clears_cml bit (Put cell word) = false
-act_clears_cml bit (Select page) = false
 act_clears_cml bit (ClearFaults output) = true
-act_clears_cml bit (ClearVout output byte) = false
 act_clears_cml bit (ClearCml byte) = has_bit byte (cml_mask bit)
-act_clears_cml bit Store = false
-act_clears_cml bit Restore = false
+act_clears_cml bit _ = false
 
 -- the same of what an event came to: a restart clears all
 abbrev pub clears : (Act → Bool) → Outcome → Bool
 clears test (Heard (Takes act)) = test act
-clears test (Heard Ignores) = false
-clears test (Heard (Refuses fault)) = false
-clears test (Heard (Answers request)) = false
 clears test Restarts = true
-clears test (Measures output code word) = false
+clears test _ = false
 
 -- two bits are one
 abbrev pub same_bit : CmlBit → CmlBit → Bool
@@ -119,11 +110,7 @@ same_bit bit other = cml_mask bit == cml_mask other
 -- what an event came to sets a bit of STATUS_CML: a refusal the bit of its kind
 abbrev pub sets_cml : CmlBit → Outcome → Bool
 sets_cml bit (Heard (Refuses fault)) = same_bit (fault_bit fault) bit
-sets_cml bit (Heard Ignores) = false
-sets_cml bit (Heard (Takes act)) = false
-sets_cml bit (Heard (Answers request)) = false
-sets_cml bit Restarts = false
-sets_cml bit (Measures output code word) = false
+sets_cml bit _ = false
 
 -- the output is there, and its selected value is above VOUT_MAX or below VOUT_MIN
 unfoldable pub is_output_cut : Config → Words → ℕ → Bool
@@ -161,7 +148,7 @@ status_vout held output = marked 0x08 (cut_at held.cut output)
 -- another communication fault
 abbrev pub cml_byte : CmlFaults → ℕ
 cml_byte faults = marked 0x80 faults.command + marked 0x40 faults.data + marked 0x20 faults.pec
-    + marked 0x02 faults.other
+    + marked 0x02 faults.other_communication
 
 abbrev pub status_cml : Held → ℕ
 status_cml held = cml_byte held.faults
@@ -185,10 +172,10 @@ abbrev pub cml_at : CmlFaults → CmlBit → Bool
 cml_at faults Command = faults.command
 cml_at faults Data = faults.data
 cml_at faults Pec = faults.pec
-cml_at faults Other = faults.other
+cml_at faults OtherCommunication = faults.other_communication
 
 abbrev pub with_bit : CmlFaults → CmlBit → CmlFaults
 with_bit faults Command = record faults { command = true }
 with_bit faults Data = record faults { «data» = true }
 with_bit faults Pec = record faults { pec = true }
-with_bit faults Other = record faults { other = true }
+with_bit faults OtherCommunication = record faults { other_communication = true }

@@ -10,7 +10,7 @@ use Rattle.pm_table.specs.Protection.{is_allowed}
 use Rattle.pm_frame.specs.declared.fault.FrameFault.{FrameFault}
 use Rattle.pm_frame.specs.declared.fault.FrameFault.TheVariants as frame
 use Rattle.pm_frame.specs.declared.message.Message.{Message}
-use Rattle.pm_frame.specs.declared.message.Message.TheVariants.{SendByte, WriteByte, WriteWord, PagePlusWrite, ReadCommand, PagePlusRead, ReadCoefficients}
+use Rattle.pm_frame.specs.declared.message.Message.TheVariants.{WriteByte, WriteWord, PagePlusWrite, ReadCommand, PagePlusRead, ReadCoefficients}
 use Rattle.pm_frame.specs.declared.message.Payload.{Payload}
 use Rattle.pm_frame.specs.declared.message.Payload.TheVariants.{Empty, Byte, Word}
 use Rattle.pm_frame.specs.Fault.{write_fault, request_fault}
@@ -35,13 +35,10 @@ payload_word (Word word) = word
 
 -- the number that a write carries, 0 for none
 abbrev pub written_word : Message → ℕ
-written_word (SendByte code) = 0
 written_word (WriteByte code byte) = byte
 written_word (WriteWord code word) = word
 written_word (PagePlusWrite page code payload) = payload_word payload
-written_word (ReadCommand code) = 0
-written_word (PagePlusRead page code) = 0
-written_word (ReadCoefficients code side) = 0
+written_word _ = 0
 
 -- the output that a message acts on: the page that PAGE_PLUS names, otherwise PAGE
 abbrev pub output_in : ℕ → Message → ℕ
@@ -66,23 +63,13 @@ act_in code output word =
 
 -- the act asks for a page that has no output
 abbrev pub selects_no_output : ℕ → Act → Bool
-selects_no_output count (Put cell word) = false
 selects_no_output count (Select page) = not (nat_lt page count)
-selects_no_output count (ClearFaults output) = false
-selects_no_output count (ClearVout output byte) = false
-selects_no_output count (ClearCml byte) = false
-selects_no_output count Store = false
-selects_no_output count Restore = false
+selects_no_output count _ = false
 
 -- the cell accepts the word; every other act is accepted
 abbrev pub is_accepted : Act → Bool
 is_accepted (Put cell word) = cell_accepts cell word
-is_accepted (Select page) = true
-is_accepted (ClearFaults output) = true
-is_accepted (ClearVout output byte) = true
-is_accepted (ClearCml byte) = true
-is_accepted Store = true
-is_accepted Restore = true
+is_accepted _ = true
 
 -- what an act results in with this many outputs, while WRITE_PROTECT has this value: K4 where there is no
 -- such output, K5 where WRITE_PROTECT blocks the code, K3 where the cell doesn't accept the word
@@ -93,7 +80,8 @@ act_verdict count protect message act =
     else (if not (is_accepted act) then Refuses UnsupportedData
     else Takes act))
 
--- what a write without a fault results in; K2 for a code that this converter has no act for
+-- what a write without a fault results in; K2 where there is no act for its code, which never comes: each
+-- code that is written has one, but for PAGE_PLUS_WRITE, whose message has the code that it carries
 abbrev pub write_verdict : Config → Words → ℕ → Message → Verdict
 write_verdict config words page message =
     option_map_or (λ act. act_verdict config.count (word_at words Protect) message act)
@@ -114,13 +102,10 @@ abbrev pub is_answered : Config → Message → Bool
 is_answered config (ReadCommand code) = true
 is_answered config (PagePlusRead page code) = nat_lt page config.count
 is_answered config (ReadCoefficients code side) = answers_coefficients config code side
-is_answered config (SendByte code) = false
-is_answered config (WriteByte code byte) = false
-is_answered config (WriteWord code word) = false
-is_answered config (PagePlusWrite page code payload) = false
+is_answered config _ = false
 
 -- what a request without a fault results in: K4 where there is no such output, K3 where there are no
--- coefficients to answer
+-- coefficients to answer; no message that writes is a request, and K2 stands for it
 abbrev pub read_verdict : Config → Message → Verdict
 read_verdict config (ReadCoefficients code side) =
     if answers_coefficients config code side then Answers (ReadCoefficients code side)
@@ -128,10 +113,7 @@ read_verdict config (ReadCoefficients code side) =
 read_verdict config (PagePlusRead page code) =
     if nat_lt page config.count then Answers (PagePlusRead page code) else Refuses BadPage
 read_verdict config (ReadCommand code) = Answers (ReadCommand code)
-read_verdict config (SendByte code) = Refuses UnsupportedCode
-read_verdict config (WriteByte code byte) = Refuses UnsupportedCode
-read_verdict config (WriteWord code word) = Refuses UnsupportedCode
-read_verdict config (PagePlusWrite page code payload) = Refuses UnsupportedCode
+read_verdict config _ = Refuses UnsupportedCode
 
 -- silence for a frame to another device, K1 for a faulty one, K2 for an unknown code, K6 for one
 -- that isn't carried, K7 for one of the other direction
@@ -165,26 +147,19 @@ CanAct count (Put cell word) = IsCell count cell × (cell_accepts cell word ≡ 
 CanAct count (Select page) = page < count
 CanAct count (ClearFaults output) = output < count
 CanAct count (ClearVout output byte) = output < count
-CanAct count (ClearCml byte) = Unit {0}
-CanAct count Store = Unit {0}
-CanAct count Restore = Unit {0}
+CanAct count _ = Unit {0}
 
--- the output that an act names is this one
+-- the output that an act names, where it names one, is this one
 abbrev pub ActsOn : ℕ → Act → Type 0
 ActsOn output (Put (Out named register) word) = named ≡ output
-ActsOn output (Put Protect word) = Unit {0}
-ActsOn output (Select page) = Unit {0}
 ActsOn output (ClearFaults named) = named ≡ output
 ActsOn output (ClearVout named byte) = named ≡ output
-ActsOn output (ClearCml byte) = Unit {0}
-ActsOn output Store = Unit {0}
-ActsOn output Restore = Unit {0}
+ActsOn output _ = Unit {0}
 
 -- what can be done of what a hearing came to; a request that is answered is one, and fits its layout
 abbrev pub IsFit : ℕ → Verdict → Type 0
-IsFit count Ignores = Unit {0}
-IsFit count (Refuses fault) = Unit {0}
 IsFit count (Takes act) = CanAct count act
 IsFit count (Answers request) =
     (names_no_output count request ≡ false) × (is_read_message request ≡ true)
     × (fits_layout request ≡ true)
+IsFit count _ = Unit {0}

@@ -2,7 +2,7 @@ ghost use Rattle.std.specs.Prelude.{◌≡◌};
 ghost use Rattle.pm_device.specs.Held.{no_faults};
 ghost use Rattle.pm_device.specs.Status.{cml_byte};
 ghost use Rattle.pm_device.specs.History.{faults_by};
-ghost use Rattle.pm_device.specs.Effect.{Heard as Came};
+ghost use Rattle.pm_device.specs.Effect.{Heard};
 ghost use Rattle.pm_device.specs.declared.act.Act.TheVariants as act;
 ghost use Rattle.pm_device.specs.declared.verdict.Verdict.TheVariants as verdict;
 
@@ -16,9 +16,9 @@ use std::marker::Model;
 #[derive(Debug, Drop)]
 pub(crate) struct CmlLatches {
     command: bool,
-    unsupported: bool,
+    data: bool,
     pec: bool,
-    other: bool,
+    other_communication: bool,
 }
 
 impl Model for CmlLatches {
@@ -28,9 +28,9 @@ impl Model for CmlLatches {
 
     ghost view = { λ l. record {
       command = l.command;
-      «data» = l.unsupported;
+      «data» = l.«data»;
       pec = l.pec;
-      other = l.other;
+      other_communication = l.other_communication;
     } };
 }
 
@@ -41,21 +41,21 @@ impl CmlLatches {
     {
         CmlLatches {
             command: false,
-            unsupported: false,
+            data: false,
             pec: false,
-            other: false,
+            other_communication: false,
         }
     }
 
     /// Sets the bit of a refusal: bit 7 of K2, K5, K6 and K7, bit 6 of K3 and K4, bit 5 of K1 where
     /// the PEC is wrong, bit 1 of every other K1.
     pub(crate) fn note(&mut self, fault: DeviceFault)
-        ensures { self.new ≡ faults_by self.old (Came (verdict.Refuses fault)) }
+        ensures { self.new ≡ faults_by self.old (Heard (verdict.Refuses fault)) }
     {
         match fault {
             DeviceFault::Frame(FrameFault::WrongPec(_)) => self.pec = true,
-            DeviceFault::Frame(_) => self.other = true,
-            DeviceFault::UnsupportedData | DeviceFault::BadPage => self.unsupported = true,
+            DeviceFault::Frame(_) => self.other_communication = true,
+            DeviceFault::UnsupportedData | DeviceFault::BadPage => self.data = true,
             DeviceFault::UnsupportedCode
             | DeviceFault::Protected
             | DeviceFault::Nested
@@ -65,13 +65,14 @@ impl CmlLatches {
 
     /// Clears the bits that are 1 in a byte.
     pub(crate) fn clear(&mut self, byte: u8)
-        ensures { self.new ≡ faults_by self.old (Came (verdict.Takes (act.ClearCml byte))) }
+        ensures { self.new ≡ faults_by self.old (Heard (verdict.Takes (act.ClearCml byte))) }
     {
         let written = StatusCml::from_bits_retain(byte);
         self.command = self.command && !written.contains(StatusCml::COMMAND);
-        self.unsupported = self.unsupported && !written.contains(StatusCml::DATA);
+        self.data = self.data && !written.contains(StatusCml::DATA);
         self.pec = self.pec && !written.contains(StatusCml::PEC);
-        self.other = self.other && !written.contains(StatusCml::OTHER_COMMUNICATION);
+        self.other_communication = self.other_communication
+            && !written.contains(StatusCml::OTHER_COMMUNICATION);
     }
 
     /// STATUS_CML.
@@ -80,9 +81,9 @@ impl CmlLatches {
     {
         let mut status = StatusCml::empty();
         status.set(StatusCml::COMMAND, self.command);
-        status.set(StatusCml::DATA, self.unsupported);
+        status.set(StatusCml::DATA, self.data);
         status.set(StatusCml::PEC, self.pec);
-        status.set(StatusCml::OTHER_COMMUNICATION, self.other);
+        status.set(StatusCml::OTHER_COMMUNICATION, self.other_communication);
         status
     }
 }

@@ -12,7 +12,6 @@ ghost use Rattle.pm_device.specs.Reply.{reply_of};
 
 use crate::cml_latches::CmlLatches;
 use crate::config::{Config, ConfigFault, config_fault};
-use crate::cut::each_cut;
 use crate::formats::formats_of;
 use crate::heard::{Ending, Heard};
 use crate::readings::Readings;
@@ -22,6 +21,7 @@ use pm_num::Frac;
 use pm_table::{Cell, Code, Reg};
 use std::marker::Model;
 
+mod cut;
 mod effect;
 mod replies;
 mod status;
@@ -85,17 +85,18 @@ impl Converter {
         }
         let formats = formats_of(&c);
         let settings = start_settings(&c);
-        let cut = each_cut(&c, &formats, &settings);
-        Ok(Converter {
+        let mut made = Converter {
             config: c,
             formats,
             store: settings.copied(),
             settings,
             page: 0,
             readings: Readings::new(),
-            cut,
+            cut: [false; 8],
             faults: CmlLatches::new(),
-        })
+        };
+        made.unlatch_all();
+        Ok(made)
     }
 
     /// Every cell of an output has its word in the store and WRITE_PROTECT its start word, PAGE is 0,
@@ -108,7 +109,7 @@ impl Converter {
     {
         self.settings = self.store.copied();
         self.page = 0;
-        self.cut = each_cut(&self.config, &self.formats, &self.settings);
+        self.unlatch_all();
         self.faults = CmlLatches::new();
     }
 

@@ -82,7 +82,13 @@ pub fn unknown_codes_are_refused()
 }
 
 /// A code of the device, as STATUS_CML, acts and answers alike on every page that exists, and
-/// whatever PAGE is.
+/// whatever PAGE is: two frames that differ in such a page alone are answered alike, and the converter
+/// holds the same after the one as after the other.
 pub fn device_codes_ignore_pages()
     ensures { DeviceCodesIgnorePages }
-{}
+{
+    // A frame without a fault is what it spells, and a word has the bytes of its code.
+    writes_are_exact();
+    requests_are_exact();
+    payloads_are_short();
+}

@@ -45,7 +45,6 @@ mod act;
 mod cml_latches;
 mod config;
 mod converter;
-mod cut;
 mod fault;
 mod formats;
 mod heard;

@@ -1,4 +1,4 @@
-ghost use Rattle.std.specs.Prelude.{◌≡◌, if◌then◌else◌, slice_set};
+ghost use Rattle.std.specs.Prelude.{◌≡◌, ◌<◌, ◌≤◌, if◌then◌else◌};
 ghost use Rattle.pm_device.specs.Held.{no_readings, is_reading, reading_at, with_reading};
 
 use pm_table::Code;
@@ -43,25 +43,26 @@ impl Readings {
         }
     }
 
-    /// The word that a READ code answers at an output; 0 for every other code, and for an output
-    /// from 8 on.
+    /// The word that a READ code answers at one of eight outputs; 0 for every other code.
     pub(crate) fn get(&self, output: u8, code: Code) -> u16
+        requires { output < 8 }
         ensures { result ≡ reading_at self.now output code.0 }
     {
         let place = usize::from(output);
         match code {
             Code::READ_VIN => self.vin,
-            Code::READ_VOUT => self.vout.get(place).copied().unwrap_or(0),
-            Code::READ_IOUT => self.iout.get(place).copied().unwrap_or(0),
+            Code::READ_VOUT => self.vout[place],
+            Code::READ_IOUT => self.iout[place],
             Code::READ_TEMPERATURE_1 => self.temperature,
             _ => 0,
         }
     }
 
-    /// Gives a reading of a converter with this many outputs another word. `false` where there is no
+    /// Gives a reading of a converter with this many outputs, at most 8, another word. `false` where there is no
     /// such output or the code is no READ code; then nothing changes. The output means nothing for
     /// a reading of the device.
     pub(crate) fn set(&mut self, count: u8, output: u8, code: Code, word: u16) -> bool
+        requires { count ≤ 8 }
         ensures answer { result ≡ is_reading count output code.0 }
         ensures after { self.new ≡ (if is_reading count output code.0
             then with_reading self.old output code.0 word else self.old) }
@@ -70,19 +71,10 @@ impl Readings {
         match code {
             Code::READ_VIN => self.vin = word,
             Code::READ_TEMPERATURE_1 => self.temperature = word,
-            Code::READ_VOUT if output < count => set_word(&mut self.vout, place, word),
-            Code::READ_IOUT if output < count => set_word(&mut self.iout, place, word),
+            Code::READ_VOUT if output < count => self.vout[place] = word,
+            Code::READ_IOUT if output < count => self.iout[place] = word,
             _ => return false,
         }
         true
-    }
-}
-
-// Writes the word at its place; nothing past the end.
-fn set_word(words: &mut [u16; 8], place: usize, word: u16)
-    ensures { words.new ≡ slice_set words.old place word }
-{
-    if place < words.len() {
-        words[place] = word;
     }
 }

@@ -224,32 +224,42 @@ impl Flags for StatusWord {
     }
 }
 
+/// What STATUS_BYTE and STATUS_WORD are made of.
+#[derive(Clone, Copy)]
+pub(crate) struct OutputStatus {
+    /// OPERATION has the output off.
+    pub(crate) off: bool,
+    /// A bit of STATUS_CML is set.
+    pub(crate) cml: bool,
+    /// A bit of the output's STATUS_VOUT is set.
+    pub(crate) vout: bool,
+}
+
 impl StatusByte {
-    /// What an output shows that is off, while a bit of STATUS_CML is set, and one of its
-    /// STATUS_VOUT.
-    pub(crate) fn new(off: bool, cml: bool, cut: bool) -> StatusByte
-        ensures { result.0 ≡ marked 0x40 off + marked 0x02 cml + marked 0x01 cut }
+    /// STATUS_BYTE of an output with this status.
+    pub(crate) fn new(shown: OutputStatus) -> StatusByte
+        ensures { result.0 ≡ marked 0x40 shown.off + marked 0x02 shown.cml + marked 0x01 shown.vout }
     {
         let mut status = StatusByte::empty();
-        status.set(StatusByte::OFF, off);
-        status.set(StatusByte::CML, cml);
-        status.set(StatusByte::NONE_OF_THE_ABOVE, cut);
+        status.set(StatusByte::OFF, shown.off);
+        status.set(StatusByte::CML, shown.cml);
+        status.set(StatusByte::NONE_OF_THE_ABOVE, shown.vout);
         status
     }
 }
 
 impl StatusWord {
-    /// The same of STATUS_WORD.
-    pub(crate) fn new(off: bool, cml: bool, cut: bool) -> StatusWord
-        ensures { result.0 ≡ marked 0x40 off + marked 0x02 cml + marked 0x01 cut
-            + marked 0x8000 cut + marked 0x0800 off }
+    /// STATUS_WORD of an output with this status.
+    pub(crate) fn new(shown: OutputStatus) -> StatusWord
+        ensures { result.0 ≡ marked 0x40 shown.off + marked 0x02 shown.cml + marked 0x01 shown.vout
+            + marked 0x8000 shown.vout + marked 0x0800 shown.off }
     {
         let mut status = StatusWord::empty();
-        status.set(StatusWord::OFF, off);
-        status.set(StatusWord::CML, cml);
-        status.set(StatusWord::NONE_OF_THE_ABOVE, cut);
-        status.set(StatusWord::VOUT, cut);
-        status.set(StatusWord::POWER_NOT_GOOD, off);
+        status.set(StatusWord::OFF, shown.off);
+        status.set(StatusWord::CML, shown.cml);
+        status.set(StatusWord::NONE_OF_THE_ABOVE, shown.vout);
+        status.set(StatusWord::VOUT, shown.vout);
+        status.set(StatusWord::POWER_NOT_GOOD, shown.off);
         status
     }
 }

@@ -72,7 +72,8 @@ impl Verdict {
         }
     }
 
-    // A write without a fault: K2 where there is no act for its code, otherwise what its act results in.
+    // A write without a fault: what its act results in. Each code that a frame writes has an act, so K2
+    // never comes here.
     fn of_write(config: &Config, settings: &Plain, page: u8, view: &FrameView<'_>) -> Verdict
         requires fits { fits_layout view.now ≡ true }
         requires count { settings.now.count ≡ config.now.count }

@@ -8,7 +8,7 @@ use Rattle.pm_table.specs.declared.cell.Cell.{Cell}
 use Rattle.pm_table.specs.Cell.{cell_accepts, IsCell}
 use Rattle.pm_model.specs.declared.pending_job.PendingJob.{PendingJob}
 use Rattle.pm_model.specs.declared.pending_job.PendingJob.TheVariants.{Order, Store, Restore}
-use Rattle.pm_model.specs.Settings.{Settings, Words, word_at, with_word, with_outputs}
+use Rattle.pm_model.specs.Settings.{Settings, Words, restart_words, word_at, with_word, with_outputs}
 
 pub data Step : Type 0 where
   -- a job is accepted
@@ -54,7 +54,7 @@ stepped m Take = record m {
   store = store_taken m.words m.store m.pending;
 }
 stepped m End = record m { pending = None }
-stepped m Back = record m { words = m.store }
+stepped m Back = record m { words = restart_words m.store }
 
 -- the machine after some steps
 unfoldable pub machine_of : Settings → List Step → Machine

@@ -37,6 +37,10 @@ with_word words cell word = slice_set words (place_of cell) word
 unfoldable pub with_outputs : Words → Words → Words
 with_outputs words others = with_word others Protect (word_at words Protect)
 
+-- what a restart gives the cells, from the words in the store: each its own
+abbrev pub restart_words : Words → Words
+restart_words store = store
+
 -- an output's registers have the same words in both
 abbrev pub HaveSameRegisters : Words → Words → ℕ → Type 0
 HaveSameRegisters words others output =

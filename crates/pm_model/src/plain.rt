@@ -12,7 +12,7 @@ use pm_table::{Cell, Reg, cells_are_told_apart};
 use std::marker::Model;
 
 /// The settings of a converter with one to eight outputs: a word for each cell that there is.
-#[derive(Clone, Debug, Drop)]
+#[derive(Debug, Drop)]
 pub struct Plain {
     count: u8,
     // The word of each cell at its place: for eight outputs, and for WRITE_PROTECT.
@@ -71,7 +71,7 @@ impl Plain {
         }
     }
 
-    /// The same settings.
+    /// The same settings: a copy, which can't fail.
     pub fn copied(&self) -> Plain
         ensures { result ≡ self.now }
     {

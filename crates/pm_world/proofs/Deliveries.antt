@@ -125,7 +125,7 @@ delivers laws s output register word can = record {
   };
   told = told-nothing s Whole (sending_in s.host);
   words =
-      next-deliver-words s Whole message can.sent.sending
+      next-deliver-words laws s Whole message can.sent.sending
       ∙ (ap (λ a. words_after s.device (hearing a message Whole)) can.addr
       ∙ (ap (λ e. words_after s.device (Hearing (frame_of s.device.config.addr message) e)) (write-ending cell word Whole)
       ∙ whole-write laws s.device cell word (frame_of s.device.config.addr message) take

@@ -16,7 +16,8 @@ use Rattle.pm_model.specs.OrderMachine.{words_taken}
 use Rattle.pm_model.specs.Settings.{Words, AreWords, word_at, with_outputs, with_word}
 use Rattle.pm_device.specs.declared.config.Config.{Config}
 use Rattle.pm_device.specs.Held.{Held}
-use Rattle.pm_device.specs.History.{now as device_now, next as device_next, after as device_by}
+use Rattle.pm_device.specs.Effect as device
+use Rattle.pm_device.specs.History.{now as device_now}
 use Rattle.pm_host.specs.declared.command.Command.{Command}
 use Rattle.pm_host.specs.declared.command.Command.TheVariants.{ClearFaults, StoreUserAll, RestoreUserAll}
 use Rattle.pm_host.specs.declared.possible.Possible.TheVariants.{Any}
@@ -36,7 +37,7 @@ use Rattle.pm_world.specs.Below.{Below}
 use Rattle.pm_world.specs.declared.event.Arrival.{Arrival}
 use Rattle.pm_world.specs.declared.event.Back.{Back}
 use Rattle.pm_world.specs.declared.event.Event.{Event}
-use Rattle.pm_world.specs.declared.event.Event.TheVariants.{Deliver, Finish, Exchange, RestartDevice, RestartHost}
+use Rattle.pm_world.specs.declared.event.Event.TheVariants.{Deliver, Finish, Exchange, RestartDevice, RestartHost, Reading}
 use Rattle.pm_world.specs.Confirmed.{reads_cell, restarts_converter, restarted_since, ConfirmedIsHeld}
 use Rattle.pm_world.specs.Legal.{back_bytes}
 use Rattle.pm_world.specs.Life.{life, now, state_of}
@@ -48,7 +49,7 @@ use Rattle.pm_world.proofs.Causes.{asked-restarts}
 use Rattle.pm_world.proofs.Learned.{from_some}
 use Rattle.pm_world.proofs.Lives.{IsLived, earlier, newest, entries-more, life-told, now-next}
 use Rattle.pm_world.proofs.OpenOrders.{pending-of_stage, stage_pending}
-use Rattle.pm_world.proofs.OrderEvents.{delivered-takes, exchanged-stays, Takes}
+use Rattle.pm_world.proofs.OrderEvents.{delivered-takes, event-stays, exchanged-stays, Takes}
 use Rattle.pm_world.proofs.ReadBack.{reads-cell, read-word}
 use Rattle.pm_world.proofs.Sending.{eight, told-nothing}
 use Rattle.pm_world.proofs.Standings.{IsKnown, IsKnownAfter, ReadsTrue, same-cells, accepted-known, finished-known, got-known}
@@ -216,7 +217,6 @@ beside-known : Below → {s : State} (event : Event) {setup : host.Setup} {entri
     event_cause s event ≡ None → IsKnown (marks setup entries) cell restarted s.device.words →
     IsKnownAfter setup entries cell (restarts_converter event || restarted) (share_beside s event).told
     (device_after s.device (share_beside s event).heard).words
-unfolding device_next device_by
 beside-known laws (Deliver arrival) knows there free so_far =
     deliver-known laws arrival knows there free so_far
 beside-known laws {s = s} (Exchange arrival back) knows there free so_far =
@@ -227,6 +227,10 @@ beside-known laws RestartDevice knows there free so_far =
     record { held = λ word confirmed fresh. cc; among = λ fresh. cc }
 beside-known laws {s = s} RestartHost {setup = setup} {entries = entries} {cell = cell} {restarted = restarted} knows there free so_far =
     host_restarted-known setup entries cell restarted s.device.words
+beside-known laws {s = s} (Reading output code word) {setup = setup} {entries = entries} {cell = cell} {restarted = restarted} knows
+    there free so_far =
+    subst (IsKnown (marks setup entries) cell restarted)
+    (sym (event-stays laws s.device (device.Reading output code.0 word) refl).words) so_far
 beside-known laws _ knows there free so_far = so_far
 
 -- one event

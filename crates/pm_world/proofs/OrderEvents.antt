@@ -18,8 +18,9 @@ use Rattle.pm_model.specs.Settings.{with_outputs}
 use Rattle.pm_device.specs.declared.heard.Ending.{Ending}
 use Rattle.pm_device.specs.declared.heard.Ending.TheVariants.{Stop}
 use Rattle.pm_device.specs.Held.{Held}
+use Rattle.pm_device.specs.Effect as device
 use Rattle.pm_device.specs.Effect.{Hearing, Kept, kept_in, kept_after}
-use Rattle.pm_device.specs.History.{next as device_next, after as device_by}
+use Rattle.pm_device.specs.History.{next as device_next}
 use Rattle.pm_host.specs.declared.fault.HostFault.{HostFault}
 use Rattle.pm_host.specs.declared.command.Command.{Command}
 use Rattle.pm_host.specs.declared.command.Command.TheVariants.{ClearFaults, StoreUserAll, RestoreUserAll}
@@ -130,36 +131,20 @@ pub record TookJob (old new : Held) (job : Option PendingJob) : Type 0 where
 abbrev pub Takes : State → Held → Type 0
 Takes s new = Stays s.device new ⊎ TookJob s.device new (stage_pending s.host.stage)
 
--- what a hearing leaves is what the converter holds then
-heard-words : (held : Held) (bytes : List ℕ) (ending : Ending) →
-    (device_next held (Hearing bytes ending)).words ≡ (kept_after held (Hearing bytes ending)).words
-unfolding device_next device_by
-heard-words held bytes ending = refl
+-- an event that leaves all that is kept
+pub event-stays : Below → (held : Held) (event : device.Event) → kept_after held event ≡ kept_in held →
+    Stays held (device_next held event)
+event-stays laws held event e =
+    let same = laws.writes_reach_one_cell.kept held event ∙ e in
+    record { words = ap (λ (k : Kept). k.words) same; store = ap (λ (k : Kept). k.store) same }
 
--- and so is the store
-heard-store : (held : Held) (bytes : List ℕ) (ending : Ending) →
-    (device_next held (Hearing bytes ending)).store ≡ (kept_after held (Hearing bytes ending)).store
-unfolding device_next device_by
-heard-store held bytes ending = refl
-
--- so where all that is kept stays
-heard-stays : (held : Held) (bytes : List ℕ) (ending : Ending) → kept_after held (Hearing bytes ending) ≡ kept_in held →
-    Stays held (device_next held (Hearing bytes ending))
-heard-stays held bytes ending e = record {
-  words = heard-words held bytes ending ∙ ap (λ (k : Kept). k.words) e;
-  store = heard-store held bytes ending ∙ ap (λ (k : Kept). k.store) e;
-}
-
--- or a job took
-heard-takes : (held : Held) (bytes : List ℕ) (ending : Ending) (job : Option PendingJob) →
-    Reaches held job (kept_after held (Hearing bytes ending)) →
-    Stays held (device_next held (Hearing bytes ending)) ⊎ TookJob held (device_next held (Hearing bytes ending)) job
-heard-takes held bytes ending job (inl e) = inl (heard-stays held bytes ending e)
-heard-takes held bytes ending job (inr (some, e)) = inr (record {
-  some = some;
-  words = heard-words held bytes ending ∙ ap (λ (k : Kept). k.words) e;
-  store = heard-store held bytes ending ∙ ap (λ (k : Kept). k.store) e;
-})
+-- or by which a job took
+event-takes : Below → (held : Held) (event : device.Event) (job : Option PendingJob) → Reaches held job (kept_after held event) →
+    Stays held (device_next held event) ⊎ TookJob held (device_next held event) job
+event-takes laws held event job (inl e) = inl (event-stays laws held event e)
+event-takes laws held event job (inr (some, e)) =
+    let same = laws.writes_reach_one_cell.kept held event ∙ e in
+    inr (record { some = some; words = ap (λ (k : Kept). k.words) same; store = ap (λ (k : Kept). k.store) same })
 
 -- by the legal hearing of what is being sent
 pub delivered-takes : Below → (s : State) (arrival : Arrival) (sending : Option Message) → s.host.setup.addr ≡ s.device.config.addr →
@@ -168,7 +153,7 @@ pub delivered-takes : Below → (s : State) (arrival : Arrival) (sending : Optio
     Takes s (device_after s.device (delivered s arrival sending).heard)
 delivered-takes laws s arrival None same e fits h = cc
 delivered-takes laws s arrival (Some message) same e fits h =
-    heard-takes s.device bytes ending (stage_pending s.host.stage)
+    event-takes laws s.device (Hearing bytes ending) (stage_pending s.host.stage)
     (go (hears-write laws s.device message bytes ending writes (fits message refl) legal))
   where
     bytes : List ℕ
@@ -217,7 +202,8 @@ exchanged-stays laws s arrival back (Some message) fits h =
     (option_or (hearing_cause s.host.setup.addr message arrival) (return_cause s.device s.host.setup.addr message arrival back)) h in
     let hears = or-none (hearing_cause s.host.setup.addr message arrival) (return_cause s.device s.host.setup.addr message arrival back)
     kinds.1 in
-    heard-stays s.device (heard_bytes (frame_of s.host.setup.addr message) arrival) (heard_ending message arrival)
+    event-stays laws s.device
+    (Hearing (heard_bytes (frame_of s.host.setup.addr message) arrival) (heard_ending message arrival))
     (hears-request laws s.device s.host.setup.addr message (heard_bytes (frame_of s.host.setup.addr message) arrival)
     (heard_ending message arrival)
     (not-false (is_read_message message) (rule-none (not (is_read_message message)) WrongKind kinds.0), fits message refl)

@@ -9,7 +9,9 @@ use Rattle.pm_model.specs.declared.pending_job.PendingJob.TheVariants as pending
 use Rattle.pm_model.specs.OrderMachine.{Step, Accept, Take, End, Back, machine_of, words_taken, store_taken, CanAccept, CanTake}
 use Rattle.pm_model.specs.Settings.{Settings, Words}
 use Rattle.pm_device.specs.declared.config.Config.{Config}
-use Rattle.pm_device.specs.History.{next as device_next, after as device_by, start_of, now as device_now}
+use Rattle.pm_device.specs.Effect as device
+use Rattle.pm_device.specs.Effect.{Kept}
+use Rattle.pm_device.specs.History.{start_of, now as device_now}
 use Rattle.pm_host.specs.declared.command.Command.TheVariants.{ClearFaults, StoreUserAll, RestoreUserAll}
 use Rattle.pm_host.specs.Now.{now as host_now}
 use Rattle.pm_host.specs.Refusals.{IsSetup}
@@ -28,7 +30,7 @@ use Rattle.pm_world.proofs.Causes.{job-free, asked-next, beside-next}
 use Rattle.pm_world.proofs.Lives.{IsLived, earlier, newest, life-told, now-next, now-nil}
 use Rattle.pm_world.proofs.OpenOrders.{stage_pending, open_pending-is, finished-order, Goes}
 use Rattle.pm_world.proofs.OrderEvents.{Stays, TookJob, Takes, delivered-stage, delivered-takes, exchanged-stays}
-use Rattle.pm_world.proofs.OrderEvents.{exchanged-order, job-order, order-free}
+use Rattle.pm_world.proofs.OrderEvents.{event-stays, exchanged-order, job-order, order-free}
 
 -- the message whose frame is being sent fits its layout
 sent-fits : Below → (config : Config) (passes : ℕ) (events : List Event) → IsLived config passes events → (message : Message) →
@@ -152,17 +154,19 @@ ended config passes before event f is same over = record {
 }
 
 -- the converter starts again
-came-back : (config : Config) (passes : ℕ) (before : List Event) → (f : Follows config passes before RestartDevice) →
+came-back : Below → (config : Config) (passes : ℕ) (before : List Event) → (f : Follows config passes before RestartDevice) →
     Runs config passes (RestartDevice ∷ before)
-unfolding machine_of told_beside next device_next device_by
-came-back config passes before f = record {
-  steps = Back ∷ f.run.steps;
-  run = (tt, f.run.run);
-  retells = told-on (Back ∷ []) f (beside-told config passes before RestartDevice refl);
-  words_are = f.run.store_is ∙ sym (ap (λ (s : State). s.device.words) f.same);
-  store_is = f.run.store_is ∙ sym (ap (λ (s : State). s.device.store) f.same);
-  job_is = pends f ∙ sym (open-after f);
-}
+unfolding machine_of told_beside next
+came-back laws config passes before f =
+    let kept = laws.writes_reach_one_cell.kept (now config passes before).device device.Restarted in
+    record {
+      steps = Back ∷ f.run.steps;
+      run = (tt, f.run.run);
+      retells = told-on (Back ∷ []) f (beside-told config passes before RestartDevice refl);
+      words_are = f.run.store_is ∙ sym (ap (λ (s : State). s.device.words) f.same ∙ ap (λ (k : Kept). k.words) kept);
+      store_is = f.run.store_is ∙ sym (ap (λ (s : State). s.device.store) f.same ∙ ap (λ (k : Kept). k.store) kept);
+      job_is = pends f ∙ sym (open-after f);
+    }
 
 -- what a job makes of the same words and store is the same
 same-taken : {words words' store store' : Words} {job job' : Option PendingJob} → words ≡ words' → store ≡ store' → job ≡ job' →
@@ -284,7 +288,7 @@ one-beside : Below → (config : Config) (passes : ℕ) (before : List Event) (e
     IsLived config passes before →
     (f : Follows config passes before event) → asked (now config passes before) event ≡ None →
     Runs config passes (event ∷ before)
-unfolding told_beside next host_next device_next device_by
+unfolding told_beside next host_next
 one-beside laws config passes before (Deliver arrival) lived f is =
     delivered-on config passes before arrival f
     (delivered-takes laws (now config passes before) arrival (sending_in (now config passes before).host) (same-addr config passes before)
@@ -300,13 +304,13 @@ one-beside laws config passes before (Exchange arrival back) lived f is =
     (exchanged-stays laws (now config passes before) arrival back (sending_in (now config passes before).host)
     (sent-fits laws config passes before lived) f.free)
     (exchanged-order (now config passes before) arrival back (sending_in (now config passes before).host))
-one-beside laws config passes before RestartDevice lived f is = came-back config passes before f
+one-beside laws config passes before RestartDevice lived f is = came-back laws config passes before f
 one-beside laws config passes before RestartHost lived f is =
     ended config passes before RestartHost f (beside-told config passes before RestartHost refl)
     (record { words = refl; store = refl }) refl
 one-beside laws config passes before (Reading output code word) lived f is =
     stays config passes before (Reading output code word) f (beside-told config passes before (Reading output code word) refl)
-    (record { words = refl; store = refl }) refl
+    (event-stays laws (now config passes before).device (device.Reading output code.0 word) refl) refl
 one-beside laws config passes before event lived f is =
     let alone = beside-next (now config passes before) event is in
     stays config passes before event f (beside-told config passes before event is)

@@ -16,8 +16,7 @@ use Rattle.pm_model.specs.Settings.{Words, AreWords, word_at, with_word}
 use Rattle.pm_device.specs.declared.heard.Ending.{Ending}
 use Rattle.pm_device.specs.declared.heard.Ending.TheVariants.{Stop, Restart}
 use Rattle.pm_device.specs.Effect as device
-use Rattle.pm_device.specs.Effect.{words_after}
-use Rattle.pm_device.specs.History.{next as device_next, after as device_outcome}
+use Rattle.pm_device.specs.Effect.{Kept, words_after}
 use Rattle.pm_host.specs.declared.stage.Stage.TheVariants.{Writes}
 use Rattle.pm_host.specs.Frames.{writes_output, writes_protect, reads_output, reads_protect}
 use Rattle.pm_host.specs.Messages.{cell_write, cell_read}
@@ -109,10 +108,11 @@ unfolding next
 next-deliver-host s arrival = ap (host_after s.host) (told-nothing s arrival (sending_in s.host))
 
 -- the words are those after the hearing
-pub next-deliver-words : (s : State) (arrival : Arrival) (message : Message) → sending_in s.host ≡ Some message →
+pub next-deliver-words : Below → (s : State) (arrival : Arrival) (message : Message) → sending_in s.host ≡ Some message →
     (next s (Deliver arrival)).device.words ≡ words_after s.device (hearing s.host.setup.addr message arrival)
-unfolding next device_next device_outcome
-next-deliver-words s arrival message sending = ap (λ o. (device_after s.device (delivered s arrival o).heard).words) sending
+unfolding next
+next-deliver-words laws s arrival message sending = ap (λ o. (device_after s.device (delivered s arrival o).heard).words) sending
+    ∙ ap (λ (k : Kept). k.words) (laws.writes_reach_one_cell.kept s.device (hearing s.host.setup.addr message arrival))
 
 -- how a delivery of a write ends
 pub write-ending : (cell : Cell) (word : ℕ) (arrival : Arrival) → heard_ending (cell_write cell word) arrival ≡ ending_of Stop arrival
@@ -191,7 +191,7 @@ delivered-words laws {s = s} {cell = cell} {word = word} arrival fixed sends fre
     let legal = subst (λ a. is_legal_hearing (frame_of a message) (heard_bytes (frame_of a message) arrival)
     (heard_ending message arrival) ≡ true) fixed.addr (delivery-legal s arrival message sending free) in
     let after : (next s (Deliver arrival)).device.words ≡ words_after s.device (hearing s.device.config.addr message arrival) =
-    next-deliver-words s arrival message sending ∙ ap (λ a. words_after s.device (hearing a message arrival)) fixed.addr in
+    next-deliver-words laws s arrival message sending ∙ ap (λ a. words_after s.device (hearing a message arrival)) fixed.addr in
     elim (legal-write laws s.device cell word (heard_bytes (frame_of s.device.config.addr message) arrival) (heard_ending message arrival)
     (can-take fixed sends) legal) [
       | inl same ↦ inl (after ∙ same)
@@ -208,7 +208,7 @@ whole-words laws {s = s} {cell = cell} {word = word} arrival fixed sends is =
     let frame = frame_of s.device.config.addr message in
     let parts = and_parts (bytes_eq (heard_bytes frame arrival) frame) (not (is_restart (ending_of Stop arrival))) is in
     let ending = write-ending cell word arrival ∙ stop-is (ending_of Stop arrival) parts.1 in
-    next-deliver-words s arrival message (sending-write s cell word sends.stage)
+    next-deliver-words laws s arrival message (sending-write s cell word sends.stage)
     ∙ (ap (λ a. words_after s.device (hearing a message arrival)) fixed.addr
     ∙ (ap₂ (λ b e. words_after s.device (device.Hearing b e)) ((bytes_eq-Decides (heard_bytes frame arrival) frame).0 parts.0) ending
     ∙ whole-write laws s.device cell word frame (can-take fixed sends)

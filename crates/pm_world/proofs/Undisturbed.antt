@@ -17,7 +17,6 @@ use Rattle.pm_device.specs.declared.heard.Ending.TheVariants.{Restart}
 use Rattle.pm_device.specs.Held.{Held}
 use Rattle.pm_device.specs.Effect as device
 use Rattle.pm_device.specs.Effect.{Kept}
-use Rattle.pm_device.specs.History.{next as device_next, after as device_outcome}
 use Rattle.pm_device.specs.Reply.{reply_of}
 use Rattle.pm_host.specs.declared.stage.Stage.TheVariants.{Writes, Reads}
 use Rattle.pm_host.specs.declared.standing.Standing.{Standing}
@@ -97,9 +96,10 @@ exchange-heard s message sending ending =
 -- which leaves the words
 next-heard : Below → (s : State) (event : Event) (bytes : List ℕ) → (share_of s event).heard ≡ Some (device.Hearing bytes Restart) →
     (next s event).device.words ≡ s.device.words
-unfolding next device_next device_outcome
+unfolding next
 next-heard laws s event bytes heard = ap (λ o. (device_after s.device o).words) heard
-    ∙ ap (λ (k : Kept). k.words) (laws.writes_reach_one_cell.request s.device bytes)
+    ∙ ap (λ (k : Kept). k.words)
+    (laws.writes_reach_one_cell.kept s.device (device.Hearing bytes Restart) ∙ laws.writes_reach_one_cell.request s.device bytes)
 
 -- the job is done
 next-done : (s : State) (event : Event) (cell : Cell) (word : ℕ) (bytes : List ℕ) → (share_of s event).told ≡ Some (host.Got bytes) →

@@ -1,16 +1,15 @@
-ghost use Rattle.std.specs.Prelude.{◌≡◌, ◌<◌, true, slice_set};
+ghost use Rattle.std.specs.Prelude.{◌≡◌, true};
 ghost use Rattle.pm_table.specs.Cell.{cell_accepts};
 ghost use Rattle.pm_model.specs.Settings.{IsCell};
 ghost use Rattle.pm_device.specs.declared.act.Act.TheVariants as act;
 ghost use Rattle.pm_device.specs.declared.verdict.Verdict.TheVariants as verdict;
 ghost use Rattle.pm_device.specs.Verdict.{IsFit, CanAct};
 ghost use Rattle.pm_device.specs.Effect.{Heard};
-ghost use Rattle.pm_device.specs.History.{after, cleared, latched};
+ghost use Rattle.pm_device.specs.History.{after};
 
 use crate::act::Act;
 use crate::cml_latches::CmlLatches;
 use crate::converter::Converter;
-use crate::cut::{is_output_cut, latch_each};
 use crate::status_bits::StatusVout;
 use crate::verdict::Verdict;
 use bitflags::Flags;
@@ -61,7 +60,7 @@ impl Converter {
         ensures { self.new ≡ after self.old (Heard (verdict.Takes act.Restore)) }
     {
         self.settings.take_outputs(&self.store);
-        self.cut = latch_each(self.cut, &self.config, &self.formats, &self.settings);
+        self.latch_all();
     }
 
     // Gives a cell a word, and latches that its output is outside its limits, where it is.
@@ -75,29 +74,5 @@ impl Converter {
         if let Cell::Out(output, _) = cell {
             self.latch(output);
         }
-    }
-
-    // Latches that an output's selected value is outside its limits, where it is.
-    fn latch(&mut self, output: u8)
-        requires { output < self.old.config.count }
-        ensures { self.new ≡ record self.old {
-          cut = latched self.old.config self.old.words self.old.cut output;
-        } }
-    {
-        let place = usize::from(output);
-        if is_output_cut(&self.config, &self.formats, &self.settings, place) {
-            self.cut[place] = true;
-        }
-    }
-
-    // Clears the latch of an output; what is outside its limits now shows at once.
-    fn unlatch(&mut self, output: u8)
-        requires { output < self.old.config.count }
-        ensures { self.new ≡ record self.old {
-          cut = cleared self.old.config self.old.words self.old.cut output;
-        } }
-    {
-        let place = usize::from(output);
-        self.cut[place] = is_output_cut(&self.config, &self.formats, &self.settings, place);
     }
 }

@@ -54,6 +54,7 @@ impl Converter {
             Message::ReadCommand { code } => {
                 self.register_answer(request, self.page, Code(code))
             }
+            // COEFFICIENTS, the only other read.
             _ => answer(addr, request, &self.config.coefficients.bytes()),
         }
     }

@@ -1,8 +1,8 @@
-ghost use Rattle.std.specs.Prelude.{◌≡◌, ◌<◌};
+ghost use Rattle.std.specs.Prelude.{◌≡◌, ◌<◌, ◌==◌, not};
 ghost use Rattle.pm_device.specs.Status as spec;
 
 use crate::converter::Converter;
-use crate::status_bits::{StatusByte, StatusVout, StatusWord};
+use crate::status_bits::{OutputStatus, StatusByte, StatusVout, StatusWord};
 use bitflags::Flags;
 
 impl Converter {
@@ -11,8 +11,7 @@ impl Converter {
         requires { output < self.now.config.count }
         ensures { result ≡ spec.status_byte self.now output }
     {
-        let off = !self.is_on(output);
-        StatusByte::new(off, self.status_cml() != 0, self.is_latched(output)).bits()
+        StatusByte::new(self.output_status(output)).bits()
     }
 
     /// STATUS_WORD of an output that exists: the bits of [`StatusWord`].
@@ -20,8 +19,7 @@ impl Converter {
         requires { output < self.now.config.count }
         ensures { result ≡ spec.status_word self.now output }
     {
-        let off = !self.is_on(output);
-        StatusWord::new(off, self.status_cml() != 0, self.is_latched(output)).bits()
+        StatusWord::new(self.output_status(output)).bits()
     }
 
     /// STATUS_VOUT of an output that exists: the bits of [`StatusVout`].
@@ -37,6 +35,20 @@ impl Converter {
         ensures { result ≡ spec.status_cml self.now }
     {
         self.faults.status().bits()
+    }
+
+    // What STATUS_BYTE and STATUS_WORD of an output are made of.
+    fn output_status(&self, output: u8) -> OutputStatus
+        requires { output < self.now.config.count }
+        ensures off { result.off ≡ not (spec.is_on self.now output) }
+        ensures cml { result.cml ≡ not (spec.status_cml self.now == 0) }
+        ensures vout { result.vout ≡ spec.cut_at self.now.cut output }
+    {
+        OutputStatus {
+            off: !self.is_on(output),
+            cml: self.status_cml() != 0,
+            vout: self.is_latched(output),
+        }
     }
 
     // Whether bit 3 of an output's STATUS_VOUT is latched.

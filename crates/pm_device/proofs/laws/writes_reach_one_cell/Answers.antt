@@ -1,4 +1,4 @@
-use Rattle.pm_device.proofs.WriteEffects.{requested, faulty, heard-write, cell-written, carried, plain-protect, selected, cleared}
+use Rattle.pm_device.proofs.WriteEffects.{kept-next, requested, faulty, heard-write, cell-written, carried, plain-protect, selected, cleared}
 use Rattle.pm_device.proofs.WriteEffects.{stored, restored}
 use Rattle.pm_device.proofs.laws.writes_reach_one_cell.Goals as goal
 
@@ -6,6 +6,7 @@ pub returns : goal.returns
 returns c =
     let exact = c.writes_are_exact.ensures in
     record {
+      kept = kept-next;
       request = requested;
       faulty = faulty;
       write = heard-write exact;

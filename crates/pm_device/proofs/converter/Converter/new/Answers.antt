@@ -1,20 +1,19 @@
-use Rattle.std.proofs.Common.{sym, ◌∙◌, ap, length, arith}
+use Rattle.std.proofs.Common.{refl, sym, ◌∙◌, ap, arith}
 use Rattle.pm_model.specs.Settings.{Settings}
 use Rattle.pm_device.proofs.StartLemmas.{sound}
-use Rattle.pm_device.proofs.CutLemmas.{length-each_output}
 use Rattle.pm_device.proofs.converter.Converter.new.Goals as goal
 
 pub start_settings-settings-requires : goal.start_settings-settings-requires
 start_settings-settings-requires c = sound c.args.c (sym c.config_fault.ensures ∙ c.in_default.is)
 
-pub invariant_of-result : goal.invariant_of-result
-invariant_of-result c = record {
+pub invariant_of-made : goal.invariant_of-made
+invariant_of-made c = record {
   sound = sound c.args.c (sym c.config_fault.ensures ∙ c.in_default.is);
   shapes = c.formats_of-formats.ensures;
   counted = c.start_settings-settings.ensures.count;
   store = ap (λ (s : Settings). s.count) c.copied.ensures ∙ c.start_settings-settings.ensures.count;
   selected = omega (arith, (sound c.args.c (sym c.config_fault.ensures ∙ c.in_default.is)).some);
-  latches = ap length c.each_cut-cut.ensures ∙ length-each_output _;
+  latches = refl;
 }
 
 pub returns-clause-sound : goal.returns-clause-sound
