@@ -1,7 +1,7 @@
 -- A world whose ends were told something.
 use Rattle.std.proofs.Common.{◌≡◌, ℕ, true, Option, Some, None, Ok, refl, sym, ◌∙◌, ap, subst}
-use Rattle.std.specs.Prelude.{IsSomeAnd}
-use Rattle.std.specs.Option.{option_or}
+use Rattle.std.specs.Prelude.{IsSome}
+use Rattle.std.specs.Option.{option_map_or, option_or}
 use Rattle.pm_device.specs.Held.{Held}
 use Rattle.pm_host.specs.declared.job_end.JobEnd.{JobEnd}
 use Rattle.pm_host.specs.Summary.{Summary, next as host_next, step_of}
@@ -31,21 +31,17 @@ unfolding step_of
 begun-next s (Order cell word) = refl
 begun-next s job = refl
 
--- a job that there is
-some-job : (job : Option Job) (holds : Job → Type 0) → IsSomeAnd job holds → (found : Job) × (job ≡ Some found) × holds found
-some-job None holds h = absurd h
-some-job (Some job) holds h = (job, refl, h)
-
 -- the host accepts the job that an event asks for, and the event happened
 pub begun : (s inside : State) (event : Event) (new : Summary) → inside ≡ s → Asks inside.host event (Ok true) new →
     Acts s event (Ok tt) (state inside.device new None inside.taken)
-begun s inside event new view (free, accepted) =
-    let found = some-job (asked inside event) _ accepted in
-    subst (λ (t : State). Acts t event (Ok tt) (state inside.device new None inside.taken)) view (
-      ap (λ fault. option_or (refused fault) (cause_beside inside event)) free
-          ∙ asked-beside inside event found.0 found.1,
-      asked-word inside event found.0 found.1,
-      host-told inside inside new None (Accepted found.0) refl found.2
-          (sym (ap end_by (begun-next inside.host found.0)))
-          ∙ ap (shared inside) (sym (asked-share inside event found.0 found.1)),
-    )
+begun s inside event new view (free, some, told) = go (asked inside event) refl some where
+  go : (o : Option Job) → asked inside event ≡ o → IsSome o → Acts s event (Ok tt) (state inside.device new None inside.taken)
+  go None asks is = cc
+  go (Some job) asks is = subst (λ (t : State). Acts t event (Ok tt) (state inside.device new None inside.taken)) view (
+    ap (λ fault. option_or (refused fault) (cause_beside inside event)) free ∙ asked-beside inside event job asks,
+    asked-word inside event job asks,
+    host-told inside inside new None (Accepted job) refl
+        (told ∙ ap (λ o'. option_map_or (λ j. host_next inside.host (Accepted j)) o' inside.host) asks)
+        (sym (ap end_by (begun-next inside.host job)))
+        ∙ ap (shared inside) (sym (asked-share inside event job asks)),
+  )

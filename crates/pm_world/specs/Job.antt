@@ -1,5 +1,5 @@
 -- What an event asks a host for, and what the host says to it: this project's own choice.
-use Rattle.std.specs.Prelude.{◌≡◌, ℕ, ℤ, Bool, true, false, Option, Some, None, IsSomeAnd, option_map, option_and_then, Result, Ok, Err}
+use Rattle.std.specs.Prelude.{◌≡◌, ℕ, ℤ, Bool, true, false, Option, Some, None, IsSome, option_map, option_and_then, Result, Ok, Err}
 use Rattle.std.specs.Option.{option_map_or}
 use Rattle.pm_table.specs.declared.cell.Cell.{Cell}
 use Rattle.pm_host.specs.declared.command.Command.TheVariants.{ClearFaults, StoreUserAll, RestoreUserAll}
@@ -48,10 +48,10 @@ refusal_of s event = option_and_then (request_fault s) (request_of event)
 abbrev pub with_job : Summary → Event → Summary
 with_job s event = option_map_or (λ asked. next s (host.Accepted asked)) (job_of s event) s
 
--- What a call that asks a host for the job of an event comes to: it is accepted, there is none, or the host
--- refuses it, and then nothing changes.
+-- What a call that asks a host for the job of an event comes to: the job is accepted, there is none, or the
+-- host refuses it; in the last two cases nothing changes.
 abbrev pub Asks : Summary → Event → Result Bool HostFault → Summary → Type 0
 Asks old event (Ok true) new =
-    (refusal_of old event ≡ None) × IsSomeAnd (job_of old event) (λ asked. new ≡ next old (host.Accepted asked))
+    (refusal_of old event ≡ None) × IsSome (job_of old event) × (new ≡ with_job old event)
 Asks old event (Ok false) new = (request_of event ≡ None) × (new ≡ old)
 Asks old event (Err fault) new = (refusal_of old event ≡ Some fault) × (new ≡ old)

@@ -26,7 +26,7 @@ pub(crate) fn event_line(form: Form, line: Line<'_>, event: &mut Event) -> Resul
 }
 
 // The words of an event line, of which the first decides.
-#[tactic(auto, using(crate::proofs::NameLemmas::other_name), unfolding(crate::specs::EventLines::event_line, crate::specs::EventLines::job_line))]
+#[tactic(auto, unfolding(crate::specs::EventLines::event_line, crate::specs::EventLines::job_line))]
 fn read_event(form: Form, fields: &mut Fields<'_>, event: &mut Event) -> Result<(), ScenarioFault>
     ensures { ReadsTo result event.new fields.new (spec.event_line form fields.old) }
 {
