@@ -1,3 +1,4 @@
+mod AskLemmas
 mod GotLemmas
 pub mod Joins
 mod SendLemmas

@@ -1,43 +1,43 @@
 -- The lines that are said to a host, each with its words in their order. A job is asked for as in a
 -- scenario, by the same readers. This project's own choice.
-use Rattle.std.specs.Prelude.{ℕ, nat_le, nat_lt, if◌then◌else◌, List, [], ◌∷◌, length, Option, Some, None, option_map, option_and_then, Result, Ok, Err, codes}
+use Rattle.std.specs.Prelude.{ℕ, nat_le, nat_lt, if◌then◌else◌, List, [], ◌∷◌, length, map, Option, Some, None, option_map, option_and_then, Result, Ok, Err, codes}
 use Rattle.pm_world.specs.declared.event.Event.{Event}
-use Rattle.pm_world.specs.declared.event.Event.TheVariants as event
+use Rattle.pm_world.specs.declared.event.Event.TheVariants.{Finish}
 use Rattle.pm_lines.specs.Bytes.{bytes_before}
 use Rattle.pm_lines.specs.Lines.{without_return}
-use Rattle.pm_text.specs.EventLines.{cell, order_rest, volts_rest, check_rest, learn_rest, clear_rest, finish_rest}
+use Rattle.pm_text.specs.EventLines.{cell, finish_rest, job_lines}
 use Rattle.pm_text.specs.Kinds.{frame_bytes}
-use Rattle.pm_text.specs.Readers.{◌>>=◌, Field, gives, line_as, named, one_of, or_fault}
+use Rattle.pm_text.specs.Readers.{◌>>=◌, Field, gives, line_as, one_of, or_fault}
 use Rattle.pm_text.specs.declared.form.Form.TheVariants.{Second}
 use Rattle.pm_text.specs.declared.scenario.fault.ScenarioFault.{ScenarioFault}
 use Rattle.pm_text.specs.declared.scenario.fault.ScenarioFault.TheVariants as fault
 use Rattle.pm_session.specs.declared.ask.Ask.{Ask}
-use Rattle.pm_session.specs.declared.ask.Ask.TheVariants.{Order, Volts, Check, Learn, Clear, Store, Restore, Finished, Got, Sending, Restart, State, Seen}
+use Rattle.pm_session.specs.declared.ask.Ask.TheVariants.{Job, Finished, Got, Sending, Restart, State, Seen}
 use Rattle.pm_session.specs.declared.refusal.Refusal.{Refusal}
 use Rattle.pm_session.specs.declared.refusal.Refusal.TheVariants.{Syntax, BadHex, TooLong}
 
--- what an event of a scenario asks of the host; X1 for one that asks nothing of it
-abbrev pub asked_as : Event → Field Ask
-asked_as (event.Order ordered word) left = gives (Order ordered word) left
-asked_as (event.OrderMicro ordered microvolts) left = gives (Volts ordered microvolts) left
-asked_as (event.Check checked) left = gives (Check checked) left
-asked_as (event.Learn output) left = gives (Learn output) left
-asked_as (event.Clear output) left = gives (Clear output) left
-asked_as event.Store left = gives Store left
-asked_as event.Restore left = gives Restore left
-asked_as (event.Finish acked) left = gives (Finished acked) left
-asked_as _ left = Err (fault.Syntax left.line)
-
--- what follows the first word of a line that asks what a scenario's event does
+-- what follows the first word of a line that asks for a job
 abbrev pub asking : Field Event → Field Ask
 asking read = do
   event ← read
-  asked_as event
+  gives (Job event)
 
--- what a reader reads, where there is one; else X1
-abbrev pub or_syntax : Option (Field Ask) → Field Ask
-or_syntax (Some read) left = read left
-or_syntax None left = Err (fault.Syntax left.line)
+-- the lines of a scenario that ask for a job
+abbrev pub asking_line : List ℕ × Field Event → List ℕ × Field Ask
+asking_line line = (line.0, asking line.1)
+
+abbrev pub jobs : List (List ℕ × Field Ask)
+jobs = map asking_line (job_lines Second)
+
+-- what the end of a write is told as; X1 for every other event, which `finish` never gives
+abbrev pub finished_as : Event → Field Ask
+finished_as (Finish acked) left = gives (Finished acked) left
+finished_as _ left = Err (fault.Syntax left.line)
+
+unfoldable pub finished_rest : Field Ask
+finished_rest = do
+  event ← finish_rest
+  finished_as event
 
 -- the bytes that came back, at most 16 of them
 abbrev pub as_answer : List ℕ → Option (List ℕ)
@@ -62,31 +62,15 @@ state_rest = do
   named ← cell Second
   gives (State named)
 
--- the lines that ask for no job
-abbrev pub no_jobs : List (List ℕ × Field Ask)
-no_jobs =
+-- a line: its first word, and the words that follow it
+unfoldable pub ask_line : Field Ask
+ask_line = one_of (
+    (codes "finished", finished_rest) ∷
     (codes "got", got_rest) ∷
     (codes "sending", gives Sending) ∷
     (codes "restart", gives Restart) ∷
     (codes "state", state_rest) ∷
-    (codes "seen", gives Seen) ∷ []
-
--- the words that follow this first one, where that asks for no job
-abbrev pub no_job_rest : List ℕ → Field Ask
-no_job_rest name = or_syntax (named no_jobs name)
-
--- a line: its first word, and the words that follow it
-unfoldable pub ask_line : Field Ask
-ask_line = one_of (
-    (codes "order", asking (order_rest Second)) ∷
-    (codes "volts", asking (volts_rest Second)) ∷
-    (codes "check", asking (check_rest Second)) ∷
-    (codes "learn", asking learn_rest) ∷
-    (codes "clear", asking clear_rest) ∷
-    (codes "store", asking (gives event.Store)) ∷
-    (codes "restore", asking (gives event.Restore)) ∷
-    (codes "finished", asking finish_rest) ∷
-    no_jobs)
+    (codes "seen", gives Seen) ∷ jobs)
 
 -- the most bytes that a line may have before its line feed
 abbrev pub max_line : ℕ

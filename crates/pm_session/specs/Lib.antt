@@ -7,4 +7,4 @@ pub mod ReplyText
 pub mod Session
 pub mod Talk
 -- How it is kept.
-pub mod PortLaws
+pub mod Lemmas

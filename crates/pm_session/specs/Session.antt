@@ -1,20 +1,20 @@
 -- What a host answers to a line, and what it is then. This project's own choice.
-use Rattle.std.specs.Prelude.{ℕ, ◌-◌, ℤ, if◌then◌else◌, List, Option, Some, None, Result, Ok, Err, is_none, unwrap_or}
+use Rattle.std.specs.Prelude.{ℕ, ◌-◌, if◌then◌else◌, List, Option, Some, None, Result, Ok, Err, is_none}
 use Rattle.std.specs.Option.{option_map_or}
 use Rattle.pm_table.specs.declared.cell.Cell.{Cell}
 use Rattle.pm_frame.specs.declared.message.Message.{Message}
 use Rattle.pm_frame.specs.Fault.{whole_answer}
 use Rattle.pm_frame.specs.Layout.{is_read_message}
 use Rattle.pm_host.specs.Cells.{is_cell}
-use Rattle.pm_host.specs.Refusals.{cell_fault, command_fault, may_come, micro_fault, micro_word, order_fault, output_fault}
+use Rattle.pm_host.specs.Refusals.{may_come}
 use Rattle.pm_host.specs.Summary.{Summary, next, possible_at, sending_in, standing_at, step_of}
 use Rattle.pm_host.specs.Transcript as host
-use Rattle.pm_host.specs.declared.command.Command.{Command}
-use Rattle.pm_host.specs.declared.command.Command.TheVariants.{ClearFaults, StoreUserAll, RestoreUserAll}
 use Rattle.pm_host.specs.declared.fault.HostFault.{HostFault}
 use Rattle.pm_host.specs.declared.fault.HostFault.TheVariants.{UnknownOutput}
 use Rattle.pm_host.specs.declared.step.Step.{Step}
 use Rattle.pm_host.specs.declared.step.Step.TheVariants as step
+use Rattle.pm_world.specs.declared.event.Event.{Event}
+use Rattle.pm_world.specs.Job.{refusal_of, with_job}
 use Rattle.pm_world.specs.Legal.{frame_of}
 use Rattle.pm_session.specs.AskLines.{ask_of}
 use Rattle.pm_session.specs.declared.ask.Ask.{Ask}
@@ -46,14 +46,10 @@ send_of addr message = if is_read_message message
 unfoldable pub sending_reply : Summary → Reply
 sending_reply s = option_map_or (send_of s.setup.addr) (sending_in s) Idle
 
--- a job is refused, or begins with its first frame
-abbrev pub begins : Summary → Option HostFault → host.Job → Answered
-begins s (Some fault) job = refuses s (Host fault)
-begins s None job = record { reply = sending_reply (next s (host.Accepted job)); after = next s (host.Accepted job) }
-
--- a job that sends a command
-abbrev pub sends : Summary → Command → Answered
-sends s command = begins s (command_fault s command) (host.Send command)
+-- the job of an event is refused, or begins with its first frame
+abbrev pub begins : Summary → Event → Option HostFault → Answered
+begins s event (Some fault) = refuses s (Host fault)
+begins s event None = record { reply = sending_reply (with_job s event); after = with_job s event }
 
 -- how a job goes on or ends
 abbrev pub step_reply : Summary → Step → Reply
@@ -76,21 +72,8 @@ knows s cell = if is_cell s.setup.outputs cell
     then stays s (State cell (standing_at s cell) (possible_at s cell))
     else refuses s (Host UnknownOutput)
 
--- an order in microvolts that isn't refused has a word
-abbrev pub volts_job : Summary → Cell → ℤ → host.Job
-volts_job s cell microvolts = host.Order cell (unwrap_or (micro_word s cell microvolts) 0)
-
-unfoldable pub volts : Summary → Cell → ℤ → Answered
-volts s cell microvolts = begins s (micro_fault s cell microvolts) (volts_job s cell microvolts)
-
 abbrev pub answers : Summary → Ask → Answered
-answers s (ask.Order cell word) = begins s (order_fault s cell word) (host.Order cell word)
-answers s (ask.Volts cell microvolts) = volts s cell microvolts
-answers s (ask.Check cell) = begins s (cell_fault s cell) (host.Check cell)
-answers s (ask.Learn output) = begins s (output_fault s output) (host.Learn output)
-answers s (ask.Clear output) = sends s (ClearFaults output)
-answers s ask.Store = sends s StoreUserAll
-answers s ask.Restore = sends s RestoreUserAll
+answers s (ask.Job event) = begins s event (refusal_of s event)
 answers s (ask.Finished acked) = tells s (host.Finished acked)
 answers s (ask.Got frame) = tells s (host.Got frame.items)
 answers s ask.Sending = stays s (sending_reply s)

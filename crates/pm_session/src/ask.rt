@@ -1,23 +1,13 @@
 use pm_frame::Frame;
 use pm_table::Cell;
+use pm_world::Event;
 
 /// What a line asks of the host.
 #[derive(Debug, Drop)]
 pub enum Ask {
-    /// `order O NAME HEX`, or `order - WRITE_PROTECT HH`: to write a word to a cell and to read it back.
-    Order(Cell, u16),
-    /// `volts O NAME K`: the same for a voltage, in microvolts.
-    Volts(Cell, i64),
-    /// `check O NAME`, or `check - WRITE_PROTECT`: to read a cell.
-    Check(Cell),
-    /// `learn O`: to read the format of an output's voltages.
-    Learn(u8),
-    /// `clear O`: to clear an output's latched status.
-    Clear(u8),
-    /// `store`: to have the outputs' settings stored, for a restart of the device to load.
-    Store,
-    /// `restore`: to have the outputs' stored settings back.
-    Restore,
+    /// `order O NAME HEX`, and each other line of a scenario that asks the host for a job: that of this event.
+    /// No line gives an event that asks for none; it would be answered as `sending`.
+    Job(Event),
     /// `finished ack` or `finished nack`: the write was sent, and acknowledged or not.
     Finished(bool),
     /// `got B1 02 CD 34 B9`: the request was sent, and these bytes came back, the read address first;

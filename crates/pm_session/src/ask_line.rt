@@ -1,19 +1,13 @@
 //! The lines that are said to a host.
 ghost use Rattle.std.specs.Prelude.{◌≡◌, ◌≤◌, length, option_map};
-ghost use Rattle.pm_text.specs.EventLines.{check_rest, clear_rest, finish_rest, learn_rest, order_rest, volts_rest};
-ghost use Rattle.pm_text.specs.Readers.{Reads, line_as};
-ghost use Rattle.pm_text.specs.declared.form.Form.TheVariants.{Second};
-ghost use Rattle.pm_session.specs.AskLines.{ask_line, ask_of, asked_as, asking, got_rest};
-ghost use Rattle.pm_session.specs.AskLines.{no_job_rest, state_rest};
+ghost use Rattle.pm_text.specs.Readers.{Reads, line_as, one_of};
+ghost use Rattle.pm_session.specs.AskLines.{ask_line, ask_of, finished_rest, got_rest, jobs, state_rest};
 
 use crate::ask::Ask;
 use crate::refusal::Refusal;
 use pm_frame::Frame;
 use pm_lines::{Line, without_carriage_return};
-use pm_text::{
-    Fields, Form, ScenarioFault, frame_of, read_cell, read_check, read_clear, read_finish,
-    read_learn, read_order, read_volts,
-};
+use pm_text::{Fields, Form, ScenarioFault, frame_of, read_cell, read_finish, read_job};
 use pm_world::Event;
 
 // The most bytes that a line may have before its line feed.
@@ -57,107 +51,41 @@ fn read_line(line: Line<'_>) -> Result<Ask, ScenarioFault>
 fn read_words(fields: &mut Fields<'_>) -> Result<Ask, ScenarioFault>
     ensures { Reads result fields.new (ask_line fields.old) }
 {
-    let name = fields.word()?;
-    if name == b"order".as_slice() {
-        order(fields)
-    } else if name == b"volts".as_slice() {
-        volts(fields)
-    } else if name == b"check".as_slice() {
-        check(fields)
-    } else if name == b"learn".as_slice() {
-        learn(fields)
-    } else if name == b"clear".as_slice() {
-        clear(fields)
-    } else if name == b"store".as_slice() {
-        asked(Event::Store, fields)
-    } else if name == b"restore".as_slice() {
-        asked(Event::Restore, fields)
-    } else if name == b"finished".as_slice() {
+    if fields.takes("finished") {
         finished(fields)
-    } else {
-        read_no_job(name, fields)
-    }
-}
-
-// The words that follow the first one, where that asks for no job.
-fn read_no_job(name: &[u8], fields: &mut Fields<'_>) -> Result<Ask, ScenarioFault>
-    ensures { Reads result fields.new (no_job_rest name.now fields.old) }
-{
-    if name == b"got".as_slice() {
+    } else if fields.takes("got") {
         got(fields)
-    } else if name == b"sending".as_slice() {
+    } else if fields.takes("sending") {
         Ok(Ask::Sending)
-    } else if name == b"restart".as_slice() {
+    } else if fields.takes("restart") {
         Ok(Ask::Restart)
-    } else if name == b"state".as_slice() {
+    } else if fields.takes("state") {
         state(fields)
-    } else if name == b"seen".as_slice() {
+    } else if fields.takes("seen") {
         Ok(Ask::Seen)
     } else {
-        Err(fields.syntax())
+        job(fields)
     }
 }
 
-fn order(fields: &mut Fields<'_>) -> Result<Ask, ScenarioFault>
-    ensures { Reads result fields.new (asking (order_rest Second) fields.old) }
+// A line that asks for a job.
+#[tactic(auto, using(crate::proofs::AskLemmas::one_job), unfolding(pm_text::specs::EventLines::job_line))]
+fn job(fields: &mut Fields<'_>) -> Result<Ask, ScenarioFault>
+    ensures { Reads result fields.new (one_of jobs fields.old) }
 {
     let mut event = NO_EVENT;
-    read_order(Form::Second, fields, &mut event)?;
-    asked(event, fields)
+    read_job(Form::Second, fields, &mut event)?;
+    Ok(Ask::Job(event))
 }
 
-fn volts(fields: &mut Fields<'_>) -> Result<Ask, ScenarioFault>
-    ensures { Reads result fields.new (asking (volts_rest Second) fields.old) }
-{
-    let mut event = NO_EVENT;
-    read_volts(Form::Second, fields, &mut event)?;
-    asked(event, fields)
-}
-
-fn check(fields: &mut Fields<'_>) -> Result<Ask, ScenarioFault>
-    ensures { Reads result fields.new (asking (check_rest Second) fields.old) }
-{
-    let mut event = NO_EVENT;
-    read_check(Form::Second, fields, &mut event)?;
-    asked(event, fields)
-}
-
-fn learn(fields: &mut Fields<'_>) -> Result<Ask, ScenarioFault>
-    ensures { Reads result fields.new (asking learn_rest fields.old) }
-{
-    let mut event = NO_EVENT;
-    read_learn(fields, &mut event)?;
-    asked(event, fields)
-}
-
-fn clear(fields: &mut Fields<'_>) -> Result<Ask, ScenarioFault>
-    ensures { Reads result fields.new (asking clear_rest fields.old) }
-{
-    let mut event = NO_EVENT;
-    read_clear(fields, &mut event)?;
-    asked(event, fields)
-}
-
+// `finished ack` or `finished nack`.
+#[tactic(auto, unfolding(crate::specs::AskLines::finished_rest))]
 fn finished(fields: &mut Fields<'_>) -> Result<Ask, ScenarioFault>
-    ensures { Reads result fields.new (asking finish_rest fields.old) }
+    ensures { Reads result fields.new (finished_rest fields.old) }
 {
     let mut event = NO_EVENT;
     read_finish(fields, &mut event)?;
-    asked(event, fields)
-}
-
-// What an event of a scenario asks of the host: X1 for one that asks nothing of it.
-fn asked(event: Event, fields: &Fields<'_>) -> Result<Ask, ScenarioFault>
-    ensures { Reads result fields.now (asked_as event fields.now) }
-{
     match event {
-        Event::Order(cell, word) => Ok(Ask::Order(cell, word)),
-        Event::OrderMicro(cell, microvolts) => Ok(Ask::Volts(cell, microvolts)),
-        Event::Check(cell) => Ok(Ask::Check(cell)),
-        Event::Learn(output) => Ok(Ask::Learn(output)),
-        Event::Clear(output) => Ok(Ask::Clear(output)),
-        Event::Store => Ok(Ask::Store),
-        Event::Restore => Ok(Ask::Restore),
         Event::Finish(acked) => Ok(Ask::Finished(acked)),
         _ => Err(fields.syntax()),
     }

@@ -2,9 +2,8 @@
 ghost use Rattle.std.specs.Prelude.{◌≡◌, true};
 ghost use Rattle.pm_table.specs.Cell.{IsCell};
 ghost use Rattle.pm_host.specs.Cells.{is_cell};
-ghost use Rattle.pm_host.specs.Refusals.{cell_fault, micro_fault, order_fault, output_fault};
 ghost use Rattle.pm_host.specs.Transcript.{Got};
-ghost use Rattle.pm_session.specs.Session.{answer_to, answers, sending_reply, sends, step_reply, tells, volts as spec_volts};
+ghost use Rattle.pm_session.specs.Session.{answer_to, answers, sending_reply, step_reply, tells};
 ghost use Rattle.pm_session.specs.declared.ask.Ask.TheVariants as ask;
 
 use crate::ask::Ask;
@@ -12,8 +11,9 @@ use crate::ask_line::read_ask;
 use crate::refusal::Refusal;
 use crate::reply::Reply;
 use pm_frame::Frame;
-use pm_host::{Command, Host, HostFault, Step, Told, Turn};
+use pm_host::{Host, HostFault, Step, Told, Turn};
 use pm_table::Cell;
+use pm_world::{Event, ask as ask_host};
 
 /// Answers a line, which is without its line feed. The answer and the host after it are those that the
 /// host's own model has for the line; a refused line changes nothing. It takes no memory.
@@ -33,13 +33,7 @@ fn answer(host: &mut Host, ask: Ask) -> Reply
     ensures after { host.new ≡ (answers host.old ask).after }
 {
     match ask {
-        Ask::Order(cell, word) => order(host, cell, word),
-        Ask::Volts(cell, microvolts) => volts(host, cell, microvolts),
-        Ask::Check(cell) => check(host, cell),
-        Ask::Learn(output) => learn(host, output),
-        Ask::Clear(output) => send(host, Command::ClearFaults { output }),
-        Ask::Store => send(host, Command::StoreUserAll),
-        Ask::Restore => send(host, Command::RestoreUserAll),
+        Ask::Job(event) => job(host, &event),
         Ask::Finished(acked) => finished(host, acked),
         Ask::Got(frame) => got(host, frame.as_slice()),
         Ask::Sending => sending(host),
@@ -52,54 +46,13 @@ fn answer(host: &mut Host, ask: Ask) -> Reply
     }
 }
 
-fn order(host: &mut Host, cell: Cell, word: u16) -> Reply
-    ensures reply { result ≡ (answers host.old (ask.Order cell word)).reply }
-    ensures after { host.new ≡ (answers host.old (ask.Order cell word)).after }
+// A job begins with its first frame, or is refused.
+fn job(host: &mut Host, event: &Event) -> Reply
+    ensures reply { result ≡ (answers host.old (ask.Job event.now)).reply }
+    ensures after { host.new ≡ (answers host.old (ask.Job event.now)).after }
 {
-    match host.order(cell, word) {
-        Ok(()) => sending(host),
-        Err(fault) => Reply::Refused(Refusal::Host(fault)),
-    }
-}
-
-#[tactic(auto, unfolding(crate::specs::Session::volts))]
-fn volts(host: &mut Host, cell: Cell, microvolts: i64) -> Reply
-    ensures reply { result ≡ (spec_volts host.old cell microvolts).reply }
-    ensures after { host.new ≡ (spec_volts host.old cell microvolts).after }
-{
-    match host.order_micro(cell, microvolts) {
-        Ok(()) => sending(host),
-        Err(fault) => Reply::Refused(Refusal::Host(fault)),
-    }
-}
-
-fn check(host: &mut Host, cell: Cell) -> Reply
-    ensures reply { result ≡ (answers host.old (ask.Check cell)).reply }
-    ensures after { host.new ≡ (answers host.old (ask.Check cell)).after }
-{
-    match host.check(cell) {
-        Ok(()) => sending(host),
-        Err(fault) => Reply::Refused(Refusal::Host(fault)),
-    }
-}
-
-fn learn(host: &mut Host, output: u8) -> Reply
-    ensures reply { result ≡ (answers host.old (ask.Learn output)).reply }
-    ensures after { host.new ≡ (answers host.old (ask.Learn output)).after }
-{
-    match host.learn(output) {
-        Ok(()) => sending(host),
-        Err(fault) => Reply::Refused(Refusal::Host(fault)),
-    }
-}
-
-// A job that sends a command.
-fn send(host: &mut Host, command: Command) -> Reply
-    ensures reply { result ≡ (sends host.old command).reply }
-    ensures after { host.new ≡ (sends host.old command).after }
-{
-    match host.send(command) {
-        Ok(()) => sending(host),
+    match ask_host(host, event) {
+        Ok(_) => sending(host),
         Err(fault) => Reply::Refused(Refusal::Host(fault)),
     }
 }

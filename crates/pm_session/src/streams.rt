@@ -20,7 +20,7 @@ impl<R: Read, W: Write> Port for Streams<R, W> {
     ghost use Rattle.std.specs.Io.KnownBytes.{Appends, Consumes};
     ghost use Rattle.std.proofs.KnownBytes.{Appends-nil, Consumes-nil};
     ghost use Rattle.pm_session.specs.Ports.{bytes_in, bytes_out};
-    ghost use Rattle.pm_session.specs.PortLaws.{appends_joined, consumes_joined};
+    ghost use Rattle.pm_session.specs.Lemmas.Ports.{appends_joined, consumes_joined};
 
     ghost goes = { λ a happenings b.
         Consumes (R.remaining a.source.inner) (R.remaining b.source.inner) (bytes_in happenings)

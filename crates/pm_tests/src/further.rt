@@ -20,6 +20,8 @@ ghost use Rattle.pm_world.specs.declared.event.Event.{Event as Happening};
 ghost use Rattle.pm_world.specs.declared.stop.Cause.TheVariants.{Full};
 
 use pm_device::Config;
+use pm_host::Standing;
+use pm_table::Cell as Place;
 use pm_world::{
     Event, SetupFault, World, confirmed_settings_are_held, frames_are_few,
     honest_orders_go_through, learned_formats_are_true, lives_are_followed, lives_are_orders,
@@ -120,6 +122,24 @@ pub fn words_after_a_step(
     confirmed_settings_are_held();
     possible_words_are_held();
     run_and_step(c, passes, events, more)
+}
+
+/// A cell of the configuration's outputs is one of both ends after a run, and after each step: what the
+/// converter holds there, and what the host says of it.
+pub fn cell_after_a_step(
+    c: Config,
+    passes: u8,
+    events: &[Event],
+    more: &Event,
+    cell: Place,
+) -> Result<(u16, Standing), SetupFault>
+    requires { IsCell c.count cell }
+{
+    let (mut world, _) = World::run(c, passes, events)?;
+    let _ = world.step(more);
+    let word = world.device().word(cell);
+    let standing = world.host().standing(cell);
+    Ok((word, standing))
 }
 
 /// A world takes 281,474,976,710,656 events: from then on each is refused as that, whatever else is

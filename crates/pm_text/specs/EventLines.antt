@@ -131,21 +131,28 @@ reading_rest = do
   output ← field Syntax output_or_device
   reading_at output
 
--- the event lines that the second form alone has: `store` and `restore`, with no more words
+-- the lines of jobs that the second form alone has: `store` and `restore`, with no more words
 abbrev pub store_lines : Form → List (List ℕ × Field Event)
 store_lines First = []
 store_lines Second = (codes "store", gives Store) ∷ (codes "restore", gives Restore) ∷ []
 
--- an event line: its first word, and the words that follow it
-unfoldable pub event_line : Form → Field Event
-event_line form = one_of (
+-- the event lines that ask for a job: the first word of each, and the words that follow it
+abbrev pub job_lines : Form → List (List ℕ × Field Event)
+job_lines form =
     (codes "order", order_rest form) ∷
     (codes "volts", volts_rest form) ∷
     (codes "check", check_rest form) ∷
     (codes "learn", learn_rest) ∷
-    (codes "clear", clear_rest) ∷
+    (codes "clear", clear_rest) ∷ store_lines form
+
+unfoldable pub job_line : Form → Field Event
+job_line form = one_of (job_lines form)
+
+-- an event line: one of these, or one that asks for a job
+unfoldable pub event_line : Form → Field Event
+event_line form = one_of (
     (codes "deliver", deliver_rest) ∷
     (codes "finish", finish_rest) ∷
     (codes "exchange", exchange_rest) ∷
     (codes "restart", restart_rest) ∷
-    (codes "reading", reading_rest) ∷ store_lines form)
+    (codes "reading", reading_rest) ∷ job_lines form)

@@ -1,12 +1,10 @@
 -- The kinds of a scenario's words. The forms are this project's own choice; names are printed as in
 -- PMBus 1.3 Part II.
-use Rattle.std.specs.Prelude.{ℕ, ◌*◌, ◌&&◌, ◌==◌, not, nat_le, if◌then◌else◌, List, [], ◌∷◌, length, map, Option, Some, None, option_map, option_and_then, bytes_eq, codes}
-use Rattle.std.specs.List.{filter}
+use Rattle.std.specs.Prelude.{ℕ, ◌*◌, ◌&&◌, ◌==◌, nat_le, if◌then◌else◌, List, [], ◌∷◌, length, map, take, Option, Some, None, option_map, option_and_then, bytes_eq, codes}
 use Rattle.pm_table.specs.declared.cell.Cell.{Cell}
 use Rattle.pm_table.specs.declared.cell.Cell.TheVariants.{Protect}
 use Rattle.pm_table.specs.declared.cell.Reg.{Reg}
-use Rattle.pm_table.specs.declared.cell.Reg.TheVariants.{VoutMin}
-use Rattle.pm_table.specs.Cell.{cell_bytes, cell_name, register_code, registers, same_register}
+use Rattle.pm_table.specs.Cell.{cell_bytes, cell_name, register_code, registers}
 use Rattle.pm_table.specs.Codes as command
 use Rattle.pm_table.specs.Commands.{name_of}
 use Rattle.pm_lines.specs.Bytes.{word_bytes}
@@ -36,9 +34,9 @@ abbrev pub output_or_device : List ℕ → Option (Option ℕ)
 output_or_device text = if bytes_eq text (codes "-") then Some None
     else option_map (λ output. Some output) (small_of text)
 
--- the registers that texts of a form name: the first form doesn't know VOUT_MIN
+-- the registers that texts of a form name: the first form knows the five that were there when it was made
 abbrev pub registers_of : Form → List Reg
-registers_of First = filter (λ register. not (same_register register VoutMin)) registers
+registers_of First = take 5 registers
 registers_of Second = registers
 
 -- a register by its name in the command table

@@ -41,12 +41,10 @@ pub use replay_end::ReplayEnd;
 pub use replays::replay;
 pub use report::render_report;
 pub use scenario::cells::cell as read_cell;
-pub use scenario::event_line::{
-    check as read_check, clear as read_clear, finish as read_finish, learn as read_learn,
-    order as read_order, volts as read_volts,
-};
+pub use scenario::event_line::finish as read_finish;
 pub use scenario::events::Events;
 pub use scenario::fault::ScenarioFault;
 pub use scenario::fields::Fields;
 pub use scenario::frames::frame_of;
+pub use scenario::job_line::job_line as read_job;
 pub use scenario::{Scenario, read_scenario};

@@ -11,6 +11,7 @@ pub(crate) mod fault;
 pub(crate) mod fields;
 pub(crate) mod frames;
 mod header;
+pub(crate) mod job_line;
 mod rows;
 mod starts;
 

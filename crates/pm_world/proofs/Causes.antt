@@ -1,20 +1,21 @@
 -- Why an event is taken, and the job that it asks for.
 use Rattle.std.proofs.Common.{◌≡◌, ℕ, ℤ, Bool, true, false, not, Option, Some, None, refl, ap, subst}
-use Rattle.std.specs.Prelude.{nat_le, option_map}
+use Rattle.std.specs.Prelude.{nat_le, option_map, IsSome}
 use Rattle.std.specs.Option.{option_or, option_and_then, option_map_or}
 use Rattle.std.proofs.lemmas.Option.{same_Some}
 use Rattle.pm_table.specs.declared.cell.Cell.{Cell}
 use Rattle.pm_table.specs.Cell.{output_of}
-use Rattle.pm_host.specs.declared.command.Command.{Command}
 use Rattle.pm_host.specs.declared.fault.HostFault.{HostFault}
 use Rattle.pm_host.specs.Refusals.{job_fault, order_fault, micro_fault, micro_word, voltage_fault, range_fault}
 use Rattle.pm_host.specs.Summary.{Summary, format_at}
 use Rattle.pm_host.specs.Transcript as host
 use Rattle.pm_world.specs.declared.event.Event.{Event}
-use Rattle.pm_world.specs.declared.event.Event.TheVariants.{OrderMicro, RestartDevice}
+use Rattle.pm_world.specs.declared.event.Event.TheVariants.{Deliver, Exchange, Finish, OrderMicro, RestartDevice}
 use Rattle.pm_world.specs.declared.stop.Cause.{Cause}
 use Rattle.pm_world.specs.declared.stop.Cause.TheVariants.{Full}
 use Rattle.pm_world.specs.Confirmed.{restarts_converter}
+use Rattle.pm_world.specs.Job as ask
+use Rattle.pm_world.specs.Job.{Request, request_of, requested, request_fault, refusal_of}
 use Rattle.pm_world.specs.State.{State, asked, share_of, share_beside, tells, shared, counted, next, rule, refused, event_cause, HasWord}
 use Rattle.pm_world.specs.State.{cause_beside, cause_of, event_limit, IsTaken}
 
@@ -60,34 +61,38 @@ micro-free s cell x job is h =
     word-free s cell (micro_word s cell x) job is
     (or-none (option_and_then (λ w. order_fault s cell w) (micro_word s cell x)) None past_range).0
 
--- and of every other event
-fault-none : (s : Summary) (o : Option host.Job) (beside : Option Cause) (job : host.Job) → o ≡ Some job →
-    option_map_or (λ j. refused (job_fault s j)) o beside ≡ None → job_fault s job ≡ None
-fault-none s None beside job is h = cc
-fault-none s (Some j) beside job is h = subst (λ k. job_fault s k ≡ None) (same_Some j job is) (refused-none _ h)
+-- so of each request
+request-free : (s : Summary) (request : Request) (job : host.Job) → requested s request ≡ Some job →
+    request_fault s request ≡ None → job_fault s job ≡ None
+request-free s (ask.job asked) job is h = subst (λ j. job_fault s j ≡ None) (same_Some asked job is) h
+request-free s (ask.micro cell x) job is h = micro-free s cell x job is h
+
+-- and where there is one
+fault-none : (s : Summary) (request : Option Request) (job : host.Job) → option_and_then (requested s) request ≡ Some job →
+    option_and_then (request_fault s) request ≡ None → job_fault s job ≡ None
+fault-none s None job is h = cc
+fault-none s (Some request) job is h = request-free s request job is h
 
 -- and so of each event
 pub job-free : (s : State) (event : Event) (job : host.Job) → asked s event ≡ Some job → event_cause s event ≡ None →
     job_fault s.host job ≡ None
-job-free s (OrderMicro cell x) job is h = micro-free s.host cell x job is (refused-none _ h)
-job-free s event job is h = fault-none s.host (asked s event) (cause_beside s event) job is h
+job-free s event job is h = fault-none s.host (request_of event) job is
+    (refused-none _ (or-none (refused (refusal_of s.host event)) (cause_beside s event) h).0)
 
--- an event that asks for a command has the cause of that job: no order is one,
-not-command : (word : Option ℕ) (cell : Cell) (command : Command) {A : Type 0} {a b : A} →
-    option_map (λ w. host.Order cell w) word ≡ Some (host.Send command) → a ≡ b
-not-command None cell command h = cc
-not-command (Some word) cell command h = cc
+-- an event that asks for a job has no other cause than the host's refusal
+pub asked-beside : (s : State) (event : Event) (job : host.Job) → asked s event ≡ Some job → cause_beside s event ≡ None
+asked-beside s (Deliver arrival) job is = cc
+asked-beside s (Finish acked) job is = cc
+asked-beside s (Exchange arrival back) job is = cc
+asked-beside s event job is = refl
 
--- and so it has no other cause
-pub sent-cause : (s : State) (event : Event) (command : Command) → asked s event ≡ Some (host.Send command) →
-    event_cause s event ≡ refused (job_fault s.host (host.Send command))
-sent-cause s (OrderMicro cell x) command is = not-command (micro_word s.host cell x) cell command is
-sent-cause s event command is = ap (λ o. option_map_or (λ j. refused (job_fault s.host j)) o (cause_beside s event)) is
-
--- nor has it a word to find
-pub sent-word : (s : State) (event : Event) (command : Command) → asked s event ≡ Some (host.Send command) → HasWord s event
-sent-word s (OrderMicro cell x) command is = not-command (micro_word s.host cell x) cell command is
-sent-word s event command is = tt
+-- and an order in microvolts with a job has a word
+pub asked-word : (s : State) (event : Event) (job : host.Job) → asked s event ≡ Some job → HasWord s event
+asked-word s (OrderMicro cell x) job is = go (micro_word s.host cell x) is where
+  go : (word : Option ℕ) → option_map (λ w. host.Order cell w) word ≡ Some job → IsSome word
+  go None e = cc
+  go (Some word) e = refl
+asked-word s event job is = tt
 
 -- an event that asks for a job tells the host alone, that it was accepted
 pub asked-share : (s : State) (event : Event) (job : host.Job) → asked s event ≡ Some job →

@@ -1,13 +1,16 @@
 -- A world whose ends were told something.
-use Rattle.std.proofs.Common.{◌≡◌, ℕ, Option, Some, None, Ok, refl, sym, ◌∙◌, ap, subst}
+use Rattle.std.proofs.Common.{◌≡◌, ℕ, true, Option, Some, None, Ok, refl, sym, ◌∙◌, ap, subst}
+use Rattle.std.specs.Prelude.{IsSome}
+use Rattle.std.specs.Option.{option_map_or, option_or}
 use Rattle.pm_device.specs.Held.{Held}
 use Rattle.pm_host.specs.declared.job_end.JobEnd.{JobEnd}
 use Rattle.pm_host.specs.Summary.{Summary, next as host_next, step_of}
 use Rattle.pm_host.specs.declared.step.Step.TheVariants.{Next}
 use Rattle.pm_host.specs.Transcript.{Entry, Accepted, Job, Order}
 use Rattle.pm_world.specs.declared.event.Event.{Event}
-use Rattle.pm_world.specs.State.{State, Acts, HasWord, asked, event_cause, shared, tells, end_by}
-use Rattle.pm_world.proofs.Causes.{asked-share}
+use Rattle.pm_world.specs.Job.{Asks}
+use Rattle.pm_world.specs.State.{State, Acts, asked, cause_beside, refused, shared, tells, end_by}
+use Rattle.pm_world.proofs.Causes.{asked-beside, asked-share, asked-word}
 
 -- the parts of a world, put together
 abbrev pub state : Held → Summary → Option JobEnd → ℕ → State
@@ -28,21 +31,17 @@ unfolding step_of
 begun-next s (Order cell word) = refl
 begun-next s job = refl
 
--- the host accepts the job that an event asks for
-pub record Begins (s : State) (event : Event) (job : Job) (new : Summary) : Type 0 where
-  pub free : event_cause s event ≡ None
-  pub word : HasWord s event
-  pub asks : asked s event ≡ Some job
-  pub told : new ≡ host_next s.host (Accepted job)
-
--- and the event happened
-pub begun : (s inside : State) (event : Event) (job : Job) (new : Summary) → inside ≡ s → Begins inside event job new →
+-- the host accepts the job that an event asks for, and the event happened
+pub begun : (s inside : State) (event : Event) (new : Summary) → inside ≡ s → Asks inside.host event (Ok true) new →
     Acts s event (Ok tt) (state inside.device new None inside.taken)
-begun s inside event job new view b =
-    subst (λ (t : State). Acts t event (Ok tt) (state inside.device new None inside.taken)) view (
-      b.free,
-      b.word,
-      host-told inside inside new None (Accepted job) refl b.told
-          (sym (ap end_by (begun-next inside.host job)))
-          ∙ ap (shared inside) (sym (asked-share inside event job b.asks)),
-    )
+begun s inside event new view (free, some, told) = go (asked inside event) refl some where
+  go : (o : Option Job) → asked inside event ≡ o → IsSome o → Acts s event (Ok tt) (state inside.device new None inside.taken)
+  go None asks is = cc
+  go (Some job) asks is = subst (λ (t : State). Acts t event (Ok tt) (state inside.device new None inside.taken)) view (
+    ap (λ fault. option_or (refused fault) (cause_beside inside event)) free ∙ asked-beside inside event job asks,
+    asked-word inside event job asks,
+    host-told inside inside new None (Accepted job) refl
+        (told ∙ ap (λ o'. option_map_or (λ j. host_next inside.host (Accepted j)) o' inside.host) asks)
+        (sym (ap end_by (begun-next inside.host job)))
+        ∙ ap (shared inside) (sym (asked-share inside event job asks)),
+  )

@@ -2,7 +2,7 @@
 use Rattle.std.proofs.Common.{◌≡◌, ℕ, Bool, true, false, not, cond, ◌&&◌, ◌||◌, List, Option, Some, None, is_none, is_some, refl, sym}
 use Rattle.std.proofs.Common.{◌∙◌, ap, subst}
 use Rattle.std.specs.Prelude.{bytes_eq}
-use Rattle.std.specs.Option.{option_map_or}
+use Rattle.std.specs.Option.{option_map_or, option_or}
 use Rattle.std.proofs.lemmas.Bool.{or_right}
 use Rattle.pm_frame.specs.declared.message.Message.{Message}
 use Rattle.pm_frame.specs.Fault.{whole_answer}
@@ -13,7 +13,7 @@ use Rattle.pm_device.specs.Reply.{reply_of}
 use Rattle.pm_host.specs.declared.command.Command.TheVariants.{ClearFaults, StoreUserAll, RestoreUserAll}
 use Rattle.pm_host.specs.declared.fault.HostFault.{HostFault}
 use Rattle.pm_host.specs.Answers.{good_payload}
-use Rattle.pm_host.specs.Refusals.{job_fault, may_come}
+use Rattle.pm_host.specs.Refusals.{may_come}
 use Rattle.pm_host.specs.Summary.{sending_in}
 use Rattle.pm_host.specs.Transcript as host
 use Rattle.pm_world.specs.Below.{Below}
@@ -54,14 +54,19 @@ job-asked s (host.Send (ClearFaults output)) = refl
 job-asked s (host.Send StoreUserAll) = refl
 job-asked s (host.Send RestoreUserAll) = refl
 
--- which has no other cause than the job
-job-cause : (s : State) (job : host.Job) → event_cause s (job_event job) ≡ refused (job_fault s.host job)
-job-cause s (host.Order cell word) = refl
-job-cause s (host.Check cell) = refl
-job-cause s (host.Learn output) = refl
-job-cause s (host.Send (ClearFaults output)) = refl
-job-cause s (host.Send StoreUserAll) = refl
-job-cause s (host.Send RestoreUserAll) = refl
+-- no fault is no cause
+unrefused : (fault : Option HostFault) → is_none fault ≡ true → option_or (refused fault) None ≡ None
+unrefused None h = refl
+unrefused (Some fault) h = cc
+
+-- which has no other cause than the job,
+job-cause : (s : State) (job : host.Job) → may_come s.host (host.Accepted job) ≡ true → event_cause s (job_event job) ≡ None
+job-cause s (host.Order cell word) may = unrefused _ may
+job-cause s (host.Check cell) may = unrefused _ may
+job-cause s (host.Learn output) may = unrefused _ may
+job-cause s (host.Send (ClearFaults output)) may = unrefused _ may
+job-cause s (host.Send StoreUserAll) may = unrefused _ may
+job-cause s (host.Send RestoreUserAll) may = unrefused _ may
 
 -- has no word to find
 job-word : (s : State) (job : host.Job) → HasWord s (job_event job)
@@ -81,15 +86,10 @@ job-steady (host.Send (ClearFaults output)) = refl
 job-steady (host.Send StoreUserAll) = refl
 job-steady (host.Send RestoreUserAll) = refl
 
--- no fault is no cause
-unrefused : (fault : Option HostFault) → is_none fault ≡ true → refused fault ≡ None
-unrefused None h = refl
-unrefused (Some fault) h = cc
-
 -- a job that may come is accepted
 pub job-tells : (s : State) (job : host.Job) → may_come s.host (host.Accepted job) ≡ true → Tells s (job_event job) (host.Accepted job)
 job-tells s job may = record {
-  legal = record { free = job-cause s job ∙ unrefused (job_fault s.host job) may; word = job-word s job };
+  legal = record { free = job-cause s job may; word = job-word s job };
   steady = job-steady job;
   told = ap (λ share. share.told) (asked-share s (job_event job) job (job-asked s job));
   kept = ap (λ (t : State). t.device.words) (asked-next s (job_event job) job (job-asked s job));

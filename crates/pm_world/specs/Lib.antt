@@ -1,4 +1,5 @@
 -- What the crate promises.
+pub mod Job
 pub mod State
 pub mod Setup
 pub mod Legal

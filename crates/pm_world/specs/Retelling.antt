@@ -15,7 +15,7 @@ use Rattle.pm_device.specs.declared.config.Config.{Config}
 use Rattle.pm_device.specs.Held.{value_for}
 use Rattle.pm_device.specs.Start.{start_word, start_words}
 use Rattle.pm_host.specs.declared.command.Command.{Command}
-use Rattle.pm_host.specs.declared.command.Command.TheVariants.{ClearFaults, StoreUserAll, RestoreUserAll}
+use Rattle.pm_host.specs.declared.command.Command.TheVariants.{StoreUserAll, RestoreUserAll}
 use Rattle.pm_host.specs.Transcript as host
 use Rattle.pm_world.specs.declared.event.Arrival.{Arrival}
 use Rattle.pm_world.specs.declared.event.Event.{Event}
@@ -28,11 +28,11 @@ use Rattle.pm_world.specs.State.{asked}
 abbrev pub start_settings : Config → Settings
 start_settings config = record { count = config.count; words = start_words config }
 
--- a command as a job of the order machine: a store, or a restore
+-- a command as a job of the order machine: a store, or a restore, and no other, which changes no setting
 abbrev pub command_pending : Command → Option PendingJob
-command_pending (ClearFaults output) = None
 command_pending StoreUserAll = Some pending.Store
 command_pending RestoreUserAll = Some pending.Restore
+command_pending _ = None
 
 -- the order, store or restore that a job is
 abbrev pub pending_of : host.Job → Option PendingJob

@@ -8,20 +8,20 @@ use Rattle.pm_device.specs.Held.{Held}
 use Rattle.pm_device.specs.Effect as device
 use Rattle.pm_device.specs.History.{next as device_next}
 use Rattle.pm_device.specs.Reply.{reply_of}
-use Rattle.pm_host.specs.declared.command.Command.TheVariants.{ClearFaults, StoreUserAll, RestoreUserAll}
 use Rattle.pm_host.specs.declared.fault.HostFault.{HostFault}
 use Rattle.pm_host.specs.declared.job_end.JobEnd.{JobEnd}
 use Rattle.pm_host.specs.declared.step.Step.{Step}
 use Rattle.pm_host.specs.declared.step.Step.TheVariants.{Next, Ended}
 use Rattle.pm_host.specs.Summary.{Summary, sending_in, next as host_next, step_of}
-use Rattle.pm_host.specs.Refusals.{job_fault, micro_fault, micro_word}
+use Rattle.pm_host.specs.Refusals.{micro_word}
 use Rattle.pm_host.specs.Transcript as host
 use Rattle.pm_world.specs.declared.event.Event.{Event}
-use Rattle.pm_world.specs.declared.event.Event.TheVariants.{Order, OrderMicro, Check, Learn, Clear, Store, Restore, Deliver, Finish, Exchange, RestartDevice, RestartHost, Reading}
+use Rattle.pm_world.specs.declared.event.Event.TheVariants.{OrderMicro, Deliver, Finish, Exchange, RestartDevice, RestartHost, Reading}
 use Rattle.pm_world.specs.declared.event.Arrival.{Arrival}
 use Rattle.pm_world.specs.declared.event.Back.{Back}
 use Rattle.pm_world.specs.declared.stop.Cause.{Cause}
 use Rattle.pm_world.specs.declared.stop.Cause.TheVariants.{Full, NothingSent, WrongKind, NotBetrayed, Host as Refuses}
+use Rattle.pm_world.specs.Job.{job_of, refusal_of}
 use Rattle.pm_world.specs.Legal.{frame_of, heard_bytes, heard_ending, is_legal_hearing, is_legal_return, is_heard_whole, answer_in, back_bytes}
 
 pub record State : Type 0 where
@@ -48,17 +48,9 @@ tells entry = record { heard = None; told = Some entry }
 abbrev pub hears : device.Event → Share
 hears event = record { heard = Some event; told = None }
 
--- Which job an event asks the host for: an order in microvolts that of the nearest word in the format
--- that the host learned.
+-- which job an event asks the host for
 abbrev pub asked : State → Event → Option host.Job
-asked s (Order cell word) = Some (host.Order cell word)
-asked s (OrderMicro cell x) = option_map (λ word. host.Order cell word) (micro_word s.host cell x)
-asked s (Check cell) = Some (host.Check cell)
-asked s (Learn output) = Some (host.Learn output)
-asked s (Clear output) = Some (host.Send (ClearFaults output))
-asked s Store = Some (host.Send StoreUserAll)
-asked s Restore = Some (host.Send RestoreUserAll)
-asked s _ = None
+asked s event = job_of s.host event
 
 -- the converter hears a frame of a message as it arrives
 abbrev pub hearing : ℕ → Message → Arrival → device.Event
@@ -181,8 +173,7 @@ cause_beside s _ = None
 
 -- why an event isn't taken, but for the world being full
 abbrev pub event_cause : State → Event → Option Cause
-event_cause s (OrderMicro cell x) = refused (micro_fault s.host cell x)
-event_cause s event = option_map_or (λ job. refused (job_fault s.host job)) (asked s event) (cause_beside s event)
+event_cause s event = option_or (refused (refusal_of s.host event)) (cause_beside s event)
 
 -- how many events a world takes
 abbrev pub event_limit : ℕ

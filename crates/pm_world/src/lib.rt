@@ -27,12 +27,14 @@
 #![tactic(auto)]
 
 mod event;
+mod job;
 mod laws;
 mod legal;
 mod stop;
 mod world;
 
 pub use event::{Arrival, Back, Event};
+pub use job::ask;
 pub use laws::{
     betrayed_damage_is_legal, betrayed_damage_is_taken, confirmed_settings_are_held,
     frames_are_few, honest_orders_go_through, learned_formats_are_true, lives_are_followed,

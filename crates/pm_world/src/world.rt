@@ -1,4 +1,4 @@
-ghost use Rattle.std.specs.Prelude.{◌≡◌, ◌<◌, ◌≤◌, ℕ, true, Some, IfOk, OnOk};
+ghost use Rattle.std.specs.Prelude.{◌≡◌, ◌<◌, ◌≤◌, ℕ, true, None, IfOk, OnOk};
 ghost use Rattle.std.specs.Result.{result_err};
 ghost use Rattle.pm_device.specs.Start.{IsSound};
 ghost use Rattle.pm_host.specs.Refusals.{IsSetup, may_come};
@@ -7,11 +7,11 @@ ghost use Rattle.pm_world.specs.Honest.{AreFewFrames, FormatsAgree, IsSpelled, M
 ghost use Rattle.pm_world.specs.Possible.{PossibleIsHeld, SeenIsTrue};
 ghost use Rattle.pm_world.specs.Setup.{setup_of, start, setup_fault};
 ghost use Rattle.pm_world.specs.Life.{now, taken_events, after_all, AreTaken, AreTakenFrom, StopsAt, StopsFrom};
-ghost use Rattle.pm_world.specs.State.{Steps, Acts, asked, shared, tells, hears};
+ghost use Rattle.pm_world.specs.Job.{request_of};
+ghost use Rattle.pm_world.specs.State.{Steps, Acts, shared, tells, hears};
 ghost use Rattle.pm_host.specs.Told.{entry_told};
 ghost use Rattle.pm_host.specs.Transcript as told;
 ghost use Rattle.pm_device.specs.Effect as heard;
-ghost use Rattle.pm_world.specs.declared.event.Event.{Event as AnyEvent};
 ghost use Rattle.pm_world.specs.declared.event.Event.TheVariants as event;
 ghost use Rattle.pm_table.specs.declared.cell.Cell.{Cell as AnyCell};
 ghost use Rattle.pm_table.specs.Cell.{IsCell};
@@ -21,6 +21,7 @@ ghost use Rattle.pm_device.specs.Held.{value_for};
 ghost use Rattle.pm_world.specs.Retelling.{IsOrderRun, IsOwnWord, CommandsOwn};
 
 use crate::event::{Arrival, Back, Event};
+use crate::job::ask;
 use crate::laws::{
     confirmed_settings_are_held, frames_are_few, honest_orders_go_through,
     learned_formats_are_true, lives_are_followed, lives_are_orders, possible_words_are_held, spell,
@@ -31,8 +32,8 @@ use crate::legal::{
 };
 use crate::stop::{Cause, SetupFault, Stop};
 use pm_device::{Config, Converter, Ending};
-use pm_host::{Command, Host, JobEnd, Step, Told, Turn, transcripts_are_followed};
-use pm_table::{Cell, Code};
+use pm_host::{Host, JobEnd, Step, Told, Turn, transcripts_are_followed};
+use pm_table::Code;
 use std::marker::Model;
 
 /// How many events a world takes.
@@ -70,6 +71,8 @@ impl World {
     #[tactic(auto, unfolding(crate::specs::Setup::start, crate::specs::Setup::setup_fault))]
     pub fn new(c: Config, passes: u8) -> Result<World, SetupFault>
         ensures made { IfOk result (λ world. world ≡ start c passes) }
+        ensures config { IfOk result (λ world. world.device.config ≡ c) }
+        ensures setup { IfOk result (λ world. world.host.setup ≡ setup_of c passes) }
         ensures sound { OnOk result (IsSound c × IsSetup (setup_of c passes) × IsSpelled c) }
         ensures fault { result_err result ≡ setup_fault c passes }
     {
@@ -118,9 +121,13 @@ impl World {
     ///   microvolts is that of the nearest word in it.
     /// - `now`, `all`, `stop`: the world is what its definition says of the taken events, each of them was
     ///   taken, and the first other one has a cause, which is the stop's.
+    /// - `config`, `setup`: the converter has this configuration, the host its address, its outputs and
+    ///   this number of passes.
     /// - `sound`: what the laws ask, by which all this is had of further calls of [`World::step`] too.
     pub fn run(c: Config, passes: u8, events: &[Event]) -> Result<(World, Option<Stop>), SetupFault>
         ensures fault { result_err result ≡ setup_fault c passes }
+        ensures config { IfOk result (λ run. run.0.device.config ≡ c) }
+        ensures setup { IfOk result (λ run. run.0.host.setup ≡ setup_of c passes) }
         ensures now { IfOk result (λ run.
             run.0 ≡ now c passes (taken_events events.now run.1)) }
         ensures all { IfOk result (λ run. AreTaken c passes (taken_events events.now run.1)) }
@@ -165,6 +172,8 @@ impl World {
     // A new world, and its life up to the first event that isn't taken.
     fn lived(c: Config, passes: u8, events: &[Event]) -> Result<(World, Option<Stop>), SetupFault>
         ensures fault { result_err result ≡ setup_fault c passes }
+        ensures config { IfOk result (λ run. run.0.device.config ≡ c) }
+        ensures setup { IfOk result (λ run. run.0.host.setup ≡ setup_of c passes) }
         ensures sound { OnOk result (IsSound c × IsSetup (setup_of c passes) × IsSpelled c) }
         ensures now { IfOk result (λ run.
             run.0 ≡ now c passes (taken_events events.now run.1)) }
@@ -179,11 +188,13 @@ impl World {
     }
 
     /// Lets an event happen. `Err` is the first cause against it, in the order of [`Cause`]; then
-    /// nothing has changed (`taken`). The host stays that of the same outputs (`kept`).
+    /// nothing has changed (`taken`). The host stays that of the same outputs (`kept`), and the converter
+    /// that of the same configuration (`config`).
     #[tactic(auto, unfolding(crate::specs::State::cause_of, crate::specs::State::next))]
     pub fn step(&mut self, e: &Event) -> Result<(), Cause>
         ensures taken { Steps self.old e.now result self.new }
         ensures kept { self.new.host.setup ≡ self.old.host.setup }
+        ensures config { self.new.device.config ≡ self.old.device.config }
     {
         if self.taken >= EVENT_LIMIT {
             return Err(Cause::Full);
@@ -223,6 +234,8 @@ impl World {
         ensures after { self.new ≡ after_all self.old (taken_events events.now result) }
         ensures all { AreTakenFrom self.old (taken_events events.now result) }
         ensures stop { StopsFrom self.old events.now result }
+        ensures setup { self.new.host.setup ≡ self.old.host.setup }
+        ensures config { self.new.device.config ≡ self.old.device.config }
     {
         for (at, event) in events.iter().enumerate() {
             if let Err(cause) = self.step(event) {
@@ -234,16 +247,23 @@ impl World {
 
     // What an event does, in a world that isn't full.
     fn act(&mut self, e: &Event) -> Result<(), Cause>
-        ensures { Acts self.old e.now result self.new }
+        ensures acts { Acts self.old e.now result self.new }
+        ensures config { self.new.device.config ≡ self.old.device.config }
+    {
+        if ask(&mut self.host, e)? {
+            self.end = None;
+            return Ok(());
+        }
+        self.act_beside(e)
+    }
+
+    // What an event does that asks for no job.
+    fn act_beside(&mut self, e: &Event) -> Result<(), Cause>
+        requires { request_of e.now ≡ None }
+        ensures acts { Acts self.old e.now result self.new }
+        ensures config { self.new.device.config ≡ self.old.device.config }
     {
         match e {
-            Event::Order(cell, word) => self.order(*cell, *word),
-            Event::OrderMicro(cell, microvolts) => self.order_micro(*cell, *microvolts),
-            Event::Check(cell) => self.check(*cell),
-            Event::Learn(output) => self.learn(*output),
-            Event::Clear(output) => self.send(Command::ClearFaults { output: *output }),
-            Event::Store => self.send(Command::StoreUserAll),
-            Event::Restore => self.send(Command::RestoreUserAll),
             Event::Deliver(arrival) => self.deliver(arrival),
             Event::Finish(acked) => self.finish(*acked),
             Event::Exchange(arrival, back) => self.exchange(arrival, back),
@@ -259,57 +279,14 @@ impl World {
                 self.read(*output, *code, *word);
                 Ok(())
             }
+            _ => unreachable!(),
         }
-    }
-
-    // The host is asked to write a word.
-    fn order(&mut self, cell: Cell, word: u16) -> Result<(), Cause>
-        ensures { Acts self.old (event.Order cell word) result self.new }
-    {
-        self.host.order(cell, word)?;
-        self.end = None;
-        Ok(())
-    }
-
-    // The host is asked to write a voltage, in microvolts.
-    fn order_micro(&mut self, cell: Cell, microvolts: i64) -> Result<(), Cause>
-        ensures { Acts self.old (event.OrderMicro cell microvolts) result self.new }
-    {
-        self.host.order_micro(cell, microvolts)?;
-        self.end = None;
-        Ok(())
-    }
-
-    // The host is asked to read a cell.
-    fn check(&mut self, cell: Cell) -> Result<(), Cause>
-        ensures { Acts self.old (event.Check cell) result self.new }
-    {
-        self.host.check(cell)?;
-        self.end = None;
-        Ok(())
-    }
-
-    // The host is asked to read a format.
-    fn learn(&mut self, output: u8) -> Result<(), Cause>
-        ensures { Acts self.old (event.Learn output) result self.new }
-    {
-        self.host.learn(output)?;
-        self.end = None;
-        Ok(())
-    }
-
-    // The host is asked to send a command.
-    fn send(&mut self, command: Command) -> Result<(), Cause>
-        ensures { (e : AnyEvent) → asked self.old e ≡ Some (told.Send command) → Acts self.old e result self.new }
-    {
-        self.host.send(command)?;
-        self.end = None;
-        Ok(())
     }
 
     // The converter hears the write that is being sent.
     fn deliver(&mut self, arrival: &Arrival) -> Result<(), Cause>
-        ensures { Acts self.old (event.Deliver arrival.now) result self.new }
+        ensures acts { Acts self.old (event.Deliver arrival.now) result self.new }
+        ensures config { self.new.device.config ≡ self.old.device.config }
     {
         let frame = match self.host.turn() {
             Turn::Idle => return Err(Cause::NothingSent),
@@ -327,7 +304,8 @@ impl World {
 
     // The write that is being sent is over.
     fn finish(&mut self, acked: bool) -> Result<(), Cause>
-        ensures { Acts self.old (event.Finish acked) result self.new }
+        ensures acts { Acts self.old (event.Finish acked) result self.new }
+        ensures config { self.new.device.config ≡ self.old.device.config }
     {
         match self.host.turn() {
             Turn::Idle => return Err(Cause::NothingSent),
@@ -340,7 +318,8 @@ impl World {
 
     // The converter hears the request that is being sent, and the host is given what came back.
     fn exchange(&mut self, arrival: &Arrival, back: &Back) -> Result<(), Cause>
-        ensures { Acts self.old (event.Exchange arrival.now back.now) result self.new }
+        ensures acts { Acts self.old (event.Exchange arrival.now back.now) result self.new }
+        ensures config { self.new.device.config ≡ self.old.device.config }
     {
         let (frame, needed) = match self.host.turn() {
             Turn::Idle => return Err(Cause::NothingSent),
@@ -367,7 +346,8 @@ impl World {
     // The host is told what came of its frame.
     fn tell(&mut self, told: Told<'_>)
         requires { may_come self.old.host (entry_told told) ≡ true }
-        ensures { self.new ≡ shared self.old (tells (entry_told told.entry)) }
+        ensures after { self.new ≡ shared self.old (tells (entry_told told.entry)) }
+        ensures config { self.new.device.config ≡ self.old.device.config }
     {
         let step = self.host.told(told);
         self.end = match step {
@@ -378,14 +358,16 @@ impl World {
 
     // The converter starts again.
     fn restart_device(&mut self)
-        ensures { self.new ≡ shared self.old (hears heard.Restarted) }
+        ensures after { self.new ≡ shared self.old (hears heard.Restarted) }
+        ensures config { self.new.device.config ≡ self.old.device.config }
     {
         self.device.restart();
     }
 
     // The host starts again.
     fn restart_host(&mut self)
-        ensures { self.new ≡ shared self.old (tells told.Restarted) }
+        ensures after { self.new ≡ shared self.old (tells told.Restarted) }
+        ensures config { self.new.device.config ≡ self.old.device.config }
     {
         self.host.restart();
         self.end = None;
@@ -393,7 +375,8 @@ impl World {
 
     // A reading changes.
     fn read(&mut self, output: u8, code: Code, word: u16)
-        ensures { self.new ≡ shared self.old (hears (heard.Reading output code.0 word)) }
+        ensures after { self.new ≡ shared self.old (hears (heard.Reading output code.0 word)) }
+        ensures config { self.new.device.config ≡ self.old.device.config }
     {
         let _ = self.device.set_reading(output, code, word);
     }

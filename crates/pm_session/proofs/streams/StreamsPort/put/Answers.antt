@@ -1,6 +1,6 @@
 use Rattle.std.proofs.Common.{[], refl}
 use Rattle.std.proofs.KnownBytes.{Appends-nil}
-use Rattle.pm_session.specs.PortLaws.{put_front, put_whole}
+use Rattle.pm_session.specs.Lemmas.Ports.{put_front, put_whole}
 use Rattle.pm_session.proofs.streams.StreamsPort.put.Goals as goal
 
 pub returns-then-failed-clause-err : goal.returns-then-failed-clause-err

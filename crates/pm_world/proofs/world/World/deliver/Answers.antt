@@ -9,8 +9,8 @@ use Rattle.pm_world.proofs.Ends.{state}
 use Rattle.pm_world.proofs.Frames.{Arrives, arrives-write, deliver-acts, deliver-cause}
 use Rattle.pm_world.proofs.world.World.deliver.Goals as goal
 
-pub returns-then-not-is_legal_hearing : goal.returns-then-not-is_legal_hearing
-returns-then-not-is_legal_hearing c =
+pub returns-then-not-is_legal_hearing-clause-acts : goal.returns-then-not-is_legal_hearing-clause-acts
+returns-then-not-is_legal_hearing-clause-acts c =
     let inside = state c.self.inside.device c.self.inside.host c.self.inside.end c.self.inside.taken in
     let frame = c.as_slice-frame.result.now in
     let heard = c.heard_bytes-bytes.result.now in
@@ -24,8 +24,8 @@ returns-then-not-is_legal_hearing c =
       refl,
     )
 
-pub returns : goal.returns
-returns c =
+pub returns-clause-acts : goal.returns-clause-acts
+returns-clause-acts c =
     let inside = state c.self.inside.device c.self.inside.host c.self.inside.end c.self.inside.taken in
     let frame = c.as_slice-frame.result.now in
     let heard = c.heard_bytes-bytes.result.now in

@@ -10,8 +10,8 @@ use Rattle.pm_world.proofs.Ends.{state}
 use Rattle.pm_world.proofs.Exchanges.{Asks, Returns, arrives-request, exchange-acts, exchange-betrayed, exchange-cause}
 use Rattle.pm_world.proofs.world.World.exchange.Goals as goal
 
-pub returns-then-not-is_legal_hearing : goal.returns-then-not-is_legal_hearing
-returns-then-not-is_legal_hearing c =
+pub returns-then-not-is_legal_hearing-clause-acts : goal.returns-then-not-is_legal_hearing-clause-acts
+returns-then-not-is_legal_hearing-clause-acts c =
     let inside = state c.self.inside.device c.self.inside.host c.self.inside.end c.self.inside.taken in
     let arrival = c.args.arrival.now in
     let frame = c.as_slice.result.now in
@@ -28,8 +28,8 @@ returns-then-not-is_legal_hearing c =
       refl,
     )
 
-pub returns-then-not-is_legal_return : goal.returns-then-not-is_legal_return
-returns-then-not-is_legal_return c =
+pub returns-then-not-is_legal_return-clause-acts : goal.returns-then-not-is_legal_return-clause-acts
+returns-then-not-is_legal_return-clause-acts c =
     let inside = state c.self.inside.device c.self.inside.host c.self.inside.end c.self.inside.taken in
     let arrival = c.args.arrival.now in
     let frame = c.as_slice.result.now in
@@ -60,8 +60,8 @@ returns-then-not-is_legal_return c =
       refl,
     )
 
-pub returns : goal.returns
-returns c =
+pub returns-clause-acts : goal.returns-clause-acts
+returns-clause-acts c =
     let inside = state c.self.inside.device c.self.inside.host c.self.inside.end c.self.inside.taken in
     let arrival = c.args.arrival.now in
     let frame = c.as_slice.result.now in
@@ -89,4 +89,4 @@ returns c =
     let legal = sym c.is_legal_hearing.ensures ∙ c.if-not-is_legal_hearing.false in
     subst (λ (s : State). Acts s (Exchange arrival c.args.back.now) (Ok tt) c.tell.new.self) c.self.view_is
     (exchange-acts c.hear_replied.new.device c.tell.new.self returns_so legal
-    (sym c.is_legal_return.ensures ∙ c.if-not-is_legal_return.false) c.hear_replied.ensures.after c.tell.ensures)
+    (sym c.is_legal_return.ensures ∙ c.if-not-is_legal_return.false) c.hear_replied.ensures.after c.tell.ensures.after)

@@ -7,4 +7,6 @@ abbrev pub invariant-loop-at : goal.invariant-loop-at
 invariant-loop-at l = record {
   now : l.self ≡ after_all l.fn.self (past l.at l.events);
   all : AreTakenFrom l.fn.self (past l.at l.events);
+  setup : l.self.host.setup ≡ l.fn.self.host.setup;
+  config : l.self.device.config ≡ l.fn.self.device.config;
 }
