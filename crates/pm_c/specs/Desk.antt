@@ -7,13 +7,13 @@ use Rattle.pm_table.specs.declared.cell.Cell.{Cell}
 use Rattle.pm_table.specs.declared.cell.Cell.TheVariants.{Out, Protect}
 use Rattle.pm_table.specs.Cell.{register_number, registers}
 use Rattle.pm_device.specs.declared.config.Config.{Config}
-use Rattle.pm_device.specs.declared.config.OutputStart.{OutputStart}
+use Rattle.pm_device.specs.declared.output_start.OutputStart.{OutputStart}
 use Rattle.pm_device.specs.declared.fault.DeviceFault.{DeviceFault}
 use Rattle.pm_device.specs.declared.fault.DeviceFault.TheVariants.{Frame, UnsupportedCode, UnsupportedData, BadPage, Protected, Nested, ReadOnly}
 use Rattle.pm_device.specs.declared.heard.Heard.{Heard}
 use Rattle.pm_device.specs.declared.heard.Heard.TheVariants.{Silent, Taken, Answer, Refused}
-use Rattle.pm_device.specs.declared.heard.Ending.{Ending}
-use Rattle.pm_device.specs.declared.heard.Ending.TheVariants.{Stop, Restart}
+use Rattle.pm_device.specs.declared.ending.Ending.{Ending}
+use Rattle.pm_device.specs.declared.ending.Ending.TheVariants.{Stop, Restart}
 use Rattle.pm_device.specs.Held.{Held, value_for}
 use Rattle.pm_device.specs.Effect.{Event}
 use Rattle.pm_device.specs.History.{next, start_of}

@@ -5,8 +5,8 @@ use Rattle.pm_frame.specs.declared.fault.FrameFault.{FrameFault}
 use Rattle.pm_frame.specs.declared.fault.FrameFault.TheVariants.{NotOurs, Short, Long, WrongCount, WrongPec, UnknownCode, WrongDirection, Nested}
 use Rattle.pm_frame.specs.declared.message.Message.{Message}
 use Rattle.pm_frame.specs.declared.message.Message.TheVariants.{SendByte, WriteByte, WriteWord, PagePlusWrite, ReadCommand, PagePlusRead, ReadCoefficients}
-use Rattle.pm_frame.specs.declared.message.Payload.{Payload}
-use Rattle.pm_frame.specs.declared.message.Payload.TheVariants.{Empty, Byte, Word}
+use Rattle.pm_frame.specs.declared.payload.Payload.{Payload}
+use Rattle.pm_frame.specs.declared.payload.Payload.TheVariants.{Empty, Byte, Word}
 use Rattle.pm_frame.specs.Layout.{fits_layout}
 use Rattle.pm_host.specs.Refusals.{is_within}
 use Rattle.pm_c.specs.declared.packet.Packet.{Packet}

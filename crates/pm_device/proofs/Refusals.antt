@@ -6,7 +6,7 @@ use Rattle.pm_model.specs.Settings.{Words}
 use Rattle.pm_model.specs.Commanded.{is_cut}
 use Rattle.pm_device.specs.declared.config.Config.{Config}
 use Rattle.pm_device.specs.declared.fault.DeviceFault.{DeviceFault}
-use Rattle.pm_device.specs.declared.heard.Ending.{Ending}
+use Rattle.pm_device.specs.declared.ending.Ending.{Ending}
 use Rattle.pm_device.specs.declared.heard.Heard.{Heard}
 use Rattle.pm_device.specs.declared.heard.Heard.TheVariants.{Silent, Taken, Refused}
 use Rattle.pm_device.specs.declared.verdict.Verdict.{Verdict}

@@ -20,7 +20,7 @@ use Rattle.pm_frame.specs.View.{message_in, message_code}
 use Rattle.pm_model.specs.Settings.{word_at}
 use Rattle.pm_device.specs.declared.act.Act.{Act}
 use Rattle.pm_device.specs.declared.fault.DeviceFault.TheVariants.{UnsupportedCode, UnsupportedData, BadPage, Protected}
-use Rattle.pm_device.specs.declared.heard.Ending.TheVariants.{Stop, Restart}
+use Rattle.pm_device.specs.declared.ending.Ending.TheVariants.{Stop, Restart}
 use Rattle.pm_device.specs.declared.heard.Heard.{Heard}
 use Rattle.pm_device.specs.declared.heard.Heard.TheVariants.{Taken, Answer, Refused}
 use Rattle.pm_device.specs.declared.verdict.Verdict.{Verdict}

@@ -13,8 +13,8 @@ use Rattle.pm_table.specs.Address.{IsAddress}
 use Rattle.pm_table.specs.Cell.{is_operation, register_accepts, register_number, cell_accepts, IsCell}
 use Rattle.pm_table.specs.Format.{shape_in}
 use Rattle.pm_table.specs.VoutMode.{mode_of}
-use Rattle.pm_table.specs.declared.cell.Reg.{Reg}
-use Rattle.pm_table.specs.declared.cell.Reg.TheVariants.{Operation}
+use Rattle.pm_table.specs.declared.reg.Reg.{Reg}
+use Rattle.pm_table.specs.declared.reg.Reg.TheVariants.{Operation}
 use Rattle.pm_table.specs.declared.cell.Cell.{Cell}
 use Rattle.pm_table.specs.declared.cell.Cell.TheVariants.{Out, Protect}
 use Rattle.pm_table.specs.declared.coefficients.Coefficients.{Coefficients}
@@ -23,9 +23,9 @@ use Rattle.pm_table.specs.declared.vout_mode.VoutMode.{VoutMode}
 use Rattle.pm_table.specs.declared.vout_mode.VoutMode.TheVariants.{Linear, Direct}
 use Rattle.pm_model.specs.Settings.{Words, word_at, words_of}
 use Rattle.pm_device.specs.declared.config.Config.{Config}
-use Rattle.pm_device.specs.declared.config.OutputStart.{OutputStart}
-use Rattle.pm_device.specs.declared.config.ConfigFault.{ConfigFault}
-use Rattle.pm_device.specs.declared.config.ConfigFault.TheVariants.{OutputCount, BadStart, Address, BadMode, BadCoefficients}
+use Rattle.pm_device.specs.declared.output_start.OutputStart.{OutputStart}
+use Rattle.pm_device.specs.declared.config_fault.ConfigFault.{ConfigFault}
+use Rattle.pm_device.specs.declared.config_fault.ConfigFault.TheVariants.{OutputCount, BadStart, Address, BadMode, BadCoefficients}
 use Rattle.pm_device.specs.Held.{mode_for, shape_made, shape_for}
 use Rattle.pm_device.specs.Start.{register_start, start_row, start_word, start_words, no_start, outputs, is_direct, has_direct}
 use Rattle.pm_device.specs.Start.{bad_register, bad_registers, bad_start, bad_mode, bad_coefficients, config_fault, IsSound}

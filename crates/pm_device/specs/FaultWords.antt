@@ -7,8 +7,8 @@ use Rattle.pm_table.specs.declared.cell.Cell.TheVariants.{Out, Protect}
 use Rattle.pm_table.specs.Cell.{cell_name}
 use Rattle.pm_table.specs.FaultWords.{table_fault_words}
 use Rattle.pm_frame.specs.FaultWords.{frame_fault_text, place_text}
-use Rattle.pm_device.specs.declared.config.ConfigFault.{ConfigFault}
-use Rattle.pm_device.specs.declared.config.ConfigFault.TheVariants.{OutputCount, BadStart, Address, BadMode, BadCoefficients}
+use Rattle.pm_device.specs.declared.config_fault.ConfigFault.{ConfigFault}
+use Rattle.pm_device.specs.declared.config_fault.ConfigFault.TheVariants.{OutputCount, BadStart, Address, BadMode, BadCoefficients}
 use Rattle.pm_device.specs.declared.fault.DeviceFault.{DeviceFault}
 use Rattle.pm_device.specs.declared.fault.DeviceFault.TheVariants.{Frame, UnsupportedCode, UnsupportedData, BadPage, Protected, Nested, ReadOnly}
 

@@ -8,8 +8,8 @@ use Rattle.pm_num.specs.AnyFormat.{shape_of}
 use Rattle.pm_num.specs.declared.any_format.AnyFormat.{AnyFormat}
 use Rattle.pm_num.specs.declared.any_format.AnyFormat.TheVariants.{Linear11}
 use Rattle.pm_num.specs.declared.fault.NumFault.{NumFault}
-use Rattle.pm_table.specs.declared.cell.Reg.{Reg}
-use Rattle.pm_table.specs.declared.cell.Reg.TheVariants.{Operation, VoutCommand, VoutMax, MarginHigh, MarginLow, VoutMin}
+use Rattle.pm_table.specs.declared.reg.Reg.{Reg}
+use Rattle.pm_table.specs.declared.reg.Reg.TheVariants.{Operation, VoutCommand, VoutMax, MarginHigh, MarginLow, VoutMin}
 use Rattle.pm_table.specs.declared.cell.Cell.{Cell}
 use Rattle.pm_table.specs.declared.cell.Cell.TheVariants.{Out, Protect}
 use Rattle.pm_table.specs.declared.vout_mode.VoutMode.{VoutMode}
@@ -21,9 +21,9 @@ use Rattle.pm_table.specs.VoutMode.{mode_of}
 use Rattle.pm_table.specs.Format.{shape_in}
 use Rattle.pm_model.specs.Settings.{Words, words_of}
 use Rattle.pm_device.specs.declared.config.Config.{Config}
-use Rattle.pm_device.specs.declared.config.OutputStart.{OutputStart}
-use Rattle.pm_device.specs.declared.config.ConfigFault.{ConfigFault}
-use Rattle.pm_device.specs.declared.config.ConfigFault.TheVariants.{OutputCount, BadStart, Address, BadMode, BadCoefficients}
+use Rattle.pm_device.specs.declared.output_start.OutputStart.{OutputStart}
+use Rattle.pm_device.specs.declared.config_fault.ConfigFault.{ConfigFault}
+use Rattle.pm_device.specs.declared.config_fault.ConfigFault.TheVariants.{OutputCount, BadStart, Address, BadMode, BadCoefficients}
 use Rattle.pm_device.specs.Held.{shape_made, shape_for}
 
 -- the start word of a register

@@ -4,7 +4,7 @@
 -- output, and that POWER_GOOD# is OFF, are this project's own choice.
 use Rattle.std.specs.Prelude.{ℕ, ◌+◌, Bool, true, false, not, ◌&&◌, ◌==◌, nat_lt, if◌then◌else◌, bit_and, List, [], ◌∷◌, slice_index_or}
 use Rattle.std.specs.List.{list_any}
-use Rattle.pm_table.specs.declared.cell.Reg.TheVariants.{Operation}
+use Rattle.pm_table.specs.declared.reg.Reg.TheVariants.{Operation}
 use Rattle.pm_table.specs.declared.cell.Cell.TheVariants.{Out}
 use Rattle.pm_frame.specs.declared.fault.FrameFault.{FrameFault}
 use Rattle.pm_frame.specs.declared.fault.FrameFault.TheVariants as frame

@@ -11,9 +11,11 @@ ghost use Rattle.pm_device.specs.History.{next, start_of};
 ghost use Rattle.pm_device.specs.Reply.{reply_of};
 
 use crate::cml_latches::CmlLatches;
-use crate::config::{Config, ConfigFault, config_fault};
+use crate::config::{Config, config_fault};
+use crate::config_fault::ConfigFault;
+use crate::ending::Ending;
 use crate::formats::formats_of;
-use crate::heard::{Ending, Heard};
+use crate::heard::Heard;
 use crate::readings::Readings;
 use crate::starts::start_settings;
 use pm_model::{Formats, Plain};

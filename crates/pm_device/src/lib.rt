@@ -44,23 +44,29 @@
 mod act;
 mod cml_latches;
 mod config;
+mod config_fault;
 mod converter;
+mod ending;
 mod fault;
 mod formats;
 mod heard;
 mod laws;
+mod output_start;
 mod readings;
 mod starts;
 mod status_bits;
 mod verdict;
 
-pub use config::{Config, ConfigFault, OutputStart};
+pub use config::Config;
+pub use config_fault::ConfigFault;
 pub use converter::Converter;
+pub use ending::Ending;
 pub use fault::DeviceFault;
-pub use heard::{Ending, Heard};
+pub use heard::Heard;
 pub use laws::{
     device_codes_ignore_pages, pasts_are_followed, reads_are_answered, refusals_set_one_bit,
     registers_say_what_calls_say, replies_follow_endings, unknown_codes_are_refused,
     words_have_an_origin, writes_reach_one_cell,
 };
+pub use output_start::OutputStart;
 pub use status_bits::{StatusByte, StatusCml, StatusVout, StatusWord};

@@ -3,7 +3,8 @@
 ghost use Rattle.std.specs.Prelude.{◌≡◌, ◌<◌, ℕ, [], slice_index_or};
 ghost use Rattle.pm_device.specs.Start.{IsSound, no_start, start_row, start_words};
 
-use crate::config::{Config, OutputStart};
+use crate::config::Config;
+use crate::output_start::OutputStart;
 use pm_model::{Plain, settings_are_a_map};
 use pm_table::Reg;
 

@@ -4,7 +4,7 @@ use Rattle.std.proofs.Common.{length-append, take, get_or, refl, sym, ◌∙◌,
 use Rattle.std.proofs.lemmas.Bool.{eq-eqb, ne_eqb, eqb-true, not-false, or_parts, or_from, not_from_true, le-ltb, ltb-false}
 use Rattle.std.proofs.lemmas.List.{take-append-le, get_or-append_right, take_all}
 use Rattle.std.specs.Option.{option_or}
-use Rattle.pm_frame.specs.declared.row.Direction.{Direction}
+use Rattle.pm_frame.specs.declared.direction.Direction.{Direction}
 use Rattle.pm_frame.specs.declared.fault.FrameFault.{FrameFault}
 use Rattle.pm_frame.specs.declared.fault.FrameFault.TheVariants.{NotOurs, Short, Long, WrongPec, UnknownCode, WrongDirection, Nested}
 use Rattle.pm_frame.specs.Fault.{rule, address_fault, opening_fault, length_fault, pec_fault, codes_of, carried_fault, plain_fault}

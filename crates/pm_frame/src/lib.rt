@@ -14,29 +14,32 @@
 #![tactic(auto)]
 
 mod betrayal;
+mod direction;
 mod fault;
+mod frame_view;
 mod laws;
 mod message;
 mod packet_error_code;
+mod payload;
 mod places;
 mod received;
 mod row;
 mod rules;
 mod sent;
-mod view;
 
 use arrayvec::ArrayVec;
 pub use betrayal::is_betrayed;
 pub use fault::FrameFault;
+pub use frame_view::FrameView;
 pub use laws::{
     answers_are_exact, betrayal_is_refused, bursts_are_betrayed, damage_is_betrayed,
     damage_is_refused, few_changes_are_betrayed, requests_are_exact, writes_are_exact,
 };
-pub use message::{Message, Payload, fits};
+pub use message::{Message, fits};
 pub use packet_error_code::{pec, pec_after};
+pub use payload::Payload;
 pub use received::{read_answer, read_request, read_write};
 pub use sent::{answer, write_part};
-pub use view::FrameView;
 
 /// The bytes of a frame that is sent, at most 16.
 pub type Frame = ArrayVec<u8, 16>;

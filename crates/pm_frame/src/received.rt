@@ -8,14 +8,15 @@ ghost use Rattle.pm_frame.specs.Layout.{IsWrite, IsRequest, IsAnswer, fits_layou
 ghost use Rattle.pm_frame.specs.View.{message_in, answer_payload};
 ghost use Rattle.pm_frame.specs.Fault.{write_fault, request_fault, block_request_fault, answer_fault, whole_answer};
 
+use crate::direction::Direction;
 use crate::fault::FrameFault;
+use crate::frame_view::FrameView;
 use crate::message::Message;
 use crate::packet_error_code::pec;
 use crate::places::{ANSWER_COUNT, CARRIED, COUNT};
-use crate::row::{Direction, Row};
+use crate::row::Row;
 use crate::rules;
 use crate::sent::{read_address, sent, write_address};
-use crate::view::FrameView;
 use pm_table::{Code, payloads_are_short};
 
 /// Reads bytes that a stop ended as a packet that writes to the device of this address. Takes

@@ -3,16 +3,8 @@ ghost use Rattle.pm_table.specs.Commands.{attributes_of, is_known, payload_lengt
 ghost use Rattle.pm_frame.specs.Fault.{codes_of};
 ghost use Rattle.pm_frame.specs.Layout as layout;
 
+use crate::direction::Direction;
 use pm_table::{Attributes, Code};
-
-/// Which way a packet goes, as its code sees it.
-#[derive(Clone, Copy)]
-pub(crate) enum Direction {
-    /// The host writes.
-    Write,
-    /// The host reads.
-    Read,
-}
 
 /// A code with what the command table says of it, which is looked up once for each packet.
 #[derive(Clone, Copy)]

@@ -7,10 +7,11 @@ ghost use Rattle.pm_table.specs.Codes as command;
 ghost use Rattle.pm_frame.specs.Pec.{pec_of};
 ghost use Rattle.pm_frame.specs.Fault as fault;
 
+use crate::direction::Direction;
 use crate::fault::FrameFault;
 use crate::packet_error_code::pec_after;
 use crate::places::{CARRIED, CODE, COUNT};
-use crate::row::{Direction, Row};
+use crate::row::Row;
 use pm_table::Code;
 
 /// F1: the first byte is the one that is wanted.

@@ -1,6 +1,6 @@
 -- The frames that a host can send fit their layouts.
 use Rattle.std.proofs.Common.{◌≡◌, ◌≢◌, ℕ, true, refl, rules}
-use Rattle.pm_table.specs.declared.cell.Reg.{Reg}
+use Rattle.pm_table.specs.declared.reg.Reg.{Reg}
 use Rattle.pm_table.specs.Cell.{register_code}
 use Rattle.pm_table.specs.Codes as command
 use Rattle.pm_table.specs.Commands.{line_of}

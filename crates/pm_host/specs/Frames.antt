@@ -2,7 +2,7 @@
 -- 1.3 Part II; which of them a host uses is this project's own choice.
 use Rattle.std.specs.Prelude.{◌≡◌, ℕ, ◌+◌, ◌-◌, ◌*◌, ◌<◌, true, is_some, if◌then◌else◌, List, length}
 use Rattle.std.specs.Option.{option_map_or}
-use Rattle.pm_table.specs.declared.cell.Reg.{Reg}
+use Rattle.pm_table.specs.declared.reg.Reg.{Reg}
 use Rattle.pm_table.specs.Cell.{register_code, register_accepts, is_protection}
 use Rattle.pm_table.specs.Codes as command
 use Rattle.pm_frame.specs.declared.message.Message.{Message}

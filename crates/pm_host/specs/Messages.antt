@@ -3,15 +3,15 @@
 -- this project's own choice. PAGE is never sent.
 use Rattle.std.specs.Prelude.{◌≡◌, ℕ, true, false, List, if◌then◌else◌}
 use Rattle.std.specs.Option.{option_map_or}
-use Rattle.pm_table.specs.declared.cell.Reg.{Reg}
+use Rattle.pm_table.specs.declared.reg.Reg.{Reg}
 use Rattle.pm_table.specs.declared.cell.Cell.{Cell}
 use Rattle.pm_table.specs.declared.cell.Cell.TheVariants.{Out, Protect}
 use Rattle.pm_table.specs.Cell.{cell_code, is_voltage, register_code}
 use Rattle.pm_table.specs.Codes as command
 use Rattle.pm_frame.specs.declared.message.Message.{Message}
 use Rattle.pm_frame.specs.declared.message.Message.TheVariants.{SendByte, WriteByte, PagePlusWrite, ReadCommand, PagePlusRead, ReadCoefficients}
-use Rattle.pm_frame.specs.declared.message.Payload.{Payload}
-use Rattle.pm_frame.specs.declared.message.Payload.TheVariants.{Empty, Byte, Word}
+use Rattle.pm_frame.specs.declared.payload.Payload.{Payload}
+use Rattle.pm_frame.specs.declared.payload.Payload.TheVariants.{Empty, Byte, Word}
 use Rattle.pm_frame.specs.Layout.{IsWrite, IsRequest, is_read_message}
 use Rattle.pm_host.specs.declared.command.Command.{Command}
 use Rattle.pm_host.specs.Command.{command_code, command_output}

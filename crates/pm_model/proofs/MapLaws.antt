@@ -4,7 +4,7 @@ use Rattle.std.proofs.Common.{ap, arith}
 use Rattle.std.proofs.lemmas.Bool.{cases_eq}
 use Rattle.std.proofs.lemmas.List.{get_or-set_same, get_or-set_other, get_or_default, length-set, same_lists}
 use Rattle.std.proofs.lemmas.List.FromFn.{length-map-range_with_len, get_or-map-range_with_len, fill_by_all}
-use Rattle.pm_table.specs.declared.cell.Reg.{Reg}
+use Rattle.pm_table.specs.declared.reg.Reg.{Reg}
 use Rattle.pm_table.specs.declared.cell.Cell.{Cell}
 use Rattle.pm_table.specs.declared.cell.Cell.TheVariants.{Out, Protect}
 use Rattle.pm_table.specs.Cell.{IsCell, same_cell, place_of, places, cell_in}

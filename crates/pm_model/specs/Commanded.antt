@@ -8,8 +8,8 @@ pub use Rattle.pm_num.specs.Ratio.{is_above}
 use Rattle.pm_num.specs.AnyFormat.{any_value}
 use Rattle.pm_num.specs.declared.any_format.AnyFormat.{AnyFormat}
 use Rattle.pm_num.specs.declared.any_format.AnyFormat.TheVariants.{Linear11}
-use Rattle.pm_table.specs.declared.cell.Reg.{Reg}
-use Rattle.pm_table.specs.declared.cell.Reg.TheVariants.{Operation, VoutCommand, VoutMax, MarginHigh, MarginLow, VoutMin}
+use Rattle.pm_table.specs.declared.reg.Reg.{Reg}
+use Rattle.pm_table.specs.declared.reg.Reg.TheVariants.{Operation, VoutCommand, VoutMax, MarginHigh, MarginLow, VoutMin}
 use Rattle.pm_table.specs.declared.cell.Cell.TheVariants.{Out}
 use Rattle.pm_model.specs.Settings.{Words, word_at}
 

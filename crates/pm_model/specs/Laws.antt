@@ -2,7 +2,7 @@
 use Rattle.std.specs.Prelude.{◌≡◌, ℕ, ◌<◌, ◌≤◌, false, List, if◌then◌else◌}
 use Rattle.pm_table.specs.declared.cell.Cell.{Cell}
 use Rattle.pm_table.specs.Cell.{same_cell, IsCell}
-use Rattle.pm_table.specs.declared.cell.Reg.{Reg}
+use Rattle.pm_table.specs.declared.reg.Reg.{Reg}
 use Rattle.pm_table.specs.declared.cell.Cell.TheVariants.{Out, Protect}
 use Rattle.pm_model.specs.Settings.{Settings, Words, AreWords, word_at, with_word, with_outputs, words_of, HaveSameRegisters}
 use Rattle.pm_model.specs.Commanded.{CommandAlike, Scale, commanded, greatest_value, least_value, is_above, is_cut}

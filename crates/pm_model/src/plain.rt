@@ -1,7 +1,7 @@
 ghost use Rattle.std.specs.Prelude.{◌≡◌, ◌↔◌, ◌≤◌, ◌<◌, ◌/◌, ◌%◌, ℕ, [], true, false, IsTrue, slice_index, slice_index_or};
 ghost use Rattle.pm_num.specs.AnyFormat.{any_value};
 ghost use Rattle.pm_table.specs.Cell.{cell_accepts, protect_place, register_accepts, register_count, register_number, IsCell};
-ghost use Rattle.pm_table.specs.declared.cell.Reg.{Reg as Register};
+ghost use Rattle.pm_table.specs.declared.reg.Reg.{Reg as Register};
 ghost use Rattle.pm_model.specs.Settings.{word_at, with_outputs as spec_with_outputs, with_word, AreSettings, AreWords};
 ghost use Rattle.pm_model.specs.Commanded.{commanded, greatest_value, least_value, is_above as spec_is_above, is_outside as spec_is_outside, is_cut, scale_at, selected, selected_register as spec_selected_register};
 

@@ -6,9 +6,9 @@ ghost use Rattle.pm_num.specs.Ratio.{is_above};
 
 use crate::direct::Direct;
 use crate::fault::NumFault;
-use crate::format::NumFormat;
 use crate::frac::Frac;
 use crate::linear11::Linear11;
+use crate::num_format::NumFormat;
 use crate::ulinear16::Ulinear16;
 use std::cmp::Ordering;
 

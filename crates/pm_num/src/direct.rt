@@ -11,9 +11,10 @@ ghost use Rattle.pm_num.specs.Lemmas.OneWord.{same_from_nearest, one_from_neares
 ghost use Rattle.pm_num.specs.Lemmas.Slope.{direct-has_den, direct-within, direct-one_word, direct-least_met, direct-greatest_met};
 
 use crate::fault::NumFault;
-use crate::format::{NumFormat, in_range};
+use crate::format::in_range;
 use crate::frac::Frac;
 use crate::grid::Grid;
+use crate::num_format::NumFormat;
 use crate::power::{lower_of_ten, upper_of_ten};
 use crate::whole::product;
 

@@ -1,5 +1,4 @@
 //! What the numeric formats have in common.
-
 ghost use Rattle.std.specs.Prelude.{◌≡◌, ℕ, ◌^◌, ◌<◌, ◌↔◌, IsOk, IfOk, IfErr, Some};
 ghost use Rattle.pm_num.specs.Ratio.{Ratio, AtMost, SameValue, IsBetween};
 ghost use Rattle.pm_num.specs.Nearest.{IsNearest, IsOutside, IsValue, Near};
@@ -7,79 +6,8 @@ ghost use Rattle.pm_num.specs.NearestWord.{nearest_word};
 
 use crate::fault::NumFault;
 use crate::frac::Frac;
+use crate::num_format::NumFormat;
 use std::cmp::Ordering;
-
-/// A numeric format of PMBus 1.3 Part II: what each 16-bit word stands for, and which word a number
-/// is encoded as.
-///
-/// The encoding is this project's own: the word of the nearest value; of two values that are
-/// equally near, the lower; of several words with that value, the one whose exponent is nearest to
-/// 0, and of two such the negative one.
-pub trait NumFormat {
-    // What a word stands for.
-    ghost value: { Self → ℕ → Ratio };
-
-    // The place of a word among those of its value; the least is preferred.
-    ghost rank: { Self → ℕ → ℕ };
-
-    // The least and the greatest value.
-    ghost lowest: { Self → Ratio };
-
-    ghost highest: { Self → Ratio };
-
-    /// The least value of all words.
-    fn least(&self) -> Frac
-        ensures { result ≡ lowest self.now };
-
-    /// The greatest value of all words.
-    fn greatest(&self) -> Frac
-        ensures { result ≡ highest self.now };
-
-    /// The value of `word`, as the format defines it and not reduced.
-    fn value_of(&self, word: u16) -> Frac
-        ensures { result ≡ value self.now word };
-
-    /// The word for `x`. N3 [`NumFault::BelowLeast`] exactly where `x` lies strictly below the
-    /// least value, N4 [`NumFault::AboveGreatest`] exactly where it lies strictly above the
-    /// greatest.
-    fn nearest(&self, x: Frac) -> Result<u16, NumFault>
-        ensures word { IfOk result (IsNearest (value self.now) (rank self.now) x) }
-        ensures inside { IsOk result ↔ IsBetween (lowest self.now) (highest self.now) x }
-        ensures refused { IfErr result (IsOutside (lowest self.now) (highest self.now) x) };
-
-    // The denominator of a value is not 0.
-    ghost has_den: { (f : Self) (w : ℕ) → w < 2 ^ 16 → 0 < (value f w).den };
-
-    // Every value lies between the least and the greatest,
-    ghost within: { (f : Self) (w : ℕ) → w < 2 ^ 16 →
-        IsBetween (lowest f) (highest f) (value f w) };
-
-    // and these two are values.
-    ghost least_met: { (f : Self) → IsValue (value f) (lowest f) };
-
-    ghost greatest_met: { (f : Self) → IsValue (value f) (highest f) };
-
-    // The word for a word's value has that same value.
-    ghost same: { (f : Self) (u w : ℕ) → u < 2 ^ 16 →
-        IsNearest (value f) (rank f) (value f u) w → SameValue (value f w) (value f u) };
-
-    // No word is nearer than the one for x.
-    ghost none_nearer: { (f : Self) (x : Ratio) (u w : ℕ) → u < 2 ^ 16 →
-        IsNearest (value f) (rank f) x w → Near x (value f w) (value f u) };
-
-    // The tie rule: no word that is as near has a lower value.
-    ghost tie: { (f : Self) (x : Ratio) (u w : ℕ) → u < 2 ^ 16 →
-        IsNearest (value f) (rank f) x w → Near x (value f u) (value f w) →
-        AtMost (value f w) (value f u) };
-
-    // There is one word for x at most.
-    ghost one: { (f : Self) (x : Ratio) (u w : ℕ) →
-        IsNearest (value f) (rank f) x u → IsNearest (value f) (rank f) x w → u ≡ w };
-
-    // It is the one that is found among all.
-    ghost found: { (f : Self) (x : Ratio) (w : ℕ) →
-        IsNearest (value f) (rank f) x w → nearest_word (value f) (rank f) x ≡ Some w };
-}
 
 /// The word that a word's value is encoded as: the same value, in the spelling that the format
 /// prefers.

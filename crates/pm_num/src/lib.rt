@@ -16,6 +16,7 @@ mod frac;
 mod grid;
 mod laws;
 mod linear11;
+mod num_format;
 mod power;
 #[cfg(test)]
 mod tests;
@@ -25,8 +26,9 @@ mod whole;
 pub use any_format::AnyFormat;
 pub use direct::Direct;
 pub use fault::NumFault;
-pub use format::{NumFormat, canonical};
+pub use format::canonical;
 pub use frac::{Frac, micro};
 pub use laws::{found_words_are_nearest, parameters_are_the_shape, refusals_tell_the_side};
 pub use linear11::Linear11;
+pub use num_format::NumFormat;
 pub use ulinear16::Ulinear16;

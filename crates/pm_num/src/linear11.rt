@@ -13,8 +13,9 @@ ghost use Rattle.pm_num.specs.Lemmas.Spelling.{linear11-within, linear11-one_wor
 ghost use Rattle.std.proofs.Common.{refl, lit<};
 
 use crate::fault::NumFault;
-use crate::format::{NumFormat, in_range};
+use crate::format::in_range;
 use crate::frac::Frac;
+use crate::num_format::NumFormat;
 use crate::power::{lower_of_two, power_of_two, upper_of_two};
 use crate::whole::{product, rounded};
 

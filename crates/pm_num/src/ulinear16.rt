@@ -11,9 +11,10 @@ ghost use Rattle.pm_num.specs.Lemmas.Unsigned.{lower-positive, ulinear16-within,
 ghost use Rattle.std.proofs.Common.{refl, lit<};
 
 use crate::fault::NumFault;
-use crate::format::{NumFormat, in_range};
+use crate::format::in_range;
 use crate::frac::Frac;
 use crate::grid::Grid;
+use crate::num_format::NumFormat;
 use crate::power::{lower_of_two, upper_of_two};
 use crate::whole::product;
 

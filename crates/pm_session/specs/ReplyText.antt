@@ -2,7 +2,7 @@
 use Rattle.std.specs.Prelude.{ℕ, Bool, if◌then◌else◌, List, ◌++◌, flat_map, codes, decimal}
 use Rattle.pm_host.specs.FaultWords.{host_fault_words}
 use Rattle.pm_world.specs.FaultWords.{cause_words}
-use Rattle.pm_world.specs.declared.stop.Cause.TheVariants as cause
+use Rattle.pm_world.specs.declared.cause.Cause.TheVariants as cause
 use Rattle.pm_lines.specs.Faults.{fault_words}
 use Rattle.pm_lines.specs.Numbers.{hex_byte}
 use Rattle.pm_lines.specs.declared.fault.TextFault.TheVariants as text

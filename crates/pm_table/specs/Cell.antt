@@ -3,8 +3,8 @@
 -- question on them asks it, or their line of the command table.
 use Rattle.std.specs.Prelude.{ℕ, ◌+◌, ◌*◌, ◌/◌, ◌%◌, ◌<◌, Bool, true, false, ◌&&◌, ◌||◌, List, [], ◌∷◌, length, find, position, slice_index_or, unwrap_or, Option, Some, if◌then◌else◌, ◌==◌}
 use Rattle.std.specs.Option.{option_map, option_map_or}
-use Rattle.pm_table.specs.declared.cell.Reg.{Reg}
-use Rattle.pm_table.specs.declared.cell.Reg.TheVariants.{Operation, VoutCommand, VoutMax, MarginHigh, MarginLow, VoutMin}
+use Rattle.pm_table.specs.declared.reg.Reg.{Reg}
+use Rattle.pm_table.specs.declared.reg.Reg.TheVariants.{Operation, VoutCommand, VoutMax, MarginHigh, MarginLow, VoutMin}
 use Rattle.pm_table.specs.declared.cell.Cell.{Cell}
 use Rattle.pm_table.specs.declared.cell.Cell.TheVariants.{Out, Protect}
 use Rattle.pm_table.specs.Codes as command

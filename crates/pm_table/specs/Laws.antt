@@ -1,7 +1,7 @@
 -- What the laws of this crate say, each by a name that a crate above takes it by.
 use Rattle.std.specs.Prelude.{◌≡◌, ℕ, ◌<◌, ◌≤◌, ◌↔◌, IsTrue, Some, if◌then◌else◌}
 use Rattle.std.specs.Option.{option_map}
-use Rattle.pm_table.specs.declared.cell.Reg.{Reg}
+use Rattle.pm_table.specs.declared.reg.Reg.{Reg}
 use Rattle.pm_table.specs.declared.cell.Cell.{Cell}
 use Rattle.pm_table.specs.declared.cell.Cell.TheVariants.{Out}
 use Rattle.pm_table.specs.Cell.{cell_at, cell_in, cell_name, is_voltage, place_of, places, register_code, same_cell, IsCell}

@@ -15,12 +15,13 @@ mod fault;
 mod format;
 mod laws;
 mod protection;
+mod reg;
 #[cfg(test)]
 mod tests;
 mod vout_mode;
 
 pub use address::address_ok;
-pub use cell::{Cell, Reg, cell_of};
+pub use cell::{Cell, cell_of};
 pub use coefficients::Coefficients;
 pub use commands::{Attributes, Code, Info, known};
 pub use fault::TableFault;
@@ -29,4 +30,5 @@ pub use laws::{
     cells_are_told_apart, cells_have_places, payloads_are_short, registers_are_in_the_table,
 };
 pub use protection::is_allowed;
+pub use reg::Reg;
 pub use vout_mode::VoutMode;

@@ -17,7 +17,7 @@ ghost use Rattle.pm_world.specs.Possible.{PossibleIsHeld, SeenIsTrue};
 ghost use Rattle.pm_world.specs.Retelling.{CommandsOwn, IsOrderRun, IsOwnWord};
 ghost use Rattle.pm_world.specs.State.{State, cause_of, event_cause};
 ghost use Rattle.pm_world.specs.declared.event.Event.{Event as Happening};
-ghost use Rattle.pm_world.specs.declared.stop.Cause.TheVariants.{Full};
+ghost use Rattle.pm_world.specs.declared.cause.Cause.TheVariants.{Full};
 
 use pm_device::Config;
 use pm_host::Standing;

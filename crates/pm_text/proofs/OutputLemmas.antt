@@ -3,7 +3,7 @@ use Rattle.std.proofs.Common.{◌≡◌, ℕ, zero, suc, ◌+◌, ◌≤◌, Lis
 use Rattle.std.proofs.Common.{Result, Ok, Err, refl, ap, sym, ◌∙◌, arith, append_assoc, append-nil, length-append, length-take-le}
 use Rattle.std.specs.Prelude.{replicate, slice_set, take}
 use Rattle.std.proofs.lemmas.List.{take-replicate}
-use Rattle.pm_device.specs.declared.config.OutputStart.{OutputStart}
+use Rattle.pm_device.specs.declared.output_start.OutputStart.{OutputStart}
 use Rattle.pm_device.specs.Start.{no_start}
 use Rattle.pm_lines.specs.Lines.{Numbered}
 use Rattle.pm_text.specs.Readers.{Field, Rest, line_as}

@@ -5,8 +5,8 @@ use Rattle.pm_world.specs.Life.{now, taken_events}
 use Rattle.pm_world.specs.Setup.{setup_fault}
 use Rattle.pm_world.specs.State.{cause_of}
 use Rattle.pm_world.specs.declared.event.Event.{Event}
-use Rattle.pm_world.specs.declared.stop.Cause.{Cause}
-use Rattle.pm_world.specs.declared.stop.SetupFault.{SetupFault}
+use Rattle.pm_world.specs.declared.cause.Cause.{Cause}
+use Rattle.pm_world.specs.declared.setup_fault.SetupFault.{SetupFault}
 use Rattle.pm_world.specs.declared.stop.Stop.{Stop}
 use Rattle.pm_lines.specs.Streams.{max_text}
 use Rattle.pm_lines.specs.declared.fault.TextFault.{TextFault}

@@ -4,11 +4,11 @@ use Rattle.std.specs.Prelude.{⊤, ℕ, suc, nat_lt, min, if◌then◌else◌, L
 use Rattle.pm_num.specs.Value.{direct_least}
 use Rattle.pm_table.specs.Cell.{register_count, register_number}
 use Rattle.pm_table.specs.declared.cell.Cell.TheVariants.{Out}
-use Rattle.pm_table.specs.declared.cell.Reg.{Reg}
+use Rattle.pm_table.specs.declared.reg.Reg.{Reg}
 use Rattle.pm_table.specs.declared.coefficients.Coefficients.{Coefficients}
 use Rattle.pm_table.specs.VoutMode.{mode_of}
 use Rattle.pm_device.specs.declared.config.Config.{Config}
-use Rattle.pm_device.specs.declared.config.OutputStart.{OutputStart}
+use Rattle.pm_device.specs.declared.output_start.OutputStart.{OutputStart}
 use Rattle.pm_device.specs.Start.{is_direct, no_start, start_of}
 use Rattle.pm_world.specs.declared.event.Event.{Event}
 use Rattle.pm_lines.specs.Digits.{hex_of, signed_of, small_of}

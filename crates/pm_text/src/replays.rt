@@ -4,7 +4,7 @@ ghost use Rattle.std.specs.Prelude.{Ok, Err, IfOk, IfErr, IfSome, IsErrOf, IsTru
 ghost use Rattle.std.specs.Result.{result_err};
 ghost use Rattle.std.specs.Io.KnownBytes.{Appends, Consumes};
 ghost use Rattle.pm_world.specs.Setup.{setup_fault};
-ghost use Rattle.pm_world.specs.declared.stop.SetupFault.{SetupFault as NoSetup};
+ghost use Rattle.pm_world.specs.declared.setup_fault.SetupFault.{SetupFault as NoSetup};
 ghost use Rattle.pm_lines.specs.Streams.{AppendsFront, IsWholeText, max_text};
 ghost use Rattle.pm_text.specs.Replay.{IsOfReplay, IsReplay, IsSettled, RefusesSetup, end_by, outcome_of, replay_of, run_of as run_spec, taken_by};
 ghost use Rattle.pm_text.specs.ScenarioText.{scenario_of};

@@ -24,7 +24,7 @@ use Rattle.pm_tool.specs.NumberText.{IsCommandLineFault, IsNumberText, IsOfNumbe
 use Rattle.pm_tool.specs.declared.numbers.fault.NumberFault.{NumberFault}
 use Rattle.pm_tool.specs.declared.numbers.fault.NumberFault.TheVariants.{OneOf, Format, Word, Micro, Num, Text as OfText}
 use Rattle.pm_tool.specs.declared.numbers.question.Question.{Question}
-use Rattle.pm_world.specs.declared.stop.SetupFault.{SetupFault}
+use Rattle.pm_world.specs.declared.setup_fault.SetupFault.{SetupFault}
 use Rattle.pm_trace.specs.Counts.{counts_of}
 use Rattle.pm_trace.specs.Decoding.{said as said_of}
 use Rattle.pm_trace.specs.Trace.{trace_of}

@@ -1,7 +1,7 @@
 -- The configuration that a hearing starts from. This project's own choice.
 use Rattle.std.specs.Prelude.{pos, replicate}
 use Rattle.pm_device.specs.declared.config.Config.{Config}
-use Rattle.pm_device.specs.declared.config.OutputStart.{OutputStart}
+use Rattle.pm_device.specs.declared.output_start.OutputStart.{OutputStart}
 use Rattle.pm_device.specs.Start.{no_start}
 
 -- each output: VOUT_MODE 14h (ULINEAR16, N = -12), on, 1 V asked for, at most 4 V, margins at

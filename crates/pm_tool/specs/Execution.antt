@@ -15,7 +15,7 @@ use Rattle.pm_lines.specs.Streams.{AppendsFront, Held, IsWholeText, max_text}
 use Rattle.pm_lines.specs.declared.fault.TextFault.{TextFault}
 use Rattle.pm_lines.specs.declared.fault.TextFault.TheVariants.{Syntax, BadHex, TooLong, Read, Write, Memory, Setup}
 use Rattle.pm_world.specs.FaultWords.{setup_fault_text}
-use Rattle.pm_world.specs.declared.stop.SetupFault.{SetupFault}
+use Rattle.pm_world.specs.declared.setup_fault.SetupFault.{SetupFault}
 use Rattle.pm_trace.specs.Counts.{counts_of}
 use Rattle.pm_trace.specs.Decoding.{said}
 use Rattle.pm_trace.specs.Trace.{trace_of}

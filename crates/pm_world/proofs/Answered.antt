@@ -14,8 +14,8 @@ use Rattle.pm_frame.specs.Betrayal.{is_betrayed}
 use Rattle.pm_frame.specs.Fault.{whole_answer}
 use Rattle.pm_frame.specs.Layout.{IsRequest, IsAnswer, answered, answer_length, fits_layout, has_count, is_read_message, sent, with_pec}
 use Rattle.pm_model.specs.Settings.{word_at}
-use Rattle.pm_device.specs.declared.heard.Ending.{Ending}
-use Rattle.pm_device.specs.declared.heard.Ending.TheVariants.{Restart}
+use Rattle.pm_device.specs.declared.ending.Ending.{Ending}
+use Rattle.pm_device.specs.declared.ending.Ending.TheVariants.{Restart}
 use Rattle.pm_device.specs.declared.heard.Heard.{Heard}
 use Rattle.pm_device.specs.declared.heard.Heard.TheVariants.{Silent, Taken, Answer, Refused}
 use Rattle.pm_device.specs.Held.{Held}

@@ -11,8 +11,8 @@ use Rattle.pm_host.specs.Summary.{Summary, format_at}
 use Rattle.pm_host.specs.Transcript as host
 use Rattle.pm_world.specs.declared.event.Event.{Event}
 use Rattle.pm_world.specs.declared.event.Event.TheVariants.{Deliver, Exchange, Finish, OrderMicro, RestartDevice}
-use Rattle.pm_world.specs.declared.stop.Cause.{Cause}
-use Rattle.pm_world.specs.declared.stop.Cause.TheVariants.{Full}
+use Rattle.pm_world.specs.declared.cause.Cause.{Cause}
+use Rattle.pm_world.specs.declared.cause.Cause.TheVariants.{Full}
 use Rattle.pm_world.specs.Confirmed.{restarts_converter}
 use Rattle.pm_world.specs.Job as ask
 use Rattle.pm_world.specs.Job.{Request, request_of, requested, request_fault, refusal_of}

@@ -10,16 +10,16 @@ use Rattle.pm_frame.specs.Damage.{DifferWithinEight}
 use Rattle.pm_frame.specs.Fault.{whole_answer}
 use Rattle.pm_frame.specs.Layout.{AreBytes, IsWrite, IsRequest, IsAnswer, fits_layout, is_read_message, sent}
 use Rattle.pm_device.specs.declared.config.Config.{Config}
-use Rattle.pm_device.specs.declared.heard.Ending.{Ending}
-use Rattle.pm_device.specs.declared.heard.Ending.TheVariants.{Restart}
+use Rattle.pm_device.specs.declared.ending.Ending.{Ending}
+use Rattle.pm_device.specs.declared.ending.Ending.TheVariants.{Restart}
 use Rattle.pm_host.specs.Summary.{sending_in}
 use Rattle.pm_host.specs.Transcript.{Setup}
 use Rattle.pm_world.specs.Below.{Below}
-use Rattle.pm_world.specs.declared.event.Arrival.TheVariants as arrival
-use Rattle.pm_world.specs.declared.event.Back.TheVariants as back
+use Rattle.pm_world.specs.declared.arrival.Arrival.TheVariants as arrival
+use Rattle.pm_world.specs.declared.back.Back.TheVariants as back
 use Rattle.pm_world.specs.declared.event.Event.{Event}
 use Rattle.pm_world.specs.declared.event.Event.TheVariants.{Deliver, Exchange}
-use Rattle.pm_world.specs.declared.stop.Cause.TheVariants.{WrongKind, NotBetrayed}
+use Rattle.pm_world.specs.declared.cause.Cause.TheVariants.{WrongKind, NotBetrayed}
 use Rattle.pm_world.specs.Damage.{AreOthers, IsBetrayedDamage, burst, few, odd}
 use Rattle.pm_world.specs.Laws.{BetrayedDamageIsLegal}
 use Rattle.pm_world.specs.Legal.{frame_of, heard_ending, is_restart, is_heard_whole, is_legal_hearing, is_legal_return}

@@ -15,7 +15,7 @@ use Rattle.pm_frame.specs.Damage.{DifferWithinEight, message_bit}
 use Rattle.pm_frame.specs.Fault.{whole_answer}
 use Rattle.pm_frame.specs.Layout.{AreBytes, answered}
 use Rattle.pm_frame.specs.Pec.{pec_of}
-use Rattle.pm_device.specs.declared.heard.Ending.TheVariants.{Restart}
+use Rattle.pm_device.specs.declared.ending.Ending.TheVariants.{Restart}
 use Rattle.pm_device.specs.declared.heard.Heard.{Heard}
 use Rattle.pm_device.specs.declared.heard.Heard.TheVariants.{Answer}
 use Rattle.pm_device.specs.Held.{Held}

@@ -7,7 +7,7 @@ use Rattle.std.proofs.lemmas.Bool.{or_left}
 use Rattle.std.proofs.lemmas.Bool.Decides.{Decides-eqb}
 use Rattle.std.proofs.lemmas.List.{append-nil}
 use Rattle.std.proofs.lemmas.Slice.Eq.{starts_is}
-use Rattle.pm_table.specs.declared.cell.Reg.{Reg}
+use Rattle.pm_table.specs.declared.reg.Reg.{Reg}
 use Rattle.pm_table.specs.declared.cell.Cell.{Cell}
 use Rattle.pm_table.specs.declared.cell.Cell.TheVariants.{Out, Protect}
 use Rattle.pm_table.specs.Cell.{cell_accepts, cell_code, register_code, IsCell}
@@ -17,7 +17,7 @@ use Rattle.pm_table.specs.Protection.{is_allowed}
 use Rattle.pm_frame.specs.declared.message.Message.{Message}
 use Rattle.pm_frame.specs.Betrayal.{is_betrayed}
 use Rattle.pm_model.specs.Settings.{word_at, with_word}
-use Rattle.pm_device.specs.declared.heard.Ending.TheVariants.{Stop}
+use Rattle.pm_device.specs.declared.ending.Ending.TheVariants.{Stop}
 use Rattle.pm_device.specs.Effect.{Hearing, words_after}
 use Rattle.pm_host.specs.declared.command.Command.{Command}
 use Rattle.pm_host.specs.declared.command.Command.TheVariants.{ClearFaults, StoreUserAll, RestoreUserAll}
@@ -29,9 +29,9 @@ use Rattle.pm_host.specs.Sound.{IsSound, IsStage}
 use Rattle.pm_host.specs.Summary.{Summary, sending_in, stage_message}
 use Rattle.pm_host.specs.Transcript as host
 use Rattle.pm_world.specs.Below.{Below}
-use Rattle.pm_world.specs.declared.event.Arrival.TheVariants.{Whole}
+use Rattle.pm_world.specs.declared.arrival.Arrival.TheVariants.{Whole}
 use Rattle.pm_world.specs.declared.event.Event.TheVariants.{Deliver}
-use Rattle.pm_world.specs.declared.stop.Cause.TheVariants.{WrongKind, NotBetrayed}
+use Rattle.pm_world.specs.declared.cause.Cause.TheVariants.{WrongKind, NotBetrayed}
 use Rattle.pm_world.specs.Legal.{frame_of, heard_ending, is_legal_hearing}
 use Rattle.pm_world.specs.State.{State, delivery_cause, hearing, next, rule, share_of}
 use Rattle.pm_world.specs.Uncertainty.{IsLegal}

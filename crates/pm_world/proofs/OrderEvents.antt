@@ -9,14 +9,14 @@ use Rattle.pm_table.specs.Cell.{cell_accepts, IsCell}
 use Rattle.pm_frame.specs.declared.message.Message.{Message}
 use Rattle.pm_frame.specs.declared.message.Message.TheVariants.{SendByte}
 use Rattle.pm_table.specs.Codes as command
-use Rattle.pm_frame.specs.declared.message.Payload.TheVariants.{Empty}
+use Rattle.pm_frame.specs.declared.payload.Payload.TheVariants.{Empty}
 use Rattle.pm_frame.specs.Layout.{IsWrite, is_read_message, fits_layout}
 use Rattle.pm_model.specs.declared.pending_job.PendingJob.{PendingJob}
 use Rattle.pm_model.specs.declared.pending_job.PendingJob.TheVariants as pending
 use Rattle.pm_model.specs.OrderMachine.{words_taken, store_taken}
 use Rattle.pm_model.specs.Settings.{with_outputs}
-use Rattle.pm_device.specs.declared.heard.Ending.{Ending}
-use Rattle.pm_device.specs.declared.heard.Ending.TheVariants.{Stop}
+use Rattle.pm_device.specs.declared.ending.Ending.{Ending}
+use Rattle.pm_device.specs.declared.ending.Ending.TheVariants.{Stop}
 use Rattle.pm_device.specs.Held.{Held}
 use Rattle.pm_device.specs.Effect as device
 use Rattle.pm_device.specs.Effect.{Hearing, Kept, kept_in, kept_after}
@@ -32,9 +32,9 @@ use Rattle.pm_host.specs.Refusals.{is_busy, asking_fault, cell_fault, order_faul
 use Rattle.pm_host.specs.Summary.{Summary, next as host_next, sending_in, stage_message, idle}
 use Rattle.pm_host.specs.Transcript as host
 use Rattle.pm_world.specs.Below.{Below}
-use Rattle.pm_world.specs.declared.event.Arrival.{Arrival}
-use Rattle.pm_world.specs.declared.event.Back.{Back as Return}
-use Rattle.pm_world.specs.declared.stop.Cause.TheVariants.{NotBetrayed, WrongKind}
+use Rattle.pm_world.specs.declared.arrival.Arrival.{Arrival}
+use Rattle.pm_world.specs.declared.back.Back.{Back as Return}
+use Rattle.pm_world.specs.declared.cause.Cause.TheVariants.{NotBetrayed, WrongKind}
 use Rattle.pm_world.specs.Legal.{frame_of, heard_bytes, heard_ending, is_legal_hearing}
 use Rattle.pm_world.specs.Retelling.{command_pending}
 use Rattle.pm_world.specs.State.{State, rule, device_after, host_after, delivered, exchanged, delivery_cause, exchange_cause, hearing_cause}

@@ -6,7 +6,7 @@ use Rattle.std.specs.Option.{option_map_or}
 use Rattle.std.proofs.lemmas.List.Elements.{Contains-append_cases}
 use Rattle.pm_table.specs.declared.cell.Cell.{Cell}
 use Rattle.pm_table.specs.declared.cell.Cell.TheVariants.{Out}
-use Rattle.pm_table.specs.declared.cell.Reg.TheVariants.{Operation, VoutMax, VoutMin}
+use Rattle.pm_table.specs.declared.reg.Reg.TheVariants.{Operation, VoutMax, VoutMin}
 use Rattle.pm_table.specs.Cell.{IsCell}
 use Rattle.pm_model.specs.Commanded.{selected_register, selected, is_cut, commanded}
 use Rattle.pm_model.specs.declared.pending_job.PendingJob.TheVariants as pending

@@ -4,7 +4,7 @@ use Rattle.std.proofs.Common.{option_map, option_and_then, refl, sym, ◌∙◌,
 use Rattle.std.specs.Prelude.{option_to_list}
 use Rattle.std.specs.Option.{option_map_or}
 use Rattle.std.proofs.lemmas.Bool.{cond-true, eqb-true}
-use Rattle.pm_table.specs.declared.cell.Reg.{Reg}
+use Rattle.pm_table.specs.declared.reg.Reg.{Reg}
 use Rattle.pm_table.specs.declared.cell.Cell.{Cell}
 use Rattle.pm_table.specs.declared.cell.Cell.TheVariants.{Out, Protect}
 use Rattle.pm_table.specs.Cell.{same_cell, IsCell}
@@ -19,7 +19,7 @@ use Rattle.pm_host.specs.Refusals.{may_come}
 use Rattle.pm_host.specs.Summary.{Summary, sending_in}
 use Rattle.pm_host.specs.Transcript as host
 use Rattle.pm_world.specs.Below.{Below}
-use Rattle.pm_world.specs.declared.event.Back.TheVariants.{Bytes}
+use Rattle.pm_world.specs.declared.back.Back.TheVariants.{Bytes}
 use Rattle.pm_world.specs.declared.event.Event.{Event}
 use Rattle.pm_world.specs.declared.event.Event.TheVariants.{Finish, Exchange}
 use Rattle.pm_world.specs.Life.{now}

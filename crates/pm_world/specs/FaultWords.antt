@@ -3,10 +3,10 @@
 use Rattle.std.specs.Prelude.{ℕ, List, ◌++◌, codes}
 use Rattle.pm_device.specs.FaultWords.{config_fault_text}
 use Rattle.pm_host.specs.FaultWords.{host_fault_words}
-use Rattle.pm_world.specs.declared.stop.Cause.{Cause}
-use Rattle.pm_world.specs.declared.stop.Cause.TheVariants.{Full, NothingSent, WrongKind, NotBetrayed, Host}
-use Rattle.pm_world.specs.declared.stop.SetupFault.{SetupFault}
-use Rattle.pm_world.specs.declared.stop.SetupFault.TheVariants as setup
+use Rattle.pm_world.specs.declared.cause.Cause.{Cause}
+use Rattle.pm_world.specs.declared.cause.Cause.TheVariants.{Full, NothingSent, WrongKind, NotBetrayed, Host}
+use Rattle.pm_world.specs.declared.setup_fault.SetupFault.{SetupFault}
+use Rattle.pm_world.specs.declared.setup_fault.SetupFault.TheVariants as setup
 
 -- the letter and the name
 abbrev pub cause_words : Cause → List ℕ

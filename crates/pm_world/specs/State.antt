@@ -17,10 +17,10 @@ use Rattle.pm_host.specs.Refusals.{micro_word}
 use Rattle.pm_host.specs.Transcript as host
 use Rattle.pm_world.specs.declared.event.Event.{Event}
 use Rattle.pm_world.specs.declared.event.Event.TheVariants.{OrderMicro, Deliver, Finish, Exchange, RestartDevice, RestartHost, Reading}
-use Rattle.pm_world.specs.declared.event.Arrival.{Arrival}
-use Rattle.pm_world.specs.declared.event.Back.{Back}
-use Rattle.pm_world.specs.declared.stop.Cause.{Cause}
-use Rattle.pm_world.specs.declared.stop.Cause.TheVariants.{Full, NothingSent, WrongKind, NotBetrayed, Host as Refuses}
+use Rattle.pm_world.specs.declared.arrival.Arrival.{Arrival}
+use Rattle.pm_world.specs.declared.back.Back.{Back}
+use Rattle.pm_world.specs.declared.cause.Cause.{Cause}
+use Rattle.pm_world.specs.declared.cause.Cause.TheVariants.{Full, NothingSent, WrongKind, NotBetrayed, Host as Refuses}
 use Rattle.pm_world.specs.Job.{job_of, refusal_of}
 use Rattle.pm_world.specs.Legal.{frame_of, heard_bytes, heard_ending, is_legal_hearing, is_legal_return, is_heard_whole, answer_in, back_bytes}
 

@@ -4,13 +4,13 @@
 use Rattle.std.specs.Prelude.{◌≡◌, ◌<◌, ℕ, ◌==◌, Bool, true, false, ◌||◌, if◌then◌else◌, List, [], ◌∷◌, ◌++◌, map, None, is_some}
 use Rattle.std.specs.List.{range_with_len}
 use Rattle.std.specs.Option.{option_map_or}
-use Rattle.pm_table.specs.declared.cell.Reg.{Reg}
+use Rattle.pm_table.specs.declared.reg.Reg.{Reg}
 use Rattle.pm_table.specs.declared.cell.Cell.{Cell}
 use Rattle.pm_table.specs.declared.cell.Cell.TheVariants.{Out, Protect}
 use Rattle.pm_table.specs.Cell.{cell_accepts, same_cell}
 use Rattle.pm_model.specs.Settings.{word_at}
 use Rattle.pm_device.specs.declared.config.Config.{Config}
-use Rattle.pm_device.specs.declared.config.OutputStart.{OutputStart}
+use Rattle.pm_device.specs.declared.output_start.OutputStart.{OutputStart}
 use Rattle.pm_device.specs.Held.{mode_for, shape_for}
 use Rattle.pm_device.specs.Start.{IsSound, start_of}
 use Rattle.pm_host.specs.declared.command.Command.{Command}
@@ -23,9 +23,9 @@ use Rattle.pm_host.specs.Possible.{is_listed}
 use Rattle.pm_host.specs.Summary.{Summary, possible_at}
 use Rattle.pm_host.specs.Transcript.{Setup, Job, Entry, Accepted, Finished, Got, Restarted, sending_of}
 use Rattle.pm_host.specs.Transcript as host
-use Rattle.pm_world.specs.declared.event.Arrival.{Arrival}
-use Rattle.pm_world.specs.declared.event.Arrival.TheVariants.{Whole, Cut}
-use Rattle.pm_world.specs.declared.event.Back.TheVariants.{Bytes}
+use Rattle.pm_world.specs.declared.arrival.Arrival.{Arrival}
+use Rattle.pm_world.specs.declared.arrival.Arrival.TheVariants.{Whole, Cut}
+use Rattle.pm_world.specs.declared.back.Back.TheVariants.{Bytes}
 use Rattle.pm_world.specs.declared.event.Event.{Event}
 use Rattle.pm_world.specs.declared.event.Event.TheVariants.{Order, Check, Learn, Clear, Store, Restore, Deliver, Finish, Exchange, RestartHost}
 use Rattle.pm_world.specs.Confirmed.{restarts_converter}

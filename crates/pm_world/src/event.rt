@@ -1,30 +1,8 @@
+use crate::arrival::Arrival;
+use crate::back::Back;
 use pm_device::Ending;
 use pm_frame::Frame;
 use pm_table::{Cell, Code};
-
-/// How a frame that the host sends arrives at the converter. Bytes go over the wire in their order,
-/// so a cut frame is a prefix of it.
-#[derive(Debug, Drop)]
-pub enum Arrival {
-    /// All of its bytes, ended as the host ends them: a write by a stop, a request by a repeated
-    /// start.
-    Whole,
-    /// Its first bytes, of this number, or all where there are no more, ended by a stop.
-    Cut(u8),
-    /// These bytes in its place, ended so.
-    Bytes(Frame, Ending),
-}
-
-/// What comes back to the host of the converter's answer to a request.
-#[derive(Debug, Drop)]
-pub enum Back {
-    /// The answer; no bytes where the converter gave none.
-    Whole,
-    /// Its first bytes, of this number, or all where there are no more.
-    Cut(u8),
-    /// These bytes in its place.
-    Bytes(Frame),
-}
 
 /// What happens in a world.
 #[derive(Debug, Drop)]

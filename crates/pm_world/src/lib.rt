@@ -26,19 +26,27 @@
 //! ```
 #![tactic(auto)]
 
+mod arrival;
+mod back;
+mod cause;
 mod event;
 mod job;
 mod laws;
 mod legal;
+mod setup_fault;
 mod stop;
 mod world;
 
-pub use event::{Arrival, Back, Event};
+pub use arrival::Arrival;
+pub use back::Back;
+pub use cause::Cause;
+pub use event::Event;
 pub use job::ask;
 pub use laws::{
     betrayed_damage_is_legal, betrayed_damage_is_taken, confirmed_settings_are_held,
     frames_are_few, honest_orders_go_through, learned_formats_are_true, lives_are_followed,
     lives_are_orders, possible_words_are_exact, possible_words_are_held,
 };
-pub use stop::{Cause, SetupFault, Stop};
+pub use setup_fault::SetupFault;
+pub use stop::Stop;
 pub use world::World;

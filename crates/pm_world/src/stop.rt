@@ -1,48 +1,10 @@
 ghost use Rattle.std.specs.Prelude.{◌≡◌};
-ghost use Rattle.pm_world.specs.declared.stop.Cause.TheVariants as causes;
+ghost use Rattle.pm_world.specs.declared.cause.Cause.TheVariants as causes;
 
+use crate::cause::Cause;
 use pm_device::ConfigFault;
 use pm_host::HostFault;
 use thiserror::Error;
-
-/// Why an event isn't taken: the first that applies, in the order of these.
-#[derive(Clone, Copy, Debug, PartialEq, Eq, Error)]
-pub enum Cause {
-    /// S5: 2^48 events were taken.
-    #[error("a full world")]
-    Full,
-    /// S2: no frame is being sent.
-    #[error("no frame is being sent")]
-    NothingSent,
-    /// S3: a read is being sent where a write is delivered or finished, or a write where a request
-    /// is exchanged.
-    #[error("a frame of the other kind is being sent")]
-    WrongKind,
-    /// S1: bytes were heard, or came back, that no cut explains and that the PEC doesn't betray.
-    #[error("damage that the packet error code doesn't betray")]
-    NotBetrayed,
-    /// S4: the host refuses the job.
-    #[error("the host refuses: {0}")]
-    Host(HostFault),
-}
-
-impl Cause {
-    ghost use Rattle.pm_world.specs.FaultWords.{cause_words};
-
-    /// The letter and the name of the cause, as programs print them: `S1 NotBetrayed`. After `S4 Host`
-    /// stand the words of the host's refusal.
-    pub fn words(self) -> &'static str
-        ensures { result.now ≡ cause_words self }
-    {
-        match self {
-            Cause::NotBetrayed => "S1 NotBetrayed",
-            Cause::NothingSent => "S2 NothingSent",
-            Cause::WrongKind => "S3 WrongKind",
-            Cause::Host(_) => "S4 Host",
-            Cause::Full => "S5 Full",
-        }
-    }
-}
 
 /// Where a run stopped: the events before this place were taken, and the one there wasn't.
 #[derive(Clone, Copy, Debug, PartialEq, Eq)]
@@ -51,23 +13,4 @@ pub struct Stop {
     pub at: usize,
     /// Why it wasn't.
     pub cause: Cause,
-}
-
-/// Why no world is made: the converter's fault before the host's.
-#[derive(Clone, Copy, Debug, PartialEq, Eq, Error)]
-pub enum SetupFault {
-    /// V1 to V5: the converter can't be made of this configuration.
-    #[error("the device: {0}")]
-    Device(ConfigFault),
-    /// H2: the host can't have that number of passes.
-    #[error("the host: {0}")]
-    Host(HostFault),
-}
-
-impl From<HostFault> for Cause {
-    ghost from_gives = { λ fault cause. cause ≡ causes.Host fault };
-
-    fn from(fault: HostFault) -> Cause {
-        Cause::Host(fault)
-    }
 }

@@ -20,7 +20,10 @@ ghost use Rattle.pm_model.specs.Settings.{word_at};
 ghost use Rattle.pm_device.specs.Held.{value_for};
 ghost use Rattle.pm_world.specs.Retelling.{IsOrderRun, IsOwnWord, CommandsOwn};
 
-use crate::event::{Arrival, Back, Event};
+use crate::arrival::Arrival;
+use crate::back::Back;
+use crate::cause::Cause;
+use crate::event::Event;
 use crate::job::ask;
 use crate::laws::{
     confirmed_settings_are_held, frames_are_few, honest_orders_go_through,
@@ -30,7 +33,8 @@ use crate::legal::{
     answer_in, back_bytes, hear_replied, heard_bytes, heard_ending, is_heard_whole,
     is_legal_hearing, is_legal_return,
 };
-use crate::stop::{Cause, SetupFault, Stop};
+use crate::setup_fault::SetupFault;
+use crate::stop::Stop;
 use pm_device::{Config, Converter, Ending};
 use pm_host::{Host, JobEnd, Step, Told, Turn, transcripts_are_followed};
 use pm_table::Code;

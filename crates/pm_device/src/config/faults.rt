@@ -4,7 +4,9 @@ ghost use Rattle.std.specs.Prelude.{◌≡◌, ◌≤◌, length, if◌then◌el
 ghost use Rattle.pm_table.specs.Cell.{cell_accepts};
 ghost use Rattle.pm_device.specs.Start as spec;
 
-use crate::config::{Config, ConfigFault, OutputStart};
+use crate::config::Config;
+use crate::config_fault::ConfigFault;
+use crate::output_start::OutputStart;
 use pm_num::NumFault;
 use pm_table::{Cell, Reg, VoutMode, address_ok, format_of};
 

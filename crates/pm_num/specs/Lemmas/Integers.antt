@@ -53,4 +53,3 @@ same_from_times a b n h e =
     let p : a ≤ℤ b = le_from_times a b n h (omega (arith, ints)) in
     let q : b ≤ℤ a = le_from_times b a n h (omega (arith, ints)) in
     omega (arith, ints)
-

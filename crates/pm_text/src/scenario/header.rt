@@ -1,6 +1,6 @@
 //! The lines before the events: what both ends of the bus are made from.
 ghost use Rattle.std.specs.Prelude.{◌≡◌, Ok, Err, List, MatchResult};
-ghost use Rattle.pm_device.specs.declared.config.OutputStart.{OutputStart as Start};
+ghost use Rattle.pm_device.specs.declared.output_start.OutputStart.{OutputStart as Start};
 ghost use Rattle.pm_text.specs.Readers.{Reads, ReadsTo, line_as};
 ghost use Rattle.pm_text.specs.ScenarioText as spec;
 

@@ -9,7 +9,7 @@ pub(crate) struct Starts {
 
 impl Starts {
     ghost use Rattle.std.specs.Prelude.{◌≡◌, List, [], ◌∷◌, ◌++◌};
-    ghost use Rattle.pm_device.specs.declared.config.OutputStart.{OutputStart as Start};
+    ghost use Rattle.pm_device.specs.declared.output_start.OutputStart.{OutputStart as Start};
     ghost use Rattle.pm_text.specs.ScenarioText.{starts_of};
 
     /// No outputs.

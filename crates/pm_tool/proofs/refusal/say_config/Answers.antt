@@ -1,14 +1,14 @@
 use Rattle.std.proofs.Common.{◌≡◌, ◌∙◌, ◌++◌, [], List, ℕ, None, Option, Some, ap, codes, subst, sym}
 use Rattle.std.specs.Option.{option_map_or}
 use Rattle.pm_device.specs.FaultWords.{config_fault_words, config_fault_output, config_fault_detail}
-use Rattle.pm_device.specs.declared.config.ConfigFault.{ConfigFault}
+use Rattle.pm_device.specs.declared.config_fault.ConfigFault.{ConfigFault}
 use Rattle.pm_frame.specs.FaultWords.{place_text}
 use Rattle.pm_tool.specs.Execution.{Says, refusal_line}
 use Rattle.pm_tool.proofs.EndLemmas.{put_said}
 use Rattle.pm_tool.proofs.SetupLemmas.{lettered, line-none, line-some}
 use Rattle.pm_lines.specs.Faults.{fault_words}
 use Rattle.pm_lines.specs.declared.fault.TextFault.TheVariants.{Setup}
-use Rattle.pm_world.specs.declared.stop.SetupFault.TheVariants.{Device}
+use Rattle.pm_world.specs.declared.setup_fault.SetupFault.TheVariants.{Device}
 use Rattle.pm_tool.proofs.refusal.say_config.Goals as goal
 
 -- the detail of a fault after a space, where it has one

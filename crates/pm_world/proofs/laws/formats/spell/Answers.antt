@@ -1,6 +1,6 @@
 use Rattle.std.proofs.Common.{◌<◌, ◌^◌, sym, subst, below_more}
 use Rattle.std.proofs.Math.ListN.{get_or-map}
-use Rattle.pm_device.specs.declared.config.OutputStart.{OutputStart}
+use Rattle.pm_device.specs.declared.output_start.OutputStart.{OutputStart}
 use Rattle.pm_device.specs.Start.{no_start}
 use Rattle.pm_world.proofs.laws.formats.spell.Goals as goal
 

@@ -3,7 +3,7 @@ use Rattle.std.specs.Prelude.{IsSomeAnd}
 use Rattle.pm_frame.specs.Layout.{IsWrite}
 use Rattle.pm_host.specs.Summary.{sending_in}
 use Rattle.pm_world.specs.declared.event.Event.TheVariants.{Deliver}
-use Rattle.pm_world.specs.declared.stop.Cause.TheVariants.{NotBetrayed}
+use Rattle.pm_world.specs.declared.cause.Cause.TheVariants.{NotBetrayed}
 use Rattle.pm_world.specs.State.{State, Acts, event_cause}
 use Rattle.pm_world.proofs.Ends.{state}
 use Rattle.pm_world.proofs.Frames.{Arrives, arrives-write, deliver-acts, deliver-cause}

@@ -3,7 +3,7 @@ use Rattle.std.specs.Prelude.{IsSomeAnd}
 use Rattle.pm_frame.specs.Layout.{IsRequest}
 use Rattle.pm_host.specs.Summary.{sending_in}
 use Rattle.pm_world.specs.declared.event.Event.TheVariants.{Exchange}
-use Rattle.pm_world.specs.declared.stop.Cause.TheVariants.{NotBetrayed}
+use Rattle.pm_world.specs.declared.cause.Cause.TheVariants.{NotBetrayed}
 use Rattle.pm_world.specs.Legal.{answer_in}
 use Rattle.pm_world.specs.State.{State, Acts, event_cause}
 use Rattle.pm_world.proofs.Ends.{state}

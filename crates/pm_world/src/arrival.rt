@@ -1,0 +1,16 @@
+use pm_device::Ending;
+use pm_frame::Frame;
+use pm_table::{Cell, Code};
+
+/// How a frame that the host sends arrives at the converter. Bytes go over the wire in their order,
+/// so a cut frame is a prefix of it.
+#[derive(Debug, Drop)]
+pub enum Arrival {
+    /// All of its bytes, ended as the host ends them: a write by a stop, a request by a repeated
+    /// start.
+    Whole,
+    /// Its first bytes, of this number, or all where there are no more, ended by a stop.
+    Cut(u8),
+    /// These bytes in its place, ended so.
+    Bytes(Frame, Ending),
+}

@@ -1,0 +1,15 @@
+use crate::arrival::Arrival;
+use pm_device::Ending;
+use pm_frame::Frame;
+use pm_table::{Cell, Code};
+
+/// What comes back to the host of the converter's answer to a request.
+#[derive(Debug, Drop)]
+pub enum Back {
+    /// The answer; no bytes where the converter gave none.
+    Whole,
+    /// Its first bytes, of this number, or all where there are no more.
+    Cut(u8),
+    /// These bytes in its place.
+    Bytes(Frame),
+}

@@ -1,0 +1,53 @@
+ghost use Rattle.std.specs.Prelude.{◌≡◌};
+ghost use Rattle.pm_world.specs.declared.cause.Cause.TheVariants as causes;
+
+use pm_device::ConfigFault;
+use pm_host::HostFault;
+use thiserror::Error;
+
+/// Why an event isn't taken: the first that applies, in the order of these.
+#[derive(Clone, Copy, Debug, PartialEq, Eq, Error)]
+pub enum Cause {
+    /// S5: 2^48 events were taken.
+    #[error("a full world")]
+    Full,
+    /// S2: no frame is being sent.
+    #[error("no frame is being sent")]
+    NothingSent,
+    /// S3: a read is being sent where a write is delivered or finished, or a write where a request
+    /// is exchanged.
+    #[error("a frame of the other kind is being sent")]
+    WrongKind,
+    /// S1: bytes were heard, or came back, that no cut explains and that the PEC doesn't betray.
+    #[error("damage that the packet error code doesn't betray")]
+    NotBetrayed,
+    /// S4: the host refuses the job.
+    #[error("the host refuses: {0}")]
+    Host(HostFault),
+}
+
+impl Cause {
+    ghost use Rattle.pm_world.specs.FaultWords.{cause_words};
+
+    /// The letter and the name of the cause, as programs print them: `S1 NotBetrayed`. After `S4 Host`
+    /// stand the words of the host's refusal.
+    pub fn words(self) -> &'static str
+        ensures { result.now ≡ cause_words self }
+    {
+        match self {
+            Cause::NotBetrayed => "S1 NotBetrayed",
+            Cause::NothingSent => "S2 NothingSent",
+            Cause::WrongKind => "S3 WrongKind",
+            Cause::Host(_) => "S4 Host",
+            Cause::Full => "S5 Full",
+        }
+    }
+}
+
+impl From<HostFault> for Cause {
+    ghost from_gives = { λ fault cause. cause ≡ causes.Host fault };
+
+    fn from(fault: HostFault) -> Cause {
+        Cause::Host(fault)
+    }
+}
