@@ -1,13 +1,10 @@
-ghost use Rattle.std.specs.Prelude.{◌≡◌, ◌≤◌, length};
-ghost use Rattle.pm_device.specs.Held.{mode_for};
+ghost use Rattle.std.specs.Prelude.{◌≡◌, ◌≤◌};
 ghost use Rattle.pm_device.specs.Start.{has_direct, outputs};
 ghost use Rattle.pm_device.specs.Verdict.{answers_coefficients, has_coefficients};
 
 use crate::output_start::OutputStart;
 pub(crate) use faults::config_fault;
-use pm_num::NumFault;
-use pm_table::{Cell, Code, Coefficients, Reg, TableFault, VoutMode, cell_of};
-use thiserror::Error;
+use pm_table::{Code, Coefficients, VoutMode, cell_of};
 
 mod faults;
 

@@ -1,12 +1,8 @@
-ghost use Rattle.std.specs.Prelude.{◌≡◌, ◌≤◌, length};
-ghost use Rattle.pm_device.specs.Held.{mode_for};
-ghost use Rattle.pm_device.specs.Start.{has_direct, outputs};
-ghost use Rattle.pm_device.specs.Verdict.{answers_coefficients, has_coefficients};
+ghost use Rattle.std.specs.Prelude.{◌≡◌};
+ghost use Rattle.pm_device.specs.Start.{outputs};
 
-use crate::output_start::OutputStart;
-pub(crate) use faults::config_fault;
 use pm_num::NumFault;
-use pm_table::{Cell, Code, Coefficients, Reg, TableFault, VoutMode, cell_of};
+use pm_table::{Cell, TableFault};
 use thiserror::Error;
 
 /// Why no converter is made from a configuration: the first that applies, in the order of these.

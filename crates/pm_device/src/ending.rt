@@ -1,6 +1,3 @@
-use crate::fault::DeviceFault;
-use pm_frame::Frame;
-
 /// How the bytes that a converter heard ended.
 #[derive(Clone, Copy, Debug, PartialEq, Eq)]
 pub enum Ending {

@@ -1,12 +1,6 @@
-ghost use Rattle.std.specs.Prelude.{◌≡◌, ◌≤◌, length};
-ghost use Rattle.pm_device.specs.Held.{mode_for};
-ghost use Rattle.pm_device.specs.Start.{has_direct, outputs};
-ghost use Rattle.pm_device.specs.Verdict.{answers_coefficients, has_coefficients};
+ghost use Rattle.std.specs.Prelude.{◌≡◌};
 
-pub(crate) use faults::config_fault;
-use pm_num::NumFault;
-use pm_table::{Cell, Code, Coefficients, Reg, TableFault, VoutMode, cell_of};
-use thiserror::Error;
+use pm_table::{Cell, Reg};
 
 /// What a converter's settings are as it starts, for one output. A word is in the output's own
 /// format, which VOUT_MODE gives.

@@ -1,10 +1,4 @@
-ghost use Rattle.std.specs.Prelude.{◌≡◌, ◌≤◌, ◌&&◌, ◌==◌, if◌then◌else◌, length};
-ghost use Rattle.pm_table.specs.Commands.{payload_length};
-ghost use Rattle.pm_frame.specs.Layout.{fits_layout, is_plain_write};
-
-use crate::direction::Direction;
-use crate::row::Row;
-use pm_table::Code;
+ghost use Rattle.std.specs.Prelude.{◌≡◌, length};
 
 /// What a write carries beside its code.
 #[derive(Clone, Copy, Debug, PartialEq, Eq)]

@@ -5,7 +5,6 @@ ghost use Rattle.pm_num.specs.NearestWord.{nearest_word};
 
 use crate::fault::NumFault;
 use crate::frac::Frac;
-use std::cmp::Ordering;
 
 /// A numeric format of PMBus 1.3 Part II: what each 16-bit word stands for, and which word a number
 /// is encoded as.

@@ -1,6 +1,5 @@
-ghost use Rattle.std.specs.Prelude.{◌≡◌, ◌<◌, ◌≤◌, Some, None, IfSome};
+ghost use Rattle.std.specs.Prelude.{◌≡◌, ◌<◌};
 ghost use Rattle.pm_table.specs.declared.cell.Cell.{Cell};
-ghost use Rattle.pm_table.specs.Cell.{cell_at};
 
 use crate::commands::Code;
 

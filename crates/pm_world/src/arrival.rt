@@ -1,6 +1,5 @@
 use pm_device::Ending;
 use pm_frame::Frame;
-use pm_table::{Cell, Code};
 
 /// How a frame that the host sends arrives at the converter. Bytes go over the wire in their order,
 /// so a cut frame is a prefix of it.

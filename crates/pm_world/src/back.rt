@@ -1,7 +1,4 @@
-use crate::arrival::Arrival;
-use pm_device::Ending;
 use pm_frame::Frame;
-use pm_table::{Cell, Code};
 
 /// What comes back to the host of the converter's answer to a request.
 #[derive(Debug, Drop)]

@@ -1,7 +1,6 @@
 ghost use Rattle.std.specs.Prelude.{◌≡◌};
 ghost use Rattle.pm_world.specs.declared.cause.Cause.TheVariants as causes;
 
-use pm_device::ConfigFault;
 use pm_host::HostFault;
 use thiserror::Error;
 

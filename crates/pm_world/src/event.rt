@@ -1,7 +1,5 @@
 use crate::arrival::Arrival;
 use crate::back::Back;
-use pm_device::Ending;
-use pm_frame::Frame;
 use pm_table::{Cell, Code};
 
 /// What happens in a world.

@@ -1,7 +1,3 @@
-ghost use Rattle.std.specs.Prelude.{◌≡◌};
-ghost use Rattle.pm_world.specs.declared.cause.Cause.TheVariants as causes;
-
-use crate::cause::Cause;
 use pm_device::ConfigFault;
 use pm_host::HostFault;
 use thiserror::Error;
