@@ -4,7 +4,6 @@ ghost use Rattle.pm_frame.specs.Layout.{fits_layout};
 ghost use Rattle.pm_c.specs.Host.{IsNothing, IsSending};
 
 use pm_frame::{Frame, Message, write_part};
-use pm_table::payloads_are_short;
 
 /// A frame that is to be sent now, as plain numbers.
 #[repr(C)]
@@ -41,8 +40,6 @@ impl SendingImage {
         let frame = write_part(address, message);
         self.length = copy_frame(&mut self.bytes, &frame);
         if message.is_read() {
-            // A law, which costs nothing: no code has a payload of more than two bytes.
-            payloads_are_short();
             self.kind = 2;
             self.answer = message.whole_answer() as u8;
         } else {

@@ -23,7 +23,7 @@ use crate::step::Step;
 use crate::told::Told;
 use crate::turn::Turn;
 use pm_frame::Frame;
-use pm_table::{Cell, payloads_are_short};
+use pm_table::Cell;
 use std::marker::Model;
 
 /// The host: it says which frame to send next, and is told what came of it. It believes a setting only
@@ -225,8 +225,6 @@ impl Host {
             None => Turn::Idle,
             Some(Sending { message, frame }) => {
                 if message.is_read() {
-                    // A law, which costs nothing: no code has a payload of more than two bytes.
-                    payloads_are_short();
                     Turn::Request {
                         frame,
                         bytes: message.whole_answer(),
