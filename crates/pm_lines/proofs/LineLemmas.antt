@@ -87,9 +87,15 @@ unfolding unskipped_from lines_of
 unskipped-few first text =
     let pieces = slice_split is_line_feed text in
     let lines = map without_return (without_empty_last pieces) in
-    omega (arith, length-filter is_unskipped (enumerate_from first lines), count_by-le-length is_unskipped (enumerate_from first lines),
-    length-enumerate_from first lines, length-map (without_empty_last pieces) without_return, fewer pieces,
-    length-slice_split is_line_feed text)
+    omega (
+      arith,
+      length-filter is_unskipped (enumerate_from first lines),
+      count_by-le-length is_unskipped (enumerate_from first lines),
+      length-enumerate_from first lines,
+      length-map (without_empty_last pieces) without_return,
+      fewer pieces,
+      length-slice_split is_line_feed text,
+    )
 
 -- nor one that is not skipped
 pub unskipped-nil : (first : ℕ) → unskipped_from first [] ≡ []

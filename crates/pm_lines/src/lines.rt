@@ -50,7 +50,8 @@ impl<'a> Lines<'a> {
     pub fn most_left(&self) -> usize
         ensures { length self.now.unskipped ≤ result }
     {
-        memchr_iter(b'\n', self.rest).count() + 1
+        // `count` of `Memchr` itself looks at byte after byte.
+        Iterator::count(memchr_iter(b'\n', self.rest)) + 1
     }
 
     /// The next line that is not skipped. After None every line of the text was passed.
