@@ -1,4 +1,3 @@
-mod AskLemmas
 mod GotLemmas
 pub mod Joins
 mod SendLemmas

@@ -69,7 +69,7 @@ fn read_words(fields: &mut Fields<'_>) -> Result<Ask, ScenarioFault>
 }
 
 // A line that asks for a job.
-#[tactic(auto, using(crate::proofs::AskLemmas::one_job), unfolding(pm_text::specs::EventLines::job_line))]
+#[tactic(auto, unfolding(pm_text::specs::EventLines::job_line))]
 fn job(fields: &mut Fields<'_>) -> Result<Ask, ScenarioFault>
     ensures { Reads result fields.new (one_of jobs fields.old) }
 {

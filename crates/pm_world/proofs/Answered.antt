@@ -22,7 +22,7 @@ use Rattle.pm_device.specs.Held.{Held}
 use Rattle.pm_device.specs.Laws.{AnswersWith}
 use Rattle.pm_device.specs.Reply.{payload_for, register_bytes, reply_of}
 use Rattle.pm_device.specs.Start.{has_direct}
-use Rattle.pm_host.specs.declared.command.Command.TheVariants.{ClearFaults, StoreUserAll, RestoreUserAll}
+use Rattle.pm_host.specs.declared.command.Command.TheVariants.{RestoreUserAll}
 use Rattle.pm_host.specs.declared.stage.Stage.{Stage}
 use Rattle.pm_host.specs.declared.stage.Stage.TheVariants.{Writes, Reads, Checks, AsksMode, AsksCoefficients, Sends}
 use Rattle.pm_host.specs.Answers.{good_payload}
@@ -154,9 +154,8 @@ stage-answers laws s t (Checks cell tries) kin asks same =
 stage-answers laws s t (AsksMode output tries) kin asks same =
     mode-answers laws s t output kin (subst (λ n. output < n) asks.outputs asks.is.there) asks.fits
 stage-answers laws s t (AsksCoefficients output tries) kin asks same = coefficients-answers laws s t kin asks.fits
-stage-answers laws s t (Sends (ClearFaults output) tries) kin asks same = absurd (true≢false (sym asks.reads))
-stage-answers laws s t (Sends StoreUserAll tries) kin asks same = absurd (true≢false (sym asks.reads))
 stage-answers laws s t (Sends RestoreUserAll tries) kin asks same = absurd (true≢false (sym asks.reads))
+stage-answers laws s t (Sends sent tries) kin asks same = absurd (true≢false (sym asks.reads))
 
 -- an answer has some bytes
 some-bytes : (b : Bool) (n : ℕ) → ltb 0 (cond b 3 2 + n) ≡ true

@@ -20,7 +20,7 @@ use Rattle.pm_model.specs.Settings.{word_at, with_word}
 use Rattle.pm_device.specs.declared.ending.Ending.TheVariants.{Stop}
 use Rattle.pm_device.specs.Effect.{Hearing, words_after}
 use Rattle.pm_host.specs.declared.command.Command.{Command}
-use Rattle.pm_host.specs.declared.command.Command.TheVariants.{ClearFaults, StoreUserAll, RestoreUserAll}
+use Rattle.pm_host.specs.declared.command.Command.TheVariants.{RestoreUserAll}
 use Rattle.pm_host.specs.declared.stage.Stage.TheVariants.{Writes, Reads}
 use Rattle.pm_host.specs.Marks.{Mark, Put, Restored, put_by, puts, send_marks}
 use Rattle.pm_host.specs.Messages.{cell_write}
@@ -70,9 +70,8 @@ begun-by setup entries sound = go (host.open_job setup entries) refl sound.stage
   by_turn false cell word pass e is = no_write
 
   by_command : (sent : Command) → Begun (host_now setup entries) (send_marks sent)
-  by_command (ClearFaults output) = no_write
-  by_command StoreUserAll = no_write
   by_command RestoreUserAll = one_restore
+  by_command sent = no_write
 
   go : (job : Option host.Job) → host.open_job setup entries ≡ job →
       IsStage (host_now setup entries) (option_map (λ j. job_stage setup j (host.told_since entries)) (host.open_job setup entries)) →

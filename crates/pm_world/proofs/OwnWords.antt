@@ -15,7 +15,7 @@ use Rattle.pm_model.specs.Settings.{Words, AreWords, word_at}
 use Rattle.pm_device.specs.declared.config.Config.{Config}
 use Rattle.pm_device.specs.Held.{value_for}
 use Rattle.pm_device.specs.Start.{IsSound, start_word, start_words}
-use Rattle.pm_host.specs.declared.command.Command.TheVariants.{ClearFaults, StoreUserAll, RestoreUserAll}
+use Rattle.pm_host.specs.declared.command.Command.TheVariants.{StoreUserAll, RestoreUserAll}
 use Rattle.pm_host.specs.Transcript as host
 use Rattle.pm_world.specs.Below.{Below}
 use Rattle.pm_world.specs.declared.event.Event.{Event}
@@ -69,15 +69,13 @@ unfolding told
 told-accept config passes before event cell word h = go (asked (now config passes before) event) h where
   by_job : (job : host.Job) → Contains (accepts (pending_of job)) (Ordered cell word) → accepts (pending_of job) ≡ Ordered cell word ∷ []
   by_job (host.Order c w) h = ap (λ (s : Step). s ∷ []) (single (Ordered c w) (Ordered cell word) h)
-  by_job (host.Send (ClearFaults output)) h = absurd (none (Ordered cell word) h)
   by_job (host.Send StoreUserAll) h =
       let bad : Accept pending.Store ≡ Ordered cell word =
       single (Accept pending.Store) (Ordered cell word) h in cc
   by_job (host.Send RestoreUserAll) h =
       let bad : Accept pending.Restore ≡ Ordered cell word =
       single (Accept pending.Restore) (Ordered cell word) h in cc
-  by_job (host.Check read) h = absurd (none (Ordered cell word) h)
-  by_job (host.Learn output) h = absurd (none (Ordered cell word) h)
+  by_job job h = absurd (none (Ordered cell word) h)
 
   go : (o : Option host.Job) →
       Contains (option_map_or (λ job. accepts (pending_of job)) o (told_beside config passes before event)) (Ordered cell word) →

@@ -11,7 +11,7 @@ use Rattle.pm_host.specs.declared.standing.Standing.{Standing}
 use Rattle.pm_host.specs.declared.standing.Standing.TheVariants.{Confirmed, Unknown}
 use Rattle.pm_host.specs.Answers.{good_word}
 use Rattle.pm_host.specs.declared.command.Command.{Command}
-use Rattle.pm_host.specs.declared.command.Command.TheVariants.{ClearFaults, StoreUserAll, RestoreUserAll}
+use Rattle.pm_host.specs.declared.command.Command.TheVariants.{RestoreUserAll}
 use Rattle.pm_host.specs.Marks.{Mark, Put, Good, Restored, send_marks, put_by, read_by, puts, goods, marks}
 use Rattle.pm_host.specs.Possible.{is_possible, possible_of}
 use Rattle.pm_host.specs.Standing.{standing_of}
@@ -95,9 +95,8 @@ are-puts setup entries = go (open_job setup entries) where
   by_turn false cell word = no_put
 
   by_command : (sent : Command) → ArePuts (send_marks sent)
-  by_command (ClearFaults output) = no_put
-  by_command StoreUserAll = no_put
   by_command RestoreUserAll = one_restore
+  by_command sent = no_put
 
   go : (job : Option Job) → ArePuts (put_by job (told_since entries))
   go None = no_put

@@ -21,7 +21,7 @@ use Rattle.pm_device.specs.Held.{mode_for, shape_made, shape_for}
 use Rattle.pm_device.specs.Reply.{reply_of}
 use Rattle.pm_device.specs.Start.{IsSound}
 use Rattle.pm_host.specs.declared.command.Command.{Command}
-use Rattle.pm_host.specs.declared.command.Command.TheVariants.{ClearFaults, StoreUserAll, RestoreUserAll}
+use Rattle.pm_host.specs.declared.command.Command.TheVariants.{RestoreUserAll}
 use Rattle.pm_host.specs.declared.stage.Stage.{Stage}
 use Rattle.pm_host.specs.declared.stage.Stage.TheVariants.{Reads, Checks, AsksMode, AsksCoefficients, Sends}
 use Rattle.pm_host.specs.declared.job_end.JobEnd.TheVariants as job_end
@@ -181,9 +181,8 @@ answered-true config s stage bytes sized agree asks told = record { formats = ag
 -- a command that begins to be sent
 sends-true : (config : Config) (s : Summary) (sent : Command) (tries : ℕ) → Agree config s.formats →
     IsTrueHost config (sends s sent tries).after
-sends-true config s (ClearFaults output) tries agree = record { formats = agree; asks = tt }
-sends-true config s StoreUserAll tries agree = record { formats = agree; asks = tt }
 sends-true config s RestoreUserAll tries agree = record { formats = agree; asks = tt }
+sends-true config s sent tries agree = record { formats = agree; asks = tt }
 
 -- the end of a write
 finished-true : (config : Config) (s : Summary) (stage : Option Stage) (acked : Bool) → Agree config s.formats → AsksSo config stage →
