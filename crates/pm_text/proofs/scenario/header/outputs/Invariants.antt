@@ -1,5 +1,5 @@
 use Rattle.std.proofs.Common.{◌≡◌, List, length}
-use Rattle.pm_device.specs.declared.config.OutputStart.{OutputStart}
+use Rattle.pm_device.specs.declared.output_start.OutputStart.{OutputStart}
 use Rattle.pm_text.specs.ScenarioText.{output_line, outputs_in, starts_of}
 use Rattle.pm_text.proofs.OutputLemmas.{behind}
 use Rattle.pm_text.proofs.scenario.header.outputs.Given as goal
