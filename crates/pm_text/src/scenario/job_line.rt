@@ -11,8 +11,10 @@ use pm_table::Cell;
 use pm_world::Event;
 
 /// The words of a line that asks for a job, of which the first decides; the event is made where it stays.
-/// X1 where the first word names no job that texts of this form may ask for.
+/// X1 where the first word names no job that texts of this form may ask for. It isn't inlined: it would weigh on
+/// each line of a scenario, of which most ask for no job.
 #[tactic(auto, unfolding(crate::specs::EventLines::job_line))]
+#[inline(never)]
 pub fn job_line(form: Form, fields: &mut Fields<'_>, event: &mut Event) -> Result<(), ScenarioFault>
     ensures { ReadsTo result event.new fields.new (spec.job_line form fields.old) }
 {
