@@ -279,9 +279,8 @@ stage-ordering s stage cell word is e = by_stage stage is e where
       subst (λ x. Says x word) same.0 (subst (Says c) same.1 (is.there, is.unknown, is.possible))
 
   by_command : (sent : Command) → command_pending sent ≡ Some (pending.Order cell word) → Says cell word
-  by_command (ClearFaults output) e = cc
   by_command StoreUserAll e = cc
-  by_command RestoreUserAll e = cc
+  by_command _ e = cc
 
   by_stage : (stage : Option Stage) → IsStage s stage → stage_pending stage ≡ Some (pending.Order cell word) → Says cell word
   by_stage (Some (Writes c w pass)) is e = by_order c w pass is e
@@ -292,13 +291,8 @@ stage-ordering s stage cell word is e = by_stage stage is e where
 -- the job that is a restore
 restoring-job : (job : Option host.Job) → option_and_then pending_of job ≡ Some pending.Restore →
     job ≡ Some (host.Send RestoreUserAll)
-restoring-job None e = cc
-restoring-job (Some (host.Order cell word)) e = cc
-restoring-job (Some (host.Check cell)) e = cc
-restoring-job (Some (host.Learn output)) e = cc
-restoring-job (Some (host.Send (ClearFaults output))) e = cc
-restoring-job (Some (host.Send StoreUserAll)) e = cc
 restoring-job (Some (host.Send RestoreUserAll)) e = refl
+restoring-job _ e = cc
 
 -- what is known while a job is open
 job-known : Below → (config : Config) (passes : ℕ) (events : List Event) → IsLived config passes events → (job : PendingJob) →

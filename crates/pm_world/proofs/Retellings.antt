@@ -279,9 +279,7 @@ one-asked laws config passes before event job f is = go job is where
       begins (host.Order cell word) (pending.Order cell word) is refl refl (may.there, may.fits)
   go (host.Send StoreUserAll) is = begins (host.Send StoreUserAll) pending.Store is refl refl tt
   go (host.Send RestoreUserAll) is = begins (host.Send RestoreUserAll) pending.Restore is refl refl tt
-  go (host.Send (ClearFaults output)) is = leaves (host.Send (ClearFaults output)) is refl refl
-  go (host.Check cell) is = leaves (host.Check cell) is refl refl
-  go (host.Learn output) is = leaves (host.Learn output) is refl refl
+  go job is = leaves job is refl refl
 
 -- and which asks for none
 one-beside : Below → (config : Config) (passes : ℕ) (before : List Event) (event : Event) →

@@ -49,12 +49,8 @@ pub record Tells (s : State) (event : Event) (entry : host.Entry) : Type 0 where
 
 -- a job is asked for by its event
 job-request : (job : host.Job) → request_of (job_event job) ≡ Some (ask.job job)
-job-request (host.Order cell word) = refl
-job-request (host.Check cell) = refl
-job-request (host.Learn output) = refl
-job-request (host.Send (ClearFaults output)) = refl
-job-request (host.Send StoreUserAll) = refl
 job-request (host.Send RestoreUserAll) = refl
+job-request _ = refl
 
 job-asked : (s : State) (job : host.Job) → asked s (job_event job) ≡ Some job
 job-asked s job = ap (option_and_then (requested s.host)) (job-request job)
