@@ -5,7 +5,7 @@ use Rattle.std.specs.Prelude.{◌≡◌, ℕ, if◌then◌else◌, ◌==◌, ◌
 use Rattle.std.specs.Option.{option_map_or}
 use Rattle.pm_table.specs.declared.cell.Cell.{Cell}
 use Rattle.pm_table.specs.declared.cell.Cell.TheVariants.{Out, Protect}
-use Rattle.pm_table.specs.Cell.{register_number, registers}
+use Rattle.pm_table.specs.Cell.{is_cell, register_number, registers}
 use Rattle.pm_device.specs.declared.config.Config.{Config}
 use Rattle.pm_device.specs.declared.output_start.OutputStart.{OutputStart}
 use Rattle.pm_device.specs.declared.fault.DeviceFault.{DeviceFault}
@@ -18,7 +18,6 @@ use Rattle.pm_device.specs.Held.{Held, value_for}
 use Rattle.pm_device.specs.Effect.{Event}
 use Rattle.pm_device.specs.History.{next, start_of}
 use Rattle.pm_device.specs.Start.{config_fault, start_of as start_with}
-use Rattle.pm_host.specs.Cells.{is_cell}
 use Rattle.pm_host.specs.declared.fault.HostFault.TheVariants.{UnknownOutput}
 use Rattle.pm_model.specs.Commanded.{commanded}
 use Rattle.pm_model.specs.Settings.{Words, word_at}

@@ -12,7 +12,7 @@ use Rattle.pm_host.specs.declared.step.Step.TheVariants.{Next, Ended}
 use Rattle.pm_host.specs.declared.fault.HostFault.TheVariants.{UnknownOutput}
 use Rattle.pm_host.specs.declared.standing_image.StandingImage.{StandingImage}
 use Rattle.pm_host.specs.declared.words_image.WordsImage.{WordsImage}
-use Rattle.pm_host.specs.Cells.{is_cell}
+use Rattle.pm_table.specs.Cell.{is_cell}
 use Rattle.pm_host.specs.Image.{standing_held, words_held}
 use Rattle.pm_host.specs.Messages.{IsFrameOf}
 use Rattle.pm_host.specs.Refusals.{is_within, setup_fault, job_fault, micro_fault, micro_word, may_come}

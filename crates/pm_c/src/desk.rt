@@ -1,11 +1,10 @@
 //! A model converter on a desk.
 
 ghost use Rattle.std.specs.Prelude.{◌≡◌, ◌≢◌, ◌↔◌, ◌<◌, ◌≤◌, ◌⊎◌, true, map, None, option_map, IfSome, IsSomeAnd};
-ghost use Rattle.pm_table.specs.Cell.{cell_at, IsCell};
+ghost use Rattle.pm_table.specs.Cell.{cell_at};
 ghost use Rattle.pm_device.specs.Effect.{Hearing};
 ghost use Rattle.pm_device.specs.Reply.{reply_of};
 ghost use Rattle.pm_model.specs.Settings.{word_at};
-ghost use Rattle.pm_host.specs.Cells.{is_cell};
 ghost use Rattle.pm_c.specs.Desk.{asked_number, commanded_now, desk_config, desk_of, desk_number, ending_of, output_start, AreKept, HasWords, HaveSameModes, IsAfter, IsReply, IsSameDevice, IsWord};
 ghost use Rattle.pm_c.specs.Sizes.{desk_size};
 ghost use Rattle.pm_c.specs.Voltages.{IsFar, IsFloor};
@@ -166,22 +165,11 @@ pub extern "C" fn pm_desk_word(desk: &Desk, output: u8, code: u8, word: &mut u16
     let Some(cell) = cell_of(Code(code), output) else {
         return NO_CELL;
     };
-    if !has_cell(converter.count(), cell) {
+    if !cell.is_there(converter.count()) {
         return NO_OUTPUT;
     }
     *word = converter.word(cell);
     ACCEPTED
-}
-
-// Whether a cell is there.
-fn has_cell(outputs: u8, cell: Cell) -> bool
-    ensures test { result ≡ is_cell outputs cell }
-    ensures fact { result ≡ true → IsCell outputs cell }
-{
-    match cell {
-        Cell::Out(output, _) => output < outputs,
-        Cell::Protect => true,
-    }
 }
 
 /// The whole microvolts that an output commands, rounded down. E5h, 4 where the output isn't there, N5

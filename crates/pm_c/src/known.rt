@@ -27,7 +27,7 @@ pub extern "C" fn pm_host_standing(
     let Some(cell) = cell_of(Code(code), output) else {
         return NO_CELL;
     };
-    if !host.state.has_cell(cell) {
+    if !cell.is_there(host.state.outputs) {
         return of_host(HostFault::UnknownOutput);
     }
     *standing = flagged(host.state.standing(cell));
@@ -62,7 +62,7 @@ pub extern "C" fn pm_host_possible(host: &Image, output: u8, code: u8, words: &m
     let Some(cell) = cell_of(Code(code), output) else {
         return NO_CELL;
     };
-    if !host.state.has_cell(cell) {
+    if !cell.is_there(host.state.outputs) {
         return of_host(HostFault::UnknownOutput);
     }
     *words = counted(host.state.possible(cell));

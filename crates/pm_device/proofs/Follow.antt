@@ -19,7 +19,8 @@ use Rattle.pm_device.specs.Held.{Held, Measured, CmlFaults, value_for}
 use Rattle.pm_device.specs.Verdict.{CanAct}
 use Rattle.pm_device.specs.Effect.{Event, Kept, Outcome, Heard, Restarts, outcome_of, kept_by}
 use Rattle.pm_device.specs.Effect.{started}
-use Rattle.pm_device.specs.Status.{CmlBit, Command, Data, Pec, OtherCommunication, Moment, has_bit, kept, moments, from_last, act_clears_vout}
+use Rattle.pm_device.specs.Status.{CmlBit, Command, Data, Pec, OtherCommunication}
+use Rattle.pm_device.specs.Status.{Moment, has_bit, kept, moments, from_last, act_clears_vout}
 use Rattle.pm_device.specs.Status.{act_clears_cml, clears, sets_cml, is_output_cut, cut_at, vout_in, cml_in}
 use Rattle.pm_device.specs.History.{each_output, now, start_of, cleared, cut_by, fault_by, faults_by}
 use Rattle.pm_device.specs.History.{after, next}

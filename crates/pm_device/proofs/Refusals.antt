@@ -15,7 +15,8 @@ use Rattle.pm_device.specs.Held.{Held, CmlFaults, value_for}
 use Rattle.pm_device.specs.Verdict.{verdict_of}
 use Rattle.pm_device.specs.Effect.{Event, Hearing, Outcome}
 use Rattle.pm_device.specs.Effect as effect
-use Rattle.pm_device.specs.Status.{CmlBit, Command, Data, Pec, OtherCommunication, fault_bit, cml_at, with_bit, act_clears_cml, is_output_cut, marked}
+use Rattle.pm_device.specs.Status.{CmlBit, Command, Data, Pec, OtherCommunication}
+use Rattle.pm_device.specs.Status.{fault_bit, cml_at, with_bit, act_clears_cml, is_output_cut, marked}
 use Rattle.pm_device.specs.Status.{status_vout, kept, vout_in, cml_in}
 use Rattle.pm_device.specs.Reply.{reply_to, reply_of}
 use Rattle.pm_device.specs.History.{faults_by, after, next, now}

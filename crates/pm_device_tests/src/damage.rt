@@ -72,21 +72,16 @@ fn changed(rt: &impl Abort, whole: &Frame, place: usize, bits: u8) -> Frame {
 
 const BITS: [u8; 8] = [0x80, 0x40, 0x20, 0x10, 0x08, 0x04, 0x02, 0x01];
 
-// A converter of that configuration.
-fn mixed() -> Result<Converter, ConfigFault> {
-    made(MIXED)
-}
-
-// One that refused a request of CLEAR_FAULTS, which can only be written: STATUS_CML is 80h.
+// A converter of that configuration that refused a request of CLEAR_FAULTS, which can only be written: STATUS_CML is 80h.
 fn refusing() -> Result<Converter, ConfigFault> {
-    let mut converter = mixed()?;
+    let mut converter = made(MIXED)?;
     let _ = hear(&mut converter, &[0xB0, 0x03], Ending::Restart);
     Ok(converter)
 }
 
 // Every cell and PAGE are as at the start.
 fn is_at_start(converter: &Converter) -> Result<bool, ConfigFault> {
-    let started = mixed()?;
+    let started = made(MIXED)?;
     let mut same = page_of(converter) == 0;
     for &cell in &CELLS {
         same = same && word(converter, cell) == word(&started, cell);
@@ -110,7 +105,7 @@ fn is_answer(sent: &Message, bytes: &[u8]) -> bool {
 // A write that is cut or changed in one bit is none, and takes no effect.
 fn is_no_write(rt: &impl Abort, bytes: &[u8]) -> Result<(), ConfigFault> {
     is_true(rt, !is_write(bytes), &bytes);
-    let mut converter = mixed()?;
+    let mut converter = made(MIXED)?;
     let heard = hear(&mut converter, bytes, Ending::Stop);
     let unheard = matches!(heard, Heard::Refused(_) | Heard::Silent);
     is_true(rt, unheard, &(heard, bytes));

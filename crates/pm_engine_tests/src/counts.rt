@@ -1,7 +1,7 @@
 //! What a decoder that is fed counts of the longest traces, and of one with every code.
 
 use crate::checks::equal;
-use crate::sizes::{Long, text_of};
+use crate::long_text::{Long, text_of};
 use pm_text::{Decoder, TextFault};
 use pm_text_fixtures::CODES;
 use std::alloc::{AllocError, Global};

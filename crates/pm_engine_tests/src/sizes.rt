@@ -2,13 +2,14 @@
 //! the codes that are counted, lines, events, outputs, the bytes of a line or of a part, digits, words.
 
 use crate::checks::{equal, is_true};
+use crate::long_text::{Long, Written, expect_lines, text_of};
 use clap::error::ErrorKind;
 use pm_text::{TextFault, TraceLine, read_scenario, read_trace_line, render_line};
 use pm_text_fixtures::{
     CODES, CODES_SAID, Engine, Engines, FRAME, REPORT, SCENARIO, TAKEN, in_pieces,
 };
 use pm_tool::{Chosen, chosen};
-use std::alloc::{AllocError, Global};
+use std::alloc::Global;
 use std::process::Abort;
 use std::test::Fail;
 
@@ -28,53 +29,6 @@ static OUTPUTS: &str = "output 0 VOUT_COMMAND 1000\noutput 1 VOUT_COMMAND 1000\n
 /// The end of a report of eight outputs.
 const OUTPUT_7: &str =
     "output 7 on commanded 4096/4096 1000000 uV\nOPERATION 80 host unknown\nVOUT_COMMAND 1000 host unknown\nVOUT_MAX 4000 host unknown\nVOUT_MARGIN_HIGH 1100 host unknown\nVOUT_MARGIN_LOW 0F00 host unknown\nstatus 00 0000 00\ncml 00\nrestart seen no\njob done\n";
-
-/// A text: how it begins, what is repeated and how often, and how it ends.
-pub(crate) type Long = ([&'static str; 2], &'static str, usize, &'static str);
-
-// The whole text.
-pub(crate) fn text_of(alloc: Global, long: Long) -> Result<Vec<u8>, AllocError> {
-    let (heads, part, count, tail) = long;
-    let mut text = Vec::new(alloc);
-    for head in heads {
-        text.extend_from_slice(head.as_bytes())?;
-    }
-    for _ in 0..count {
-        text.extend_from_slice(part.as_bytes())?;
-    }
-    text.extend_from_slice(tail.as_bytes())?;
-    Ok(text)
-}
-
-/// How many lines are written, and how they begin and end.
-pub(crate) type Written = (usize, &'static str, &'static str);
-
-// An engine takes a text, and writes these lines.
-pub(crate) fn is_written(
-    rt: &(impl Abort + AllocGlobal),
-    engine: Engine,
-    text: &[u8],
-    written: Written,
-) {
-    let (lines, first, last) = written;
-    let (end, written) = engine.text_of(rt.alloc(), in_pieces(text, 4096));
-    is_true(rt, end.is_ok(), &last);
-    let feeds = written.iter().filter(|byte| **byte == b'\n').count();
-    equal(rt, &feeds, &lines, &last);
-    is_true(rt, written.starts_with(first.as_bytes()), &first);
-    is_true(rt, written.ends_with(last.as_bytes()), &last);
-}
-
-fn expect_lines(
-    rt: &(impl Abort + AllocGlobal),
-    engine: Engine,
-    rows: &[(Long, Written)],
-) -> Result<(), AllocError> {
-    for (long, written) in rows {
-        is_written(rt, engine, &text_of(rt.alloc(), *long)?, *written);
-    }
-    Ok(())
-}
 
 #[test]
 fn long_traces_are_decoded(rt: HostRuntime) -> Result<(), Fail> {

@@ -1,17 +1,11 @@
--- What a device with this many outputs has, and lists with something for each cell.
+-- The commands that a device with this many outputs has, and lists with something for each cell.
 use Rattle.std.specs.Prelude.{ℕ, Bool, true, nat_lt, List, map}
 use Rattle.std.specs.Option.{option_map_or}
 use Rattle.std.specs.List.{range_with_len}
 use Rattle.pm_table.specs.declared.cell.Cell.{Cell}
-use Rattle.pm_table.specs.declared.cell.Cell.TheVariants.{Out, Protect}
 use Rattle.pm_table.specs.Cell.{cell_in}
 use Rattle.pm_host.specs.declared.command.Command.{Command}
 use Rattle.pm_host.specs.Command.{command_output}
-
--- the cell is a register of one of this many outputs, or the device's own
-abbrev pub is_cell : ℕ → Cell → Bool
-is_cell outputs (Out output register) = nat_lt output outputs
-is_cell outputs Protect = true
 
 -- the output that the command names, if it names one, is one of this many
 abbrev pub is_command : ℕ → Command → Bool

@@ -7,7 +7,7 @@ use Rattle.std.specs.Result.{result_ok}
 use Rattle.pm_num.specs.AnyFormat.{Shape, InUlinear16}
 use Rattle.pm_table.specs.declared.cell.Cell.{Cell}
 use Rattle.pm_table.specs.declared.vout_mode.VoutMode.TheVariants.{Direct}
-use Rattle.pm_table.specs.Cell.{cell_at, cell_accepts}
+use Rattle.pm_table.specs.Cell.{cell_at, cell_accepts, is_cell}
 use Rattle.pm_table.specs.Format.{shape_in}
 use Rattle.pm_host.specs.declared.format_image.FormatImage.{FormatImage}
 use Rattle.pm_host.specs.declared.image.Image.{Image}
@@ -22,7 +22,7 @@ use Rattle.pm_host.specs.declared.standing.Standing.TheVariants.{Confirmed, Unkn
 use Rattle.pm_host.specs.declared.standing_image.StandingImage.{StandingImage}
 use Rattle.pm_host.specs.declared.state.State.{State}
 use Rattle.pm_host.specs.declared.words_image.WordsImage.{WordsImage}
-use Rattle.pm_host.specs.Cells.{is_cell, is_command}
+use Rattle.pm_host.specs.Cells.{is_command}
 use Rattle.pm_host.specs.Command.{command_of}
 use Rattle.pm_host.specs.Known.{Known}
 use Rattle.pm_host.specs.Possible.{is_possible}

@@ -8,12 +8,12 @@ use Rattle.pm_num.specs.NearestWord.{is_at_most, nearest_word}
 use Rattle.pm_num.specs.Ratio.{Ratio, micros}
 use Rattle.pm_table.specs.Address.{IsAddress}
 use Rattle.pm_table.specs.declared.cell.Cell.{Cell}
-use Rattle.pm_table.specs.Cell.{cell_accepts, is_voltage_cell, output_of}
+use Rattle.pm_table.specs.Cell.{cell_accepts, is_cell, is_voltage_cell, output_of}
 use Rattle.pm_frame.specs.Layout.{is_read_message}
 use Rattle.pm_host.specs.declared.command.Command.{Command}
 use Rattle.pm_host.specs.declared.fault.HostFault.{HostFault}
 use Rattle.pm_host.specs.declared.fault.HostFault.TheVariants.{OutputCount, Passes, Busy, UnknownOutput, BadWord, TooUncertain, FormatUnknown, Num}
-use Rattle.pm_host.specs.Cells.{is_cell, is_command}
+use Rattle.pm_host.specs.Cells.{is_command}
 use Rattle.pm_host.specs.Possible.{has_room}
 use Rattle.pm_host.specs.Summary.{Summary, possible_at, format_at, sending_in}
 use Rattle.pm_host.specs.Transcript.{Setup, Job, Order, Check, Learn, Send, Entry, Accepted, Finished, Got, Restarted}

@@ -1,8 +1,8 @@
-ghost use Rattle.std.specs.Prelude.{◌≡◌, ◌<◌, true, map, slice_index_or, slice_set};
-ghost use Rattle.pm_table.specs.Cell.{places, IsCell};
+ghost use Rattle.std.specs.Prelude.{◌≡◌, true, slice_set};
+ghost use Rattle.pm_table.specs.Cell.{place_of, IsCell};
 ghost use Rattle.pm_host.specs.Image.{known_held, words_held, standing_held};
 ghost use Rattle.pm_host.specs.Possible.{is_possible, has_room, only};
-ghost use Rattle.pm_host.specs.Known.{known_possible, known_standing, known_after, nothing_known, all_any, all_unknown};
+ghost use Rattle.pm_host.specs.Known.{known_possible, known_standing, known_after, nothing_known};
 ghost use Rattle.pm_host.specs.Marks.{Put, Good, Restored};
 
 use crate::possible::Possible;
@@ -25,12 +25,12 @@ pub struct Knowledge {
 
 impl Knowledge {
     /// Forgets all.
-    #[tactic(auto, unfolding(crate::specs::Image::known_held, crate::specs::Known::nothing_known))]
+    #[tactic(auto, unfolding(crate::specs::Image::known_held, crate::specs::Known::nothing_known, crate::specs::Known::all_any, crate::specs::Known::all_unknown))]
     pub(crate) fn clear(&mut self)
         ensures { known_held self.new ≡ nothing_known }
     {
-        forget_words(&mut self.possible);
-        forget_standing(&mut self.standing);
+        self.possible.fill(WordsImage::ANY);
+        self.standing.fill(StandingImage::UNKNOWN);
         self.seen = 0;
     }
 
@@ -52,6 +52,23 @@ impl Knowledge {
         self.standing[cell.place()]
     }
 
+    // This is known of the cell now.
+    #[tactic(auto, unfolding(crate::specs::Image::known_held))]
+    fn set(&mut self, cell: Cell, words: WordsImage, said: StandingImage)
+        requires { IsCell 8 cell }
+        ensures possible { (known_held self.new).possible
+            ≡ slice_set (known_held self.old).possible (place_of cell) (words_held words) }
+        ensures standing { (known_held self.new).standing
+            ≡ slice_set (known_held self.old).standing (place_of cell) (standing_held said) }
+        ensures seen { (known_held self.new).seen ≡ (known_held self.old).seen }
+        ensures words { known_possible (known_held self.new) cell ≡ words_held words }
+        ensures said { known_standing (known_held self.new) cell ≡ standing_held said }
+    {
+        let place = cell.place();
+        self.possible[place] = words;
+        self.standing[place] = said;
+    }
+
     /// A write of the cell begins to be sent.
     #[tactic(auto, unfolding(crate::specs::Image::known_held))]
     pub(crate) fn put(&mut self, cell: Cell, word: u16)
@@ -63,30 +80,25 @@ impl Knowledge {
     {
         let mut words = *self.possible(cell);
         words.join(word);
-        put_words(&mut self.possible, cell.place(), words);
-        put_standing(&mut self.standing, cell.place(), StandingImage::UNKNOWN);
+        self.set(cell, words, StandingImage::UNKNOWN);
     }
 
     /// A good answer for the cell.
-    #[tactic(auto, unfolding(crate::specs::Image::known_held))]
+    #[tactic(auto, unfolding(crate::specs::Image::known_held, crate::specs::Known::all_any))]
     pub(crate) fn good(&mut self, cell: Cell, word: u16)
         requires { IsCell 8 cell }
         ensures after { known_held self.new ≡ known_after (known_held self.old) (Good cell word) }
         ensures alone { known_possible (known_held self.new) cell ≡ only word }
     {
         if !self.possible(cell).allows(word) {
-            forget_words(&mut self.possible);
+            self.possible.fill(WordsImage::ANY);
             self.seen = 1;
         }
-        put_words(&mut self.possible, cell.place(), WordsImage::only(word));
-        put_standing(
-            &mut self.standing,
-            cell.place(),
-            StandingImage {
-                is_confirmed: 1,
-                word,
-            },
-        );
+        let said = StandingImage {
+            is_confirmed: 1,
+            word,
+        };
+        self.set(cell, WordsImage::only(word), said);
     }
 
     /// A restore of the outputs' settings begins to be sent: nothing is known of their cells, and what is
@@ -98,46 +110,7 @@ impl Knowledge {
         let (words, said) = (*self.possible(Cell::Protect), self.standing(Cell::Protect));
         let seen = self.seen;
         self.clear();
-        put_words(&mut self.possible, Cell::Protect.place(), words);
-        put_standing(&mut self.standing, Cell::Protect.place(), said);
+        self.set(Cell::Protect, words, said);
         self.seen = seen;
     }
-}
-
-// Any word for each cell.
-#[tactic(auto, unfolding(crate::specs::Known::all_any))]
-fn forget_words(possible: &mut [WordsImage; Cell::PLACES])
-    ensures { map words_held possible.new ≡ all_any }
-{
-    possible.fill(WordsImage::ANY);
-}
-
-// No word of any cell is confirmed.
-#[tactic(auto, unfolding(crate::specs::Known::all_unknown))]
-fn forget_standing(standing: &mut [StandingImage; Cell::PLACES])
-    ensures { map standing_held standing.new ≡ all_unknown }
-{
-    standing.fill(StandingImage::UNKNOWN);
-}
-
-// These words stand at the place.
-fn put_words(possible: &mut [WordsImage; Cell::PLACES], place: usize, words: WordsImage)
-    requires { place < places }
-    ensures after { map words_held possible.new
-        ≡ slice_set (map words_held possible.old) place (words_held words) }
-    ensures there { slice_index_or (map words_held possible.new) place Possible.Any
-        ≡ words_held words }
-{
-    possible[place] = words;
-}
-
-// This stands at the place.
-fn put_standing(standing: &mut [StandingImage; Cell::PLACES], place: usize, said: StandingImage)
-    requires { place < places }
-    ensures after { map standing_held standing.new
-        ≡ slice_set (map standing_held standing.old) place (standing_held said) }
-    ensures there { slice_index_or (map standing_held standing.new) place Standing.Unknown
-        ≡ standing_held said }
-{
-    standing[place] = said;
 }

@@ -268,7 +268,7 @@ impl State {
 
     /// Drops the open job and all that is known, as `Host::restart`. Of what it held the setup alone has
     /// to be sound.
-    #[tactic(auto, unfolding(crate::specs::Summary::next))]
+    #[tactic(auto, unfolding(crate::specs::Summary::next, crate::specs::Image::formats_held, crate::specs::Summary::no_formats))]
     pub fn restart(&mut self)
         requires { IsSetup (held self.old).setup }
         ensures sound { IsSound (held self.new) }
@@ -277,7 +277,7 @@ impl State {
         ensures left { frames_left (held self.new) ≡ 0 }
     {
         self.stage = StageImage::idle();
-        forget_formats(&mut self.formats);
+        self.formats.fill(FormatImage::NONE);
         self.known.clear();
     }
 
@@ -306,13 +306,4 @@ impl State {
     {
         self.known.seen == 1
     }
-}
-
-// No format is known.
-#[tactic(auto, unfolding(crate::specs::Image::formats_held, crate::specs::Summary::no_formats))]
-fn forget_formats(formats: &mut [FormatImage; OUTPUTS])
-    ensures none { formats_held formats.new ≡ no_formats }
-    ensures all { length (formats_held formats.new) ≡ 8 }
-{
-    formats.fill(FormatImage::NONE);
 }

@@ -76,19 +76,9 @@ impl WordsImage {
         ensures listed { is_possible word (words_held self.new) ≡ true }
     {
         if !self.allows(word) {
-            self.push(word);
+            self.words[usize::from(self.count)] = word;
+            self.count += 1;
         }
-    }
-
-    // Joins a word that isn't listed.
-    fn push(&mut self, word: u16)
-        requires room { spec_has_room word (words_held self.old) ≡ true }
-        requires other { is_possible word (words_held self.old) ≡ false }
-        ensures joined { words_held self.new ≡ joined (words_held self.old) word }
-        ensures listed { is_possible word (words_held self.new) ≡ true }
-    {
-        self.words[usize::from(self.count)] = word;
-        self.count += 1;
     }
 
     /// Exactly this word.

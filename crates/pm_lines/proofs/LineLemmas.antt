@@ -11,7 +11,8 @@ use Rattle.std.specs.List.{count_by, enumerate_from}
 use Rattle.std.proofs.lemmas.List.FromFn.{length-enumerate_from}
 use Rattle.std.proofs.lemmas.List.Splits.{slice_split_first, slice_split_none, length-slice_split}
 use Rattle.std.proofs.lemmas.Bool.Decides.{nat_tests}
-use Rattle.pm_lines.specs.Lines.{is_line_feed, is_space, without_empty_last, without_return, lines_of, is_skipped, is_unskipped, unskipped_from, words_of}
+use Rattle.pm_lines.specs.Lines.{is_line_feed, is_space, without_empty_last, without_return, lines_of}
+use Rattle.pm_lines.specs.Lines.{is_skipped, is_unskipped, unskipped_from, words_of}
 
 -- what the first mark leaves of a list
 pub record Last (p : ℕ → Bool) (xs : List ℕ) : Type 0 where

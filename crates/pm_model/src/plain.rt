@@ -93,10 +93,7 @@ impl Plain {
     pub fn has(&self, cell: Cell) -> bool
         ensures { IsTrue result ↔ IsCell self.now.count cell }
     {
-        match cell {
-            Cell::Out(output, _) => output < self.count,
-            Cell::Protect => true,
-        }
+        cell.is_there(self.count)
     }
 
     /// The word of a cell that there is, one that the cell accepts.

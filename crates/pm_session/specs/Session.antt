@@ -5,7 +5,7 @@ use Rattle.pm_table.specs.declared.cell.Cell.{Cell}
 use Rattle.pm_frame.specs.declared.message.Message.{Message}
 use Rattle.pm_frame.specs.Fault.{whole_answer}
 use Rattle.pm_frame.specs.Layout.{is_read_message}
-use Rattle.pm_host.specs.Cells.{is_cell}
+use Rattle.pm_table.specs.Cell.{is_cell}
 use Rattle.pm_host.specs.Refusals.{may_come}
 use Rattle.pm_host.specs.Summary.{Summary, next, possible_at, sending_in, standing_at, step_of}
 use Rattle.pm_host.specs.Transcript as host

@@ -1,7 +1,5 @@
 //! What the host answers to a line.
 ghost use Rattle.std.specs.Prelude.{◌≡◌, true};
-ghost use Rattle.pm_table.specs.Cell.{IsCell};
-ghost use Rattle.pm_host.specs.Cells.{is_cell};
 ghost use Rattle.pm_host.specs.Transcript.{Got};
 ghost use Rattle.pm_session.specs.Session.{answer_to, answers, sending_reply, step_reply, tells};
 ghost use Rattle.pm_session.specs.declared.ask.Ask.TheVariants as ask;
@@ -122,20 +120,9 @@ fn copy_of(frame: &Frame) -> Frame
 fn state(host: &Host, cell: Cell) -> Reply
     ensures { result ≡ (answers host.now (ask.State cell)).reply }
 {
-    if is_there(host, cell) {
+    if cell.is_there(host.outputs()) {
         Reply::State(cell, host.standing(cell), host.possible(cell))
     } else {
         Reply::Refused(Refusal::Host(HostFault::UnknownOutput))
-    }
-}
-
-// Whether the host's device has the cell.
-fn is_there(host: &Host, cell: Cell) -> bool
-    ensures test { result ≡ is_cell host.now.setup.outputs cell }
-    ensures there { result ≡ true → IsCell host.now.setup.outputs cell }
-{
-    match cell {
-        Cell::Out(output, _) => output < host.outputs(),
-        Cell::Protect => true,
     }
 }

@@ -1,7 +1,7 @@
 -- The cells: the settings of a power converter that hold a word. An output has one for each of its
 -- registers, and WRITE_PROTECT is the device's. The list of registers stands here alone: every other
 -- question on them asks it, or their line of the command table.
-use Rattle.std.specs.Prelude.{ℕ, ◌+◌, ◌*◌, ◌/◌, ◌%◌, ◌<◌, Bool, true, false, ◌&&◌, ◌||◌, List, [], ◌∷◌, length, find, position, slice_index_or, unwrap_or, Option, Some, if◌then◌else◌, ◌==◌}
+use Rattle.std.specs.Prelude.{ℕ, ◌+◌, ◌*◌, ◌/◌, ◌%◌, ◌<◌, nat_lt, Bool, true, false, ◌&&◌, ◌||◌, List, [], ◌∷◌, length, find, position, slice_index_or, unwrap_or, Option, Some, if◌then◌else◌, ◌==◌}
 use Rattle.std.specs.Option.{option_map, option_map_or}
 use Rattle.pm_table.specs.declared.reg.Reg.{Reg}
 use Rattle.pm_table.specs.declared.reg.Reg.TheVariants.{Operation, VoutCommand, VoutMax, MarginHigh, MarginLow, VoutMin}
@@ -113,7 +113,12 @@ same_cell (Out output register) Protect = false
 same_cell Protect (Out output register) = false
 same_cell Protect Protect = true
 
--- a cell of a device with this many outputs
+-- a device with this many outputs has the cell: a register of one of them, or the device's own
+abbrev pub is_cell : ℕ → Cell → Bool
+is_cell count (Out output register) = nat_lt output count
+is_cell count Protect = true
+
+-- the same as a fact
 abbrev pub IsCell : ℕ → Cell → Type 0
 IsCell count (Out output register) = output < count
 IsCell count Protect = Unit {0}

@@ -1,4 +1,4 @@
-ghost use Rattle.std.specs.Prelude.{◌≡◌, ◌<◌, ◌≤◌, Some, None, IfSome};
+ghost use Rattle.std.specs.Prelude.{◌≡◌, ◌<◌, ◌≤◌, ◌↔◌, IsTrue, Some, None, IfSome};
 ghost use Rattle.pm_table.specs.declared.cell.Cell.{Cell};
 ghost use Rattle.pm_table.specs.Cell.{cell_at};
 
@@ -16,7 +16,7 @@ pub enum Cell {
 }
 
 impl Cell {
-    ghost use Rattle.pm_table.specs.Cell.{cell_accepts, cell_bytes, cell_code, cell_in, cell_name, is_voltage_cell, output_of, place_of, places, IsCell};
+    ghost use Rattle.pm_table.specs.Cell.{cell_accepts, cell_bytes, cell_code, cell_in, cell_name, is_cell, is_voltage_cell, output_of, place_of, places, IsCell};
 
     /// How many cells a device with eight outputs has.
     pub const PLACES: usize = 8 * Reg::COUNT + 1;
@@ -38,6 +38,17 @@ impl Cell {
         ensures { result.now ≡ cell_name self.now }
     {
         self.code().name()
+    }
+
+    /// Whether a device with this many outputs has the cell; WRITE_PROTECT each device has.
+    pub fn is_there(&self, outputs: u8) -> bool
+        ensures test { result ≡ is_cell outputs self.now }
+        ensures there { IsTrue result ↔ IsCell outputs self.now }
+    {
+        match self {
+            Cell::Out(output, _) => *output < outputs,
+            Cell::Protect => true,
+        }
     }
 
     /// Whether the cell is a voltage, in its output's format.

@@ -1,9 +1,10 @@
 //! After `World::run` one goes on with `World::step`, and has each of its promises for the longer list of
 //! events too, by the laws of worlds and with no proof by hand.
 
-ghost use Rattle.std.specs.Prelude.{◌≡◌, ◌∷◌, ◌<◌, ◌≤◌, ℕ, [], Some, IfOk, IfSome, OnSome, OnOk, reverse};
+ghost use Rattle.std.specs.Prelude.{◌≡◌, ◌∷◌, ◌<◌, ◌≤◌, ℕ, [], Some, IfOk, IfSome, OnSome, OnOk, reverse, true};
+ghost use Rattle.std.specs.Result.{result_err};
 ghost use Rattle.pm_table.specs.declared.cell.Cell.{Cell};
-ghost use Rattle.pm_table.specs.Cell.{IsCell};
+ghost use Rattle.pm_table.specs.Cell.{cell_accepts, IsCell};
 ghost use Rattle.pm_model.specs.Commanded.{commanded};
 ghost use Rattle.pm_model.specs.Settings.{word_at};
 ghost use Rattle.pm_device.specs.Held.{value_for};
@@ -11,7 +12,7 @@ ghost use Rattle.pm_world.specs.Confirmed.{ConfirmedIsHeld};
 ghost use Rattle.pm_device.specs.Start.{IsSound};
 ghost use Rattle.pm_host.specs.Refusals.{IsSetup};
 ghost use Rattle.pm_world.specs.Honest.{AreFewFrames, FormatsAgree, IsSpelled, MicrosAreNearest, OrdersGoThrough};
-ghost use Rattle.pm_world.specs.Setup.{setup_of};
+ghost use Rattle.pm_world.specs.Setup.{setup_fault, setup_of};
 ghost use Rattle.pm_world.specs.Life.{AreTaken, now};
 ghost use Rattle.pm_world.specs.Possible.{PossibleIsHeld, SeenIsTrue};
 ghost use Rattle.pm_world.specs.Retelling.{CommandsOwn, IsOrderRun, IsOwnWord};
@@ -134,6 +135,8 @@ pub fn cell_after_a_step(
     cell: Place,
 ) -> Result<(u16, Standing), SetupFault>
     requires { IsCell c.count cell }
+    ensures fault { result_err result ≡ setup_fault c passes }
+    ensures accepted { IfOk result (λ found. cell_accepts cell found.0 ≡ true) }
 {
     let (mut world, _) = World::run(c, passes, events)?;
     let _ = world.step(more);

@@ -2,7 +2,7 @@
 ghost use Rattle.std.specs.Prelude.{◌≡◌, ◌++◌, IfOk, IfErr, OnOk, codes, is_some, string_bytes};
 ghost use Rattle.pm_world.specs.FaultWords.{cause_text};
 ghost use Rattle.pm_text.specs.Kinds.{form_of};
-ghost use Rattle.pm_text.specs.Report.{cml_line, end_text, first_line, job_line, job_text, report_text, seen_line, world_lines};
+ghost use Rattle.pm_text.specs.Report.{cml_line, first_line, job_line, job_text, report_text, seen_line, world_lines};
 
 mod outputs;
 mod settings;
@@ -130,6 +130,7 @@ fn push_job(text: &mut String, world: &World) -> Result<(), AllocError>
     text.push_str("\n")
 }
 
+// `pending` where a job is open, and how the last one ended otherwise.
 #[tactic(auto, using(crate::proofs::Joins::joins))]
 fn push_job_words(text: &mut String, is_open: bool, end: Option<JobEnd>) -> Result<(), AllocError>
     ensures { OnOk result (string_bytes text.new
@@ -140,22 +141,12 @@ fn push_job_words(text: &mut String, is_open: bool, end: Option<JobEnd>) -> Resu
     }
     match end {
         None => text.push_str("none"),
-        Some(end) => push_end(text, end),
-    }
-}
-
-// How a job ended.
-#[tactic(auto, using(crate::proofs::Joins::joins))]
-fn push_end(text: &mut String, end: JobEnd) -> Result<(), AllocError>
-    ensures { OnOk result (string_bytes text.new ≡ string_bytes text.old ++ end_text end) }
-{
-    match end {
-        JobEnd::Done => text.push_str("done"),
-        JobEnd::Differs(word) => {
+        Some(JobEnd::Done) => text.push_str("done"),
+        Some(JobEnd::Differs(word)) => {
             text.push_str("differs ")?;
             push_hex_word(text, word)
         }
-        JobEnd::Unknown => text.push_str("unknown"),
-        JobEnd::Learned => text.push_str("learned"),
+        Some(JobEnd::Unknown) => text.push_str("unknown"),
+        Some(JobEnd::Learned) => text.push_str("learned"),
     }
 }

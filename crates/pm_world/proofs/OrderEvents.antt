@@ -5,7 +5,7 @@ use Rattle.std.specs.Option.{option_or, option_map}
 use Rattle.std.proofs.lemmas.Bool.{ltb-true}
 use Rattle.pm_table.specs.declared.cell.Cell.{Cell}
 use Rattle.pm_table.specs.declared.cell.Cell.TheVariants.{Out, Protect}
-use Rattle.pm_table.specs.Cell.{cell_accepts, IsCell}
+use Rattle.pm_table.specs.Cell.{cell_accepts, is_cell, IsCell}
 use Rattle.pm_frame.specs.declared.message.Message.{Message}
 use Rattle.pm_frame.specs.declared.message.Message.TheVariants.{SendByte}
 use Rattle.pm_table.specs.Codes as command
@@ -26,7 +26,6 @@ use Rattle.pm_host.specs.declared.command.Command.{Command}
 use Rattle.pm_host.specs.declared.command.Command.TheVariants.{ClearFaults, StoreUserAll, RestoreUserAll}
 use Rattle.pm_host.specs.declared.stage.Stage.{Stage}
 use Rattle.pm_host.specs.declared.stage.Stage.TheVariants.{Writes, Reads, Checks, AsksMode, AsksCoefficients, Sends}
-use Rattle.pm_host.specs.Cells.{is_cell}
 use Rattle.pm_host.specs.Messages.{cell_read, cell_write, mode_read, coefficients_read, command_message}
 use Rattle.pm_host.specs.Refusals.{is_busy, asking_fault, cell_fault, order_fault, job_fault, rule as host_rule}
 use Rattle.pm_host.specs.Summary.{Summary, next as host_next, sending_in, stage_message, idle}

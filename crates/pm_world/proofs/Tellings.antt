@@ -52,6 +52,7 @@ job-request : (job : host.Job) → request_of (job_event job) ≡ Some (ask.job 
 job-request (host.Send RestoreUserAll) = refl
 job-request _ = refl
 
+-- and the host takes it for that job
 job-asked : (s : State) (job : host.Job) → asked s (job_event job) ≡ Some job
 job-asked s job = ap (option_and_then (requested s.host)) (job-request job)
 

@@ -37,6 +37,6 @@ impl State {
         ensures there { OnOk result (IsCell (held self.now).setup.outputs cell) }
         ensures some { 1 ≤ (held self.now).setup.passes }
     {
-        self.is_free(self.has_cell(cell))
+        self.is_free(cell.is_there(self.outputs))
     }
 }

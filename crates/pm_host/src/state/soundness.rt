@@ -1,8 +1,6 @@
 //! Whether memory of any bytes is a state that a host holds.
 
 ghost use Rattle.std.specs.Prelude.{◌≡◌, true};
-ghost use Rattle.pm_table.specs.Cell.{IsCell};
-ghost use Rattle.pm_host.specs.Cells.{is_cell};
 ghost use Rattle.pm_host.specs.Image.{held, is_sound, is_stage};
 ghost use Rattle.pm_host.specs.Refusals.{IsSetup};
 ghost use Rattle.pm_host.specs.Sound.{IsSound, IsStage};
@@ -10,7 +8,7 @@ ghost use Rattle.pm_host.specs.Sound.{IsSound, IsStage};
 use crate::stage::Stage;
 use crate::standing::Standing;
 use crate::state::State;
-use pm_table::{Cell, address_ok};
+use pm_table::address_ok;
 
 impl State {
     /// Whether it is a state that a host holds.
@@ -35,30 +33,19 @@ impl State {
         match self.stage.stage() {
             None => true,
             Some(Stage::Writes { cell, word, pass } | Stage::Reads { cell, word, pass }) => {
-                self.has_cell(cell)
+                cell.is_there(self.outputs)
                     && cell.accepts(word)
                     && self.known.possible(cell).allows(word)
                     && self.known.standing(cell).standing() == Standing::Unknown
                     && pass < passes
             }
-            Some(Stage::Checks { cell, tries }) => self.has_cell(cell) && tries < passes,
+            Some(Stage::Checks { cell, tries }) => cell.is_there(self.outputs) && tries < passes,
             Some(Stage::AsksMode { output, tries } | Stage::AsksCoefficients { output, tries }) => {
                 output < self.outputs && tries < passes
             }
             Some(Stage::Sends { command, tries }) => {
                 command.is_there(self.outputs) && tries < passes
             }
-        }
-    }
-
-    /// Whether the cell is there.
-    pub fn has_cell(&self, cell: Cell) -> bool
-        ensures test { result ≡ is_cell self.now.outputs cell }
-        ensures fact { result ≡ true → IsCell self.now.outputs cell }
-    {
-        match cell {
-            Cell::Out(output, _) => output < self.outputs,
-            Cell::Protect => true,
         }
     }
 }

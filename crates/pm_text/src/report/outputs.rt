@@ -51,14 +51,14 @@ fn push_commanded(
 }
 
 // The number of an output, and whether it is on.
-#[tactic(auto, using(crate::proofs::Joins::joins), unfolding(crate::specs::Report::output_head))]
+#[tactic(auto, using(crate::proofs::Joins::joins), unfolding(crate::specs::Report::output_head, crate::specs::Report::on_text))]
 fn push_head(text: &mut String, output: u8, is_on: bool) -> Result<(), AllocError>
     ensures { OnOk result (string_bytes text.new
         ≡ string_bytes text.old ++ output_head output is_on) }
 {
     text.push_str("output ")?;
     push_decimal(text, u64::from(output))?;
-    text.push_str(on_words(is_on))
+    text.push_str(if is_on { " on" } else { " off" })
 }
 
 // The settings of an output.
@@ -78,14 +78,6 @@ fn push_registers(
     Ok(())
 }
 
-// Whether an output is on.
-#[tactic(auto, unfolding(crate::specs::Report::on_text))]
-fn on_words(is_on: bool) -> &'static str
-    ensures { result.now ≡ on_text is_on }
-{
-    if is_on { " on" } else { " off" }
-}
-
 // A voltage: the fraction as it stands, and the whole microvolts.
 #[tactic(auto, using(crate::proofs::Joins::signed_joins), unfolding(crate::specs::Report::voltage_text))]
 fn push_voltage(text: &mut String, value: Frac) -> Result<(), AllocError>
@@ -94,17 +86,10 @@ fn push_voltage(text: &mut String, value: Frac) -> Result<(), AllocError>
 {
     push_signed(text, value.num())?;
     text.push_str("/")?;
-    push_decimal(text, denominator(value))?;
+    push_decimal(text, value.den() as u64)?;
     text.push_str(" ")?;
     push_signed(text, microvolts(value))?;
     text.push_str(" uV")
-}
-
-// The denominator of a voltage, which is at least 1.
-fn denominator(value: Frac) -> u64
-    ensures { result ≡ value.den }
-{
-    value.den() as u64
 }
 
 // The whole microvolts of a voltage.
