@@ -48,15 +48,17 @@ fn makes_calls(
     equal(rt, &made, &calls, &(engine, piece));
 }
 
+/// How many bytes are read at a time, and the calls that read 205, 97 and 23 bytes and find the end.
+static CALLS: [(usize, usize, usize, usize); 4] = [
+    (1, 206, 98, 24),
+    (7, 31, 15, 5),
+    (100, 4, 2, 2),
+    (4096, 2, 2, 2),
+];
+
 #[test]
 fn an_engine_reads_to_the_end_and_no_further(rt: HostRuntime) {
-    // How many bytes are read at a time, and the calls that read 205, 97 and 23 bytes and find the end.
-    for (piece, replays, decodes, hears) in [
-        (1, 206, 98, 24),
-        (7, 31, 15, 5),
-        (100, 4, 2, 2),
-        (4096, 2, 2, 2),
-    ] {
+    for &(piece, replays, decodes, hears) in &CALLS {
         makes_calls(&rt, Engine::Replay, SCENARIO, piece, replays);
         makes_calls(&rt, Engine::Decode, TRACE, piece, decodes);
         makes_calls(&rt, Engine::Hear, FRAME, piece, hears);

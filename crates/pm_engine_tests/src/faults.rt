@@ -112,62 +112,64 @@ fn is_refused(
     Ok(())
 }
 
+/// A refusal, its words, its status and its derived text.
+static NUMBER_FAULTS: [(NumberFault, &str, u8, &str); 11] = [
+    (
+        NumberFault::OneOf,
+        "give one of --word and --micro",
+        2,
+        "not exactly one of word and micro",
+    ),
+    (NumberFault::Format, "bad format", 2, "bad format"),
+    (NumberFault::Word, "bad word", 2, "bad word"),
+    (NumberFault::Micro, "bad micro", 2, "bad micro"),
+    (
+        NumberFault::Num(NumFault::ZeroSlope),
+        "N1 ZeroSlope",
+        1,
+        "slope is zero",
+    ),
+    (
+        NumberFault::Num(NumFault::ExponentRange),
+        "N2 ExponentRange",
+        1,
+        "exponent out of range",
+    ),
+    (
+        NumberFault::Num(NumFault::BelowLeast),
+        "N3 BelowLeast",
+        1,
+        "below the least value",
+    ),
+    (
+        NumberFault::Num(NumFault::AboveGreatest),
+        "N4 AboveGreatest",
+        1,
+        "above the greatest value",
+    ),
+    (
+        NumberFault::Num(NumFault::TooLarge),
+        "N5 TooLarge",
+        1,
+        "number too large",
+    ),
+    (
+        NumberFault::Text(TextFault::Write),
+        "X5 Write",
+        1,
+        "a failed write",
+    ),
+    (
+        NumberFault::Text(TextFault::Memory),
+        "X6 Memory",
+        1,
+        "want of memory",
+    ),
+];
+
 #[test]
 fn each_refusal_of_a_number_has_its_words_and_status(rt: HostRuntime) -> Result<(), Fail> {
-    let rows = [
-        (
-            NumberFault::OneOf,
-            "give one of --word and --micro",
-            2,
-            "not exactly one of word and micro",
-        ),
-        (NumberFault::Format, "bad format", 2, "bad format"),
-        (NumberFault::Word, "bad word", 2, "bad word"),
-        (NumberFault::Micro, "bad micro", 2, "bad micro"),
-        (
-            NumberFault::Num(NumFault::ZeroSlope),
-            "N1 ZeroSlope",
-            1,
-            "slope is zero",
-        ),
-        (
-            NumberFault::Num(NumFault::ExponentRange),
-            "N2 ExponentRange",
-            1,
-            "exponent out of range",
-        ),
-        (
-            NumberFault::Num(NumFault::BelowLeast),
-            "N3 BelowLeast",
-            1,
-            "below the least value",
-        ),
-        (
-            NumberFault::Num(NumFault::AboveGreatest),
-            "N4 AboveGreatest",
-            1,
-            "above the greatest value",
-        ),
-        (
-            NumberFault::Num(NumFault::TooLarge),
-            "N5 TooLarge",
-            1,
-            "number too large",
-        ),
-        (
-            NumberFault::Text(TextFault::Write),
-            "X5 Write",
-            1,
-            "a failed write",
-        ),
-        (
-            NumberFault::Text(TextFault::Memory),
-            "X6 Memory",
-            1,
-            "want of memory",
-        ),
-    ];
-    for (fault, words, status, text) in rows {
+    for &(fault, words, status, text) in &NUMBER_FAULTS {
         is_refused(&rt, fault, words, status, text)?;
     }
     Ok(())

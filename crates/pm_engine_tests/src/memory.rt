@@ -170,33 +170,39 @@ fn lines_and_reports_are_whole_or_want_memory(rt: HostRuntime) {
     }
 }
 
-#[test]
-fn a_number_is_written_whole_or_wants_memory(rt: HostRuntime) {
-    for (format, word, micro, line) in [
-        (
-            "direct:1:-32768:-12",
-            Some("7FFF"),
-            None,
-            "word 7FFF value 32767000000032768/1 micro 32767000000032768000000\n",
-        ),
-        (
-            "ulinear16:-12",
-            None,
-            Some("3300000"),
-            "word 34CD value 13517/4096 micro 3300048\n",
-        ),
-    ] {
-        let mut sink = Sink::new(Sheet::new(4096));
-        let result = number(rt.alloc(), &mut sink, format, word, micro);
-        let sheet = sink.into_inner();
-        match result {
-            Ok(()) => is_true(&rt, sheet.text() == line.as_bytes(), &line),
-            Err(fault) => {
-                equal(&rt, &fault, &NumberFault::Text(TextFault::Memory), &line);
-                is_true(&rt, sheet.text().is_empty(), &line);
-            }
+// A number's line is written whole, or memory was wanted.
+fn expect_number(
+    rt: &(impl Abort + AllocGlobal),
+    format: &str,
+    asked: (Option<&str>, Option<&str>),
+    line: &str,
+) {
+    let mut sink = Sink::new(Sheet::new(4096));
+    let result = number(rt.alloc(), &mut sink, format, asked.0, asked.1);
+    let sheet = sink.into_inner();
+    match result {
+        Ok(()) => is_true(rt, sheet.text() == line.as_bytes(), &line),
+        Err(fault) => {
+            equal(rt, &fault, &NumberFault::Text(TextFault::Memory), &line);
+            is_true(rt, sheet.text().is_empty(), &line);
         }
     }
+}
+
+#[test]
+fn a_number_is_written_whole_or_wants_memory(rt: HostRuntime) {
+    expect_number(
+        &rt,
+        "direct:1:-32768:-12",
+        (Some("7FFF"), None),
+        "word 7FFF value 32767000000032768/1 micro 32767000000032768000000\n",
+    );
+    expect_number(
+        &rt,
+        "ulinear16:-12",
+        (None, Some("3300000")),
+        "word 34CD value 13517/4096 micro 3300048\n",
+    );
 }
 
 // These words choose this, or are refused so, or memory was wanted.

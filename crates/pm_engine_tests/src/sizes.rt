@@ -2,7 +2,7 @@
 //! the codes that are counted, lines, events, outputs, the bytes of a line or of a part, digits, words.
 
 use crate::checks::{equal, is_true};
-use crate::long_text::{Long, Written, expect_lines, text_of};
+use crate::long_text::{Long, Written, expect_lines, is_written, text_of};
 use clap::error::ErrorKind;
 use pm_text::{TextFault, TraceLine, read_scenario, read_trace_line, render_line};
 use pm_text_fixtures::{
@@ -14,61 +14,63 @@ use std::process::Abort;
 use std::test::Fail;
 
 /// A scenario's lines up to the events, with one output and with eight.
-static ONE: &str =
+const ONE: &str =
     "scenario 1\naddress 58\npasses 2\nprotect 00\ncoefficients 1 0 0\noutput 14 80 1000 4000 1100 0F00\nbegin\n";
 
 /// The same, with an event.
-static ONE_EVENT: &str =
+const ONE_EVENT: &str =
     "scenario 1\naddress 58\npasses 2\nprotect 00\ncoefficients 1 0 0\noutput 14 80 1000 4000 1100 0F00\nbegin\nclear 0\n";
 
-static EIGHT: &str =
+const EIGHT: &str =
     "scenario 1\naddress 58\npasses 2\nprotect 00\ncoefficients 1 0 0\noutput 14 80 1000 4000 1100 0F00\noutput 14 80 1000 4000 1100 0F00\noutput 14 80 1000 4000 1100 0F00\noutput 14 80 1000 4000 1100 0F00\noutput 14 80 1000 4000 1100 0F00\noutput 14 80 1000 4000 1100 0F00\noutput 14 80 1000 4000 1100 0F00\noutput 14 80 1000 4000 1100 0F00\nbegin\n";
 
-static OUTPUTS: &str = "output 0 VOUT_COMMAND 1000\noutput 1 VOUT_COMMAND 1000\n";
+const OUTPUTS: &str = "output 0 VOUT_COMMAND 1000\noutput 1 VOUT_COMMAND 1000\n";
 
 /// The end of a report of eight outputs.
 const OUTPUT_7: &str =
     "output 7 on commanded 4096/4096 1000000 uV\nOPERATION 80 host unknown\nVOUT_COMMAND 1000 host unknown\nVOUT_MAX 4000 host unknown\nVOUT_MARGIN_HIGH 1100 host unknown\nVOUT_MARGIN_LOW 0F00 host unknown\nstatus 00 0000 00\ncml 00\nrestart seen no\njob done\n";
 
+/// Long traces, and their lines.
+static LONG_TRACES: [(Long, Written); 4] = [
+    (
+        (["", ""], "/\n", 524_288, ""),
+        (
+            524_289,
+            "1 -- write F1 NotOurs\n",
+            "\n524288 -- write F1 NotOurs\nlines 524288 accepted 0 faults 524288 bad 0\n",
+        ),
+    ),
+    (
+        (["", ""], "B0 03 46\n", 40_000, ""),
+        (
+            40_002,
+            "1 58 CLEAR_FAULTS send\n2 58 CLEAR_FAULTS send\n",
+            "\n40000 58 CLEAR_FAULTS send\ncount CLEAR_FAULTS 40000\nlines 40000 accepted 40000 faults 0 bad 0\n",
+        ),
+    ),
+    (
+        (["", ""], "B0\n", 349_525, "/"),
+        (
+            349_527,
+            "1 58 write F2 Short 1\n",
+            "\n349526 -- write F1 NotOurs\nlines 349526 accepted 0 faults 349526 bad 0\n",
+        ),
+    ),
+    (
+        (["", ""], "\n", 1_048_575, "0"),
+        (
+            2,
+            "1048576 X2 BadHex\n",
+            "lines 1 accepted 0 faults 0 bad 1\n",
+        ),
+    ),
+];
+
 #[test]
 fn long_traces_are_decoded(rt: HostRuntime) -> Result<(), Fail> {
-    let rows: [(Long, Written); 5] = [
-        ((["", ""], "", 0, CODES), (47, CODES_SAID, CODES_SAID)),
-        (
-            (["", ""], "/\n", 524_288, ""),
-            (
-                524_289,
-                "1 -- write F1 NotOurs\n",
-                "\n524288 -- write F1 NotOurs\nlines 524288 accepted 0 faults 524288 bad 0\n",
-            ),
-        ),
-        (
-            (["", ""], "B0 03 46\n", 40_000, ""),
-            (
-                40_002,
-                "1 58 CLEAR_FAULTS send\n2 58 CLEAR_FAULTS send\n",
-                "\n40000 58 CLEAR_FAULTS send\ncount CLEAR_FAULTS 40000\nlines 40000 accepted 40000 faults 0 bad 0\n",
-            ),
-        ),
-        (
-            (["", ""], "B0\n", 349_525, "/"),
-            (
-                349_527,
-                "1 58 write F2 Short 1\n",
-                "\n349526 -- write F1 NotOurs\nlines 349526 accepted 0 faults 349526 bad 0\n",
-            ),
-        ),
-        (
-            (["", ""], "\n", 1_048_575, "0"),
-            (
-                2,
-                "1048576 X2 BadHex\n",
-                "lines 1 accepted 0 faults 0 bad 1\n",
-            ),
-        ),
-    ];
-    expect_lines(&rt, Engine::Decode, &rows)?;
-    Ok(())
+    let said = (47, CODES_SAID, CODES_SAID);
+    is_written(&rt, Engine::Decode, CODES.as_bytes(), said);
+    Ok(expect_lines(&rt, Engine::Decode, &LONG_TRACES)?)
 }
 
 // How many events a scenario has, and why a text is none.
@@ -80,36 +82,39 @@ fn fault_of(alloc: Global, text: &[u8]) -> Option<TextFault> {
     read_scenario(alloc, text).err()
 }
 
+/// Long scenarios, and their reports.
+static LONG_SCENARIOS: [(Long, Written); 5] = [
+    (
+        (["", ""], "\n", 900_000, ONE_EVENT),
+        (12, "ran 1\n", "\njob pending\n"),
+    ),
+    (
+        ([EIGHT, ""], "clear 0\nfinish ack\n", 50_000, ""),
+        (
+            61,
+            "ran 100000\nprotect 00 host unknown\noutput 0 on",
+            OUTPUT_7,
+        ),
+    ),
+    (
+        ([ONE, "order 0 VOUT_COMMAND"], " ", 1_000_000, "34CD"),
+        (12, "ran 1\n", "\njob pending\n"),
+    ),
+    (
+        ([ONE, "volts 0 VOUT_COMMAND -"], "0", 1_000_000, "5"),
+        (12, "stopped 0 S4 Host H7 FormatUnknown\n", "\njob none\n"),
+    ),
+    (
+        ([ONE, "clear 0\ndeliver cut "], "0", 1_000_000, "255"),
+        (12, "ran 2\n", "\njob pending\n"),
+    ),
+];
+
 #[test]
 fn long_scenarios_are_replayed(rt: HostRuntime) -> Result<(), Fail> {
-    let rows: [(Long, Written); 6] = [
-        (
-            (["", ""], "\n", 900_000, ONE_EVENT),
-            (12, "ran 1\n", "\njob pending\n"),
-        ),
-        (
-            ([EIGHT, ""], "clear 0\nfinish ack\n", 50_000, ""),
-            (
-                61,
-                "ran 100000\nprotect 00 host unknown\noutput 0 on",
-                OUTPUT_7,
-            ),
-        ),
-        (
-            ([ONE, "order 0 VOUT_COMMAND"], " ", 1_000_000, "34CD"),
-            (12, "ran 1\n", "\njob pending\n"),
-        ),
-        (
-            ([ONE, "volts 0 VOUT_COMMAND -"], "0", 1_000_000, "5"),
-            (12, "stopped 0 S4 Host H7 FormatUnknown\n", "\njob none\n"),
-        ),
-        (
-            ([ONE, "clear 0\ndeliver cut "], "0", 1_000_000, "255"),
-            (12, "ran 2\n", "\njob pending\n"),
-        ),
-        (([SCENARIO, "#"], " ", 1_000_000, ""), (19, REPORT, REPORT)),
-    ];
-    expect_lines(&rt, Engine::Replay, &rows)?;
+    expect_lines(&rt, Engine::Replay, &LONG_SCENARIOS)?;
+    let commented = text_of(rt.alloc(), ([SCENARIO, "#"], " ", 1_000_000, ""))?;
+    is_written(&rt, Engine::Replay, &commented, (19, REPORT, REPORT));
     let text = text_of(rt.alloc(), ([ONE, ""], "learn 0\n", 100_000, ""))?;
     equal(&rt, &count_events(rt.alloc(), &text)?, &100_000, &1);
     // Memory was taken once: there is room for one event for each line feed, and one.
@@ -118,48 +123,49 @@ fn long_scenarios_are_replayed(rt: HostRuntime) -> Result<(), Fail> {
     Ok(())
 }
 
+/// Long texts of frames, and what is printed of them.
+static LONG_FRAMES: [(Long, Written); 8] = [
+    (
+        (["", ""], "11", 524_288, ""),
+        (3, "silent\noutput 0", OUTPUTS),
+    ),
+    (
+        (["", ""], "11 ", 349_525, ""),
+        (3, "silent\noutput 0", OUTPUTS),
+    ),
+    (
+        (["", ""], "\n", 1_048_575, "/"),
+        (3, "silent\noutput 0", OUTPUTS),
+    ),
+    (
+        (["B099", ""], "00", 300_000, ""),
+        (3, "refused K1 Frame F5 WrongPec 300001\n", OUTPUTS),
+    ),
+    (
+        (["", ""], "/\n", 524_288, ""),
+        (524_290, "silent\nsilent\n", OUTPUTS),
+    ),
+    (
+        (["", ""], "B0\n", 349_525, ""),
+        (
+            349_527,
+            "refused K1 Frame F2 Short 1\nrefused K1 Frame F2 Short 1\n",
+            OUTPUTS,
+        ),
+    ),
+    (
+        (["", ""], "B0 20 /\n", 131_072, ""),
+        (131_074, "answer B1 14 ED\nanswer B1 14 ED\n", OUTPUTS),
+    ),
+    (
+        (["", ""], "restart\n", 131_072, ""),
+        (131_074, "restarted\nrestarted\n", OUTPUTS),
+    ),
+];
+
 #[test]
 fn long_texts_are_heard(rt: HostRuntime) -> Result<(), Fail> {
-    let rows: [(Long, Written); 8] = [
-        (
-            (["", ""], "11", 524_288, ""),
-            (3, "silent\noutput 0", OUTPUTS),
-        ),
-        (
-            (["", ""], "11 ", 349_525, ""),
-            (3, "silent\noutput 0", OUTPUTS),
-        ),
-        (
-            (["", ""], "\n", 1_048_575, "/"),
-            (3, "silent\noutput 0", OUTPUTS),
-        ),
-        (
-            (["B099", ""], "00", 300_000, ""),
-            (3, "refused K1 Frame F5 WrongPec 300001\n", OUTPUTS),
-        ),
-        (
-            (["", ""], "/\n", 524_288, ""),
-            (524_290, "silent\nsilent\n", OUTPUTS),
-        ),
-        (
-            (["", ""], "B0\n", 349_525, ""),
-            (
-                349_527,
-                "refused K1 Frame F2 Short 1\nrefused K1 Frame F2 Short 1\n",
-                OUTPUTS,
-            ),
-        ),
-        (
-            (["", ""], "B0 20 /\n", 131_072, ""),
-            (131_074, "answer B1 14 ED\nanswer B1 14 ED\n", OUTPUTS),
-        ),
-        (
-            (["", ""], "restart\n", 131_072, ""),
-            (131_074, "restarted\nrestarted\n", OUTPUTS),
-        ),
-    ];
-    expect_lines(&rt, Engine::Hear, &rows)?;
-    Ok(())
+    Ok(expect_lines(&rt, Engine::Hear, &LONG_FRAMES)?)
 }
 
 // `hear` refuses a text for this, and writes nothing.
@@ -169,23 +175,25 @@ fn is_not_heard(rt: &(impl Abort + AllocGlobal), text: &[u8], fault: TextFault) 
     is_true(rt, written.is_empty(), &2);
 }
 
+/// Long texts whose last line is faulty.
+static FAULTY_AT_THE_END: [(Long, TextFault); 3] = [
+    (
+        (["", ""], "\n", 1_048_575, "Z"),
+        TextFault::BadHex(1_048_576),
+    ),
+    (
+        (["", ""], "#\n", 300_000, "/ /"),
+        TextFault::Syntax(300_001),
+    ),
+    (
+        (["", ""], " \n", 300_000, "restart /"),
+        TextFault::Syntax(300_001),
+    ),
+];
+
 #[test]
 fn a_faulty_line_at_the_end_of_a_long_text_is_told(rt: HostRuntime) -> Result<(), Fail> {
-    let faults: [(Long, TextFault); 3] = [
-        (
-            (["", ""], "\n", 1_048_575, "Z"),
-            TextFault::BadHex(1_048_576),
-        ),
-        (
-            (["", ""], "#\n", 300_000, "/ /"),
-            TextFault::Syntax(300_001),
-        ),
-        (
-            (["", ""], " \n", 300_000, "restart /"),
-            TextFault::Syntax(300_001),
-        ),
-    ];
-    for (long, fault) in faults {
+    for &(long, fault) in &FAULTY_AT_THE_END {
         is_not_heard(&rt, &text_of(rt.alloc(), long)?, fault);
     }
     Ok(())
@@ -206,30 +214,36 @@ fn is_taken(
     equal(rt, &is_too_long, &wanted.is_err(), &engine);
 }
 
+// What stands before spaces, what is written of it, and of that where there is a byte too many.
+fn is_taken_to_the_end(
+    rt: &(impl Abort + AllocGlobal),
+    engine: Engine,
+    head: &str,
+    text: &str,
+    front: &str,
+) -> Result<(), Fail> {
+    let mut input = Vec::from_slice(rt.alloc(), head.as_bytes())?;
+    input.resize(1_048_576, b' ')?;
+    is_taken(rt, engine, &input, Ok(true), text);
+    input.push(b' ')?;
+    is_taken(rt, engine, &input, Err(TextFault::TooLong), front);
+    input.truncate(1_048_576);
+    input.push(b'\n')?;
+    is_taken(rt, engine, &input, Err(TextFault::TooLong), front);
+    Ok(())
+}
+
 #[test]
 fn a_text_has_at_most_1048576_bytes(rt: HostRuntime) -> Result<(), Fail> {
-    // What stands before the spaces, what is written of it, and of that where there is a byte too many.
-    let rows = [
-        (Engine::Replay, SCENARIO, REPORT, ""),
-        (
-            Engine::Decode,
-            "B0 03 46\nB0 03 46",
-            "1 58 CLEAR_FAULTS send\n2 58 CLEAR_FAULTS send\ncount CLEAR_FAULTS 2\nlines 2 accepted 2 faults 0 bad 0\n",
-            "1 58 CLEAR_FAULTS send\n",
-        ),
-        (Engine::Hear, FRAME, TAKEN, ""),
-    ];
-    for (engine, head, text, front) in rows {
-        let mut input = Vec::from_slice(rt.alloc(), head.as_bytes())?;
-        input.resize(1_048_576, b' ')?;
-        is_taken(&rt, engine, &input, Ok(true), text);
-        input.push(b' ')?;
-        is_taken(&rt, engine, &input, Err(TextFault::TooLong), front);
-        input.truncate(1_048_576);
-        input.push(b'\n')?;
-        is_taken(&rt, engine, &input, Err(TextFault::TooLong), front);
-    }
-    Ok(())
+    is_taken_to_the_end(&rt, Engine::Replay, SCENARIO, REPORT, "")?;
+    is_taken_to_the_end(
+        &rt,
+        Engine::Decode,
+        "B0 03 46\nB0 03 46",
+        "1 58 CLEAR_FAULTS send\n2 58 CLEAR_FAULTS send\ncount CLEAR_FAULTS 2\nlines 2 accepted 2 faults 0 bad 0\n",
+        "1 58 CLEAR_FAULTS send\n",
+    )?;
+    is_taken_to_the_end(&rt, Engine::Hear, FRAME, TAKEN, "")
 }
 
 // How many bytes the parts of a line have.

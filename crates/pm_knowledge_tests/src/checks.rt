@@ -4,9 +4,9 @@ ghost use Rattle.std.specs.Prelude.{IsTrue};
 use std::fmt::Debug;
 use std::process::Abort;
 
-/// Fails where what is found isn't what is wanted, and says where that was.
+/// Fails where what is found isn't what is wanted, and says both and where that was.
 pub(crate) fn equal<T: PartialEq + Debug>(rt: &impl Abort, found: &T, wanted: &T, at: &impl Debug) {
-    assert_eq!(rt; found, wanted, "{at:?}");
+    is_true(rt, found == wanted, &(found, wanted, at));
 }
 
 /// Fails where this doesn't hold, and says where that was.

@@ -90,15 +90,19 @@ fn expect_talk(
     );
 }
 
+/// The call that fails, and how many bytes were written until then: the reads are one for each byte, and one
+/// for the end; the first answer is two writes and a flush, the second one write and a flush.
+static FAILED_READS: [(usize, usize); 6] = [(1, 0), (4, 0), (5, 0), (6, 8), (12, 8), (13, 8)];
+
+static FAILED_WRITES: [(usize, usize); 5] = [(1, 0), (2, 7), (3, 8), (4, 8), (5, 13)];
+
 #[test]
 fn a_failed_stream_ends_the_talk_at_once(rt: HostRuntime) {
     expect_talk(&rt, (0, 0), Ok(()), 13);
-    // the reads are one for each byte, and one for the end
-    for (fails_at, written) in [(1, 0), (4, 0), (5, 0), (6, 8), (12, 8), (13, 8)] {
+    for &(fails_at, written) in &FAILED_READS {
         expect_talk(&rt, (fails_at, 0), Err(TextFault::Read), written);
     }
-    // the first answer is two writes and a flush, the second one write and a flush
-    for (fails_at, written) in [(1, 0), (2, 7), (3, 8), (4, 8), (5, 13)] {
+    for &(fails_at, written) in &FAILED_WRITES {
         expect_talk(&rt, (0, fails_at), Err(TextFault::Write), written);
     }
 }

@@ -135,31 +135,37 @@ fn is_answered(rt: &impl Abort, world: &World, request: &str, answer: &str) {
     is_true(rt, same, &(reply, request));
 }
 
+// An output, the code of a reading, and its word.
+static READINGS: [(u8, u8, u16); 7] = [
+    (0, 0x88, 0x1A2B),
+    (0, 0x8B, 0x2B3C),
+    (1, 0x8B, 0x3C4D),
+    (1, 0x8C, 0x5E6F),
+    (255, 0x8D, 0x6F71),
+    (2, 0x8B, 0x7777),
+    (0, 0x21, 0x7777),
+];
+
+// A request, and its answer.
+static ANSWERED: [(&str, &str); 6] = [
+    ("B0 06 02 00 88", "B1 02 2B 1A C6"),
+    ("B0 06 02 00 8B", "B1 02 3C 2B CB"),
+    ("B0 06 02 01 8B", "B1 02 4D 3C 30"),
+    ("B0 06 02 01 8C", "B1 02 6F 5E B4"),
+    ("B0 06 02 00 8D", "B1 02 71 6F E9"),
+    ("B0 06 02 00 21", "B1 02 00 10 41"),
+];
+
 // Readings of the device and of each output are answered from then on; one of no output, and one of a
 // code that is no reading, are taken too, and change nothing.
 #[test]
 fn a_reading_is_answered_by_the_converter(rt: HostRuntime) -> Result<(), SetupFault> {
     let mut world = World::begin(World::base(), 2)?;
-    for (output, code, reading) in [
-        (0, 0x88, 0x1A2B),
-        (0, 0x8B, 0x2B3C),
-        (1, 0x8B, 0x3C4D),
-        (1, 0x8C, 0x5E6F),
-        (255, 0x8D, 0x6F71),
-        (2, 0x8B, 0x7777),
-        (0, 0x21, 0x7777),
-    ] {
+    for &(output, code, reading) in &READINGS {
         let event = Event::Reading(output, Code(code), reading);
         takes(&rt, &mut world, &[event]);
     }
-    for (request, answer) in [
-        ("B0 06 02 00 88", "B1 02 2B 1A C6"),
-        ("B0 06 02 00 8B", "B1 02 3C 2B CB"),
-        ("B0 06 02 01 8B", "B1 02 4D 3C 30"),
-        ("B0 06 02 01 8C", "B1 02 6F 5E B4"),
-        ("B0 06 02 00 8D", "B1 02 71 6F E9"),
-        ("B0 06 02 00 21", "B1 02 00 10 41"),
-    ] {
+    for &(request, answer) in &ANSWERED {
         is_answered(&rt, &world, request, answer);
     }
     Ok(())

@@ -215,16 +215,14 @@ fn a_learn_reads_the_mode_and_then_the_coefficients(rt: HostRuntime) -> Result<(
     let mut world = World::begin(mixed(), PASSES)?;
     let learn = Event::Learn(1);
     goes(&rt, &mut world, &learn, MODE_1);
-    for (event, next) in [
-        (READ_LOST, MODE_1),
-        (READ_LOST, MODE_1),
-        (READ, COEFFICIENTS),
-        (READ_LOST, COEFFICIENTS),
-        (READ_LOST, COEFFICIENTS),
-        (READ, ""),
-    ] {
-        goes(&rt, &mut world, &event, next);
+    for next in [MODE_1, MODE_1] {
+        goes(&rt, &mut world, &READ_LOST, next);
     }
+    goes(&rt, &mut world, &READ, COEFFICIENTS);
+    for next in [COEFFICIENTS, COEFFICIENTS] {
+        goes(&rt, &mut world, &READ_LOST, next);
+    }
+    goes(&rt, &mut world, &READ, "");
     equal(&rt, &world.ended(), &Some(JobEnd::Learned), &1);
     goes(&rt, &mut world, &learn, MODE_1);
     for next in [MODE_1, MODE_1, ""] {
@@ -262,34 +260,29 @@ fn each_output_is_learned_by_itself(rt: HostRuntime) -> Result<(), SetupFault> {
     Ok(())
 }
 
-// How many bytes the answer has to the request that is sent.
-fn answer_length(world: &World) -> Option<usize> {
-    match world.host().turn() {
-        Turn::Request { bytes, .. } => Some(bytes),
-        _ => None,
-    }
+// After these events this request is sent, whose answer has so many bytes.
+fn is_asked(
+    rt: &impl Abort,
+    events: &[Event],
+    request: &str,
+    wanted: usize,
+) -> Result<(), SetupFault> {
+    let world = after(rt, mixed(), PASSES, events)?;
+    is_true(rt, sends(rt, &world, request), &request);
+    let turn = world.host().turn();
+    let is_so = matches!(turn, Turn::Request { bytes, .. } if bytes == wanted);
+    is_true(rt, is_so, &request);
+    Ok(())
 }
 
 #[test]
 fn a_request_says_how_many_bytes_its_answer_has(rt: HostRuntime) -> Result<(), SetupFault> {
-    let learn = [Event::Learn(1), READ];
-    let rows: [(&[Event], &str, usize); 5] = [
-        (&[Event::Check(Cell::Protect)], "B0 10", 3),
-        (
-            &[Event::Check(Cell::Out(0, Reg::Operation))],
-            "B0 06 02 00 01",
-            4,
-        ),
-        (&[CHECK], "B0 06 02 00 21", 5),
-        (&learn[..1], MODE_1, 4),
-        (&learn, COEFFICIENTS, 8),
-    ];
-    for (events, request, wanted) in rows {
-        let world = after(&rt, mixed(), PASSES, events)?;
-        is_true(&rt, sends(&rt, &world, request), &request);
-        equal(&rt, &answer_length(&world), &Some(wanted), &request);
-    }
-    Ok(())
+    let operation = Event::Check(Cell::Out(0, Reg::Operation));
+    is_asked(&rt, &[Event::Check(Cell::Protect)], "B0 10", 3)?;
+    is_asked(&rt, &[operation], "B0 06 02 00 01", 4)?;
+    is_asked(&rt, &[CHECK], "B0 06 02 00 21", 5)?;
+    is_asked(&rt, &[Event::Learn(1)], MODE_1, 4)?;
+    is_asked(&rt, &[Event::Learn(1), READ], COEFFICIENTS, 8)
 }
 
 fn has_end(
@@ -304,29 +297,25 @@ fn has_end(
     Ok(())
 }
 
+const UNKNOWN: Standing = Standing::Unknown;
+
+const START: Standing = Standing::Confirmed(0x1000);
+
+const DIFFERS: Option<JobEnd> = Some(JobEnd::Differs(0x1000));
+
 // What ends a job: the end that a run tells, and how the cell stands then.
 #[test]
 fn each_job_has_its_ends(rt: HostRuntime) -> Result<(), SetupFault> {
-    let differs = Some(JobEnd::Differs(0x1000));
-    let unknown = Standing::Unknown;
-    let start = Standing::Confirmed(0x1000);
-    let rows: [(&[Event], Option<JobEnd>, Standing); 9] = [
-        (&[], None, unknown),
-        (&[CHECK], None, unknown),
-        (&[CHECK, READ], Some(JobEnd::Done), start),
-        (&[CHECK, READ_LOST], Some(JobEnd::Unknown), unknown),
-        (&[CHECK, READ, Event::RestartHost], None, unknown),
-        (&[ORDER, LOST, ACKED, READ], differs, start),
-        (
-            &[ORDER, LOST, ACKED, READ_LOST],
-            Some(JobEnd::Unknown),
-            unknown,
-        ),
-        (&[Event::Learn(0), READ], Some(JobEnd::Learned), unknown),
-        (&[Event::Clear(0), ACKED], Some(JobEnd::Done), unknown),
-    ];
-    for (events, end, stands) in rows {
-        has_end(&rt, events, end, stands)?;
-    }
-    Ok(())
+    has_end(&rt, &[], None, UNKNOWN)?;
+    has_end(&rt, &[CHECK], None, UNKNOWN)?;
+    has_end(&rt, &[CHECK, READ], Some(JobEnd::Done), START)?;
+    has_end(&rt, &[CHECK, READ_LOST], Some(JobEnd::Unknown), UNKNOWN)?;
+    has_end(&rt, &[CHECK, READ, Event::RestartHost], None, UNKNOWN)?;
+    has_end(&rt, &[ORDER, LOST, ACKED, READ], DIFFERS, START)?;
+    let lost = [ORDER, LOST, ACKED, READ_LOST];
+    has_end(&rt, &lost, Some(JobEnd::Unknown), UNKNOWN)?;
+    let learn = [Event::Learn(0), READ];
+    has_end(&rt, &learn, Some(JobEnd::Learned), UNKNOWN)?;
+    let clear = [Event::Clear(0), ACKED];
+    has_end(&rt, &clear, Some(JobEnd::Done), UNKNOWN)
 }

@@ -221,18 +221,20 @@ fn expect_event(
     Ok(())
 }
 
+/// Lines, and the events that they are, or why not.
+static LINES_OF_ONE_WORD: [(&str, Result<&str, TextFault>); 7] = [
+    ("store", Ok(", Store]")),
+    ("  restore  ", Ok(", Restore]")),
+    ("restore\r\nstore", Ok(", Restore, Store]")),
+    ("store 0", Err(TextFault::Syntax(13))),
+    ("restore device", Err(TextFault::Syntax(13))),
+    ("Store", Err(TextFault::Syntax(13))),
+    ("store\nstores", Err(TextFault::Syntax(14))),
+];
+
 #[test]
 fn store_and_restore_are_lines_of_one_word(rt: HostRuntime) -> Result<(), Fail> {
-    let rows = [
-        ("store", Ok(", Store]")),
-        ("  restore  ", Ok(", Restore]")),
-        ("restore\r\nstore", Ok(", Restore, Store]")),
-        ("store 0", Err(TextFault::Syntax(13))),
-        ("restore device", Err(TextFault::Syntax(13))),
-        ("Store", Err(TextFault::Syntax(13))),
-        ("store\nstores", Err(TextFault::Syntax(14))),
-    ];
-    for (line, wanted) in rows {
+    for &(line, wanted) in &LINES_OF_ONE_WORD {
         expect_event(&rt, line, wanted)?;
     }
     Ok(())

@@ -273,15 +273,17 @@ fn a_line_of_version_2_is_faulty_so(rt: HostRuntime) -> Result<(), Fail> {
     Ok(())
 }
 
+/// Events that version 1 doesn't know.
+static UNKNOWN_TO_VERSION_1: [&str; 4] = [
+    "order 0 VOUT_MIN 0800",
+    "order 0 VOUT_MIN ZZ",
+    "volts 0 VOUT_MIN 5",
+    "check 0 VOUT_MIN",
+];
+
 #[test]
 fn no_event_of_version_1_names_vout_min(rt: HostRuntime) -> Result<(), Fail> {
-    let events = [
-        "order 0 VOUT_MIN 0800",
-        "order 0 VOUT_MIN ZZ",
-        "volts 0 VOUT_MIN 5",
-        "check 0 VOUT_MIN",
-    ];
-    for event in events {
+    for &event in &UNKNOWN_TO_VERSION_1 {
         let text = format!(in rt.alloc(); "{SCENARIO}{event}\n")?;
         is_refused(&rt, &text, TextFault::Syntax(13));
     }

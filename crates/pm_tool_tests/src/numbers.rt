@@ -28,121 +28,127 @@ fn expect_line(
     is_true(rt, sheet.text() == line.as_bytes(), &(format, line));
 }
 
+/// A format, a word, and its line.
+static WORDS_SHOWN: [(&str, &str, &str); 13] = [
+    ("linear11", "87FF", "word 87FF value -1/65536 micro -16\n"),
+    ("linear11", "87ff", "word 87FF value -1/65536 micro -16\n"),
+    (
+        "linear11",
+        "D300",
+        "word D300 value 768/64 micro 12000000\n",
+    ),
+    (
+        "linear11",
+        "07D8",
+        "word 07D8 value -40/1 micro -40000000\n",
+    ),
+    (
+        "linear11",
+        "7BFF",
+        "word 7BFF value 33521664/1 micro 33521664000000\n",
+    ),
+    (
+        "linear11",
+        "7C00",
+        "word 7C00 value -33554432/1 micro -33554432000000\n",
+    ),
+    (
+        "ulinear16:-16",
+        "0001",
+        "word 0001 value 1/65536 micro 15\n",
+    ),
+    (
+        "ulinear16:15",
+        "FFFF",
+        "word FFFF value 2147450880/1 micro 2147450880000000\n",
+    ),
+    (
+        "direct:-1:5:-1",
+        "0003",
+        "word 0003 value -25/1 micro -25000000\n",
+    ),
+    (
+        "direct:-32768:32767:12",
+        "8000",
+        "word 8000 value 32767000000032768/32768000000000000 micro 999969\n",
+    ),
+    (
+        "direct:1:-32768:-12",
+        "7FFF",
+        "word 7FFF value 32767000000032768/1 micro 32767000000032768000000\n",
+    ),
+    (
+        "direct:1:-32768:-12",
+        "8000",
+        "word 8000 value -32767999999967232/1 micro -32767999999967232000000\n",
+    ),
+    (
+        "direct:01:-0:003",
+        "0CE4",
+        "word 0CE4 value 3300/1000 micro 3300000\n",
+    ),
+];
+
 #[test]
 fn words_are_shown_with_their_values(rt: HostRuntime) {
-    for (format, word, line) in [
-        ("linear11", "87FF", "word 87FF value -1/65536 micro -16\n"),
-        ("linear11", "87ff", "word 87FF value -1/65536 micro -16\n"),
-        (
-            "linear11",
-            "D300",
-            "word D300 value 768/64 micro 12000000\n",
-        ),
-        (
-            "linear11",
-            "07D8",
-            "word 07D8 value -40/1 micro -40000000\n",
-        ),
-        (
-            "linear11",
-            "7BFF",
-            "word 7BFF value 33521664/1 micro 33521664000000\n",
-        ),
-        (
-            "linear11",
-            "7C00",
-            "word 7C00 value -33554432/1 micro -33554432000000\n",
-        ),
-        (
-            "ulinear16:-16",
-            "0001",
-            "word 0001 value 1/65536 micro 15\n",
-        ),
-        (
-            "ulinear16:15",
-            "FFFF",
-            "word FFFF value 2147450880/1 micro 2147450880000000\n",
-        ),
-        (
-            "direct:-1:5:-1",
-            "0003",
-            "word 0003 value -25/1 micro -25000000\n",
-        ),
-        (
-            "direct:-32768:32767:12",
-            "8000",
-            "word 8000 value 32767000000032768/32768000000000000 micro 999969\n",
-        ),
-        (
-            "direct:1:-32768:-12",
-            "7FFF",
-            "word 7FFF value 32767000000032768/1 micro 32767000000032768000000\n",
-        ),
-        (
-            "direct:1:-32768:-12",
-            "8000",
-            "word 8000 value -32767999999967232/1 micro -32767999999967232000000\n",
-        ),
-        (
-            "direct:01:-0:003",
-            "0CE4",
-            "word 0CE4 value 3300/1000 micro 3300000\n",
-        ),
-    ] {
+    for &(format, word, line) in &WORDS_SHOWN {
         expect_line(&rt, format, (Some(word), None), line);
     }
 }
 
+/// A format, a value in millionths, and the line of its nearest word.
+static VALUES_SHOWN: [(&str, &str, &str); 10] = [
+    (
+        "ulinear16:-12",
+        "3300000",
+        "word 34CD value 13517/4096 micro 3300048\n",
+    ),
+    (
+        "linear11",
+        "12000000",
+        "word 000C value 12/1 micro 12000000\n",
+    ),
+    (
+        "linear11",
+        "1024000000",
+        "word 0A00 value 1024/1 micro 1024000000\n",
+    ),
+    (
+        "linear11",
+        "2047000000",
+        "word 0BFF value 2046/1 micro 2046000000\n",
+    ),
+    (
+        "linear11",
+        "-2047000000",
+        "word 0C00 value -2048/1 micro -2048000000\n",
+    ),
+    (
+        "linear11",
+        "33521664000000",
+        "word 7BFF value 33521664/1 micro 33521664000000\n",
+    ),
+    ("linear11", "-0", "word 0000 value 0/1 micro 0\n"),
+    (
+        "linear11",
+        "-000000000000000000000000000001000000",
+        "word 07FF value -1/1 micro -1000000\n",
+    ),
+    (
+        "direct:1:0:3",
+        "3300000",
+        "word 0CE4 value 3300/1000 micro 3300000\n",
+    ),
+    (
+        "ulinear16:15",
+        "1000000000000000",
+        "word 7736 value 1000013824/1 micro 1000013824000000\n",
+    ),
+];
+
 #[test]
 fn values_are_shown_with_their_nearest_words(rt: HostRuntime) {
-    for (format, micro, line) in [
-        (
-            "ulinear16:-12",
-            "3300000",
-            "word 34CD value 13517/4096 micro 3300048\n",
-        ),
-        (
-            "linear11",
-            "12000000",
-            "word 000C value 12/1 micro 12000000\n",
-        ),
-        (
-            "linear11",
-            "1024000000",
-            "word 0A00 value 1024/1 micro 1024000000\n",
-        ),
-        (
-            "linear11",
-            "2047000000",
-            "word 0BFF value 2046/1 micro 2046000000\n",
-        ),
-        (
-            "linear11",
-            "-2047000000",
-            "word 0C00 value -2048/1 micro -2048000000\n",
-        ),
-        (
-            "linear11",
-            "33521664000000",
-            "word 7BFF value 33521664/1 micro 33521664000000\n",
-        ),
-        ("linear11", "-0", "word 0000 value 0/1 micro 0\n"),
-        (
-            "linear11",
-            "-000000000000000000000000000001000000",
-            "word 07FF value -1/1 micro -1000000\n",
-        ),
-        (
-            "direct:1:0:3",
-            "3300000",
-            "word 0CE4 value 3300/1000 micro 3300000\n",
-        ),
-        (
-            "ulinear16:15",
-            "1000000000000000",
-            "word 7736 value 1000013824/1 micro 1000013824000000\n",
-        ),
-    ] {
+    for &(format, micro, line) in &VALUES_SHOWN {
         expect_line(&rt, format, (None, Some(micro)), line);
     }
 }
@@ -158,90 +164,102 @@ fn expect_fault(
     is_true(rt, sheet.text().is_empty(), &format);
 }
 
+/// A format, a word and a value, and the first of their faults.
+static FAULTY: [(&str, Option<&str>, Option<&str>, NumberFault); 7] = [
+    ("linear11", Some("0001"), Some("1"), NumberFault::OneOf),
+    ("linear11", None, None, NumberFault::OneOf),
+    ("", Some("0001"), Some("1"), NumberFault::OneOf),
+    ("", Some("0001"), None, NumberFault::Format),
+    ("nonsense", Some("xyz"), None, NumberFault::Format),
+    ("direct:0:5:3", Some("xyz"), None, NumberFault::Word),
+    ("direct:0:5:3", None, Some("1.5"), NumberFault::Micro),
+];
+
 #[test]
 fn faulty_command_lines_are_refused_in_order(rt: HostRuntime) {
-    for (format, word, micro, fault) in [
-        ("linear11", Some("0001"), Some("1"), NumberFault::OneOf),
-        ("linear11", None, None, NumberFault::OneOf),
-        ("", Some("0001"), Some("1"), NumberFault::OneOf),
-        ("", Some("0001"), None, NumberFault::Format),
-        ("nonsense", Some("xyz"), None, NumberFault::Format),
-        ("direct:0:5:3", Some("xyz"), None, NumberFault::Word),
-        ("direct:0:5:3", None, Some("1.5"), NumberFault::Micro),
-    ] {
+    for &(format, word, micro, fault) in &FAULTY {
         expect_fault(&rt, format, (word, micro), fault);
     }
 }
 
+static NO_FORMATS: [&str; 21] = [
+    "LINEAR11",
+    "linear11:",
+    "linear11 ",
+    "ulinear16",
+    "ulinear16:",
+    "ulinear16:-17",
+    "ulinear16:16",
+    "ulinear16:+1",
+    "ulinear16:-",
+    "ulinear16:0:0",
+    "ulinear16:99999999999999999999",
+    "direct",
+    "direct:1:0",
+    "direct:1:0:0:0",
+    "direct:+1:0:0",
+    "direct:32768:0:0",
+    "direct:-32769:0:0",
+    "direct:1:32768:0",
+    "direct:1:0:128",
+    "direct:1: 0:0",
+    "half",
+];
+
 #[test]
 fn texts_that_are_no_format_are_refused(rt: HostRuntime) {
-    for format in [
-        "LINEAR11",
-        "linear11:",
-        "linear11 ",
-        "ulinear16",
-        "ulinear16:",
-        "ulinear16:-17",
-        "ulinear16:16",
-        "ulinear16:+1",
-        "ulinear16:-",
-        "ulinear16:0:0",
-        "ulinear16:99999999999999999999",
-        "direct",
-        "direct:1:0",
-        "direct:1:0:0:0",
-        "direct:+1:0:0",
-        "direct:32768:0:0",
-        "direct:-32769:0:0",
-        "direct:1:32768:0",
-        "direct:1:0:128",
-        "direct:1: 0:0",
-        "half",
-    ] {
+    for &format in &NO_FORMATS {
         expect_fault(&rt, format, (Some("0001"), None), NumberFault::Format);
     }
 }
 
+static NO_MICROS: [&str; 8] = [
+    "",
+    "-",
+    "+1",
+    "--1",
+    "1 ",
+    "1e6",
+    "9223372036854775808",
+    "-9223372036854775809",
+];
+
+static NO_WORDS: [&str; 9] = [
+    "", "1", "001", "00001", "+001", "-001", "00G0", "0x01", " 001",
+];
+
 #[test]
 fn texts_that_are_no_word_or_number_are_refused(rt: HostRuntime) {
-    for word in [
-        "", "1", "001", "00001", "+001", "-001", "00G0", "0x01", " 001",
-    ] {
+    for &word in &NO_WORDS {
         expect_fault(&rt, "linear11", (Some(word), None), NumberFault::Word);
     }
-    for micro in [
-        "",
-        "-",
-        "+1",
-        "--1",
-        "1 ",
-        "1e6",
-        "9223372036854775808",
-        "-9223372036854775809",
-    ] {
+    for &micro in &NO_MICROS {
         expect_fault(&rt, "linear11", (None, Some(micro)), NumberFault::Micro);
     }
 }
 
+/// A format, a value, and why it has no word.
+static NO_NEAREST: [(&str, &str, NumFault); 11] = [
+    ("direct:0:5:13", "0", NumFault::ZeroSlope),
+    ("direct:0:5:3", "1000000000000001", NumFault::ZeroSlope),
+    ("direct:1:0:13", "0", NumFault::ExponentRange),
+    (
+        "direct:1:0:-13",
+        "1000000000000001",
+        NumFault::ExponentRange,
+    ),
+    ("linear11", "1000000000000001", NumFault::TooLarge),
+    ("linear11", "9223372036854775807", NumFault::TooLarge),
+    ("linear11", "-9223372036854775808", NumFault::TooLarge),
+    ("linear11", "33521664000001", NumFault::AboveGreatest),
+    ("linear11", "-33554432000001", NumFault::BelowLeast),
+    ("ulinear16:-12", "-1", NumFault::BelowLeast),
+    ("ulinear16:-12", "16000000", NumFault::AboveGreatest),
+];
+
 #[test]
 fn numbers_without_a_word_are_refused(rt: HostRuntime) {
-    for (format, micro, fault) in [
-        ("direct:0:5:13", "0", NumFault::ZeroSlope),
-        ("direct:0:5:3", "1000000000000001", NumFault::ZeroSlope),
-        ("direct:1:0:13", "0", NumFault::ExponentRange),
-        (
-            "direct:1:0:-13",
-            "1000000000000001",
-            NumFault::ExponentRange,
-        ),
-        ("linear11", "1000000000000001", NumFault::TooLarge),
-        ("linear11", "9223372036854775807", NumFault::TooLarge),
-        ("linear11", "-9223372036854775808", NumFault::TooLarge),
-        ("linear11", "33521664000001", NumFault::AboveGreatest),
-        ("linear11", "-33554432000001", NumFault::BelowLeast),
-        ("ulinear16:-12", "-1", NumFault::BelowLeast),
-        ("ulinear16:-12", "16000000", NumFault::AboveGreatest),
-    ] {
+    for &(format, micro, fault) in &NO_NEAREST {
         expect_fault(&rt, format, (None, Some(micro)), NumberFault::Num(fault));
     }
     expect_fault(

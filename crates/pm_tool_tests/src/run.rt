@@ -97,27 +97,33 @@ fn every_status_has_its_texts(rt: HostRuntime) {
     ends_unread(&rt, ErrorKind::InvalidData, 2, "pmb: bad arguments\n");
 }
 
+/// An option of `number`, the status, and what is written on both streams.
+static NUMBERS: [(&str, u8, &str, &str); 6] = [
+    ("--word=87FF", 0, "word 87FF value -1/65536 micro -16\n", ""),
+    ("--word=1", 2, "", "pmb: bad word\n"),
+    ("--micro=1e3", 2, "", "pmb: bad micro\n"),
+    ("--micro=33521664000001", 1, "", "pmb: N4 AboveGreatest\n"),
+    ("--micro=-33554432000001", 1, "", "pmb: N3 BelowLeast\n"),
+    ("--micro=1000000000000001", 1, "", "pmb: N5 TooLarge\n"),
+];
+
+/// A format that is refused, with its status and its words.
+static NO_NUMBERS: [(&str, u8, &str); 3] = [
+    ("--format=direct:0:5:3", 1, "pmb: N1 ZeroSlope\n"),
+    ("--format=direct:1:5:13", 1, "pmb: N2 ExponentRange\n"),
+    ("--format=float", 2, "pmb: bad format\n"),
+];
+
 #[test]
 fn every_status_of_number_has_its_texts(rt: HostRuntime) {
-    for (option, status, output, errors) in [
-        ("--word=87FF", 0, "word 87FF value -1/65536 micro -16\n", ""),
-        ("--word=1", 2, "", "pmb: bad word\n"),
-        ("--micro=1e3", 2, "", "pmb: bad micro\n"),
-        ("--micro=33521664000001", 1, "", "pmb: N4 AboveGreatest\n"),
-        ("--micro=-33554432000001", 1, "", "pmb: N3 BelowLeast\n"),
-        ("--micro=1000000000000001", 1, "", "pmb: N5 TooLarge\n"),
-    ] {
+    for &(option, status, output, errors) in &NUMBERS {
         let words = ["pmb", "number", "--format=linear11", option];
         ends(&rt, &words, FRAME, status, (output, errors));
     }
     let words = ["pmb", "number", "--format=linear11"];
     let errors = "pmb: give one of --word and --micro\n";
     ends(&rt, &words, FRAME, 2, ("", errors));
-    for (format, status, errors) in [
-        ("--format=direct:0:5:3", 1, "pmb: N1 ZeroSlope\n"),
-        ("--format=direct:1:5:13", 1, "pmb: N2 ExponentRange\n"),
-        ("--format=float", 2, "pmb: bad format\n"),
-    ] {
+    for &(format, status, errors) in &NO_NUMBERS {
         let words = ["pmb", "number", format, "--word=0001"];
         ends(&rt, &words, "", status, ("", errors));
     }
@@ -249,37 +255,38 @@ fn flushed(alloc: Global, words: &[&str], text: &str, flush_fails: bool) -> Ran 
     )
 }
 
+/// The option or the command, what is read, the status, what is printed and what is said.
+static HANDED_ON: [(&str, &str, u8, &str, &str); 7] = [
+    (
+        "decode",
+        "B0",
+        0,
+        "1 58 write F2 Short 1\nlines 1 accepted 0 faults 1 bad 0\n",
+        "",
+    ),
+    ("decode", "", 0, "lines 0 accepted 0 faults 0 bad 0\n", ""),
+    ("--version", "", 0, "pmb 0.1.0\n", ""),
+    ("hear", "/ /", 1, "", "pmb: X1 Syntax line 1\n"),
+    ("replay", "", 1, "", "pmb: X1 Syntax line 1\n"),
+    (
+        "replay",
+        "scenario 1\naddress 5\n",
+        1,
+        "",
+        "pmb: X2 BadHex line 2\n",
+    ),
+    ("number", "", 2, "", "pmb: give one of --word and --micro\n"),
+];
+
 #[test]
 fn what_is_printed_is_handed_on_once_whatever_the_status(rt: HostRuntime) {
-    // The option or the command, what is read, the status, what is printed and what is said.
-    let rows = [
-        ("hear", FRAME, 0, TAKEN, ""),
-        ("replay", SCENARIO, 0, REPORT, ""),
-        ("replay", STOPPED, 1, STOPPED_REPORT, ""),
-        (
-            "decode",
-            "B0",
-            0,
-            "1 58 write F2 Short 1\nlines 1 accepted 0 faults 1 bad 0\n",
-            "",
-        ),
-        ("decode", TRACE, 1, LINES, ""),
-        ("decode", "", 0, "lines 0 accepted 0 faults 0 bad 0\n", ""),
-        ("--version", "", 0, "pmb 0.1.0\n", ""),
-        ("hear", "/ /", 1, "", "pmb: X1 Syntax line 1\n"),
-        ("replay", "", 1, "", "pmb: X1 Syntax line 1\n"),
-        (
-            "replay",
-            "scenario 1\naddress 5\n",
-            1,
-            "",
-            "pmb: X2 BadHex line 2\n",
-        ),
-        ("number", "", 2, "", "pmb: give one of --word and --micro\n"),
-    ];
-    for (command, text, status, output, errors) in rows {
+    for &(command, text, status, output, errors) in &HANDED_ON {
         is_handed_on(&rt, command, text, status, (output, errors));
     }
+    is_handed_on(&rt, "hear", FRAME, 0, (TAKEN, ""));
+    is_handed_on(&rt, "replay", SCENARIO, 0, (REPORT, ""));
+    is_handed_on(&rt, "replay", STOPPED, 1, (STOPPED_REPORT, ""));
+    is_handed_on(&rt, "decode", TRACE, 1, (LINES, ""));
 }
 
 // What is printed is flushed once, and a flush that fails is told.

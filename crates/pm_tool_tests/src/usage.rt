@@ -211,43 +211,34 @@ bad micro. Status 1 and such a line: X5 Write, X6 Memory, or
   N5 TooLarge        beyond 10^15 millionths in size
 ";
 
-fn is_said(
-    rt: &(impl Abort + AllocGlobal),
-    words: &[&str],
-    status: u8,
-    output: &str,
-    errors: &str,
-) {
+// Words that the parser refuses, with this on standard error.
+fn is_unknown(rt: &(impl Abort + AllocGlobal), words: &[&str], errors: &str) {
     let found = run_on(rt.alloc(), words, "");
-    is_true(rt, found.is(status, output, errors), &words);
+    is_true(rt, found.is(2, "", errors), &words);
 }
 
 #[test]
-fn the_parsers_texts_go_where_they_belong(rt: HostRuntime) {
-    for (words, status, output, errors) in [
-        (["pmb"].as_slice(), 2, "", MISSING),
-        (["pmb", "listen"].as_slice(), 2, "", UNKNOWN),
-        (
-            ["pmb", "number", "--bits=1"].as_slice(),
-            2,
-            "",
-            NO_SUCH_OPTION,
-        ),
-        (["pmb", "number", "--word"].as_slice(), 2, "", NO_VALUE),
-        (
-            ["pmb", "number", "--word=1", "--word=2"].as_slice(),
-            2,
-            "",
-            TWICE,
-        ),
-        (["pmb", "--help"].as_slice(), 0, HELP, ""),
-        (["pmb", "hear", "--help"].as_slice(), 0, HEAR_HELP, ""),
-        (["pmb", "replay", "--help"].as_slice(), 0, REPLAY_HELP, ""),
-        (["pmb", "decode", "--help"].as_slice(), 0, DECODE_HELP, ""),
-        (["pmb", "number", "--help"].as_slice(), 0, NUMBER_HELP, ""),
-    ] {
-        is_said(&rt, words, status, output, errors);
-    }
+fn faulty_command_lines_are_told_on_standard_error(rt: HostRuntime) {
+    is_unknown(&rt, &["pmb"], MISSING);
+    is_unknown(&rt, &["pmb", "listen"], UNKNOWN);
+    is_unknown(&rt, &["pmb", "number", "--bits=1"], NO_SUCH_OPTION);
+    is_unknown(&rt, &["pmb", "number", "--word"], NO_VALUE);
+    is_unknown(&rt, &["pmb", "number", "--word=1", "--word=2"], TWICE);
+}
+
+// Words that ask for help, which is printed.
+fn is_help(rt: &(impl Abort + AllocGlobal), words: &[&str], output: &str) {
+    let found = run_on(rt.alloc(), words, "");
+    is_true(rt, found.is(0, output, ""), &words);
+}
+
+#[test]
+fn help_is_printed(rt: HostRuntime) {
+    is_help(&rt, &["pmb", "--help"], HELP);
+    is_help(&rt, &["pmb", "hear", "--help"], HEAR_HELP);
+    is_help(&rt, &["pmb", "replay", "--help"], REPLAY_HELP);
+    is_help(&rt, &["pmb", "decode", "--help"], DECODE_HELP);
+    is_help(&rt, &["pmb", "number", "--help"], NUMBER_HELP);
 }
 
 #[test]

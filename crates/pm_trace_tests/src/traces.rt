@@ -189,21 +189,23 @@ fn begins_with(rt: &(impl Abort + AllocGlobal), line: &str, wanted: &str) {
     is_true(rt, written.starts_with(wanted.as_bytes()), &wanted);
 }
 
+// How many bytes the write part has and what follows it, the read part's bytes and what follows, and
+// how the lines begin.
+static LONG_LINES: [(usize, &str, usize, &str, &str); 9] = [
+    (300, "", 0, "", "1 58 write F3 Long 9\n"),
+    (301, "", 0, "", "1 X1 Syntax\n"),
+    (301, "Z", 0, "", "1 X2 BadHex\n"),
+    (300, "/", 300, "", "1 58 write F7 WrongDirection 1\n"),
+    (301, "/", 0, "", "1 X1 Syntax\n"),
+    (301, "/ /", 0, "", "1 X1 Syntax\n"),
+    (1, "20 /", 300, "", "1 58 read F3 Long 3\n"),
+    (1, "20 /", 301, "", "1 X1 Syntax\n"),
+    (1, "20 /", 301, "Z", "1 X2 BadHex\n"),
+];
+
 #[test]
 fn a_part_has_at_most_300_bytes(rt: HostRuntime) -> Result<(), Fail> {
-    // How many bytes the write part has and what follows it, the read part's bytes and what follows.
-    let rows = [
-        (300, "", 0, "", "1 58 write F3 Long 9\n"),
-        (301, "", 0, "", "1 X1 Syntax\n"),
-        (301, "Z", 0, "", "1 X2 BadHex\n"),
-        (300, "/", 300, "", "1 58 write F7 WrongDirection 1\n"),
-        (301, "/", 0, "", "1 X1 Syntax\n"),
-        (301, "/ /", 0, "", "1 X1 Syntax\n"),
-        (1, "20 /", 300, "", "1 58 read F3 Long 3\n"),
-        (1, "20 /", 301, "", "1 X1 Syntax\n"),
-        (1, "20 /", 301, "Z", "1 X2 BadHex\n"),
-    ];
-    for (writes, middle, reads, end, wanted) in rows {
+    for &(writes, middle, reads, end, wanted) in &LONG_LINES {
         let line = line_of(rt.alloc(), writes, middle, reads, end)?;
         begins_with(&rt, &line, wanted);
     }

@@ -170,18 +170,20 @@ fn is_not_heard(rt: &impl Abort, converter: &mut Converter, text: &str, ending: 
 }
 
 // Frames to another device, and no bytes.
+static NOT_HEARD: [(&str, Ending); 7] = [
+    ("", Ending::Stop),
+    ("", Ending::Restart),
+    ("B1 21 CD 34 00", Ending::Stop),
+    ("B2 05 04 00 21 CD 34 5A", Ending::Stop),
+    ("58 05 04 00 21 CD 34 5A", Ending::Stop),
+    ("B2 20", Ending::Restart),
+    ("B1 20", Ending::Restart),
+];
+
 #[test]
 fn what_is_for_another_device_is_not_heard(rt: HostRuntime) -> Result<(), Fail> {
     let mut converter = base()?;
-    for (text, ending) in [
-        ("", Ending::Stop),
-        ("", Ending::Restart),
-        ("B1 21 CD 34 00", Ending::Stop),
-        ("B2 05 04 00 21 CD 34 5A", Ending::Stop),
-        ("58 05 04 00 21 CD 34 5A", Ending::Stop),
-        ("B2 20", Ending::Restart),
-        ("B1 20", Ending::Restart),
-    ] {
+    for &(text, ending) in &NOT_HEARD {
         is_not_heard(&rt, &mut converter, text, ending);
     }
     Ok(())
@@ -202,25 +204,27 @@ fn with_third(count: u8) -> Result<Converter, ConfigFault> {
     })
 }
 
+// A side that isn't there, and codes that have no coefficients.
+static NO_COEFFICIENTS: [&str; 8] = [
+    "B0 30 02 21 02 /",
+    "B0 30 02 21 FF /",
+    "B0 30 02 01 00 /",
+    "B0 30 02 20 00 /",
+    "B0 30 02 22 00 /",
+    "B0 30 02 8C 01 /",
+    "B0 30 02 88 01 /",
+    "B0 30 02 30 00 /",
+];
+
 // A COEFFICIENTS request is refused for its code and for its side, and where no output that exists
 // is DIRECT.
 #[test]
 fn coefficients_are_refused_for_code_side_and_mode(rt: HostRuntime) -> Result<(), Fail> {
     let mut without = with_third(2)?;
-    for row in ["B0 30 02 21 00 /", "B0 30 02 8B 01 /"] {
-        hears_row(&rt, &mut without, row, Some(K3));
-    }
+    hears_row(&rt, &mut without, "B0 30 02 21 00 /", Some(K3));
+    hears_row(&rt, &mut without, "B0 30 02 8B 01 /", Some(K3));
     let mut with = with_third(3)?;
-    for row in [
-        "B0 30 02 21 02 /",
-        "B0 30 02 21 FF /",
-        "B0 30 02 01 00 /",
-        "B0 30 02 20 00 /",
-        "B0 30 02 22 00 /",
-        "B0 30 02 8C 01 /",
-        "B0 30 02 88 01 /",
-        "B0 30 02 30 00 /",
-    ] {
+    for &row in &NO_COEFFICIENTS {
         hears_row(&rt, &mut with, row, Some(K3));
     }
     Ok(())

@@ -1,16 +1,19 @@
 use super::*;
 use crate::checks::equal;
 
+// Outputs and passes, and which of them is refused.
+static SETUPS: [(u8, u8, Option<HostFault>); 6] = [
+    (0, 0, Some(HostFault::OutputCount)),
+    (9, 16, Some(HostFault::OutputCount)),
+    (1, 0, Some(HostFault::Passes)),
+    (8, 16, Some(HostFault::Passes)),
+    (1, 1, None),
+    (8, 15, None),
+];
+
 #[test]
 fn the_outputs_are_judged_before_the_passes(rt: HostRuntime) {
-    for (outputs, passes, wanted) in [
-        (0, 0, Some(HostFault::OutputCount)),
-        (9, 16, Some(HostFault::OutputCount)),
-        (1, 0, Some(HostFault::Passes)),
-        (8, 16, Some(HostFault::Passes)),
-        (1, 1, None),
-        (8, 15, None),
-    ] {
+    for &(outputs, passes, wanted) in &SETUPS {
         equal(
             &rt,
             &Host::new(0x08, outputs, passes).err(),

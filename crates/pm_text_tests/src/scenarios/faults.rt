@@ -238,17 +238,19 @@ static FIRST_FAULTS: [(&str, TextFault); 9] = [
     ),
 ];
 
+// Events of which one or more are faulty, and the first fault.
+static FIRST_FAULTY_EVENTS: [(&str, TextFault); 3] = [
+    ("learn x\norder 0 OPERATION Z", TextFault::Syntax(8)),
+    ("order 0 OPERATION Z\nlearn x", TextFault::BadHex(8)),
+    ("learn 1\r\n\n# x\nlearn x\nlearn y", TextFault::Syntax(11)),
+];
+
 #[test]
 fn the_first_faulty_line_counts(rt: HostRuntime) -> Result<(), Fail> {
     for &(text, fault) in &FIRST_FAULTS {
         is_refused(&rt, text, fault);
     }
-    let events = [
-        ("learn x\norder 0 OPERATION Z", TextFault::Syntax(8)),
-        ("order 0 OPERATION Z\nlearn x", TextFault::BadHex(8)),
-        ("learn 1\r\n\n# x\nlearn x\nlearn y", TextFault::Syntax(11)),
-    ];
-    for (lines, fault) in events {
+    for &(lines, fault) in &FIRST_FAULTY_EVENTS {
         is_refused_event(&rt, lines, fault)?;
     }
     Ok(())
