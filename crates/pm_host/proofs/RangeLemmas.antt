@@ -1,5 +1,5 @@
 -- Whether a number lies in a format's range, as a test and as a fact.
-use Rattle.std.proofs.Common.{rules, ◌≡◌, ℕ, ◌+◌, ◌*◌, ◌<◌, ◌≤◌, ℤ, pos, ◌*ℤ◌, ◌+ℤ◌, ◌≤ℤ◌, ◌<ℤ◌, true, false, Some, None, refl}
+use Rattle.std.proofs.Common.{rules, ◌≡◌, ℕ, ◌+◌, ◌*◌, ◌<◌, ◌≤◌, ℤ, pos, ◌*ℤ◌, ◌+ℤ◌, ◌≤ℤ◌, ◌<ℤ◌, true, false, Some, refl}
 use Rattle.std.proofs.Common.{ap, arith}
 use Rattle.std.proofs.Math.Nat.{mul-le-mul_right}
 use Rattle.std.proofs.lemmas.Int.{ints, by_lt_z}
@@ -7,7 +7,7 @@ use borrow.Author.Differences.{up, down, product_is, le_out, lt_out}
 use Rattle.pm_num.specs.declared.fault.NumFault.{NumFault}
 use Rattle.pm_num.specs.declared.fault.NumFault.TheVariants.{ZeroSlope, ExponentRange, BelowLeast, AboveGreatest, TooLarge}
 use Rattle.pm_num.specs.Nearest.{IsOutside}
-use Rattle.pm_num.specs.Ratio.{Ratio, AtMost, LessThan, IsBetween}
+use Rattle.pm_num.specs.Ratio.{Ratio, AtMost, LessThan}
 use Rattle.pm_num.specs.NearestWord.{is_at_most}
 use Rattle.pm_host.specs.Refusals.{outside_fault}
 
@@ -57,11 +57,7 @@ is_at_most-true = search rules
 pub is_at_most-false : (p q : Ratio) → LessThan q p → is_at_most p q ≡ false
 is_at_most-false = search rules
 
--- the refusal of a number outside a format, and of none inside
-pub outside_fault-none : (l h x : Ratio) → IsBetween l h x → outside_fault l h x ≡ None
-outside_fault-none = search rules
-
--- N3 below the least value, N4 above the greatest
+-- the refusal of a number outside a format: N3 below the least value, N4 above the greatest
 pub outside_fault-some : (l h x : Ratio) (fault : NumFault) → 0 < h.den → AtMost l h → IsOutside l h x fault
     → outside_fault l h x ≡ Some fault
 outside_fault-some l h x BelowLeast den le less = rw (is_at_most-false l x less) refl

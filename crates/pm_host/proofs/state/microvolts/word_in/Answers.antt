@@ -1,10 +1,7 @@
-use Rattle.std.proofs.Common.{◌<◌, sym, subst, refl}
+use Rattle.std.proofs.Common.{◌<◌, sym, subst}
 use Rattle.pm_num.specs.Ratio.{Ratio, AtMost}
-use Rattle.pm_host.proofs.RangeLemmas.{outside_fault-none, outside_fault-some}
+use Rattle.pm_host.proofs.RangeLemmas.{outside_fault-some}
 use Rattle.pm_host.proofs.state.microvolts.word_in.Goals as goal
-
-pub returns-in-Ok-clause-fault : goal.returns-in-Ok-clause-fault
-returns-in-Ok-clause-fault g c = sym (outside_fault-none _ _ c.args.x (c.in-Ok.ensures.inside.0 refl))
 
 pub returns-in-Ok-clause-found : goal.returns-in-Ok-clause-found
 returns-in-Ok-clause-found g c = g.met.F.NumFormat.found c.args.format.now c.args.x c.in-Ok.word c.in-Ok.ensures.word
