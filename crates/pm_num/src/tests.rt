@@ -103,10 +103,19 @@ static ULINEAR16_NUMBERS: [(i8, i64, Result<u16, NumFault>); 3] = [
     (-12, 16_000_000, Err(NumFault::AboveGreatest)),
 ];
 
-// The last is a tie.
-static DIRECT_NUMBERS: [((i16, i16, i8), i64, Result<u16, NumFault>); 2] = [
+// The second is a tie. Then the ends of a rising slope, from -32.768 to 32.767, and of a falling one, from
+// -27.767 to 37.768.
+static DIRECT_NUMBERS: [((i16, i16, i8), i64, Result<u16, NumFault>); 10] = [
     ((1, 0, 3), 3_300_000, Ok(0x0CE4)),
     ((-1, 5, 3), 4_000_500, Ok(0x03E8)),
+    ((1, 0, 3), 32_767_000, Ok(0x7FFF)),
+    ((1, 0, 3), 32_767_001, Err(NumFault::AboveGreatest)),
+    ((1, 0, 3), -32_768_000, Ok(0x8000)),
+    ((1, 0, 3), -32_768_001, Err(NumFault::BelowLeast)),
+    ((-1, 5, 3), 37_768_000, Ok(0x8000)),
+    ((-1, 5, 3), 37_768_001, Err(NumFault::AboveGreatest)),
+    ((-1, 5, 3), -27_767_000, Ok(0x7FFF)),
+    ((-1, 5, 3), -27_767_001, Err(NumFault::BelowLeast)),
 ];
 
 #[test]
@@ -122,8 +131,8 @@ fn the_grids_encode_known_numbers(rt: HostRuntime) {
         agrees(&rt, row, &found, want);
     }
     let falling = slope(&rt, -1, 5, 3);
-    agrees(&rt, 2, &encoded(&falling, falling.least()), &Ok(0x7FFF));
-    agrees(&rt, 3, &encoded(&falling, falling.greatest()), &Ok(0x8000));
+    agrees(&rt, 10, &encoded(&falling, falling.least()), &Ok(0x7FFF));
+    agrees(&rt, 11, &encoded(&falling, falling.greatest()), &Ok(0x8000));
 }
 
 static EXPONENTS: [(i8, bool); 4] = [(-17, false), (-16, true), (15, true), (16, false)];
