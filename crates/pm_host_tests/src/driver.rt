@@ -56,6 +56,8 @@ fn carry_out<B: Bus>(host: &mut Host, bus: &mut B) -> Option<JobEnd>
                 host.told(Told::Finished { acked })
             }
             Turn::Request { frame, bytes } => {
+                // A buffer that keeps the last answer is how a read that never happened gets believed.
+                answer.fill(0);
                 let count = bus.read(frame.as_slice(), &mut answer[..bytes]);
                 host.told(Told::Got(&answer[..count]))
             }
