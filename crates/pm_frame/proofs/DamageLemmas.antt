@@ -9,8 +9,7 @@ use Rattle.pm_frame.specs.Damage.{EndsInPec}
 use Rattle.pm_frame.specs.Pec.{pec_of}
 use Rattle.pm_frame.proofs.BetrayalLemmas.{last_of}
 use Rattle.pm_frame.proofs.Burst.{ends-none}
-use Rattle.pm_frame.proofs.Fold.{pec_of-append}
-use Rattle.pm_frame.proofs.Residues.{doubled_times}
+use Rattle.pm_frame.proofs.Residues.{doubled_times, pec_of-append}
 
 -- bytes that aren't betrayed end a packet in its PEC
 unbetrayed-ends : (before : List ℕ) (byte : ℕ) (bytes : List ℕ) → is_betrayed before (byte ∷ bytes) ≡ false

@@ -6,7 +6,6 @@ mod Codes
 mod DamageLemmas
 mod FarBits
 mod FewBits
-mod Fold
 mod Numbers
 mod Parts
 mod RequestLaws

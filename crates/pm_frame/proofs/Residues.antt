@@ -1,13 +1,13 @@
 -- The packet error code of a message with one byte more, from the code of the message.
 use Rattle.std.proofs.Common.{◌≡◌, ℕ, zero, suc, ◌+◌, ◌*◌, ◌%◌, ◌^◌, ◌<◌, ◌≤◌, List, [], ◌∷◌, ◌++◌, length, take, get_or, bit_xor, refl}
-use Rattle.std.proofs.Common.{sym, ap, ◌∙◌, arith, mod-lt, zero-add, append_assoc}
+use Rattle.std.proofs.Common.{sym, ap, ap₂, ◌∙◌, arith, mod-lt, zero-add, append_assoc}
 use Rattle.std.proofs.Math.Nat.{mod-eq_of_lt}
 use Rattle.std.proofs.Math.Numerals.{one-add}
 use Rattle.std.proofs.lemmas.List.{length-append, take_more}
 use Rattle.std.specs.Int.{bit_at}
 use Rattle.std.proofs.lemmas.Nat.{xor_lt, xor_mod, pow_pos, mod-pow-add}
 use Rattle.std.proofs.lemmas.Nat.Bits.{bit_at-lt}
-use Rattle.std.specs.Int.Bits.{xor_assoc, xor_zero_r}
+use Rattle.std.specs.Int.Bits.{xor_assoc, xor_zero_l, xor_zero_r}
 use Rattle.pm_frame.specs.Pec.{doubled, residue, residues_of, pec_of}
 use Rattle.pm_frame.proofs.Carryless.{xor_exchange, xor_of_parts, twice-xor, bit_at-xor, bit_times-xor}
 
@@ -152,18 +152,28 @@ unfolding pec_of
 pec_of-byte byte h =
     xor_zero_r (residues_of byte 0 8) ∙ residues_of-last byte 8 (omega arith) ∙ ap (doubled_times 8) (mod-eq_of_lt h)
 
+-- the code of a message and of what follows it
+pub pec_of-append : (front bytes : List ℕ)
+    → pec_of (front ++ bytes) ≡ bit_xor (doubled_times (8 * length bytes) (pec_of front)) (pec_of bytes)
+unfolding pec_of
+pec_of-append [] bytes =
+    sym (ap (λ (x : ℕ). bit_xor x (pec_of bytes)) (doubled_times-zero (8 * length bytes)) ∙ xor_zero_l (pec_of bytes))
+pec_of-append (x ∷ xs) bytes =
+    let n : ℕ = 8 * length bytes in
+    let after : 8 * length (xs ++ bytes) ≡ n + 8 * length xs = omega (arith, length-append xs bytes) in
+    let first : residues_of x (8 * length (xs ++ bytes)) 8 ≡ doubled_times n (residues_of x (8 * length xs) 8) =
+    ap (λ (k : ℕ). residues_of x k 8) after ∙ sym (residues_of-after x n (8 * length xs) 8) in
+    ap₂ bit_xor first (pec_of-append xs bytes)
+    ∙ sym (xor_assoc (doubled_times n (residues_of x (8 * length xs) 8)) (doubled_times n (pec_of xs)) (pec_of bytes))
+    ∙ ap (λ (r : ℕ). bit_xor r (pec_of bytes)) (sym (doubled_times-xor n (residues_of x (8 * length xs) 8) (pec_of xs)))
+
 -- one byte more
 pub pec_of-append_byte : (front : List ℕ) (byte : ℕ) → byte < 2 ^ 8
     → pec_of (front ++ byte ∷ []) ≡ doubled_times 8 (bit_xor (pec_of front) byte)
-unfolding pec_of
-pec_of-append_byte [] byte h = pec_of-byte byte h
-pec_of-append_byte (x ∷ xs) byte h =
-    let after : 8 * length (xs ++ byte ∷ []) ≡ 8 + 8 * length xs = omega (arith, length-append xs (byte ∷ [])) in
-    let first : residues_of x (8 * length (xs ++ byte ∷ [])) 8 ≡ doubled_times 8 (residues_of x (8 * length xs) 8) =
-    ap (λ (n : ℕ). residues_of x n 8) after ∙ sym (residues_of-after x 8 (8 * length xs) 8) in
-    (λ i. bit_xor (first i) (pec_of-append_byte xs byte h i))
-    ∙ sym (doubled_times-xor 8 (residues_of x (8 * length xs) 8) (bit_xor (pec_of xs) byte))
-    ∙ ap (doubled_times 8) (sym (xor_assoc (residues_of x (8 * length xs) 8) (pec_of xs) byte))
+pec_of-append_byte front byte h =
+    pec_of-append front (byte ∷ [])
+    ∙ ap (bit_xor (doubled_times 8 (pec_of front))) (pec_of-byte byte h)
+    ∙ sym (doubled_times-xor 8 (pec_of front) byte)
 
 -- one byte more: the code of the one byte that is its sum with the code so far
 pub pec_of-next : (front : List ℕ) (byte : ℕ) → byte < 2 ^ 8 → pec_of (front ++ byte ∷ []) ≡ pec_of (bit_xor (pec_of front) byte ∷ [])

@@ -1,10 +1,7 @@
-// The packet error code (PEC) of SMBus: a CRC-8 with x^8 + x^2 + x + 1.
+//! The packet error code (PEC) of SMBus: a CRC-8 with x^8 + x^2 + x + 1.
 
-ghost use Rattle.std.specs.Prelude.{◌≡◌, ◌<◌, ◌^◌, ℕ, List, [], ◌∷◌, ◌++◌};
-ghost use Rattle.pm_frame.specs.Pec.{residues_of, pec_of};
-
-// The bytes of a block, which a step takes as one number of 128 bits.
-const BLOCK: usize = 16;
+ghost use Rattle.std.specs.Prelude.{◌≡◌, ℕ, List, [], ◌∷◌, ◌++◌};
+ghost use Rattle.pm_frame.specs.Pec.{pec_of};
 
 // The PEC of each message of one byte.
 #[rattlefmt::skip]
@@ -36,25 +33,8 @@ pub fn pec(bytes: &[u8]) -> u8
 }
 
 /// The PEC of what came before, carried on over further bytes of the same message, as that of a
-/// request is over the bytes of its answer: sixteen of them at a step as one number of 128 bits, and the
-/// last ones byte by byte.
+/// request is over the bytes of its answer: byte by byte, as no packet has more than twelve.
 pub fn pec_after(so_far: u8, bytes: &[u8]) -> u8
-    ensures { (front : List ℕ) → so_far ≡ pec_of front → result ≡ pec_of (front ++ bytes.now) }
-{
-    if bytes.len() < BLOCK {
-        return pec_by_bytes(so_far, bytes);
-    }
-    let mut folded = u128::from(so_far) << 119;
-    let mut rest = bytes;
-    while let Some((block, more)) = rest.split_first_chunk::<BLOCK>() {
-        folded = moved_up(folded) ^ u128::from_be_bytes(*block);
-        rest = more;
-    }
-    pec_by_bytes(code_of(folded), rest)
-}
-
-// The PEC of what came before, carried on byte by byte.
-fn pec_by_bytes(so_far: u8, bytes: &[u8]) -> u8
     ensures { (front : List ℕ) → so_far ≡ pec_of front → result ≡ pec_of (front ++ bytes.now) }
 {
     let mut register = so_far;
@@ -69,52 +49,4 @@ fn pec_of_byte(byte: u8) -> u8
     ensures { result ≡ pec_of (byte ∷ []) }
 {
     PEC_OF_BYTE[usize::from(byte)]
-}
-
-// A number whose residues sum to those of this one with 128 bits after it. They are those of one
-// place up, since x^128 leaves x after division by the polynomial.
-fn moved_up(number: u128) -> u128
-    ensures { residues_of result 0 128 ≡ residues_of number 128 128 }
-{
-    (number << 1) ^ ((number >> 127) << 1)
-}
-
-// The sum of the residues at the set bits of the number, which is narrowed to two bytes for it.
-fn code_of(number: u128) -> u8
-    ensures { result ≡ residues_of number 0 128 }
-{
-    let narrow = below_16(below_16(below_32(below_32(below_64(number)))));
-    let [high, low] = (narrow as u16).to_be_bytes();
-    pec_of_byte(pec_of_byte(high) ^ low)
-}
-
-// The bits from 64 on brought down: x^64 leaves x^4 + x + 1.
-fn below_64(number: u128) -> u128
-    ensures sum { residues_of result 0 128 ≡ residues_of number 0 128 }
-    ensures narrow { result < 2 ^ 68 }
-{
-    let upper = number >> 64;
-    (upper << 4) ^ (upper << 1) ^ upper ^ number % (1 << 64)
-}
-
-// The bits from 32 on brought down: x^32 leaves x^4 + x^2 + x.
-fn below_32(number: u128) -> u128
-    requires { number < 2 ^ 68 }
-    ensures sum { residues_of result 0 128 ≡ residues_of number 0 128 }
-    ensures narrow { result < 2 ^ 40 }
-    ensures narrower { number < 2 ^ 40 → result < 2 ^ 32 }
-{
-    let upper = number >> 32;
-    (upper << 4) ^ (upper << 2) ^ (upper << 1) ^ number % (1 << 32)
-}
-
-// The bits from 16 on brought down: x^16 leaves x^4 + x^2 + 1.
-fn below_16(number: u128) -> u128
-    requires { number < 2 ^ 32 }
-    ensures sum { residues_of result 0 128 ≡ residues_of number 0 128 }
-    ensures narrow { result < 2 ^ 20 }
-    ensures narrower { number < 2 ^ 20 → result < 2 ^ 16 }
-{
-    let upper = number >> 16;
-    (upper << 4) ^ (upper << 2) ^ upper ^ number % (1 << 16)
 }

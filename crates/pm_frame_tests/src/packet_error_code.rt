@@ -46,9 +46,9 @@ fn pec_of_each_single_bit(rt: HostRuntime) {
     }
 }
 
-// The bytes 0, 7, 14 and so on: up to five blocks and a tail of each length.
+// The bytes 0, 7, 14 and so on, in each length up to 80.
 #[test]
-fn pec_in_blocks_is_pec_bit_by_bit(rt: HostRuntime) {
+fn pec_by_the_table_is_pec_bit_by_bit(rt: HostRuntime) {
     let mut bytes = [0u8; 80];
     for (place, byte) in bytes.iter_mut().enumerate() {
         *byte = (place % 256) as u8;
