@@ -1,147 +1,195 @@
 #!/usr/bin/env python3
-"""Carries a job out on a Linux bus: the proved host `pmbhost` says what to send, `i2ctransfer` of i2c-tools sends it.
+"""Carries jobs out on a Linux bus: the proved host `pmbhost` says what to send, this script sends it by /dev/i2c-BUS.
 
     scripts/bus.py BUS ADDRESS [OPTIONS] JOB [+ JOB ..]
 
+    scripts/bus.py 1 58 probe
     scripts/bus.py 1 58 learn 0 + volts 0 VOUT_COMMAND 3300000
     scripts/bus.py 1 58 check 0 VOUT_COMMAND + state 0 VOUT_COMMAND
     scripts/bus.py 1 58 --trace=order.trace order 0 VOUT_COMMAND 34CD
 
-BUS is the number of /dev/i2c-BUS, ADDRESS two hexadecimal digits. A JOB is what is said to pmbhost: `order O NAME HEX`,
-`volts O NAME MICROVOLTS`, `check O NAME`, `learn O`, `clear O`, `store`, `restore`; `state O NAME` and `seen` tell what is
-known. One host carries all of them out, and the last answer to each is printed. After the first that doesn't end as `done`
-or `learned` no further one is begun, and only questions are answered.
+BUS is the number of /dev/i2c-BUS, ADDRESS two hexadecimal digits. A JOB is what is said to pmbhost:
+`order O NAME HEX`, `volts O NAME MICROVOLTS`, `check O NAME`, `learn O`, `clear O`, `store`, `restore`; `state O NAME`
+and `seen` tell what is known. One host carries all of them out. For each job a line says what became of it: the job, a
+colon, a blank and the last answer of pmbhost, as `learn 0: ended learned`. After the first that doesn't end as `done`
+or `learned` no further one is begun, and only questions are answered. `probe` stands alone and needs no pmbhost: it
+reads whether the part has PEC and PAGE_PLUS, how many outputs, and their formats.
 
     --outputs=N     how many outputs the device has, 8 where it isn't given
     --passes=N      how often a job is tried at most, 3 where it isn't given
     --trace=FILE    appends what went over the wire to FILE, for `pmb decode < FILE`
-    --force         gives i2ctransfer -f: a kernel driver may be bound to the address (docs/bus.md)
+    --force         goes on where a driver of the kernel holds the address (docs/bus.md)
 
-The status is 0 where every job ended as done or learned and every question was answered, and 1 otherwise; 2 for bad
-arguments. A transfer that fails is no acknowledgement, or no answer: the host decides what that means.
+Standard error says in one line why a job ended badly. The status is 0 where every job ended as done or learned and
+every question was answered, or the host can drive the part that was probed; 1 where not; 2 where an argument isn't what
+it should be, the bus can't be used, or a stream or the trace fails; 130 after an interruption, which says what is now
+unknown.
+A transfer that fails is no acknowledgement, or no answer: the host decides what that means.
+PMBHOST in the environment names another pmbhost than crates/pmbhost/out/pmbhost.
 """
-import os
-import re
-import shutil
-import subprocess
-import sys
+import signal
+
+if __name__ == "__main__":
+    signal.signal(signal.SIGINT, signal.SIG_DFL)
+
+import contextlib  # noqa: E402
+import re  # noqa: E402
+import sys  # noqa: E402
 
 sys.dont_write_bytecode = True
 
+import bus_arguments  # noqa: E402
+import standard_streams  # noqa: E402
+from attempts import Attempts, refused_words  # noqa: E402
+from i2c_dev import ENDING, Bus, Kernel, NoBus, Trace  # noqa: E402
+from probe import probe  # noqa: E402
 from program import answer_help  # noqa: E402
 from session import NoAnswer, Session  # noqa: E402
 
-ENDED_WELL = ("ended done", "ended learned", "state ", "seen ", "idle", "restarted")
+ENDED_WELL = ("ended done", "ended learned", "state ", "seen ")
 QUESTIONS = ("state", "seen")
 SEND = re.compile(r"send ((?:[0-9A-F]{2} ?)+?)(?: read (\d+))?")
+BAD_CALL, INTERRUPTED = 2, 130
 
 
-class Bus:
-    """Frames over `i2ctransfer`, and the trace of them."""
-
-    def __init__(self, number, trace, force):
-        self.number, self.trace, self.force = number, trace, force
-
-    def transfer(self, frame, count):
-        """Sends a frame, and reads `count` bytes where it isn't None. The bytes, or None where the transfer failed."""
-        address, data = frame[0] >> 1, [f"0x{byte:02x}" for byte in frame[1:]]
-        reads = [] if count is None else [f"r{count}"]
-        flags = ["-y", "-f"] if self.force else ["-y"]
-        ran = subprocess.run(["i2ctransfer", *flags, self.number, f"w{len(data)}@0x{address:02x}", *data, *reads],
-                             capture_output=True, text=True)
-        found = re.fullmatch(r"(?:0x[0-9a-f]{2}\s*)*", ran.stdout)
-        if ran.returncode or not found:
-            self.note(f"# failed: {in_hex(frame)}: {' '.join((ran.stderr or ran.stdout).split())}")
-            return None
-        got = [int(byte, 16) for byte in ran.stdout.split()]
-        self.note(in_hex(frame) if count is None else f"{in_hex(frame)} / {in_hex([frame[0] + 1, *got])}")
-        return got
-
-    def note(self, line):
-        if self.trace:
-            print(line, file=self.trace, flush=True)
+class Interrupted(BaseException):
+    """A signal asked the script to end."""
 
 
-def in_hex(frame):
-    return " ".join(f"{byte:02X}" for byte in frame)
+def interrupt(*_):
+    for each in ENDING:
+        signal.signal(each, signal.SIG_IGN)
+    raise Interrupted
 
 
-def told(bus, answer):
-    """What is said to the host after its answer `send ..`."""
-    frame, count = SEND.fullmatch(answer).groups()
-    frame = list(bytes.fromhex(frame))
-    got = bus.transfer(frame, None if count is None else int(count))
-    if count is None:
-        return "finished nack" if got is None else "finished ack"
-    return "got" if got is None else f"got {in_hex([frame[0] + 1, *got])}"
-
-
-def carry_out(host, bus, job):
-    """The last answer to a job."""
-    answer = host.ask(job)
-    while answer.startswith("send "):
-        answer = host.ask(told(bus, answer))
-    return answer
-
-
-def options_of(words):
-    """The options, and the words behind them."""
-    found = {"outputs": "8", "passes": "3", "trace": None, "force": False}
-    while words and words[0].startswith("--"):
-        name, equals, value = words.pop(0)[2:].partition("=")
-        if name not in found or (name == "force") == bool(equals):
-            usage()
-        found[name] = value if equals else True
-    return found, words
-
-
-def usage():
-    print(__doc__.strip(), file=sys.stderr)
-    sys.exit(2)
-
-
-def jobs_of(words):
-    """The jobs, between the words `+`."""
-    jobs = [[]]
-    for word in words:
-        if word == "+":
-            jobs.append([])
-        else:
-            jobs[-1].append(word)
-    return [" ".join(job) for job in jobs]
-
-
-def run(number, address, options, jobs):
-    trace = open(options["trace"], "a") if options["trace"] else None
-    bus = Bus(number, trace, options["force"])
-    host = Session(address, options["outputs"], options["passes"])
-    is_well = True
-    for job in jobs:
-        if not is_well and job.split()[0] not in QUESTIONS:
-            continue
-        answer = carry_out(host, bus, job)
-        print(answer, flush=True)
-        is_well = is_well and answer.startswith(ENDED_WELL)
-    host.close()
-    return 0 if is_well else 1
-
-
-def main():
-    answer_help(__doc__)
-    words = sys.argv[1:]
-    if len(words) < 3 or not words[0].isdigit() or not re.fullmatch("[0-9A-Fa-f]{2}", words[1]):
-        usage()
-    options, rest = options_of(words[2:])
-    jobs = jobs_of(rest)
-    if any(not job or "\n" in job for job in jobs):
-        usage()
-    if not shutil.which("i2ctransfer"):
-        sys.exit("no i2ctransfer: install i2c-tools")
+@contextlib.contextmanager
+def interruptible():
+    """A signal that ends becomes Interrupted, unless it is ignored, as below nohup."""
+    mask = signal.pthread_sigmask(signal.SIG_BLOCK, ())
+    before = {each: signal.getsignal(each) for each in ENDING}
+    for each, action in before.items():
+        if action is not signal.SIG_IGN:
+            signal.signal(each, interrupt)
     try:
-        return run(words[0], words[1], options, jobs)
+        yield
+    finally:
+        for each, action in before.items():
+            signal.signal(each, action)
+        signal.pthread_sigmask(signal.SIG_SETMASK, mask)
+
+
+def complain(words):
+    """A line on standard error. Nobody is left to tell where that fails."""
+    with contextlib.suppress(OSError):
+        print(f"bus.py: {words}", file=sys.stderr, flush=True)
+
+
+class Run:
+    """The jobs of a call over a bus. What is under way stands in `attempts`."""
+
+    def __init__(self, call, bus, host):
+        self.call, self.bus, self.host = call, bus, host
+        self.attempts, self.unsaid = None, ""
+
+    def probe(self):
+        self.attempts = Attempts(["probe"])
+        words, is_fit = probe(self.bus, self.call.outputs)
+        self.say(words)
+        return 0 if is_fit else 1
+
+    def jobs(self):
+        """The status."""
+        is_well = True
+        for job in self.call.jobs:
+            if is_well or job[0] in QUESTIONS:
+                answer = self.carried_out(job)
+                is_well = answer.startswith(ENDED_WELL) and is_well
+                if self.bus.trace.fault:
+                    raise NoBus(f"{self.bus.trace.path}: {self.bus.trace.fault.strerror}")
+        return 0 if is_well else 1
+
+    def carried_out(self, job):
+        """The last answer to a job, which is then printed, and on standard error why it ended badly."""
+        self.attempts = Attempts(job)
+        answer = self.host.ask(self.attempts.said)
+        while answer.startswith("send "):
+            frame, count = SEND.fullmatch(answer).groups()
+            frame, count = list(bytes.fromhex(frame)), None if count is None else int(count)
+            answer = self.host.ask(self.attempts.told(self.bus, frame, count))
+        self.say(f"{self.attempts.said}: {answer}")
+        why = refused_words(answer) if answer.startswith("refused") else self.attempts.why()
+        if why and not answer.startswith(ENDED_WELL):
+            complain(f"{self.attempts.said}: {why}")
+        self.attempts = None
+        return answer
+
+    def say(self, line):
+        self.unsaid = f"; unsaid: {line}"
+        standard_streams.write(line)
+        self.unsaid = ""
+
+    def unsure(self):
+        """What is unknown of the job under way."""
+        if not self.attempts:
+            return "no job was open"
+        return self.attempts.unsure()
+
+
+def carry_out(call, kernel):
+    """The status of a call."""
+    trace = bus = host = run = None
+    try:
+        trace = Trace(call.trace)
+        bus = Bus(call.bus, call.address, call.is_forced, trace, kernel)
+        if call.jobs == (["probe"],):
+            run = Run(call, bus, None)
+            return run.probe()
+        host = Session(f"{call.address:02X}", call.outputs, call.passes)
+        run = Run(call, bus, host)
+        return run.jobs()
+    except Interrupted:
+        during = f" during {run.attempts.said}" if run and run.attempts else ""
+        complain(f"interrupted{during}: {run.unsure() if run else 'no job was open'}{run.unsaid if run else ''}")
+        return INTERRUPTED
+    except standard_streams.NoStream as fault:
+        complain(f"{fault}{run.unsaid}")
+        return BAD_CALL
     except NoAnswer as fault:
-        sys.exit(f"{os.path.basename(sys.argv[0])}: {fault}")
+        complain(f"{fault}; {run.unsure()}" if run and run.attempts and run.attempts.has_written else fault)
+        return 1
+    except NoBus as fault:
+        complain(fault)
+        return BAD_CALL
+    except OSError as fault:
+        complain(f"{fault.filename}: {fault.strerror}")
+        return BAD_CALL
+    finally:
+        if host:
+            host.abandon()
+        for each in bus, trace:
+            if each:
+                with contextlib.suppress(OSError):
+                    each.close()
+
+
+def main(words, kernel):
+    """The status of a command line over the kernel's calls."""
+    answer_help(__doc__)
+    closed = standard_streams.open_missing()
+    try:
+        if 1 in closed:
+            raise bus_arguments.Refused("standard output is closed: nothing was sent")
+        call = bus_arguments.read(words)
+    except bus_arguments.Refused as refused:
+        complain(refused)
+        return BAD_CALL
+    try:
+        with interruptible():
+            return carry_out(call, kernel)
+    except Interrupted:
+        complain("interrupted: no job was open")
+        return INTERRUPTED
 
 
 if __name__ == "__main__":
-    sys.exit(main())
+    sys.exit(main(sys.argv[1:], Kernel()))

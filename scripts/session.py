@@ -1,4 +1,5 @@
 """The built program `pmbhost` as a coprocess: a line is said, and its answer comes before the next one is."""
+import contextlib
 import os
 import select
 import shutil
@@ -24,13 +25,17 @@ class NoAnswer(Exception):
 
 
 class Session:
-    """A host for the device at an address, which is two hexadecimal digits."""
+    """A host for the device at an address, which is two hexadecimal digits. A signal to the script's group of
+    processes, as Ctrl-C sends one, doesn't reach it: it ends at the end of its input."""
 
     def __init__(self, address, outputs, passes, seconds=10):
-        options = [f"--address={address}", f"--outputs={outputs}", f"--passes={passes}"]
+        words = [needed(), f"--address={address}", f"--outputs={outputs}", f"--passes={passes}"]
         self.seconds, self.kept = seconds, b""
-        self.process = subprocess.Popen([needed(), *options], stdin=subprocess.PIPE, stdout=subprocess.PIPE,
-                                        stderr=subprocess.PIPE)
+        try:
+            self.process = subprocess.Popen(words, stdin=subprocess.PIPE, stdout=subprocess.PIPE,
+                                            stderr=subprocess.PIPE, start_new_session=True)
+        except OSError as fault:
+            raise NoAnswer(f"{words[0]}: {fault.strerror}") from fault
 
     def ask(self, line):
         """The answer to a line, of bytes or a text, without its line feed."""
@@ -44,7 +49,8 @@ class Session:
             ready, _, _ = select.select([self.process.stdout], [], [], self.seconds)
             piece = os.read(self.process.stdout.fileno(), 4096) if ready else b""
             if not piece:
-                raise NoAnswer(f"no answer to {line!r} in {self.seconds} s" if not ready else f"the host ended: {self.words()}")
+                late = f"no answer to {line!r} in {self.seconds} s"
+                raise NoAnswer(f"the host ended: {self.words()}" if ready else late)
             self.kept += piece
         answer, _, self.kept = self.kept.partition(b"\n")
         if self.kept:
@@ -54,7 +60,15 @@ class Session:
     def words(self):
         """What the host said on standard error."""
         self.process.wait(self.seconds)
-        return self.process.stderr.read().decode().strip()
+        return " ".join(self.process.stderr.read().decode().split())
+
+    def abandon(self):
+        """Ends the host where it stands."""
+        self.process.kill()
+        self.process.wait()
+        for stream in self.process.stdin, self.process.stdout, self.process.stderr:
+            with contextlib.suppress(OSError):
+                stream.close()
 
     def close(self):
         """The status, after the end of input; what was written behind the last answer."""
