@@ -1,6 +1,8 @@
 """The run of a scenario event by event: the program replays the text up to each event, one event more each
 time, and its reports are read."""
+import os
 import subprocess
+from concurrent.futures import ThreadPoolExecutor
 
 import program
 from plain.lines import lines_of, numbered
@@ -23,7 +25,8 @@ class Report:
 
     `outputs`: by output, whether it is on, and the microvolts that it commands. `words` and `beliefs`: by
     register, the converter's word, and what the host says of it. A register is an output and a name; the output
-    of WRITE_PROTECT is None. `status`: by output. `cml`, `seen`, `job`: the words of these lines.
+    of WRITE_PROTECT is None. `status`: by output, STATUS_BYTE, STATUS_WORD and STATUS_VOUT. `cml`, `seen`, `job`:
+    the words of these lines.
     """
 
     def __init__(self, text):
@@ -79,7 +82,7 @@ def lived(text):
     whole = report_of(pmb, text)
     events = events_of(text)
     ends = [events[0].number - 1 if events else len(lines), *(event.number for event in events[:whole.taken])]
-    reports = [report_of(pmb, b"\n".join(lines[:end]) + b"\n") for end in ends]
-    reports[-1] = whole
+    with ThreadPoolExecutor(os.cpu_count()) as several:
+        reports = [*several.map(lambda end: report_of(pmb, b"\n".join(lines[:end]) + b"\n"), ends[:-1]), whole]
     return Run(events, reports)
 

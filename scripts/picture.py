@@ -1,10 +1,14 @@
 #!/usr/bin/env python3
-"""Draws a scenario's run as a picture (SVG), a row for each event: what each output commands, what the host
-believes of the registers that the events name, and what came of each event on the bus.
+"""Draws a scenario's run as a picture (SVG), a row for each event: what each output commands, between its limits, what
+the host believes of the registers that the events name, jobs with their ends, status where it isn't 0, and what came of
+each event on the bus.
 
     scripts/picture.py SCENARIO > picture.svg
 
-It runs the built program, or the one that the environment variable PMB names. A refused text has status 1.
+Voltages, words, status, jobs and beliefs are the reports of the built program, or of the one that the environment
+variable PMB names: it runs the text up to each event, a text of version 1 in the form of version 2. What came of an
+event on the bus, which limit cuts, which confirmed words are in doubt since a restart was seen, and how many volts a
+word is are found by the plain model of scripts/plain. A refused text has status 1.
 """
 import os
 import sys
@@ -13,228 +17,272 @@ from html import escape
 sys.dont_write_bytecode = True
 
 import program  # noqa: E402
+from drawing import (  # noqa: E402
+    EDGES, FAULT, GOOD, INK, LIMIT, LINE, MARKS, MONO, PALE, PANEL, RESTART, box, first_that_fits, line, path, symbol, text,
+    width_of,
+)
+from lane import INSIDE, OUTSIDE, Lane  # noqa: E402
 from lived import Refused  # noqa: E402
 from refusals import in_words  # noqa: E402
 from seen import Seen  # noqa: E402
+from told import NAMES, bits_in  # noqa: E402
 
-ROW, TOP, EDGE, GAP = 28, 92, 18, 22
-VOLTS, BELIEF, MARK = 116, 148, 26
-SANS, MONO = "'DejaVu Sans', Verdana, sans-serif", "'DejaVu Sans Mono', Menlo, Consolas, monospace"
-INK, PALE, PANEL, EDGES = "#1c2127", "#5b6570", "#fbfbf8", "#8a9099"
-LINE, GOOD, FAULT, RESTART = "#1f4e9c", "#14713f", "#b3261e", "#7a3db8"
+ROW, HEADS, EDGE, GAP, PITCH = 28, 84, 18, 20, 15
+PAGE, MOST_PAGE = 20, 25
+BELIEF, MARK = 140, 26
+BAND, HATCH = "#e9eef5", "url(#doubt)"
 # Of each belief: what fills it, the colour of its words, its legend.
 BELIEFS = {
     "confirmed": (GOOD, "#ffffff", "the host calls it confirmed"),
+    "doubtful": (HATCH, "#0b3d20", "still called confirmed: may hold any word since a restart was seen"),
     "possible": ("#f4c95d", INK, "the host thinks these possible"),
     "any": ("none", PALE, "the host doesn't know"),
 }
-MARKS = {"good": GOOD, "fault": FAULT, "restart": RESTART, "none": PALE}
+STRIPES = "#cfe8d8", "#a3d3b6"
+# Of a status that is 0, and of one that isn't: what fills it, its edge, the colour of its words.
+STATUS = {False: ("none", EDGES, PALE), True: ("#fbe6e3", FAULT, "#8c1d18")}
+# Of a job's end: what fills it, and the colour of its words.
+ENDS = {"done": (GOOD, "#ffffff"), "learned": (GOOD, "#ffffff"), "differs": (FAULT, "#ffffff"), "unknown": ("#f4c95d", INK),
+        "dropped": (RESTART, "#ffffff")}
 MOST_LABEL = 44
-
-
-def width_of(words, size, is_mono=False):
-    """A bound of the width of words, in the wide fonts of the list."""
-    if is_mono:
-        return 0.61 * size * len(words)
-    return size * sum(0.83 if it.isupper() else 0.36 if it in " .,:il" else 0.65 for it in words)
-
-
-def text(x, y, words, size=12, fill=INK, family=SANS, anchor="start", extra=""):
-    return (f'<text x="{x:.1f}" y="{y:.1f}" font-size="{size}" fill="{fill}" font-family="{family}"'
-            f' text-anchor="{anchor}"{extra}>{escape(words)}</text>')
-
-
-def line(x1, y1, x2, y2, colour, width=1.0, extra=""):
-    shape = f"M{x1:.1f} {y1:.1f}L{x2:.1f} {y2:.1f}"
-    return f'<path d="{shape}" stroke="{colour}" stroke-width="{width}" fill="none"{extra}/>'
-
-
-def fitting(candidates, room, size):
-    """The first text that fits, or none of it."""
-    return next((it for it in candidates if width_of(it, size) <= room), "")
-
-
-def wrapped(words, room, size):
-    """Words in lines that fit; a unit stays with its number, and `or` with what comes after it."""
-    lines = []
-    for word in words.replace(" V", "\N{NO-BREAK SPACE}V").replace("or ", "or\N{NO-BREAK SPACE}").split(" "):
-        word = word.replace("\N{NO-BREAK SPACE}", " ")
-        if lines and width_of(f"{lines[-1]} {word}", size) <= room:
-            lines[-1] += f" {word}"
-        else:
-            lines.append(word)
-    return lines
 
 
 def shortened(label):
     return label if len(label) <= MOST_LABEL else label[:24] + ".." + label[26 - MOST_LABEL:]
 
 
+class Pages:
+    """Where rows stand: some twenty below one another, and then the heads again."""
+
+    row = ROW
+
+    def __init__(self, count, top):
+        self.parts, self.tops = [], []
+        while len(self.tops) < count:
+            left = count - len(self.tops)
+            first, rows = len(self.tops), left if left <= MOST_PAGE else PAGE
+            top += HEADS if not self.parts else HEADS + GAP
+            self.tops += [top + ROW * place for place in range(rows)]
+            self.parts.append((first, first + rows))
+            top = self.bottom = self.tops[-1] + ROW
+
+    def __call__(self, place):
+        return self.tops[place]
+
+
 class Picture:
     def __init__(self, seen, name):
-        self.seen, self.name, self.parts = seen, name, []
+        self.seen, self.name, self.parts, self.entries = seen, name, [], None
         rows = seen.rows
-        self.marks_at = EDGE + 34 + max(width_of(shortened(row.label), 12, True) for row in rows) + GAP
+        self.numbers_at = EDGE + 8 + max(width_of(str(row.number), 12) for row in rows[-2:])
+        self.labels_at = self.numbers_at + 10
+        self.marks_at = self.labels_at + max(width_of(shortened(row.label), 12, True) for row in rows) + GAP
         marks = max(width_of(row.mark[1], 12) for row in rows)
-        self.lanes_at = self.marks_at + MARK + max(marks, 60) + GAP
-        self.bottom = TOP + ROW * len(rows)
-        self.place_lanes()
+        self.jobs_at = self.marks_at + MARK + max(marks, 60) + GAP
+        ends = max((width_of(end_in_words(job), 12) for job in seen.jobs), default=0)
+        self.lanes_at = self.jobs_at + max(ends + 36, 96) + GAP
+        self.place_columns()
 
-    def place_lanes(self):
-        """Where each output's voltage and each register's belief begin."""
-        self.volts_at, self.beliefs_at, x = {}, {}, self.lanes_at
+    # Where everything stands.
+
+    def place_columns(self):
+        """Where each output's voltage and status and each register's belief begin."""
+        self.lanes, self.beliefs_at, self.status_at, x = {}, {}, {}, self.lanes_at
         for output in (None, *self.seen.model.outputs):
+            start = x
             if output is not None:
-                self.volts_at[output] = x
-                x += VOLTS + 8
+                self.lanes[output] = x, Lane(output, self.seen)
+                x += self.lanes[output][1].width + 8
             for register in (it for it in self.seen.model.registers if it[0] == output):
                 self.beliefs_at[register] = x
                 x += BELIEF + 8
-            x += GAP - 8 if x > self.lanes_at else 0
-        self.width = max(x - GAP + EDGE, 640)
+            if any(is_shown(row.report, output) for row in self.seen.rows):
+                self.status_at[output] = x, self.width_of_status(output)
+                x += self.status_at[output][1] + 8
+            x += GAP - 8 if x > start else 0
+        self.width = max(x - GAP + EDGE, 700)
 
-    def top_of(self, place):
-        return TOP + ROW * place
+    def width_of_status(self, output):
+        said = {word for row in self.seen.rows for word in status_of(row.report, output)[1].split()}
+        return max(110, *(width_of(word, 11) + 12 for word in said))
 
-    # The voltages.
-
-    def x_of(self, volts, output):
-        every = [micro / 1e6 for row in self.seen.rows for _, micro in row.report.outputs.values()]
-        least, most = min(every), max(every)
-        share = (volts - least) / (most - least) if most > least else 0.0
-        return self.volts_at[output] + 10 + share * (VOLTS - 20)
-
-    def draw_volts(self, output):
-        """The commanded voltage from row to row, and its value where that changes."""
-        shown = None
-        for place, row in enumerate(self.seen.rows):
-            is_on, micro = row.report.outputs[output]
-            x, top = self.x_of(micro / 1e6, output), self.top_of(place)
-            told = is_on, micro, row.cut.get(output)
-            if shown and shown[1] != micro:
-                before = self.x_of(shown[1] / 1e6, output)
-                self.parts.append(line(before, top, x, top, LINE, 3, ' stroke-linecap="square"'))
-            self.parts.append(line(x, top, x, top + ROW, LINE, 3, "" if is_on else ' stroke-dasharray="4 4"'))
-            if shown != told:
-                self.label_volts(x - self.volts_at[output], top, output, told)
-            shown = told
-
-    def label_volts(self, x, top, output, told):
-        """The value beside the line, which is at `x` of the lane, with the limit that cuts it."""
-        is_on, micro, limit = told
-        is_left = x < VOLTS / 2
-        rounded = [f"{micro / 1e6:.{digits}g} V" for digits in (4, 3, 2, 1)]
-        words = [f"{limit} {it}" for it in rounded if limit] + rounded if is_on else ["off"]
-        said = fitting(words, VOLTS - 8 - x if is_left else x - 8, 12)
-        x += self.volts_at[output] + (8 if is_left else -8)
-        self.parts.append(text(x, top + 19, said, fill=LINE, anchor="start" if is_left else "end"))
-
-    # The beliefs.
+    # The beliefs and the status.
 
     def words_of(self, register, belief):
         """What a bar may say, the longest first."""
         kind, words = belief
         if kind == "any":
             return ["any word"]
-        exact = hexadecimal(register, words)
-        values = [self.seen.model.volts(register, word) for word in words]
-        volts = [f"{float(it):.4g}" for it in values if it is not None]
-        if len(set(volts)) != len(words):
-            volts = []
-        named = [f"{joined(volts)} V"] if volts else []
-        named.append(joined(exact))
+        volts = [self.seen.model.words.volts(register, word) for word in words]
+        named = [f"{joined([it.removesuffix(' V') for it in volts])} V"] if None not in volts else []
+        if len(set(volts)) != len(words) or any(it.endswith("uV") for it in volts if it):
+            named = []
+        named.append(joined(hexadecimal(register, words)))
         if kind == "confirmed":
             return [f"confirmed {it}" for it in named] + named
+        if kind == "doubtful":
+            return [f"{it}, in doubt" for it in named] + [f"{it} ?" for it in named]
         return ([f"only {it}" for it in named] if len(words) == 1 else named) + [f"{len(words)} words"]
 
-    def lines_of(self, register, belief, rows):
-        """What the bar says, in at most as many lines as it has rows."""
-        choices = [wrapped(words, BELIEF - 12, 12) for words in self.words_of(register, belief)]
-        return next(lines for lines in choices if len(lines) <= rows)
-
-    def bars(self, register):
-        """The rows in a run that say the same: the first, the one after the last, the belief, and whether the
+    def bars(self, register, first, end):
+        """The runs of rows of a page that say the same: the first, the one after the last, the belief, and whether the
         converter's word isn't among its words."""
         found = []
-        for place, row in enumerate(self.seen.rows):
-            belief = row.beliefs[register]
-            held = int(row.report.words[register], 16)
+        for place in range(first, end):
+            row = self.seen.rows[place]
+            belief, held = row.beliefs[register], int(row.report.words[register], 16)
             told = belief, belief[0] != "any" and held not in belief[1]
-            if found and found[-1][2:] == told:
-                found[-1] = (found[-1][0], place + 1, *told)
-            else:
-                found.append((place, place + 1, *told))
+            start = found.pop()[0] if found and found[-1][2:] == told else place
+            found.append((start, place + 1, *told))
         return found
 
-    def draw_beliefs(self, register):
-        x = self.beliefs_at[register]
-        for first, end, belief, is_false in self.bars(register):
+    def draw_bar(self, x, first, end, wide, look, title, choices, size=12):
+        """A bar over rows, and as many lines of words as it has room for."""
+        fill, edge, ink = look
+        top, high = self.tops(first) + 2, ROW * (end - first) - 4
+        self.parts.append(box(x, top, wide, high, fill, f' rx="4"{edge}', title))
+        for place, said in enumerate(first_that_fits(choices, wide - 10, size, int(high - 4) // PITCH)):
+            self.parts.append(text(x + wide / 2, top + 16 + PITCH * place, said, size, ink, anchor="middle"))
+
+    def draw_beliefs(self, register, first, end):
+        for start, stop, belief, is_false in self.bars(register, first, end):
             fill, ink, _ = BELIEFS[belief[0]]
-            top, height = self.top_of(first) + 2, ROW * (end - first) - 4
-            edge = edge_of(belief[0], is_false)
-            words = ", ".join(hexadecimal(register, belief[1]))
-            self.parts.append(
-                f'<rect x="{x:.1f}" y="{top:.1f}" width="{BELIEF}" height="{height:.1f}" rx="4" fill="{fill}"{edge}>'
-                f"<title>{belief[0]} {words}</title></rect>")
-            for place, said in enumerate(self.lines_of(register, belief, end - first)):
-                self.parts.append(text(x + BELIEF / 2, top + 17 + ROW * place, said, fill=ink, anchor="middle"))
+            title = f"{belief[0]} {', '.join(hexadecimal(register, belief[1]))}"
+            look = fill, edge_of(belief[0], is_false), ink
+            self.draw_bar(self.beliefs_at[register], start, stop, BELIEF, look, title, self.words_of(register, belief))
+
+    def draw_status(self, output, first, end):
+        x, wide = self.status_at[output]
+        start = first
+        for place in range(first + 1, end + 1):
+            told = status_of(self.seen.rows[start].report, output)
+            if place == end or status_of(self.seen.rows[place].report, output) != told:
+                fill, edge, ink = STATUS[is_shown(self.seen.rows[start].report, output)]
+                choices = [told[1], told[0]]
+                look = fill, f' stroke="{edge}"', ink
+                self.draw_bar(x, start, place, wide, look, f"status {told[1]}", choices, 11)
+                start = place
+
+    # The jobs.
+
+    def draw_job(self, job, first, end):
+        """A band over the job's rows of a page, a line beside them, and its end."""
+        start, stop = max(job.first, first), min(job.last + 1, end)
+        top, bottom, x = self.tops(start), self.tops(stop - 1) + ROW, self.jobs_at + 5
+        is_begun, is_over = job.first >= first, job.last < end
+        wide = self.lanes_at - GAP / 2 - self.labels_at + 6
+        self.parts.append(box(self.labels_at - 6, top + 1.5, wide, bottom - top - 3, BAND, ' rx="5"'))
+        ends = top + 14 if is_begun else top, bottom - 14 if is_over and job.end else bottom
+        shape = f"M{x + 8:.1f} {ends[0]:.1f}h-8" if is_begun else f"M{x:.1f} {ends[0]:.1f}"
+        self.parts.append(path(f"{shape}V{ends[1]:.1f}" + ("h8" if is_over and job.end else ""), PALE, 2))
+        if not is_begun:
+            said = f"job of line {self.seen.rows[job.first].number}"
+            if not is_over or stop - start > 1:
+                self.parts.append(text(x + 10, top + 18, said, 11, PALE))
+        if is_over:
+            self.draw_end(job, x + 10, bottom - ROW)
+
+    def draw_end(self, job, x, top):
+        words = end_in_words(job)
+        if not job.end:
+            self.parts.append(text(x, top + 18, words, 12, PALE))
+            return
+        fill, ink = ENDS[job.end.split()[0]]
+        self.parts.append(box(x, top + 4, width_of(words, 12) + 16, ROW - 8, fill, ' rx="10"'))
+        self.parts.append(text(x + 8, top + 18, words, 12, ink, extra=' font-weight="bold"'))
 
     # The rest.
 
-    def draw_heads(self):
-        self.parts.append(text(EDGE, 30, self.name, 16, extra=' font-weight="bold"'))
-        self.parts.append(text(EDGE, TOP - 12, "line", 12, PALE))
-        for output, x in self.volts_at.items():
-            self.parts.append(text(x, TOP - 32, f"output {output}", 13, extra=' font-weight="bold"'))
-            self.parts.append(text(x, TOP - 12, "commands", 12, PALE))
+    def draw_heads(self, first):
+        y = self.tops(first)
+        for x, words in ((EDGE, "line"), (self.jobs_at, "job")):
+            self.parts.append(text(x, y - 8, words, 12, PALE))
+        for x, lane in self.lanes.values():
+            self.parts += lane.heads(x, y, first)
         for register, x in self.beliefs_at.items():
-            self.parts.append(text(x, TOP - 12, register[1], 12, PALE))
+            self.parts.append(text(x, y - 8, register[1], 12, PALE))
+        for output, (x, _) in self.status_at.items():
+            self.parts.append(text(x, y - 8, "STATUS_CML" if output is None else "STATUS_WORD", 12, PALE))
 
-    def draw_rows(self):
-        for place, row in enumerate(self.seen.rows):
-            top = self.top_of(place)
-            colour = MARKS[row.mark[0]]
-            self.parts.append(line(EDGE, top, self.width - EDGE, top, "#e0e2e4"))
-            self.parts.append(text(EDGE + 24, top + 19, str(row.number), fill=PALE, anchor="end"))
-            self.parts.append(text(EDGE + 34, top + 19, shortened(row.label), family=MONO))
-            self.parts.append(symbol(row.mark[0], self.marks_at + 9, top + ROW / 2))
-            self.parts.append(text(self.marks_at + MARK, top + 19, row.mark[1], fill=colour))
-            if row.label.startswith("restart"):
+    def draw_row(self, place, row):
+        top, colour = self.tops(place), MARKS[row.mark[0]]
+        self.parts.append(line(EDGE, top, self.width - EDGE, top, "#dcdfe3"))
+        self.parts.append(text(self.numbers_at, top + 18, str(row.number), fill=PALE, anchor="end"))
+        self.parts.append(text(self.labels_at, top + 18, shortened(row.label), family=MONO))
+        self.parts.append(symbol(row.mark[0], self.marks_at + 9, top + ROW / 2))
+        self.parts.append(text(self.marks_at + MARK, top + 18, row.mark[1], fill=colour))
+
+    def draw_page(self, first, end):
+        self.draw_heads(first)
+        for job in self.seen.jobs:
+            if job.first < end and first <= job.last:
+                self.draw_job(job, first, end)
+        for place in range(first, end):
+            self.draw_row(place, self.seen.rows[place])
+        for x, lane in self.lanes.values():
+            for those in lane.limits, lane.voltage, lane.labels:
+                self.parts += those(x, self.tops, first, end)
+        for register in self.beliefs_at:
+            self.draw_beliefs(register, first, end)
+        for output in self.status_at:
+            self.draw_status(output, first, end)
+        for place in range(first, end):
+            if self.seen.rows[place].label.startswith("restart"):
+                top = self.tops(place)
                 self.parts.append(line(EDGE, top, self.width - EDGE, top, RESTART, 1.6, ' stroke-dasharray="6 4"'))
 
-    def draw_legend(self):
-        """What colours mean, as many to a line as fit; the height of all."""
-        kinds = {belief[0] for row in self.seen.rows for belief in row.beliefs.values()}
+    def legend(self):
+        """What colours mean, and what isn't drawn."""
+        rows = self.seen.rows
+        kinds = {belief[0] for row in rows for belief in row.beliefs.values()}
         entries = [(it[0], edge_of(kind, False), it[2]) for kind, it in BELIEFS.items() if kind in kinds]
-        if any(bar[3] for register in self.beliefs_at for bar in self.bars(register)):
+        if any(bar[3] for register in self.beliefs_at for bar in self.bars(register, 0, len(rows))):
             entries.append(("none", edge_of("", True), "false since a restart"))
-        x, y = EDGE, self.bottom + 30
-        for fill, edge, words in [*entries, (None, "", "of other registers the host knows nothing")]:
+        entries += [(INSIDE, f' stroke="{LIMIT}"', "between the limits"), (OUTSIDE, "", "outside of them")]
+        if self.seen.jobs:
+            entries.append((BAND, "", "a job, from its order to its end"))
+        zero = [] if None in self.status_at else ["STATUS_CML stays 00"]
+        plain = [it for it in self.seen.model.outputs if it not in self.status_at]
+        if plain:
+            zero.append("STATUS_VOUT stays 00" + (f" of {joined([str(it) for it in plain])}" if self.status_at.keys() - {None}
+                                                  else ""))
+        return [*entries, (None, "", "of other registers the host knows nothing"), *((None, "", it) for it in zero)]
+
+    def draw_legend(self, y):
+        """The legend, as many to a line as fit; where it ends."""
+        x = EDGE
+        self.entries = self.entries or self.legend()
+        for fill, edge, words in self.entries:
             wide = (34 if fill else 0) + width_of(words, 12) + GAP
             if x + wide > self.width and x > EDGE:
                 x, y = EDGE, y + 24
             if fill:
-                place = f'x="{x:.1f}" y="{y - 12:.1f}" width="24" height="16"'
-                self.parts.append(f'<rect {place} rx="4" fill="{fill}"{edge}/>')
+                self.parts.append(box(x, y - 12, 24, 16, fill, f' rx="4"{edge}'))
             self.parts.append(text(x + 34 if fill else x, y, words, fill=PALE))
             x += wide
         return y + 22
 
     def svg(self):
-        self.draw_heads()
-        self.draw_rows()
-        for output in self.volts_at:
-            self.draw_volts(output)
-        for register in self.beliefs_at:
-            self.draw_beliefs(register)
+        self.parts.append(text(EDGE, 30, self.name, 16, extra=' font-weight="bold"'))
+        is_long = len(self.seen.rows) > MOST_PAGE
+        self.tops = Pages(len(self.seen.rows), self.draw_legend(62) if is_long else 30)
+        for first, end in self.tops.parts:
+            self.draw_page(first, end)
+        bottom = self.tops.bottom
         if self.seen.run.left:
-            self.parts.append(text(EDGE + 34, self.bottom + 18, f"events after it: {self.seen.run.left}", fill=PALE))
-            self.bottom += ROW
-        wide, high = f"{self.width:.0f}", f"{self.draw_legend():.0f}"
+            self.parts.append(text(self.labels_at, bottom + 18, f"events after it: {self.seen.run.left}", fill=PALE))
+            bottom += ROW
+        wide, high = f"{self.width:.0f}", f"{self.draw_legend(bottom + 30):.0f}"
         head = (f'<svg xmlns="http://www.w3.org/2000/svg" role="img" viewBox="0 0 {wide} {high}"'
-                f' width="{wide}" height="{high}">\n<title>{escape(self.name)}, event by event</title>\n'
+                f' width="{wide}" height="{high}">\n<title>{escape(self.name)}, event by event</title>\n{hatch()}\n'
                 f'<rect width="{wide}" height="{high}" rx="8" fill="{PANEL}"/>')
         return "\n".join([head, *filter(None, self.parts), "</svg>"]) + "\n"
+
+
+def hatch():
+    ground, stripe = STRIPES
+    return ('<defs><pattern id="doubt" width="10" height="10" patternUnits="userSpaceOnUse" patternTransform="rotate(45)">'
+            f'<rect width="10" height="10" fill="{ground}"/><rect width="4" height="10" fill="{stripe}"/></pattern></defs>')
 
 
 def hexadecimal(register, words):
@@ -250,17 +298,33 @@ def edge_of(kind, is_false):
     """The edge of a bar."""
     if is_false:
         return f' stroke="{FAULT}" stroke-width="3"'
+    if kind == "doubtful":
+        return f' stroke="{GOOD}"'
     return f' stroke="{EDGES}" stroke-dasharray="4 3"' if kind == "any" else ""
 
 
-def symbol(kind, x, y):
-    """A mark: a tick, a cross, or an arrow in a circle."""
-    shapes = {
-        "good": f"M{x - 5:.1f} {y:.1f}l3.5 4.5l6.5 -9", "none": "",
-        "fault": f"M{x - 4.5:.1f} {y - 4.5:.1f}l9 9m0 -9l-9 9",
-        "restart": f"M{x + 4:.1f} {y - 4:.1f}a5.6 5.6 0 1 0 1.6 4m-1.6 -8v4.4h-4.4",
-    }
-    return f'<path d="{shapes[kind]}" stroke="{MARKS[kind]}" stroke-width="2.2" fill="none"/>' if shapes[kind] else ""
+def end_in_words(job):
+    return job.end or "pending"
+
+
+def status_of(report, output):
+    """STATUS_CML, or an output's STATUS_WORD and STATUS_VOUT: the digits, and the same with the names of bits."""
+    if output is None:
+        return report.cml, " ".join([report.cml, ", ".join(bits_in("STATUS_CML", int(report.cml, 16)))]).strip()
+    _, word, vout = report.status[output].split()
+    names = ", ".join(bits_in("STATUS_WORD", int(word, 16)))
+    words = f"{word} {names}".strip()
+    if int(vout, 16):
+        words += f"; STATUS_VOUT {vout} {', '.join(bits_in('STATUS_VOUT', int(vout, 16)))}"
+    return word, words
+
+
+def is_shown(report, output):
+    """Whether the status isn't 0; of an output's the bit that only tells of STATUS_CML doesn't count."""
+    if output is None:
+        return report.cml != "00"
+    cml = next(bit for bit, name in NAMES["STATUS_WORD"] if name == "CML")
+    return int(report.status[output].split()[1], 16) & ~cml != 0
 
 
 def main():

@@ -1,0 +1,63 @@
+"""Shapes and words of a picture (SVG)."""
+from html import escape
+
+SANS, MONO = "'DejaVu Sans', Verdana, sans-serif", "'DejaVu Sans Mono', Menlo, Consolas, monospace"
+INK, PALE, PANEL, EDGES = "#1c2127", "#5b6570", "#fbfbf8", "#8a9099"
+LINE, GOOD, FAULT, RESTART, LIMIT = "#1f4e9c", "#14713f", "#b3261e", "#7a3db8", "#8a4b08"
+MARKS = {"good": GOOD, "fault": FAULT, "restart": RESTART, "none": PALE}
+
+
+def width_of(words, size, is_mono=False):
+    """A bound of the width of words, in the wide fonts of the list."""
+    if is_mono:
+        return 0.61 * size * len(words)
+    return size * sum(0.83 if it.isupper() else 0.36 if it in " .,:il" else 0.65 for it in words)
+
+
+def text(x, y, words, size=12, fill=INK, family=SANS, anchor="start", extra=""):
+    return (f'<text x="{x:.1f}" y="{y:.1f}" font-size="{size}" fill="{fill}" font-family="{family}"'
+            f' text-anchor="{anchor}"{extra}>{escape(words)}</text>')
+
+
+def path(shape, colour, width=1.0, extra=""):
+    return f'<path d="{shape}" stroke="{colour}" stroke-width="{width}" fill="none"{extra}/>'
+
+
+def line(x1, y1, x2, y2, colour, width=1.0, extra=""):
+    return path(f"M{x1:.1f} {y1:.1f}L{x2:.1f} {y2:.1f}", colour, width, extra)
+
+
+def box(x, y, wide, high, fill, extra="", title=None):
+    shape = f'<rect x="{x:.1f}" y="{y:.1f}" width="{wide:.1f}" height="{high:.1f}" fill="{fill}"{extra}'
+    return f"{shape}><title>{escape(title)}</title></rect>" if title else f"{shape}/>"
+
+
+def wrapped(words, room, size):
+    """Words in lines that fit; a unit stays with its number, and `or` with what comes after it."""
+    lines = []
+    for word in words.replace(" V", "\N{NO-BREAK SPACE}V").replace("or ", "or\N{NO-BREAK SPACE}").split(" "):
+        word = word.replace("\N{NO-BREAK SPACE}", " ")
+        if lines and width_of(f"{lines[-1]} {word}", size) <= room:
+            lines[-1] += f" {word}"
+        else:
+            lines.append(word)
+    return lines
+
+
+def first_that_fits(choices, room, size, rows):
+    """Of the choices in lines the first that has at most so many, all of which fit; otherwise the last."""
+    for words in choices:
+        lines = wrapped(words, room, size)
+        if len(lines) <= rows and all(width_of(it, size) <= room for it in lines):
+            return lines
+    return wrapped(choices[-1], room, size)[:rows]
+
+
+def symbol(kind, x, y):
+    """A mark: a tick, a cross, or an arrow in a circle."""
+    shapes = {
+        "good": f"M{x - 5:.1f} {y:.1f}l3.5 4.5l6.5 -9", "none": "",
+        "fault": f"M{x - 4.5:.1f} {y - 4.5:.1f}l9 9m0 -9l-9 9",
+        "restart": f"M{x + 4:.1f} {y - 4:.1f}a5.6 5.6 0 1 0 1.6 4m-1.6 -8v4.4h-4.4",
+    }
+    return path(shapes[kind], MARKS[kind], 2.2) if shapes[kind] else ""

@@ -1,0 +1,126 @@
+"""The lane of a picture that shows the voltage of one output: a scale of its own, from VOUT_MIN to VOUT_MAX with a
+little room, and farther where what is commanded lies outside."""
+from math import floor, log10
+
+from drawing import LIMIT, LINE, PALE, box, line, text, width_of
+from told import in_volts
+
+PAD, BESIDE, LEAST_WIDTH = 8, 8, 120
+OUTSIDE, INSIDE = "#f6e4d3", "#eef3ee"
+
+
+def ends_of(values):
+    """The ends of a scale, in microvolts: round numbers with all values between them."""
+    least, most = min(values), max(values)
+    span = (most - least) or max(abs(most) // 5, 1000)
+    size = 10 ** floor(log10(span / 20))
+    step = next(it * size for it in (1, 2, 5, 10) if it * size * 20 >= span) if size >= 1 else 1
+    step = int(max(step, 1))
+    low = (least - span // 40) // step * step
+    return max(low, 0) if least >= 0 else low, -((-most - span // 40) // step) * step
+
+
+class Lane:
+    """Of one output. `told` has, row by row, what is shown: whether it is on, the microvolts, the limit that cuts it,
+    and the limits' microvolts by their names."""
+
+    def __init__(self, output, seen):
+        self.output = output
+        self.told = [(*row.report.outputs[output], row.cut.get(output), row.limits(seen.model, output))
+                     for row in seen.rows]
+        values = {micro for _, micro, _, _ in self.told}
+        for *_, limits in self.told:
+            values |= {*limits.values()}
+        self.low, self.high = ends_of(values)
+        self.width = self.wide_enough()
+
+    def wide_enough(self):
+        """Wide enough for each value beside its line, for the limits, and for the ends of the scale."""
+        ends = sum(width_of(in_volts(it), 11) for it in (self.low, self.high)) + 16
+        wide = max(ends, width_of(f"output {self.output}", 13) + 8, LEAST_WIDTH,
+                   *(width_of(it, 11) + 4 for it in {limits_in_words(told[3]) for told in self.told}))
+        for told in set((on, micro, cut) for on, micro, cut, _ in self.told):
+            share = self.share(told[1])
+            room = width_of(value_in_words(*told), 12) + BESIDE + 2
+            wide = max(wide, 2 * PAD + (room - PAD) / max(share, 1 - share))
+        return round(wide)
+
+    def share(self, micro):
+        return (micro - self.low) / (self.high - self.low)
+
+    def x_of(self, micro):
+        """How far to the right of the lane's left edge a voltage stands."""
+        return PAD + self.share(micro) * (self.width - 2 * PAD)
+
+    def heads(self, x, y, first):
+        """Above a page that begins with a row: the output, its limits then, and the ends of the scale."""
+        yield text(x, y - 60, f"output {self.output}", 13, extra=' font-weight="bold"')
+        yield text(x, y - 42, "commands", 12, PALE)
+        yield text(x, y - 25, limits_in_words(self.told[first][3]), 11, LIMIT)
+        yield text(x, y - 8, in_volts(self.low), 11, PALE)
+        yield text(x + self.width, y - 8, in_volts(self.high), 11, PALE, anchor="end")
+
+    def runs(self, first, end, key):
+        """The runs of rows of a page that have the same key: the first, the one after the last, and the key."""
+        place = first
+        while place < end:
+            start, told = place, key(self.told[place])
+            while place < end and key(self.told[place]) == told:
+                place += 1
+            yield start, place, told
+
+    def limits(self, x, top_of, first, end):
+        """The ground between the limits and outside of them, the limits, and their values where they change."""
+        for start, stop, limits in self.runs(first, end, lambda told: told[3]):
+            top, high = top_of(start), top_of(stop - 1) - top_of(start) + top_of.row
+            yield box(x, top, self.width, high, OUTSIDE)
+            left = self.x_of(min(limits.get("min", self.low), limits["max"]))
+            right = self.x_of(max(limits.get("min", self.low), limits["max"]))
+            if "min" not in limits:
+                left = 0
+            yield box(x + left, top, right - left, high, INSIDE)
+            for micro in limits.values():
+                yield line(x + self.x_of(micro), top, x + self.x_of(micro), top + high, LIMIT, 1.2)
+
+    def voltage(self, x, top_of, first, end):
+        """The commanded voltage from row to row."""
+        before = None
+        for start, stop, (is_on, micro) in self.runs(first, end, lambda told: told[:2]):
+            at, top = x + self.x_of(micro), top_of(start)
+            if before not in (None, at):
+                yield line(before, top, at, top, LINE, 3, ' stroke-linecap="square"')
+            yield line(at, top, at, top_of(stop - 1) + top_of.row, LINE, 3, "" if is_on else ' stroke-dasharray="4 4"')
+            before = at
+
+    def labels(self, x, top_of, first, end):
+        """Its value where it changes and where a page begins; and the limits below it, where they change."""
+        for start, _, told in self.runs(first, end, lambda told: told[:3]):
+            at, is_left = self.x_of(told[1]), self.share(told[1]) < 0.5
+            yield halo(x + at + (BESIDE if is_left else -BESIDE), top_of(start) + 13, value_in_words(*told), 12, LINE,
+                       "start" if is_left else "end")
+        for start, _, limits in self.runs(first, end, lambda told: told[3]):
+            if start != first:
+                is_left = self.share(self.told[start][1]) < 0.5
+                at = self.x_of(self.told[start][1]) + (BESIDE if is_left else -BESIDE)
+                yield halo(x + at, top_of(start) + 25, "; ".join(changed(self.told[start - 1][3], limits)), 11, LIMIT,
+                           "start" if is_left else "end")
+
+
+def halo(x, y, words, size, colour, anchor):
+    """Words that stay readable over the lines of limits."""
+    extra = ' paint-order="stroke" stroke="#fbfbf8" stroke-width="3" stroke-linejoin="round"'
+    return text(x, y, words, size, colour, anchor=anchor, extra=extra)
+
+
+def value_in_words(is_on, micro, limit):
+    if not is_on:
+        return "off"
+    return f"{limit} {in_volts(micro)}" if limit else in_volts(micro)
+
+
+def limits_in_words(limits):
+    return ", ".join(f"{name} {in_volts(micro)}" for name, micro in limits.items())
+
+
+def changed(before, after):
+    return [f"{name} {in_volts(after[name])}" for name in after if after[name] != before[name]]
