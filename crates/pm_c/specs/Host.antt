@@ -1,11 +1,13 @@
 -- What the calls of a host answer and do, by the host's own model. Memory that holds no host, a code
 -- that is no cell's and a frame of the other kind are refused first; then the host decides.
-use Rattle.std.specs.Prelude.{◌≡◌, ◌≤◌, ℕ, ℤ, Bool, false, if◌then◌else◌, take, Option, Some, None, option_map, option_and_then, MatchOption}
+use Rattle.std.specs.Prelude.{◌≡◌, ◌≢◌, ◌≤◌, ℕ, Bool, false, if◌then◌else◌, take, Option, Some, None, option_map, option_and_then, MatchOption}
 use Rattle.std.specs.Option.{option_map_or}
 use Rattle.pm_table.specs.declared.cell.Cell.{Cell}
 use Rattle.pm_frame.specs.declared.message.Message.{Message}
 use Rattle.pm_frame.specs.Fault.{whole_answer}
 use Rattle.pm_frame.specs.Layout.{is_read_message}
+use Rattle.pm_host.specs.declared.image.Image.{Image}
+use Rattle.pm_host.specs.declared.job.Job.{Job}
 use Rattle.pm_host.specs.declared.job_end.JobEnd.TheVariants.{Done, Differs, Unknown, Learned}
 use Rattle.pm_host.specs.declared.step.Step.{Step}
 use Rattle.pm_host.specs.declared.step.Step.TheVariants.{Next, Ended}
@@ -13,11 +15,12 @@ use Rattle.pm_host.specs.declared.fault.HostFault.TheVariants.{UnknownOutput}
 use Rattle.pm_host.specs.declared.standing_image.StandingImage.{StandingImage}
 use Rattle.pm_host.specs.declared.words_image.WordsImage.{WordsImage}
 use Rattle.pm_table.specs.Cell.{is_cell}
-use Rattle.pm_host.specs.Image.{standing_held, words_held}
+use Rattle.pm_host.specs.Image.{host_of, standing_held, words_held}
 use Rattle.pm_host.specs.Messages.{IsFrameOf}
-use Rattle.pm_host.specs.Refusals.{is_within, setup_fault, job_fault, micro_fault, micro_word, may_come}
+use Rattle.pm_host.specs.Jobs.{accepted_job, begin_fault}
+use Rattle.pm_host.specs.Refusals.{is_within, setup_fault, may_come}
 use Rattle.pm_host.specs.Summary.{Summary, next, step_of, sending_in, possible_at, standing_at}
-use Rattle.pm_host.specs.Transcript.{Job, Order, Entry, Accepted}
+use Rattle.pm_host.specs.Transcript.{Entry, Accepted}
 use Rattle.pm_c.specs.declared.host_step.HostStep.{HostStep}
 use Rattle.pm_c.specs.declared.sending_image.SendingImage.{SendingImage}
 use Rattle.pm_c.specs.Numbers.{accepted, no_host, no_cell, other_frame, no_address, outcome, host_number}
@@ -27,24 +30,21 @@ abbrev pub new_number : ℕ → ℕ → ℕ → ℕ
 new_number address outputs passes =
     if is_within 0x08 0x77 address then outcome (setup_fault outputs passes) else no_address
 
--- A job begins: the number, and the host after it. No job stands for a code that is no cell's.
+-- A job begins: the number, and the host after it. None is asked for by a code that is no cell's.
 abbrev pub job_number : Option Summary → Option Job → ℕ
 job_number None job = no_host
 job_number (Some s) None = no_cell
-job_number (Some s) (Some job) = outcome (job_fault s job)
+job_number (Some s) (Some job) = outcome (begin_fault s job)
 
 abbrev pub job_begun : Option Summary → Option Job → Option Summary
-job_begun host job = option_and_then (λ s. option_map (λ j. next s (Accepted j)) job) host
+job_begun host job = option_and_then (λ s. option_map (λ accepted. next s (Accepted accepted))
+    (option_and_then (accepted_job s) job)) host
 
--- the same for an order in microvolts
-abbrev pub micro_number : Option Summary → Option Cell → ℤ → ℕ
-micro_number None cell x = no_host
-micro_number (Some s) None x = no_cell
-micro_number (Some s) (Some cell) x = outcome (micro_fault s cell x)
-
-abbrev pub micro_begun : Option Summary → Option Cell → ℤ → Option Summary
-micro_begun host cell x = option_and_then (λ s. option_and_then (λ at.
-    option_map (λ word. next s (Accepted (Order at word))) (micro_word s at x)) cell) host
+-- how a call begins a job: a refused call leaves the memory as it is
+pub record BeginsJob (old : Image) (job : Option Job) (result : ℕ) (new : Image) : Type 0 where
+  pub number : result ≡ job_number (host_of old) job
+  pub begun : result ≡ 0 → host_of new ≡ job_begun (host_of old) job
+  pub refused : result ≢ 0 → new ≡ old
 
 -- the memory holds a host
 abbrev pub memory_number : Option Summary → ℕ

@@ -4,13 +4,12 @@ ghost use Rattle.std.specs.Prelude.{◌≡◌, ◌≢◌, Some, option_map};
 ghost use Rattle.pm_table.specs.Cell.{cell_at};
 ghost use Rattle.pm_host.specs.Image.{host_of, image_version};
 ghost use Rattle.pm_host.specs.Summary.{start};
-ghost use Rattle.pm_host.specs.Transcript.{Setup, Order, Check, Learn, Send, Restarted};
-ghost use Rattle.pm_host.specs.declared.command.Command.TheVariants.{ClearFaults, StoreUserAll, RestoreUserAll};
+ghost use Rattle.pm_host.specs.Transcript.{Setup, Restarted};
 ghost use Rattle.pm_c.specs.Sizes.{host_size};
-ghost use Rattle.pm_c.specs.Host.{new_number, job_number, job_begun, micro_number, micro_begun, memory_number, after};
+ghost use Rattle.pm_c.specs.Host.{new_number, memory_number, after, BeginsJob};
 
 use crate::numbers::{ACCEPTED, NO_ADDRESS, NO_CELL, NO_HOST, number_of};
-use pm_host::{Command, Image};
+use pm_host::{Command, Image, Job};
 use pm_table::{Code, address_ok, cell_of};
 use std::mem::size_of;
 
@@ -45,133 +44,83 @@ pub extern "C" fn pm_host_new(host: &mut Image, address: u8, outputs: u8, passes
     number_of(host.start(address, outputs, passes))
 }
 
-/// Begins an order. E0h, E1h, H3, H4, H5, H6.
-#[unsafe(no_mangle)]
-pub extern "C" fn pm_host_order(host: &mut Image, output: u8, code: u8, word: u16) -> u8
-    ensures number { let job = option_map (λ cell. Order cell word) (cell_at code output) in
-        result ≡ job_number (host_of host.old) job }
-    ensures begun { let job = option_map (λ cell. Order cell word) (cell_at code output) in
-        result ≡ 0 → host_of host.new ≡ job_begun (host_of host.old) job }
-    ensures refused { result ≢ 0 → host.new ≡ host.old }
+// Begins a job; none is asked for by a code that is no cell's.
+fn begin(host: &mut Image, job: Option<Job>) -> u8
+    ensures { BeginsJob host.old job result host.new }
 {
     if !host.is_host() {
         return NO_HOST;
     }
-    let Some(cell) = cell_of(Code(code), output) else {
+    let Some(job) = job else {
         return NO_CELL;
     };
-    let outcome = host.state.order(cell, word);
+    let outcome = host.state.begin(job);
     // Hands the prover that this is the image of a host.
     host.holds_a_host();
     number_of(outcome)
+}
+
+/// Begins an order. E0h, E1h, H3, H4, H5, H6.
+#[unsafe(no_mangle)]
+pub extern "C" fn pm_host_order(host: &mut Image, output: u8, code: u8, word: u16) -> u8
+    ensures { let job = option_map (λ cell. Job.Order cell word) (cell_at code output) in
+        BeginsJob host.old job result host.new }
+{
+    let cell = cell_of(Code(code), output);
+    begin(host, cell.map(|cell| Job::Order(cell, word)))
 }
 
 /// Begins an order of the word nearest to a number of microvolts, in the format that was learned for
 /// the output. E0h, E1h, H3, H4, H5, H7, N5, N3 or N4, H6.
 #[unsafe(no_mangle)]
 pub extern "C" fn pm_host_order_micro(host: &mut Image, output: u8, code: u8, microvolts: i64) -> u8
-    ensures number { result ≡ micro_number (host_of host.old) (cell_at code output) microvolts }
-    ensures begun { result ≡ 0 →
-        host_of host.new ≡ micro_begun (host_of host.old) (cell_at code output) microvolts }
-    ensures refused { result ≢ 0 → host.new ≡ host.old }
+    ensures { let job = option_map (λ cell. Job.OrderMicro cell microvolts) (cell_at code output) in
+        BeginsJob host.old job result host.new }
 {
-    if !host.is_host() {
-        return NO_HOST;
-    }
-    let Some(cell) = cell_of(Code(code), output) else {
-        return NO_CELL;
-    };
-    let outcome = host.state.order_micro(cell, microvolts);
-    // Hands the prover that this is the image of a host.
-    host.holds_a_host();
-    number_of(outcome)
+    let cell = cell_of(Code(code), output);
+    begin(host, cell.map(|cell| Job::OrderMicro(cell, microvolts)))
 }
 
 /// Begins a check of a cell. E0h, E1h, H3, H4.
 #[unsafe(no_mangle)]
 pub extern "C" fn pm_host_check(host: &mut Image, output: u8, code: u8) -> u8
-    ensures number { let job = option_map (λ cell. Check cell) (cell_at code output) in
-        result ≡ job_number (host_of host.old) job }
-    ensures begun { let job = option_map (λ cell. Check cell) (cell_at code output) in
-        result ≡ 0 → host_of host.new ≡ job_begun (host_of host.old) job }
-    ensures refused { result ≢ 0 → host.new ≡ host.old }
+    ensures { let job = option_map (λ cell. Job.Check cell) (cell_at code output) in
+        BeginsJob host.old job result host.new }
 {
-    if !host.is_host() {
-        return NO_HOST;
-    }
-    let Some(cell) = cell_of(Code(code), output) else {
-        return NO_CELL;
-    };
-    let outcome = host.state.check(cell);
-    // Hands the prover that this is the image of a host.
-    host.holds_a_host();
-    number_of(outcome)
+    let cell = cell_of(Code(code), output);
+    begin(host, cell.map(|cell| Job::Check(cell)))
 }
 
 /// Begins a learn of the format of an output's voltages. E0h, H3, H4.
 #[unsafe(no_mangle)]
 pub extern "C" fn pm_host_learn(host: &mut Image, output: u8) -> u8
-    ensures number { result ≡ job_number (host_of host.old) (Some (Learn output)) }
-    ensures begun { result ≡ 0 →
-        host_of host.new ≡ job_begun (host_of host.old) (Some (Learn output)) }
-    ensures refused { result ≢ 0 → host.new ≡ host.old }
+    ensures { BeginsJob host.old (Some (Job.Learn output)) result host.new }
 {
-    if !host.is_host() {
-        return NO_HOST;
-    }
-    let outcome = host.state.learn(output);
-    // Hands the prover that this is the image of a host.
-    host.holds_a_host();
-    number_of(outcome)
-}
-
-// Begins to send a command.
-fn send(host: &mut Image, command: Command) -> u8
-    ensures number { result ≡ job_number (host_of host.old) (Some (Send command)) }
-    ensures begun { result ≡ 0 →
-        host_of host.new ≡ job_begun (host_of host.old) (Some (Send command)) }
-    ensures refused { result ≢ 0 → host.new ≡ host.old }
-{
-    if !host.is_host() {
-        return NO_HOST;
-    }
-    let outcome = host.state.send(command);
-    // Hands the prover that this is the image of a host.
-    host.holds_a_host();
-    number_of(outcome)
+    begin(host, Some(Job::Learn(output)))
 }
 
 /// Begins to clear the latched faults of an output. E0h, H3, H4.
 #[unsafe(no_mangle)]
 pub extern "C" fn pm_host_clear(host: &mut Image, output: u8) -> u8
-    ensures number { result ≡ job_number (host_of host.old) (Some (Send (ClearFaults output))) }
-    ensures begun { result ≡ 0 →
-        host_of host.new ≡ job_begun (host_of host.old) (Some (Send (ClearFaults output))) }
-    ensures refused { result ≢ 0 → host.new ≡ host.old }
+    ensures { BeginsJob host.old (Some (Job.Send (Command.ClearFaults output))) result host.new }
 {
-    send(host, Command::ClearFaults { output })
+    begin(host, Some(Job::Send(Command::ClearFaults { output })))
 }
 
 /// Begins to store the outputs' settings. E0h, H3.
 #[unsafe(no_mangle)]
 pub extern "C" fn pm_host_store(host: &mut Image) -> u8
-    ensures number { result ≡ job_number (host_of host.old) (Some (Send StoreUserAll)) }
-    ensures begun { result ≡ 0 →
-        host_of host.new ≡ job_begun (host_of host.old) (Some (Send StoreUserAll)) }
-    ensures refused { result ≢ 0 → host.new ≡ host.old }
+    ensures { BeginsJob host.old (Some (Job.Send Command.StoreUserAll)) result host.new }
 {
-    send(host, Command::StoreUserAll)
+    begin(host, Some(Job::Send(Command::StoreUserAll)))
 }
 
 /// Begins to bring the outputs' stored settings back. E0h, H3.
 #[unsafe(no_mangle)]
 pub extern "C" fn pm_host_restore(host: &mut Image) -> u8
-    ensures number { result ≡ job_number (host_of host.old) (Some (Send RestoreUserAll)) }
-    ensures begun { result ≡ 0 →
-        host_of host.new ≡ job_begun (host_of host.old) (Some (Send RestoreUserAll)) }
-    ensures refused { result ≢ 0 → host.new ≡ host.old }
+    ensures { BeginsJob host.old (Some (Job.Send Command.RestoreUserAll)) result host.new }
 {
-    send(host, Command::RestoreUserAll)
+    begin(host, Some(Job::Send(Command::RestoreUserAll)))
 }
 
 /// Drops the open job and all that is known of cells and formats. E0h.

@@ -5,6 +5,7 @@ pub mod Command
 pub mod FaultWords
 pub mod Frames
 pub mod Image
+pub mod Jobs
 pub mod Laws
 pub mod Marks
 pub mod Messages

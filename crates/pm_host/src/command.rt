@@ -5,17 +5,21 @@ ghost use Rattle.pm_host.specs.Command.{command_code, command_of, command_output
 use pm_table::Code;
 
 /// A command that a job sends until it is acknowledged (PMBus 1.3 Part II).
-#[derive(Clone, Copy, Debug)]
+#[derive(Clone, Copy, Debug, PartialEq, Eq)]
 pub enum Command {
-    /// CLEAR_FAULTS: clears the latched status of an output.
+    /// CLEAR_FAULTS, to an output by PAGE_PLUS_WRITE: clears its latched status.
     ClearFaults {
         /// The output, by its page.
         output: u8,
     },
-    /// STORE_USER_ALL: copies the outputs' settings to the user store, which a restart of the device
-    /// loads.
+    /// STORE_USER_ALL, a plain send byte: copies the outputs' settings to the user store, which a restart
+    /// of the device loads. Its acknowledgement doesn't say that the store has the settings, and without
+    /// one it may have them all the same. What is known of the cells stays.
     StoreUserAll,
-    /// RESTORE_USER_ALL: brings the outputs' settings back from the user store.
+    /// RESTORE_USER_ALL, a plain send byte: brings the outputs' settings back from the user store. Its
+    /// acknowledgement doesn't say that they came back, and without one they may have come back all the
+    /// same. From its beginning on no word of an output's cell is confirmed and any is possible, until the
+    /// cell is read again, after the job's end. What is known of WRITE_PROTECT, which isn't stored, stays.
     RestoreUserAll,
 }
 

@@ -1,20 +1,19 @@
-ghost use Rattle.std.specs.Prelude.{◌≡◌, ◌*◌, ◌<◌, ◌≤◌, true, None, IfOk, OnOk, OnErr, MatchOption, IsNone, IsSomeAnd};
+ghost use Rattle.std.specs.Prelude.{◌≡◌, ◌<◌, true, None, IfOk, MatchOption, IsNone, IsSomeAnd};
 ghost use Rattle.std.specs.Result.{result_err};
 ghost use Rattle.pm_table.specs.Address.{IsAddress};
-ghost use Rattle.pm_table.specs.Cell.{output_of, IsCell};
-ghost use Rattle.pm_num.specs.AnyFormat.{shape_value, shape_rank};
-ghost use Rattle.pm_num.specs.Nearest.{IsNearest};
-ghost use Rattle.pm_num.specs.Ratio.{micros};
+ghost use Rattle.pm_table.specs.Cell.{IsCell};
 ghost use Rattle.pm_host.specs.Frames.{frames_left};
+ghost use Rattle.pm_host.specs.Jobs.{Begins};
 ghost use Rattle.pm_host.specs.Messages.{IsFrameOf};
-ghost use Rattle.pm_host.specs.Refusals.{IsSetup, setup_fault, output_fault, cell_fault, command_fault, order_fault, micro_fault, micro_word, may_come, sends_read};
-ghost use Rattle.pm_host.specs.Summary.{start, next, step_of, possible_at, standing_at, format_at, sending_in};
+ghost use Rattle.pm_host.specs.Refusals.{IsSetup, setup_fault, may_come, sends_read};
+ghost use Rattle.pm_host.specs.Summary.{start, next, step_of, possible_at, standing_at, sending_in};
 ghost use Rattle.pm_host.specs.Told.{entry_told, OnEnded};
-ghost use Rattle.pm_host.specs.Transcript.{Setup, Accepted, Restarted, Order, Check, Learn, Send};
+ghost use Rattle.pm_host.specs.Transcript.{Setup, Restarted};
 ghost use Rattle.pm_host.specs.Turn.{Shows};
 
 use crate::command::Command;
 use crate::fault::HostFault;
+use crate::job::Job;
 use crate::possible::Possible;
 use crate::sending::Sending;
 use crate::standing::Standing;
@@ -30,12 +29,12 @@ use std::marker::Model;
 /// after a good answer, one that has the layout of an answer to its own request, which the packet
 /// error code covers too.
 ///
-/// At most one job is open. `order`, `order_micro`, `check`, `learn`, `clear`, `store` and `restore`
-/// begin one and are refused (H3) until it has ended. Until then `turn` shows what to send now, and each
-/// frame that was sent is followed by one call of `told`, which has to be of the kind that `turn` showed:
-/// ask `turn` before each `told`. A job has ended once `told` answers `Step::Ended`, after at most twice
-/// `passes` frames. `restart`, `standing`, `possible` and `restart_seen` may come at any time. A refused
-/// call changes nothing. No call takes memory.
+/// At most one job is open. `begin` begins one, and is refused (H3) until it has ended; `order`, `check` and
+/// the like are `begin` for one kind of job. Until then `turn` shows what to send now, and each frame that
+/// was sent is followed by one call of `told`, which has to be of the kind that `turn` showed: ask `turn`
+/// before each `told`. A job has ended once `told` answers `Step::Ended`, after at most twice `passes`
+/// frames. `restart`, `standing`, `possible` and `restart_seen` may come at any time. A refused call
+/// changes nothing. No call takes memory.
 #[derive(Drop)]
 pub struct Host {
     state: State,
@@ -81,137 +80,73 @@ impl Host {
         })
     }
 
-    /// Begins an order: at most `passes` passes, each of which sends the write once and then, whatever
-    /// the acknowledgement, reads the cell once. From now on the word is one that the cell may hold,
-    /// and no word of the cell is confirmed.
+    /// Begins a job, whose first frame `turn` then shows.
     ///
-    /// A good answer with the ordered word ends it as `Done`. After the last pass the end is
-    /// `Differs(word)` where that pass's answer was good, otherwise `Unknown`.
-    ///
-    /// The first that applies refuses: H3 where a job is open, H4 where the output isn't there, H5
-    /// where the cell doesn't accept the word, H6 where the cell may hold any of 16 words and this is
-    /// another.
+    /// The first that applies refuses: H3 where a job is open, H4 where its output isn't there. An order
+    /// is then refused with H5 where the cell doesn't accept the word, and H6 where the cell may hold any
+    /// of 16 words and this is another. An order in microvolts is refused, in this order, with H5 where the
+    /// cell isn't a voltage, H7 where the format isn't known, N5 where the number is beyond 10^15 in size,
+    /// N3 or N4 where it lies outside the format's range, and H6 as for an order.
+    pub fn begin(&mut self, job: Job) -> Result<(), HostFault>
+        ensures { Begins self.old job result self.new }
+    {
+        self.state.begin(job)?;
+        self.sending = self.state.sending();
+        Ok(())
+    }
+
+    /// Begins an order of a word, as [`Job::Order`] says.
     pub fn order(&mut self, cell: Cell, word: u16) -> Result<(), HostFault>
-        ensures fault { result_err result ≡ order_fault self.old cell word }
-        ensures ok { OnOk result (self.new ≡ next self.old (Accepted (Order cell word))) }
-        ensures err { OnErr result (self.new ≡ self.old) }
-        ensures kept { self.new.setup ≡ self.old.setup }
-        ensures left { OnOk result (frames_left self.new ≤ 2 * self.new.setup.passes) }
+        ensures { Begins self.old (Job.Order cell word) result self.new }
     {
-        self.state.order(cell, word)?;
-        self.sending = self.state.sending();
-        Ok(())
+        self.begin(Job::Order(cell, word))
     }
 
-    /// Begins an order for the word that is nearest to a number of microvolts, in the format that the last
-    /// learn of the cell's output found.
-    ///
-    /// The first that applies refuses: H3 and H4 as in `order`, H5 where the cell isn't a voltage, H7
-    /// where the format isn't known, N5 where the number is beyond 10^15 in size, N3 or N4 where it
-    /// lies outside the format's range, H6 as in `order`.
+    /// Begins an order of a number of microvolts, as [`Job::OrderMicro`] says.
     pub fn order_micro(&mut self, cell: Cell, x: i64) -> Result<(), HostFault>
-        ensures fault { result_err result ≡ micro_fault self.old cell x }
-        ensures ok { OnOk result (IsSomeAnd (micro_word self.old cell x)
-            (λ word. self.new ≡ next self.old (Accepted (Order cell word)))) }
-        ensures nearest { OnOk result (IsSomeAnd (format_at self.old (output_of cell))
-            (λ shape. IsSomeAnd (micro_word self.old cell x)
-            (IsNearest (shape_value shape) (shape_rank shape) (micros x)))) }
-        ensures err { OnErr result (self.new ≡ self.old) }
-        ensures kept { self.new.setup ≡ self.old.setup }
-        ensures left { OnOk result (frames_left self.new ≤ 2 * self.new.setup.passes) }
+        ensures { Begins self.old (Job.OrderMicro cell x) result self.new }
     {
-        self.state.order_micro(cell, x)?;
-        self.sending = self.state.sending();
-        Ok(())
+        self.begin(Job::OrderMicro(cell, x))
     }
 
-    /// Begins a check: the cell is read at most `passes` times. The first good answer ends it as
-    /// `Done`, and its word is confirmed; `Unknown` where none came. H3 where a job is open, otherwise
-    /// H4 where the output isn't there.
+    /// Begins a check, as [`Job::Check`] says.
     pub fn check(&mut self, cell: Cell) -> Result<(), HostFault>
-        ensures fault { result_err result ≡ cell_fault self.old cell }
-        ensures ok { OnOk result (self.new ≡ next self.old (Accepted (Check cell))) }
-        ensures err { OnErr result (self.new ≡ self.old) }
-        ensures kept { self.new.setup ≡ self.old.setup }
-        ensures left { OnOk result (frames_left self.new ≤ 2 * self.new.setup.passes) }
+        ensures { Begins self.old (Job.Check cell) result self.new }
     {
-        self.state.check(cell)?;
-        self.sending = self.state.sending();
-        Ok(())
+        self.begin(Job::Check(cell))
     }
 
-    /// Begins a learn of the format of an output's voltages: VOUT_MODE is read at most `passes` times
-    /// and, where it says DIRECT, the coefficients of VOUT_COMMAND at most `passes` times. It ends as
-    /// `Learned`, or as `Unknown` where no good answer came or what came has no format; then a format
-    /// from before stays. H3 where a job is open, otherwise H4 where the output isn't there.
+    /// Begins a learn, as [`Job::Learn`] says.
     pub fn learn(&mut self, output: u8) -> Result<(), HostFault>
-        ensures fault { result_err result ≡ output_fault self.old output }
-        ensures ok { OnOk result (self.new ≡ next self.old (Accepted (Learn output))) }
-        ensures err { OnErr result (self.new ≡ self.old) }
-        ensures kept { self.new.setup ≡ self.old.setup }
-        ensures left { OnOk result (frames_left self.new ≤ 2 * self.new.setup.passes) }
+        ensures { Begins self.old (Job.Learn output) result self.new }
     {
-        self.state.learn(output)?;
-        self.sending = self.state.sending();
-        Ok(())
+        self.begin(Job::Learn(output))
     }
 
-    /// Begins to send a command, until it is acknowledged, at most `passes` times: `clear`, `store` and
-    /// `restore` in one. `Done` says no more than this acknowledgement, `Unknown` that none came. H3
-    /// where a job is open, otherwise H4 where the command names an output that isn't there.
+    /// Begins to send a command, as [`Job::Send`] says.
     pub fn send(&mut self, command: Command) -> Result<(), HostFault>
-        ensures fault { result_err result ≡ command_fault self.old command }
-        ensures ok { OnOk result (self.new ≡ next self.old (Accepted (Send command))) }
-        ensures err { OnErr result (self.new ≡ self.old) }
-        ensures kept { self.new.setup ≡ self.old.setup }
-        ensures left { OnOk result (frames_left self.new ≤ 2 * self.new.setup.passes) }
+        ensures { Begins self.old (Job.Send command) result self.new }
     {
-        self.state.send(command)?;
-        self.sending = self.state.sending();
-        Ok(())
+        self.begin(Job::Send(command))
     }
 
-    /// Begins a clear: sends CLEAR_FAULTS for the output. H3 where a job is open, otherwise H4 where the
-    /// output isn't there.
+    /// Begins a clear of an output's latched faults, as [`Command::ClearFaults`] says.
     pub fn clear(&mut self, output: u8) -> Result<(), HostFault>
-        ensures fault { result_err result ≡ output_fault self.old output }
-        ensures ok { OnOk result (self.new ≡ next self.old (Accepted (Send (Command.ClearFaults output)))) }
-        ensures err { OnErr result (self.new ≡ self.old) }
-        ensures kept { self.new.setup ≡ self.old.setup }
-        ensures left { OnOk result (frames_left self.new ≤ 2 * self.new.setup.passes) }
+        ensures { Begins self.old (Job.Send (Command.ClearFaults output)) result self.new }
     {
         self.send(Command::ClearFaults { output })
     }
 
-    /// Begins a store: sends STORE_USER_ALL, a plain send byte that copies the outputs' settings to the
-    /// user store, which a restart of the device loads, until it is acknowledged, at most `passes`
-    /// times. `Done` says that it was acknowledged, and not that the store has the settings; `Unknown`
-    /// that it never was, and the store may have them all the same. What is known of the cells stays.
-    /// H3 where a job is open.
+    /// Begins a store of the outputs' settings, as [`Command::StoreUserAll`] says.
     pub fn store(&mut self) -> Result<(), HostFault>
-        ensures fault { result_err result ≡ command_fault self.old Command.StoreUserAll }
-        ensures ok { OnOk result (self.new ≡ next self.old (Accepted (Send Command.StoreUserAll))) }
-        ensures err { OnErr result (self.new ≡ self.old) }
-        ensures kept { self.new.setup ≡ self.old.setup }
-        ensures left { OnOk result (frames_left self.new ≤ 2 * self.new.setup.passes) }
+        ensures { Begins self.old (Job.Send Command.StoreUserAll) result self.new }
     {
         self.send(Command::StoreUserAll)
     }
 
-    /// Begins a restore: sends RESTORE_USER_ALL, a plain send byte that brings the outputs' settings back
-    /// from the user store, until it is acknowledged, at most `passes` times. `Done` says that it was
-    /// acknowledged, and not that the settings came back; `Unknown` that it never was, and they may have
-    /// come back all the same.
-    ///
-    /// From now on no word of an output's cell is confirmed and any is possible, until the cell is read
-    /// again, after the job's end. What is known of WRITE_PROTECT, which isn't stored, stays. H3 where a
-    /// job is open.
+    /// Begins a restore of the outputs' settings, as [`Command::RestoreUserAll`] says.
     pub fn restore(&mut self) -> Result<(), HostFault>
-        ensures fault { result_err result ≡ command_fault self.old Command.RestoreUserAll }
-        ensures ok { OnOk result (self.new ≡ next self.old (Accepted (Send Command.RestoreUserAll))) }
-        ensures err { OnErr result (self.new ≡ self.old) }
-        ensures kept { self.new.setup ≡ self.old.setup }
-        ensures left { OnOk result (frames_left self.new ≤ 2 * self.new.setup.passes) }
+        ensures { Begins self.old (Job.Send Command.RestoreUserAll) result self.new }
     {
         self.send(Command::RestoreUserAll)
     }

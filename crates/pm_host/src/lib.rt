@@ -40,6 +40,7 @@ mod fault;
 mod format_image;
 mod host;
 mod image;
+mod job;
 mod job_end;
 mod knowledge;
 mod laws;
@@ -61,6 +62,7 @@ pub use fault::HostFault;
 pub use format_image::FormatImage;
 pub use host::Host;
 pub use image::Image;
+pub use job::Job;
 pub use job_end::JobEnd;
 pub use knowledge::Knowledge;
 pub use laws::{

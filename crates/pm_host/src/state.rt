@@ -1,28 +1,24 @@
-mod asking;
+mod jobs;
 mod microvolts;
 mod soundness;
 mod turns;
 
-ghost use Rattle.std.specs.Prelude.{◌≡◌, ◌*◌, ◌<◌, ◌≤◌, true, length, None, OnOk, OnErr, IfSome, IsSomeAnd};
+ghost use Rattle.std.specs.Prelude.{◌≡◌, ◌<◌, true, length, None, OnOk, OnErr, IfSome};
 ghost use Rattle.std.specs.Option.{option_map};
 ghost use Rattle.std.specs.Result.{result_err};
 ghost use Rattle.pm_table.specs.Address.{IsAddress};
-ghost use Rattle.pm_table.specs.Cell.{output_of, IsCell};
-ghost use Rattle.pm_num.specs.AnyFormat.{shape_value, shape_rank};
-ghost use Rattle.pm_num.specs.Nearest.{IsNearest};
-ghost use Rattle.pm_num.specs.Ratio.{micros};
+ghost use Rattle.pm_table.specs.Cell.{IsCell};
 ghost use Rattle.pm_frame.specs.Layout.{fits_layout};
 ghost use Rattle.pm_host.specs.Frames.{frames_left};
 ghost use Rattle.pm_host.specs.Image.{held, words_held, standing_held, formats_held};
 ghost use Rattle.pm_host.specs.Messages.{IsFrameOf};
-ghost use Rattle.pm_host.specs.Refusals.{setup_fault, IsSetup, output_fault, cell_fault, command_fault, order_fault, micro_fault, micro_word, may_come};
+ghost use Rattle.pm_host.specs.Refusals.{setup_fault, IsSetup, may_come};
 ghost use Rattle.pm_host.specs.Sound.{IsSound};
-ghost use Rattle.pm_host.specs.Summary.{start, next, step_of, possible_at, standing_at, format_at, sending_in, no_formats};
+ghost use Rattle.pm_host.specs.Summary.{start, next, step_of, possible_at, standing_at, sending_in, no_formats};
 ghost use Rattle.pm_host.specs.Told.{entry_told, OnEnded};
-ghost use Rattle.pm_host.specs.Transcript.{Setup, Accepted, Restarted, Order, Check, Learn, Send};
+ghost use Rattle.pm_host.specs.Transcript.{Setup, Restarted};
 
 use crate::answers::{good_byte, good_coefficients, good_word};
-use crate::command::Command;
 use crate::fault::HostFault;
 use crate::format_image::FormatImage;
 use crate::knowledge::Knowledge;
@@ -104,95 +100,6 @@ impl State {
         self.passes = passes;
         self.unused = 0;
         self.restart();
-        Ok(())
-    }
-
-    /// Begins an order, as `Host::order`.
-    #[tactic(auto, unfolding(crate::specs::Summary::next))]
-    pub fn order(&mut self, cell: Cell, word: u16) -> Result<(), HostFault>
-        requires sound { IsSound (held self.old) }
-        ensures sound { IsSound (held self.new) }
-        ensures fault { result_err result ≡ order_fault (held self.old) cell word }
-        ensures ok { OnOk result (held self.new ≡ next (held self.old) (Accepted (Order cell word))) }
-        ensures err { OnErr result (self.new ≡ self.old) }
-        ensures kept { (held self.new).setup ≡ (held self.old).setup }
-        ensures left { OnOk result (frames_left (held self.new) ≤ 2 * (held self.new).setup.passes) }
-    {
-        self.cell_is_free(cell)?;
-        if !cell.accepts(word) {
-            return Err(HostFault::BadWord);
-        }
-        if !self.known.possible(cell).has_room(word) {
-            return Err(HostFault::TooUncertain);
-        }
-        self.begin_write(cell, word, 0);
-        Ok(())
-    }
-
-    /// Begins an order in microvolts, as `Host::order_micro`.
-    pub fn order_micro(&mut self, cell: Cell, x: i64) -> Result<(), HostFault>
-        requires sound { IsSound (held self.old) }
-        ensures sound { IsSound (held self.new) }
-        ensures fault { result_err result ≡ micro_fault (held self.old) cell x }
-        ensures ok { OnOk result (IsSomeAnd (micro_word (held self.old) cell x)
-            (λ word. held self.new ≡ next (held self.old) (Accepted (Order cell word)))) }
-        ensures nearest { OnOk result (IsSomeAnd (format_at (held self.old) (output_of cell))
-            (λ shape. IsSomeAnd (micro_word (held self.old) cell x)
-            (IsNearest (shape_value shape) (shape_rank shape) (micros x)))) }
-        ensures err { OnErr result (self.new ≡ self.old) }
-        ensures kept { (held self.new).setup ≡ (held self.old).setup }
-        ensures left { OnOk result (frames_left (held self.new) ≤ 2 * (held self.new).setup.passes) }
-    {
-        let format = self.voltage_format(cell)?;
-        let word = nearest_word(&format, x)?;
-        self.order(cell, word)
-    }
-
-    /// Begins a check, as `Host::check`.
-    #[tactic(auto, unfolding(crate::specs::Summary::next))]
-    pub fn check(&mut self, cell: Cell) -> Result<(), HostFault>
-        requires sound { IsSound (held self.old) }
-        ensures sound { IsSound (held self.new) }
-        ensures fault { result_err result ≡ cell_fault (held self.old) cell }
-        ensures ok { OnOk result (held self.new ≡ next (held self.old) (Accepted (Check cell))) }
-        ensures err { OnErr result (self.new ≡ self.old) }
-        ensures kept { (held self.new).setup ≡ (held self.old).setup }
-        ensures left { OnOk result (frames_left (held self.new) ≤ 2 * (held self.new).setup.passes) }
-    {
-        self.cell_is_free(cell)?;
-        self.go_on(Stage::Checks { cell, tries: 0 });
-        Ok(())
-    }
-
-    /// Begins a learn, as `Host::learn`.
-    #[tactic(auto, unfolding(crate::specs::Summary::next))]
-    pub fn learn(&mut self, output: u8) -> Result<(), HostFault>
-        requires sound { IsSound (held self.old) }
-        ensures sound { IsSound (held self.new) }
-        ensures fault { result_err result ≡ output_fault (held self.old) output }
-        ensures ok { OnOk result (held self.new ≡ next (held self.old) (Accepted (Learn output))) }
-        ensures err { OnErr result (self.new ≡ self.old) }
-        ensures kept { (held self.new).setup ≡ (held self.old).setup }
-        ensures left { OnOk result (frames_left (held self.new) ≤ 2 * (held self.new).setup.passes) }
-    {
-        self.is_free(output < self.outputs)?;
-        self.go_on(Stage::AsksMode { output, tries: 0 });
-        Ok(())
-    }
-
-    /// Begins to send a command, as `Host::send`.
-    #[tactic(auto, unfolding(crate::specs::Summary::next))]
-    pub fn send(&mut self, command: Command) -> Result<(), HostFault>
-        requires sound { IsSound (held self.old) }
-        ensures sound { IsSound (held self.new) }
-        ensures fault { result_err result ≡ command_fault (held self.old) command }
-        ensures ok { OnOk result (held self.new ≡ next (held self.old) (Accepted (Send command))) }
-        ensures err { OnErr result (self.new ≡ self.old) }
-        ensures kept { (held self.new).setup ≡ (held self.old).setup }
-        ensures left { OnOk result (frames_left (held self.new) ≤ 2 * (held self.new).setup.passes) }
-    {
-        self.is_free(command.is_there(self.outputs))?;
-        self.begin_send(command, 0);
         Ok(())
     }
 

@@ -6,6 +6,9 @@ use Rattle.std.proofs.lemmas.Option.{same_Some}
 use Rattle.pm_table.specs.declared.cell.Cell.{Cell}
 use Rattle.pm_table.specs.Cell.{output_of}
 use Rattle.pm_host.specs.declared.fault.HostFault.{HostFault}
+use Rattle.pm_host.specs.declared.job.Job.{Job}
+use Rattle.pm_host.specs.declared.job.Job.TheVariants as job
+use Rattle.pm_host.specs.Jobs.{accepted_job, begin_fault}
 use Rattle.pm_host.specs.Refusals.{job_fault, order_fault, micro_fault, micro_word, voltage_fault, range_fault}
 use Rattle.pm_host.specs.Summary.{Summary, format_at}
 use Rattle.pm_host.specs.Transcript as host
@@ -14,8 +17,7 @@ use Rattle.pm_world.specs.declared.event.Event.TheVariants.{Deliver, Exchange, F
 use Rattle.pm_world.specs.declared.cause.Cause.{Cause}
 use Rattle.pm_world.specs.declared.cause.Cause.TheVariants.{Full}
 use Rattle.pm_world.specs.Confirmed.{restarts_converter}
-use Rattle.pm_world.specs.Job as ask
-use Rattle.pm_world.specs.Job.{Request, request_of, requested, request_fault, refusal_of}
+use Rattle.pm_world.specs.Job.{asked_by, refusal_of}
 use Rattle.pm_world.specs.State.{State, asked, share_of, share_beside, tells, shared, counted, next, rule, refused, event_cause, HasWord}
 use Rattle.pm_world.specs.State.{cause_beside, cause_of, event_limit, IsTaken}
 
@@ -61,22 +63,22 @@ micro-free s cell x job is h =
     word-free s cell (micro_word s cell x) job is
     (or-none (option_and_then (λ w. order_fault s cell w) (micro_word s cell x)) None past_range).0
 
--- so of each request
-request-free : (s : Summary) (request : Request) (job : host.Job) → requested s request ≡ Some job →
-    request_fault s request ≡ None → job_fault s job ≡ None
-request-free s (ask.job asked) job is h = subst (λ j. job_fault s j ≡ None) (same_Some asked job is) h
-request-free s (ask.micro cell x) job is h = micro-free s cell x job is h
+-- a job that the host doesn't refuse is accepted as one that has no fault
+accepted-free : (s : Summary) (asked : Job) (accepted : host.Job) → accepted_job s asked ≡ Some accepted →
+    begin_fault s asked ≡ None → job_fault s accepted ≡ None
+accepted-free s (job.OrderMicro cell x) accepted is h = micro-free s cell x accepted is h
+accepted-free s asked accepted is h = subst (λ o. option_and_then (job_fault s) o ≡ None) is h
 
--- and where there is one
-fault-none : (s : Summary) (request : Option Request) (job : host.Job) → option_and_then (requested s) request ≡ Some job →
-    option_and_then (request_fault s) request ≡ None → job_fault s job ≡ None
-fault-none s None job is h = cc
-fault-none s (Some request) job is h = request-free s request job is h
+-- where an event asks for one
+fault-none : (s : Summary) (asked : Option Job) (accepted : host.Job) → option_and_then (accepted_job s) asked ≡ Some accepted →
+    option_and_then (begin_fault s) asked ≡ None → job_fault s accepted ≡ None
+fault-none s None accepted is h = cc
+fault-none s (Some asked) accepted is h = accepted-free s asked accepted is h
 
 -- and so of each event
 pub job-free : (s : State) (event : Event) (job : host.Job) → asked s event ≡ Some job → event_cause s event ≡ None →
     job_fault s.host job ≡ None
-job-free s event job is h = fault-none s.host (request_of event) job is
+job-free s event job is h = fault-none s.host (asked_by event) job is
     (refused-none _ (or-none (refused (refusal_of s.host event)) (cause_beside s event) h).0)
 
 -- an event that asks for a job has no other cause than the host's refusal

@@ -19,7 +19,7 @@ use Rattle.pm_device.specs.Held.{Held}
 use Rattle.pm_device.specs.Effect as device
 use Rattle.pm_device.specs.History.{now as device_now}
 use Rattle.pm_host.specs.declared.command.Command.{Command}
-use Rattle.pm_host.specs.declared.command.Command.TheVariants.{ClearFaults, StoreUserAll, RestoreUserAll}
+use Rattle.pm_host.specs.declared.command.Command.TheVariants.{StoreUserAll, RestoreUserAll}
 use Rattle.pm_host.specs.declared.possible.Possible.TheVariants.{Any}
 use Rattle.pm_host.specs.declared.stage.Stage.{Stage}
 use Rattle.pm_host.specs.declared.stage.Stage.TheVariants.{Writes, Reads, Sends}

@@ -2,7 +2,7 @@
 use Rattle.std.proofs.Common.{◌≡◌, ℕ, Bool, true, false, not, cond, ◌&&◌, ◌||◌, List, Option, Some, None, is_none, is_some, refl, sym}
 use Rattle.std.proofs.Common.{◌∙◌, ap, subst}
 use Rattle.std.specs.Prelude.{bytes_eq}
-use Rattle.std.specs.Option.{option_and_then, option_map_or, option_or}
+use Rattle.std.specs.Option.{option_map_or, option_or}
 use Rattle.std.proofs.lemmas.Bool.{or_right}
 use Rattle.pm_frame.specs.declared.message.Message.{Message}
 use Rattle.pm_frame.specs.Fault.{whole_answer}
@@ -10,7 +10,7 @@ use Rattle.pm_frame.specs.Layout.{fits_layout, is_read_message}
 use Rattle.pm_device.specs.declared.config.Config.{Config}
 use Rattle.pm_device.specs.declared.ending.Ending.TheVariants.{Stop, Restart}
 use Rattle.pm_device.specs.Reply.{reply_of}
-use Rattle.pm_host.specs.declared.command.Command.TheVariants.{ClearFaults, StoreUserAll, RestoreUserAll}
+use Rattle.pm_host.specs.declared.command.Command.TheVariants.{RestoreUserAll}
 use Rattle.pm_host.specs.declared.fault.HostFault.{HostFault}
 use Rattle.pm_host.specs.Answers.{good_payload}
 use Rattle.pm_host.specs.Refusals.{job_fault, may_come}
@@ -22,13 +22,12 @@ use Rattle.pm_world.specs.declared.arrival.Arrival.TheVariants.{Whole}
 use Rattle.pm_world.specs.declared.back.Back.{Back}
 use Rattle.pm_world.specs.declared.back.Back.TheVariants.{Bytes}
 use Rattle.pm_world.specs.declared.event.Event.{Event}
-use Rattle.pm_world.specs.declared.event.Event.TheVariants.{Finish, Exchange, RestartDevice, RestartHost}
+use Rattle.pm_world.specs.declared.event.Event.TheVariants.{Finish, Exchange}
 use Rattle.pm_world.specs.declared.cause.Cause.TheVariants.{WrongKind}
 use Rattle.pm_world.specs.Confirmed.{restarts_converter}
 use Rattle.pm_world.specs.Legal.{answer_in, frame_of, heard_bytes, heard_ending, is_heard_whole, is_legal_hearing, is_legal_return}
 use Rattle.pm_world.specs.Possible.{restarts_host}
-use Rattle.pm_world.specs.Job as ask
-use Rattle.pm_world.specs.Job.{Request, request_of, requested, request_fault}
+use Rattle.pm_world.specs.Job.{refusal_of}
 use Rattle.pm_world.specs.State.{State, answer_to, asked, cause_beside, event_cause, exchange_cause, exchanged, finish_cause, next, refused}
 use Rattle.pm_world.specs.State.{rule, share_of}
 use Rattle.pm_world.specs.Uncertainty.{IsLegal, arrival_for, job_event}
@@ -47,14 +46,15 @@ pub record Tells (s : State) (event : Event) (entry : host.Entry) : Type 0 where
   pub told : (share_of s event).told ≡ Some entry
   pub kept : (next s event).device.words ≡ s.device.words
 
--- a job is asked for by its event
-job-request : (job : host.Job) → request_of (job_event job) ≡ Some (ask.job job)
-job-request (host.Send RestoreUserAll) = refl
-job-request _ = refl
-
--- and the host takes it for that job
+-- the host takes the event of a job for that job
 job-asked : (s : State) (job : host.Job) → asked s (job_event job) ≡ Some job
-job-asked s job = ap (option_and_then (requested s.host)) (job-request job)
+job-asked s (host.Send RestoreUserAll) = refl
+job-asked s _ = refl
+
+-- and refuses it as it refuses the job
+job-refusal : (s : State) (job : host.Job) → refusal_of s.host (job_event job) ≡ job_fault s.host job
+job-refusal s (host.Send RestoreUserAll) = refl
+job-refusal s _ = refl
 
 -- no fault is no cause
 unrefused : (fault : Option HostFault) → is_none fault ≡ true → option_or (refused fault) None ≡ None
@@ -64,22 +64,20 @@ unrefused (Some fault) h = cc
 -- which has no other cause than the job
 job-cause : (s : State) (job : host.Job) → may_come s.host (host.Accepted job) ≡ true → event_cause s (job_event job) ≡ None
 job-cause s job may =
-    ap (λ request. option_or (refused (option_and_then (request_fault s.host) request)) (cause_beside s (job_event job))) (job-request job)
+    ap (λ fault. option_or (refused fault) (cause_beside s (job_event job))) (job-refusal s job)
     ∙ (ap (option_or (refused (job_fault s.host job))) (asked-beside s (job_event job) job (job-asked s job))
     ∙ unrefused (job_fault s.host job) may)
 
 -- and restarts nothing
-request-steady : (event : Event) (request : Request) → request_of event ≡ Some request →
-    (restarts_host event || restarts_converter event) ≡ false
-request-steady RestartDevice request is = cc
-request-steady RestartHost request is = cc
-request-steady event request is = refl
+job-steady : (job : host.Job) → (restarts_host (job_event job) || restarts_converter (job_event job)) ≡ false
+job-steady (host.Send RestoreUserAll) = refl
+job-steady _ = refl
 
 -- a job that may come is accepted
 pub job-tells : (s : State) (job : host.Job) → may_come s.host (host.Accepted job) ≡ true → Tells s (job_event job) (host.Accepted job)
 job-tells s job may = record {
   legal = record { free = job-cause s job may; word = asked-word s (job_event job) job (job-asked s job) };
-  steady = request-steady (job_event job) (ask.job job) (job-request job);
+  steady = job-steady job;
   told = ap (λ share. share.told) (asked-share s (job_event job) job (job-asked s job));
   kept = ap (λ (t : State). t.device.words) (asked-next s (job_event job) job (job-asked s job));
 }

@@ -1,5 +1,9 @@
+ghost use Rattle.std.specs.Prelude.{◌≡◌};
+ghost use Rattle.pm_world.specs.Job.{asked_by};
+
 use crate::arrival::Arrival;
 use crate::back::Back;
+use pm_host::{Command, Job};
 use pm_table::{Cell, Code};
 
 /// What happens in a world.
@@ -32,4 +36,22 @@ pub enum Event {
     RestartHost,
     /// A reading of the converter changes: the output, the READ code, its word.
     Reading(u8, Code, u16),
+}
+
+impl Event {
+    /// The job that it asks the host for; `None` where it is something that happens on the bus, or to an end.
+    pub fn job(&self) -> Option<Job>
+        ensures { result ≡ asked_by self.now }
+    {
+        Some(match self {
+            Event::Order(cell, word) => Job::Order(*cell, *word),
+            Event::OrderMicro(cell, microvolts) => Job::OrderMicro(*cell, *microvolts),
+            Event::Check(cell) => Job::Check(*cell),
+            Event::Learn(output) => Job::Learn(*output),
+            Event::Clear(output) => Job::Send(Command::ClearFaults { output: *output }),
+            Event::Store => Job::Send(Command::StoreUserAll),
+            Event::Restore => Job::Send(Command::RestoreUserAll),
+            _ => return None,
+        })
+    }
 }

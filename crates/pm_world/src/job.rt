@@ -3,7 +3,7 @@ ghost use Rattle.pm_host.specs.Frames.{frames_left};
 ghost use Rattle.pm_world.specs.Job.{Asks};
 
 use crate::event::Event;
-use pm_host::{Command, Host, HostFault};
+use pm_host::{Host, HostFault};
 
 /// Asks a host for the job of an event. It is for whoever drives a host of their own from events, as a world
 /// does from its list: firmware from a queue of commands, a program from lines of text.
@@ -18,15 +18,11 @@ pub fn ask(host: &mut Host, event: &Event) -> Result<bool, HostFault>
     ensures kept { host.new.setup ≡ host.old.setup }
     ensures left { result ≡ Ok true → frames_left host.new ≤ 2 * host.new.setup.passes }
 {
-    match event {
-        Event::Order(cell, word) => host.order(*cell, *word)?,
-        Event::OrderMicro(cell, microvolts) => host.order_micro(*cell, *microvolts)?,
-        Event::Check(cell) => host.check(*cell)?,
-        Event::Learn(output) => host.learn(*output)?,
-        Event::Clear(output) => host.clear(*output)?,
-        Event::Store => host.store()?,
-        Event::Restore => host.restore()?,
-        _ => return Ok(false),
+    match event.job() {
+        Some(job) => {
+            host.begin(job)?;
+            Ok(true)
+        }
+        None => Ok(false),
     }
-    Ok(true)
 }

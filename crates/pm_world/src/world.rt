@@ -7,7 +7,7 @@ ghost use Rattle.pm_world.specs.Honest.{AreFewFrames, FormatsAgree, IsSpelled, M
 ghost use Rattle.pm_world.specs.Possible.{PossibleIsHeld, SeenIsTrue};
 ghost use Rattle.pm_world.specs.Setup.{setup_of, start, setup_fault};
 ghost use Rattle.pm_world.specs.Life.{now, taken_events, after_all, AreTaken, AreTakenFrom, StopsAt, StopsFrom};
-ghost use Rattle.pm_world.specs.Job.{request_of};
+ghost use Rattle.pm_world.specs.Job.{asked_by};
 ghost use Rattle.pm_world.specs.State.{Steps, Acts, shared, tells, hears};
 ghost use Rattle.pm_host.specs.Told.{entry_told};
 ghost use Rattle.pm_host.specs.Transcript as told;
@@ -24,7 +24,6 @@ use crate::arrival::Arrival;
 use crate::back::Back;
 use crate::cause::Cause;
 use crate::event::Event;
-use crate::job::ask;
 use crate::laws::{
     confirmed_settings_are_held, frames_are_few, honest_orders_go_through,
     learned_formats_are_true, lives_are_followed, lives_are_orders, possible_words_are_held, spell,
@@ -254,7 +253,8 @@ impl World {
         ensures acts { Acts self.old e.now result self.new }
         ensures config { self.new.device.config ≡ self.old.device.config }
     {
-        if ask(&mut self.host, e)? {
+        if let Some(job) = e.job() {
+            self.host.begin(job)?;
             self.end = None;
             return Ok(());
         }
@@ -263,7 +263,7 @@ impl World {
 
     // What an event does that asks for no job.
     fn act_beside(&mut self, e: &Event) -> Result<(), Cause>
-        requires { request_of e.now ≡ None }
+        requires { asked_by e.now ≡ None }
         ensures acts { Acts self.old e.now result self.new }
         ensures config { self.new.device.config ≡ self.old.device.config }
     {

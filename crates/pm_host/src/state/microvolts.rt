@@ -26,7 +26,7 @@ impl State {
         ensures format { IfOk result (λ format.
             format_at (held self.now) (output_of cell) ≡ Some (shape_of format)) }
     {
-        self.cell_is_free(cell)?;
+        self.refuse_cell(cell)?;
         match cell {
             Cell::Out(output, register) if register.is_voltage() => {
                 self.format(output).format().ok_or(HostFault::FormatUnknown)
