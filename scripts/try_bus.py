@@ -68,7 +68,7 @@ class Trial:
         open(trace, "w", encoding="ascii").close()
         part = row.part()
         kernel = fake_i2c.FakeKernel(part, row.mishaps.split(), row.faults, row.functions)
-        found = self.run(["7", "58", f"--trace={trace}", *row.words.split()], kernel)
+        found = self.run(["7", row.address, f"--trace={trace}", *row.words.split()], kernel)
         with open(trace, encoding="ascii") as file:
             lines = file.read()
         found_wrong = [*differences(found, row), *self.part_differences(part, kernel, row)]
