@@ -32,6 +32,7 @@ class Row:
     functions: int = I2C_FUNC_I2C
     comments: tuple = ()
     is_faulty: bool = False
+    address: str = "58"
 
 
 def modes(*found, coefficients=(1, 0, 3), kind=Part):
@@ -130,6 +131,10 @@ SHORT_COUNTS = [
         failed("check - WRITE_PROTECT", 2, "1 of 2 messages went"), 1, mishaps="short0 short1"),
     Row(f"--passes=2 {LEARN}", f"{LEARN}: ended unknown\n", failed(LEARN, 2, "0 of 2 messages went"), 1,
         mishaps="short1 short0"),
+    # at this address the zeros of an empty buffer would be a good answer, with the right PEC
+    Row("--passes=2 check - WRITE_PROTECT + state - WRITE_PROTECT",
+        "check - WRITE_PROTECT: ended unknown\nstate - WRITE_PROTECT: state unknown possible any\n",
+        failed("check - WRITE_PROTECT", 2, "1 of 2 messages went"), 1, mishaps="short0 short1", address="48", part=Absent),
     # each message of each pass of an order, once: the job is done in a further pass
     *[Row(f"{LEARN} + {VOLTS}", f"{LEARN}: ended learned\n{VOLTS}: ended done\n", held="34CD",
           mishaps="ok " * place + mishap)

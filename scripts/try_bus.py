@@ -68,11 +68,12 @@ class Trial:
         open(trace, "w", encoding="ascii").close()
         part = row.part()
         kernel = fake_i2c.FakeKernel(part, row.mishaps.split(), row.faults, row.functions)
-        found = self.run(["7", "58", f"--trace={trace}", *row.words.split()], kernel)
+        found = self.run(["7", row.address, f"--trace={trace}", *row.words.split()], kernel)
         with open(trace, encoding="ascii") as file:
             lines = file.read()
-        told = [*differences(found, row), *self.part_differences(part, kernel, row)]
-        self.tell(f"{row.words!r} with {row.mishaps or row.part.__name__!r}", [*told, *self.trace_differences(lines, row)])
+        found_wrong = [*differences(found, row), *self.part_differences(part, kernel, row)]
+        found_wrong += self.trace_differences(lines, row)
+        self.tell(f"{row.words!r} with {row.mishaps or row.part.__name__!r}", found_wrong)
 
     def part_differences(self, part, kernel, row):
         """What the part then holds, and whether the built converter answers as this one did."""

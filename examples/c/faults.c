@@ -43,7 +43,7 @@ static size_t damage(uint8_t *bytes, size_t count) {
 /* What becomes of the frame that is to be sent. */
 static pm_step exchange(pm_host *host, pm_desk *desk) {
     pm_sending frame;
-    pm_reply reply;
+    pm_reply reply = {0, 0, {0}};
     pm_host_sending(host, &frame);
     size_t count = frame.length;
     unsigned fate = draw(8);
@@ -54,7 +54,6 @@ static pm_step exchange(pm_host *host, pm_desk *desk) {
         int taken = heard && pm_desk_hear(desk, frame.bytes, count, 0, &reply) == PM_TAKEN;
         return pm_host_finished(host, fate == 2 ? !taken : taken);
     }
-    reply.length = 0;
     if (heard)
         pm_desk_hear(desk, frame.bytes, count, 1, &reply);
     count = reply.length;

@@ -1,44 +1,100 @@
-/* Stands in for /dev/i2c-1, which open() and ioctl() of the C library are wrapped for: a converter hears
- * the messages of i2c_dev.c, and the first read of each code gets no answer. */
+/* Stands in for /dev/i2c-1, which open(), ioctl() and close() of the C library are wrapped for: a converter
+ * hears the messages of i2c_dev.c. The environment's MISHAPS has a word for each transfer, in their order:
+ *
+ *     ok        none
+ *     deaf      the address isn't acknowledged, and the converter hears nothing
+ *     lost      the converter hears it, and the transfer fails
+ *     short0    no message goes, and there is no error: 0 of 1, or 0 of 2
+ *     short0h   the same, and the converter has heard it
+ *     short1    of two messages the first goes, and there is no error: 1 of 2
+ *     false     a write isn't heard, and succeeds
+ *     damaged   a bit of the answer is changed
+ *     empty     a read succeeds, and nothing was written into its buffer
+ *
+ * /dev/i2c-2 is held by a driver of the kernel, /dev/i2c-3 may not be opened, /dev/i2c-4 is no bus, and there
+ * are no others. Of a transfer that went well it answers the number of messages, as a kernel does. */
 #include "pm.h"
 #include <errno.h>
 #include <fcntl.h>
 #include <linux/i2c-dev.h>
 #include <linux/i2c.h>
 #include <stdarg.h>
+#include <stdio.h>
+#include <stdlib.h>
 #include <string.h>
 
+enum { FIRST_FILE = 76 };
+
 static pm_desk desk = {0x58, 1, 0, 0, 1, 0, 0, {{0x14, 0, 0x80, 0x1000, 0x4000, 0x1100, 0x0F00, 0x0000}}};
-static uint8_t asked[256];
+
+static int fails(int error) {
+    errno = error;
+    return -1;
+}
 
 int __wrap_open(const char *path, int flags, ...) {
+    int number = 0;
     (void)flags;
-    return strcmp(path, "/dev/i2c-1") == 0 ? 77 : -1;
+    if (sscanf(path, "/dev/i2c-%d", &number) != 1 || number < 1 || number > 4)
+        return fails(ENOENT);
+    return number == 3 ? fails(EACCES) : FIRST_FILE + number;
+}
+
+/* Whether the mishap of this transfer has this name. */
+static int is_mishap(int place, const char *name) {
+    const char *rest = getenv("MISHAPS");
+    char word[16];
+    int length;
+    for (int at = 0; rest && sscanf(rest, "%15s%n", word, &length) == 1; at++, rest += length)
+        if (at == place)
+            return strcmp(word, name) == 0;
+    return strcmp(name, "ok") == 0;
+}
+
+/* Lets the converter hear the messages. Whether it answers, or takes the write. */
+static int heard(const struct i2c_msg *messages, int reads, pm_reply *reply) {
+    uint8_t frame[32] = {(uint8_t)(messages[0].addr << 1)};
+    if (messages[0].len > 31)
+        return 0;
+    memcpy(frame + 1, messages[0].buf, messages[0].len);
+    uint8_t answer = pm_desk_hear(&desk, frame, messages[0].len + 1u, (uint8_t)reads, reply);
+    return reads ? answer == PM_ANSWERED && reply->length == messages[1].len + 1 : answer == PM_TAKEN;
+}
+
+static int transfer(const struct i2c_rdwr_ioctl_data *whole) {
+    static int place;
+    int at = place++, reads = whole->nmsgs == 2;
+    pm_reply reply = {0, 0, {0}};
+    if (is_mishap(at, "deaf"))
+        return fails(ENXIO);
+    if (is_mishap(at, "short0") || is_mishap(at, "short1") || (is_mishap(at, "false") && !reads))
+        return !is_mishap(at, "short0");
+    if (!heard(whole->msgs, reads, &reply) || is_mishap(at, "lost"))
+        return fails(EREMOTEIO);
+    if (is_mishap(at, "short0h"))
+        return 0;
+    if (reads && !is_mishap(at, "empty"))
+        memcpy(whole->msgs[1].buf, reply.bytes + 1, reply.length - 1u);
+    if (reads && is_mishap(at, "damaged"))
+        whole->msgs[1].buf[0] ^= 4;
+    return (int)whole->nmsgs;
 }
 
 int __wrap_ioctl(int bus, unsigned long request, ...) {
     va_list rest;
+    int number = bus - FIRST_FILE;
+    if (number == 4)
+        return fails(ENOTTY);
+    if (request == I2C_SLAVE)
+        return number == 2 ? fails(EBUSY) : 0;
+    if (number != 1 || request != I2C_RDWR)
+        return fails(EINVAL);
     va_start(rest, request);
-    const struct i2c_rdwr_ioctl_data *transfer = va_arg(rest, void *);
+    const struct i2c_rdwr_ioctl_data *whole = va_arg(rest, void *);
     va_end(rest);
-    const struct i2c_msg *sent = &transfer->msgs[0];
-    uint8_t frame[32] = {(uint8_t)(sent->addr << 1)};
-    pm_reply reply = {0};
-    errno = EREMOTEIO;
-    if (bus != 77 || request != I2C_RDWR || sent->len > 31)
-        return -1;
-    memcpy(frame + 1, sent->buf, sent->len);
-    int reads = transfer->nmsgs == 2;
-    if (reads && asked[frame[sent->len]]++ == 0)
-        return -1;
-    uint8_t heard = pm_desk_hear(&desk, frame, sent->len + 1u, (uint8_t)reads, &reply);
-    if (heard != (reads ? PM_ANSWERED : PM_TAKEN) || (reads && reply.length != transfer->msgs[1].len + 1))
-        return -1;
-    if (reads)
-        memcpy(transfer->msgs[1].buf, reply.bytes + 1, reply.length - 1u);
-    return 0;
+    return transfer(whole);
 }
 
 int __wrap_close(int bus) {
-    return bus == 77 ? 0 : -1;
+    return bus > FIRST_FILE ? 0 : fails(EBADF);
 }

@@ -6,7 +6,9 @@
 #
 # JOBS is how many jobs both ends live through, 20000 if left out. With --archive that file is taken and
 # nothing is built. Programs of gcc and clang are run once more with their sanitizers, where they have them.
-# Says a line for each program, what isn't on this machine, and last how many passed and failed.
+# The order over a Linux bus runs over a stand-in for the kernel, with all that a user or a bus does wrong. The
+# stack that the archive says it needs must be what the header promises. Says a line for each program, what
+# isn't on this machine, and last how many passed and failed.
 set -u
 case " $* " in *" --help "* | *" -h "*) sed -n '2,/^[^#]/s/^# \{0,1\}//p' "$0"; exit 0 ;; esac
 cd "$(dirname "$0")/../.."
@@ -18,7 +20,7 @@ trap 'rm -rf "$folder"' EXIT
 if [ -z "$archive" ]; then
     (cd crates/pm_c && rt lib --backend rattle > "$folder/log" 2>&1) || { tail -20 "$folder/log"; exit 1; }
     grep -o 'frame-bytes=[0-9]* stack-bytes=[0-9]*' "$folder/log"
-    archive=crates/pm_c/out/libpm_c.a
+    archive=$(realpath crates/pm_c/out/libpm_c.a)
 fi
 passed=0 failed=0
 
@@ -29,6 +31,89 @@ told() {
     else
         failed=$((failed + 1)); echo "$1: FAILED (status $2)"; head -5 "$folder/log" "$folder/out"
     fi
+}
+
+# bound OBJECT: the stack that it says it needs is at most what the header promises
+bound() {
+    local most=PM_STACK needed promised
+    if nm "$1" | grep -q ' T pm_desk_'; then most=PM_DESK_STACK; fi
+    needed=$(readelf -p .comment "$1" | grep -o 'stack-bytes=[0-9]*' | cut -d= -f2)
+    promised=$(sed -n "s/^#define $most \([0-9]*\)$/\1/p" crates/pm_c/include/pm.h)
+    if [ "${needed:-none}" != none ] && [ "$needed" -le "$promised" ]; then
+        passed=$((passed + 1)); echo "$(basename "$1") stack: ok, $needed of $most, $promised"
+    else
+        failed=$((failed + 1)); echo "$(basename "$1") stack: FAILED, ${needed:-no stack-bytes} of $most, $promised"
+    fi
+}
+
+# What becomes of orders over the Linux bus: the mishaps of the transfers, the arguments in a shell's words, the
+# status, and what is written on standard output and on standard error.
+bus_rows() {
+    cat << 'END'
+lost ok ok lost ok ok|/dev/i2c-1 58 0 3300000|0|ended done, confirmed 34CD, 3300048 uV|
+|/dev/i2c-1 0x58 0 3300000|0|ended done, confirmed 34CD, 3300048 uV|
+|/dev/i2c-1 58 0 0|0|ended done, confirmed 0000, 0 uV|
+||2||give BUS ADDRESS OUTPUT MICROVOLTS, as /dev/i2c-1 58 0 3300000
+|/dev/i2c-1 58 0|2||give BUS ADDRESS OUTPUT MICROVOLTS, as /dev/i2c-1 58 0 3300000
+|/dev/i2c-1 58 0 3.3|2||microvolts '3.3': give a whole number, as 3300000 for 3.3 V
+|/dev/i2c-1 58 0 3,3|2||microvolts '3,3': give a whole number, as 3300000 for 3.3 V
+|/dev/i2c-1 58 0 abc|2||microvolts 'abc': give a whole number, as 3300000 for 3.3 V
+|/dev/i2c-1 58 0 3300mV|2||microvolts '3300mV': give a whole number, as 3300000 for 3.3 V
+|/dev/i2c-1 58 0 ''|2||microvolts '': give a whole number, as 3300000 for 3.3 V
+|/dev/i2c-1 58 0 ' 5'|2||microvolts ' 5': give a whole number, as 3300000 for 3.3 V
+|/dev/i2c-1 58 0 '5 '|2||microvolts '5 ': give a whole number, as 3300000 for 3.3 V
+|/dev/i2c-1 58 0 +5|2||microvolts '+5': give a whole number, as 3300000 for 3.3 V
+|/dev/i2c-1 58 0 9223372036854775808|2||microvolts '9223372036854775808': give a whole number, as 3300000 for 3.3 V
+|/dev/i2c-1 78 0 3300000|2||address '78': give 08 to 77, in hexadecimal
+|/dev/i2c-1 07 0 3300000|2||address '07': give 08 to 77, in hexadecimal
+|/dev/i2c-1 158 0 3300000|2||address '158': give 08 to 77, in hexadecimal
+|/dev/i2c-1 5G 0 3300000|2||address '5G': give 08 to 77, in hexadecimal
+|/dev/i2c-1 -58 0 3300000|2||address '-58': give 08 to 77, in hexadecimal
+|/dev/i2c-1 '' 0 3300000|2||address '': give 08 to 77, in hexadecimal
+|/dev/i2c-1 58 9 3300000|2||output '9': give 0 to 7
+|/dev/i2c-1 58 -1 3300000|2||output '-1': give 0 to 7
+|/dev/i2c-1 58 256 3300000|2||output '256': give 0 to 7
+|/dev/i2c-1 58 0x 3300000|2||output '0x': give 0 to 7
+|/dev/i2c-2 58 0 3300000|2||/dev/i2c-2, address 58: Device or resource busy: unbind its driver, echo 2-0058 > /sys/bus/i2c/devices/2-0058/driver/unbind
+|/dev/i2c-3 58 0 3300000|2||/dev/i2c-3, address 58: Permission denied
+|/dev/i2c-4 58 0 3300000|2||/dev/i2c-4, address 58: Inappropriate ioctl for device
+|/dev/i2c-5 58 0 3300000|2||/dev/i2c-5, address 58: No such file or directory
+deaf deaf deaf|/dev/i2c-1 58 0 3300000|1||learn: 3 of 3 transfers failed, the last: No such device or address
+|/dev/i2c-1 59 0 3300000|1||learn: 3 of 3 transfers failed, the last: Remote I/O error
+|/dev/i2c-1 58 1 3300000|1||learn: 3 of 3 transfers failed, the last: Remote I/O error
+damaged empty damaged|/dev/i2c-1 58 0 3300000|1||learn: no answer was good, or its format is neither ULINEAR16 nor DIRECT
+damaged deaf damaged|/dev/i2c-1 58 0 3300000|1||learn: 1 of 3 transfers failed, the last: No such device or address; no answer was good, or its format is neither ULINEAR16 nor DIRECT
+short0 short1 short0|/dev/i2c-1 58 0 3300000|1||learn: 3 of 3 transfers failed, the last: 0 of 2 messages went
+short0 short0 short1|/dev/i2c-1 58 0 3300000|1||learn: 3 of 3 transfers failed, the last: 1 of 2 messages went
+|/dev/i2c-1 58 0 99000000|1||refused: N4 AboveGreatest: above all values of the format
+|/dev/i2c-1 58 0 -1|1||refused: N3 BelowLeast: below all values of the format
+|/dev/i2c-1 58 0 9223372036854775807|1||refused: N5 TooLarge: beyond 10^15 microvolts
+ok short0 ok short0h ok|/dev/i2c-1 58 0 3300000|0|ended done, confirmed 34CD, 3300048 uV|
+ok short0 ok short0 ok short0|/dev/i2c-1 58 0 3300000|1|ended differs, confirmed 1000, 1000000 uV|order: 3 of 6 transfers failed, the last: 0 of 1 messages went; the write was lost, or the part refused, limited or rounded the word
+ok false ok false ok false|/dev/i2c-1 58 0 3300000|1|ended differs, confirmed 1000, 1000000 uV|order: the write was lost, or the part refused, limited or rounded the word
+ok short0 short1 short0 short0 short0 short1|/dev/i2c-1 58 0 3300000|1|ended unknown, the output may hold the old or the ordered word|order: 6 of 6 transfers failed, the last: 1 of 2 messages went
+ok ok empty ok empty ok damaged|/dev/i2c-1 58 0 3300000|1|ended unknown, the output may hold the old or the ordered word|order: no answer was good
+END
+}
+
+# bus_program NAME COMPILER: the order over the Linux bus, and each row of it
+bus_program() {
+    local row=0 mishaps arguments status out err
+    program "$1 Linux bus" examples/c/i2c_dev.expected "$2 -D_DEFAULT_SOURCE $wraps" examples/c/i2c_dev.c \
+        examples/c/stand_in.c -- /dev/i2c-1 58 0 3300000
+    while IFS='|' read -r mishaps arguments status out err; do
+        row=$((row + 1))
+        printf '%s' "${out:+$out$'\n'}${err:+i2c_dev: $err$'\n'}" > "$folder/wanted"
+        eval "MISHAPS=\$mishaps timeout 60 \$folder/program $arguments" > "$folder/out" 2> "$folder/log"
+        local ended=$?
+        cat "$folder/log" >> "$folder/out"
+        if [ "$ended" = "$status" ] && cmp -s "$folder/wanted" "$folder/out"; then
+            passed=$((passed + 1))
+        else
+            failed=$((failed + 1)); echo "$1 Linux bus, $arguments with '$mishaps': FAILED (status $ended)"; cat "$folder/out"
+        fi
+    done < <(bus_rows)
+    echo "$1 Linux bus: $row rows"
 }
 
 # program NAME WANTED COMPILER SOURCES .. -- ARGUMENTS ..
@@ -45,6 +130,10 @@ program() {
     told "$name" $?
 }
 
+size -t "$archive" | awk 'END {print "archive: " $1 " bytes of text"}'
+mkdir "$folder/objects"
+(cd "$folder/objects" && ar x "$archive")
+for object in "$folder"/objects/*; do bound "$object"; done
 printf 'first' > "$folder/faults.wanted"
 wraps="-Wl,--wrap=open,--wrap=ioctl,--wrap=close"
 for each in gcc clang g++ clang++; do
@@ -70,8 +159,7 @@ for each in gcc clang g++ clang++; do
         fi
         program "$name both ends" "$folder/faults.wanted" "$compiler" examples/c/faults.c $rest -- "$jobs"
         case $each in gcc | clang)
-            program "$name Linux bus" examples/c/i2c_dev.expected "$compiler -D_DEFAULT_SOURCE $wraps" examples/c/i2c_dev.c \
-                examples/c/stand_in.c -- /dev/i2c-1 58 0 3300000 ;;
+            bus_program "$name" "$compiler" ;;
         esac
     done
 done

@@ -29,13 +29,14 @@
 extern "C" {
 #endif
 
-/* The version of a host's layout, sizes in bytes, and the stack that a call takes at most: measured, under
- * 512 bytes for every call but those of a desk, which took 1,824; the compiler's own bound is 1,920. */
+/* The version of a host's layout, sizes in bytes, and the stack that a call takes at most. As they ran on
+ * x86-64 (bench/c_order.sh), pm_desk_hear took 2,080 bytes and each call of a host at most 393; the archive's
+ * own bound, the stack-bytes in its section .comment, is 2,176. The rest is room for other compilers. */
 #define PM_HOST_VERSION 2
 #define PM_HOST_SIZE 1926
 #define PM_DESK_SIZE 122
 #define PM_STACK 1024
-#define PM_DESK_STACK 2048
+#define PM_DESK_STACK 4096
 
 /* What a call answers: 0, or why it is refused. A refused call changes nothing. */
 enum {
