@@ -2,6 +2,7 @@
 """Tries the planted bugs of attacks/CRATE on a copy, and says which stay proved.
 
     scripts/try_attacks.py CRATE [NAME ..] [--folder F] [--alone] [--no-tests | --only-tests] [--jobs N]
+    scripts/try_attacks.py --compile [CRATE ..] [--jobs N]
 
 An edit has lines `file: src/x.rt` and pairs `old: ..`, `new: ..`, each text one line that stands once in that
 file. Edits of different functions are tried together, in one check that says of each function whether it's
@@ -13,17 +14,21 @@ proved; --alone tries one at a time. The verdicts:
     PROVED    and then whether a test fails with it: the crate's own, and those of each test crate that stands on
               it
 
---only-tests proves nothing: it says of each edit which test notices it, if one does.
+--only-tests proves nothing: it says of each edit which test notices it, if one does. --compile proves and tests
+nothing: it says of each edit of attacks/, attacks/definitions/ and must-fail/ of these crates, or of all, whether it
+compiles, in about a minute a crate.
 
 Run it at the top of the repository after an `rt check` of the crate, whose work the copy keeps. --folder takes
-the edits from elsewhere, as crates/CRATE/must-fail.
+the edits from elsewhere, as crates/CRATE/must-fail. The last line is `N passed, M failed`: an edit that is broken counts
+for nothing, and with one the status is 1.
 """
 import os
 import re
 import sys
 import time
 
-from crate_copy import CrateCopy, read, taken, why_not
+from compiled import add_probe, compile_faults, uncompiled
+from crate_copy import CrateCopy, crates_below, read, taken, why_not
 from program import answer_help
 
 # what is said of a function that only stands on one that isn't proved
@@ -141,8 +146,8 @@ def judged(copy, edits):
     kept = copy.write(edits[0].texts if one else joined(copy, edits))
     lines, verdict = copy.check()
     copy.write(kept)
-    if verdict is None:
-        return [("broken", why_not(lines))] if one else [None] * len(edits)
+    if uncompiled(lines) or verdict is None:
+        return [("broken", "doesn't compile: " + (uncompiled(lines) or why_not(lines)))] if one else [None] * len(edits)
     if verdict == "logic=proved":
         return [("PROVED", "")] * len(edits)
     found = []
@@ -170,18 +175,23 @@ def noticed(copy, edit):
     return line if line.startswith("NO TEST") else "a test notices: " + line
 
 
-def report(copy, edit, verdict, note, tests, seconds):
-    if verdict == "PROVED" and tests:
-        note = noticed(copy, edit)
-    print("%-8s %-55s %3d s  %s" % (verdict, edit.name, seconds, note[:200]), flush=True)
+class Told:
+    """Prints a line for each edit, and counts them."""
+
+    def __init__(self, copy, tests):
+        self.copy, self.tests, self.passed, self.failed = copy, tests, 0, 0
+
+    def edit(self, edit, verdict, note, seconds):
+        if verdict == "PROVED" and self.tests:
+            note = noticed(self.copy, edit)
+        self.failed += verdict == "broken"
+        self.passed += verdict != "broken"
+        print("%-8s %-55s %3d s  %s" % (verdict, edit.name, seconds, note[:200]), flush=True)
 
 
-def try_all(copy, edits, alone, tests):
+def try_all(copy, edits, alone, told):
     """Tries them, in as few checks as may be, and prints each one's verdict."""
-    for edit in edits:
-        if edit.why:
-            report(copy, edit, "broken", edit.why, False, 0)
-    groups = groups_of([edit for edit in edits if not edit.why], alone)
+    groups = groups_of(edits, alone)
     while groups:
         group = groups.pop(0)
         start = time.time()
@@ -189,7 +199,7 @@ def try_all(copy, edits, alone, tests):
         left = [edit for edit, verdict in zip(group, found) if verdict is None]
         for edit, verdict in zip(group, found):
             if verdict is not None:
-                report(copy, edit, *verdict, tests, (time.time() - start) / len(group))
+                told.edit(edit, *verdict, (time.time() - start) / len(group))
         if left and len(left) == len(group):
             half = (len(left) + 1) // 2
             groups += [left[:half], left[half:]]
@@ -197,12 +207,89 @@ def try_all(copy, edits, alone, tests):
             groups.append(left)
 
 
-def test_all(copy, edits):
+def compile_all(copy, edits, told, is_told=True):
+    """Says which of the edits don't compile, and gives the others."""
+    add_probe(copy)
+    whole, start = [], time.time()
+    for edit, fault in compile_faults(copy, edits, lambda several: joined(copy, several)):
+        if fault:
+            told.edit(edit, "broken", "doesn't compile: " + fault, time.time() - start)
+        elif is_told:
+            told.passed += 1
+        if not fault:
+            whole.append(edit)
+        start = time.time()
+    return whole
+
+
+def test_all(copy, edits, told):
     """Runs the tests with each edit in turn, and prints what they say."""
     for edit in edits:
         start = time.time()
-        verdict, note = ("broken", edit.why) if edit.why else ("tested", noticed(copy, edit))
-        report(copy, edit, verdict, note, False, time.time() - start)
+        told.edit(edit, "tested", noticed(copy, edit), time.time() - start)
+
+
+def folders_of(crate):
+    """The folders of a crate's edits."""
+    found = [os.path.join("attacks", crate), os.path.join("attacks/definitions", crate),
+             os.path.join("crates", crate, "must-fail")]
+    return [folder for folder in found if os.path.isdir(folder)]
+
+
+def edits_of(crate, folder):
+    home = os.path.join("crates", crate)
+    return [Edit(home, os.path.join(folder, name)) for name in sorted(os.listdir(folder)) if name.endswith(".edit")]
+
+
+def sound(edits, told):
+    """Those whose texts stand in their files; the others are told."""
+    for edit in edits:
+        if edit.why:
+            told.edit(edit, "broken", edit.why, 0)
+    return [edit for edit in edits if not edit.why]
+
+
+def compile_crates(crates, jobs):
+    """Tries whether all edits of these crates compile; how many do, and how many don't."""
+    passed = failed = 0
+    for crate in crates:
+        edits = [edit for folder in folders_of(crate) for edit in edits_of(crate, folder)]
+        if not edits:
+            continue
+        copy = CrateCopy(crate, jobs)
+        told, start = Told(copy, False), time.time()
+        try:
+            compile_all(copy, sound(edits, told), told)
+        finally:
+            copy.drop()
+        print("%s: %d of %d compile, %d s" % (crate, told.passed, len(edits), time.time() - start), flush=True)
+        passed, failed = passed + told.passed, failed + told.failed
+    return passed, failed
+
+
+def try_crate(crate, names, folder, flags, jobs):
+    """Tries a crate's edits, all or those that are named; how many passed, and how many are broken."""
+    folder = folder or os.path.join("attacks", crate)
+    if not os.path.isdir(folder):
+        sys.exit("no %s here: run it at the top of the repository" % folder)
+    edits = edits_of(crate, folder)
+    unknown = set(names) - {edit.name for edit in edits}
+    if unknown:
+        sys.exit("no edit has the name %s" % ", ".join(sorted(unknown)))
+    copy = CrateCopy(crate, jobs)
+    told = Told(copy, "--no-tests" not in flags)
+    chosen = sound([edit for edit in edits if not names or edit.name in names], told)
+    try:
+        if "--only-tests" in flags:
+            test_all(copy, compile_all(copy, chosen, told, False), told)
+        else:
+            lines, verdict = copy.check()
+            if verdict != "logic=proved":
+                sys.exit("the crate isn't proved as it stands: " + why_not(lines))
+            try_all(copy, chosen, "--alone" in flags, told)
+    finally:
+        copy.drop()
+    return told.passed, told.failed
 
 
 def main():
@@ -210,32 +297,22 @@ def main():
     words = sys.argv[1:]
     jobs = taken(words, "--jobs") or "1"
     folder = taken(words, "--folder")
-    flags = [word for word in words if word.startswith("--")]
+    flags = {word for word in words if word.startswith("--")}
     words = [word for word in words if not word.startswith("--")]
-    if not words or set(flags) - {"--alone", "--no-tests", "--only-tests"}:
+    is_compile = flags == {"--compile"} and not folder
+    if not is_compile and (not words or flags - {"--alone", "--no-tests", "--only-tests"}):
         sys.exit(__doc__)
-    crate, names = words[0], words[1:]
-    folder = folder or os.path.join("attacks", crate)
-    if not os.path.isdir(folder):
-        sys.exit("no %s here: run it at the top of the repository" % folder)
-    home = os.path.join("crates", crate)
-    paths = [os.path.join(folder, name) for name in sorted(os.listdir(folder)) if name.endswith(".edit")]
-    edits = [Edit(home, path) for path in paths]
-    unknown = set(names) - {edit.name for edit in edits}
+    if not os.path.isfile("crates.txt"):
+        sys.exit("no crates.txt here: run it at the top of the repository")
+    unknown = [crate for crate in (words if is_compile else words[:1]) if crate not in crates_below()]
     if unknown:
-        sys.exit("no edit has the name %s" % ", ".join(sorted(unknown)))
-    copy = CrateCopy(crate, jobs)
-    chosen = [edit for edit in edits if not names or edit.name in names]
-    try:
-        if "--only-tests" in flags:
-            test_all(copy, chosen)
-            return
-        lines, verdict = copy.check()
-        if verdict != "logic=proved":
-            sys.exit("the crate isn't proved as it stands: " + why_not(lines))
-        try_all(copy, chosen, "--alone" in flags, "--no-tests" not in flags)
-    finally:
-        copy.drop()
+        sys.exit("no crate has the name %s" % ", ".join(unknown))
+    if is_compile:
+        passed, failed = compile_crates(words or crates_below(), jobs)
+    else:
+        passed, failed = try_crate(words[0], words[1:], folder, flags, jobs)
+    print("%d passed, %d failed" % (passed, failed))
+    sys.exit(1 if failed else 0)
 
 
 if __name__ == "__main__":

@@ -1,0 +1,122 @@
+"""Whether the sources and the definitions of a copy's crate compile, in seconds: a function is added whose contract names
+every definition, and it alone is checked. So each name in src/ and in specs/ is resolved and each type is checked; the
+clauses of contracts, lemmas and proofs aren't read."""
+import os
+import re
+
+from crate_copy import ERROR, read, write
+
+PLACE = re.compile(r"^(?:\./)?(?:src/|specs/(?!Lemmas))\S+:\d+:\d+: error\b")
+DEFINED = re.compile(r"^(?:abbrev |unfoldable )?pub (?:record |data )?(?!use\b|mod\b)(\w+)", re.MULTILINE)
+ROOT = re.compile(r"^(?:pub )?(?:mod|use) ", re.MULTILINE)
+PROBE = """//! A function whose contract names every definition.
+
+ghost use Rattle.std.specs.Prelude.{◌≡◌};
+%s
+
+pub fn probe() -> u8
+    ensures { result ≡ 0 }
+{
+    0
+}
+"""
+# How many edits are joined: where one of them doesn't compile, halves are tried.
+MOST = 16
+
+
+def uncompiled(lines):
+    """The first line of a check that says that a source or a definition doesn't compile."""
+    return next((line for line in lines if PLACE.match(line)), None)
+
+
+def definitions(home):
+    """The modules of the crate's definitions, each with the first name that it defines; lemmas are left out."""
+    for top, _, names in sorted(os.walk(os.path.join(home, "specs"))):
+        for name in sorted(names):
+            path = os.path.join(top, name)
+            module = os.path.relpath(path, home).removesuffix(".antt").replace(os.sep, ".")
+            found = DEFINED.search(read(path))
+            if found and name.endswith(".antt") and not module.startswith("specs.Lemmas"):
+                yield module, found[1]
+
+
+def root_of(home):
+    """The root file of a crate."""
+    return next(it for it in ("src/lib.rt", "src/main.rt") if os.path.exists(os.path.join(home, it)))
+
+
+def add_probe(copy):
+    """Adds the function to a copy's crate."""
+    uses = "\n".join("ghost use Rattle.%s.%s.{%s};" % (copy.crate, *it) for it in definitions(copy.home))
+    write(os.path.join(copy.home, "src/compile_probe.rt"), PROBE % uses)
+    with_probe(copy, root_of(copy.home), read(os.path.join(copy.home, root_of(copy.home))))
+
+
+def with_probe(copy, root, text):
+    """Writes the root file with the probe's line, before its first item."""
+    at = ROOT.search(text)
+    at = at.start() if at else len(text)
+    write(os.path.join(copy.home, root), text[:at] + "pub mod compile_probe;\n" + text[at:])
+
+
+def fault_of(copy, edits, texts):
+    """What a check of a copy with these edits' texts says doesn't compile; None where all compiles."""
+    root = root_of(copy.home)
+    plain = {name: text for name, text in texts.items() if name != root}
+    kept = copy.write(plain)
+    kept_root = read(os.path.join(copy.home, root))
+    if root in texts:
+        with_probe(copy, root, texts[root])
+    lines, _ = copy.check("--only", "compile_probe::probe")
+    copy.write(kept)
+    write(os.path.join(copy.home, root), kept_root)
+    said = next((line for line in lines if ERROR.search(line)), None)
+    if said or any(line.startswith("only=1 ") for line in lines):
+        return uncompiled(lines) or said
+    return lines[-1]
+
+
+def lines_in(edit, originals):
+    """The lines that an edit changes; None where it changes a text that it made itself."""
+    found = set()
+    for name, at, old, _ in edit.pieces:
+        text = originals(name)
+        if text.count(old) != 1:
+            return None
+        number = text.count("\n", 0, at)
+        found |= {(name, number + it) for it in range(-1, old.count("\n") + 2)}
+    return found
+
+
+def bundles(edits, originals):
+    """The edits in groups that change lines apart from one another."""
+    groups = []
+    for edit in edits:
+        lines = lines_in(edit, originals)
+        for taken, group in groups:
+            if lines is not None and taken is not None and not taken & lines and len(group) < MOST:
+                taken |= lines
+                group.append(edit)
+                break
+        else:
+            groups.append((lines, [edit]))
+    return [group for _, group in groups]
+
+
+def compile_faults(copy, edits, joined):
+    """Each edit, with the line that says why it doesn't compile, or None. `joined` gives the files' texts with several."""
+    groups = bundles(edits, lambda name: read_original(copy, name))
+    while groups:
+        group = groups.pop()
+        texts = group[0].texts if len(group) == 1 else joined(group)
+        fault = fault_of(copy, group, texts)
+        if fault and len(group) > 1:
+            half = len(group) // 2
+            groups += [group[:half], group[half:]]
+        else:
+            yield from ((edit, fault) for edit in group)
+
+
+def read_original(copy, name):
+    """The text of a file of the copy as the edits know it, without the probe's line."""
+    return read(os.path.join(copy.home, name)).replace("pub mod compile_probe;\n", "")
