@@ -14,7 +14,7 @@ int main(void) {
     static const uint8_t answer[] = {0xB1, 0x02, 0xCD, 0x34, 0xB9};
     pm_host host;
     pm_sending frame;
-    pm_step step;
+    pm_step step = {PM_UNKNOWN, 0};
     pm_standing standing;
     if (pm_host_size() != sizeof host || PM_HOST_SIZE != sizeof host || pm_host_version() != PM_HOST_VERSION)
         return 1;
