@@ -15,10 +15,16 @@
  * The library takes no memory, keeps nothing between calls, calls nothing and never blocks.
  *
  * A host lives in memory of yours, a pm_host. Any bytes may stand there: each call but pm_host_new, which
- * makes one, asks first whether it is a host, and answers PM_NO_HOST where it isn't, as for zeros, for a
- * host of another version and for most damage. Memory that was damaged and still reads as a host is safe to use, and what it says may be
- * wrong: keep it from others, or guard it with a checksum of your own. A pm_host may be copied and kept
- * over a sleep; it holds no pointer. */
+ * makes one, asks first whether it is a host, and answers PM_NO_HOST where it isn't, as for zeros and for a
+ * host of another version. It looks at the mark, the version, the setup and the stage of the open job, 13 of
+ * the 1,926 bytes, and while an order is open at what is known of its cell; at nothing else. So most damage
+ * isn't noticed: of flipped bits and overwritten bytes about 0.4 %. Damaged memory that still reads as a
+ * host is safe to use, and what it says may be wrong: keep it from others.
+ *
+ * A pm_host holds no pointer, so it may be copied, and kept over a sleep or a warm reset. Who keeps one
+ * keeps a checksum with it, as a CRC-32 over all PM_HOST_SIZE bytes: taken before the sleep, or after each
+ * call that changes the host where a reset may come at any time, and compared before the first call
+ * afterwards. Where the two differ, make a new host by pm_host_new. */
 #ifndef PM_H
 #define PM_H
 
@@ -38,7 +44,9 @@ extern "C" {
 #define PM_STACK 1024
 #define PM_DESK_STACK 4096
 
-/* What a call answers: 0, or why it is refused. A refused call changes nothing. */
+/* What a call answers: 0, or why it is refused. A refused call changes nothing, but for two: pm_host_sending
+ * then writes PM_NOTHING, and pm_desk_hear with K1 to K7 empties the reply. pm_pec, pm_host_restart_seen and
+ * pm_desk_hear answer something else: each says what, and what pm_desk_hear answers is no number of these. */
 enum {
     PM_OK = 0,
     PM_H1_OUTPUT_COUNT = 0x01,    /* a number of outputs other than 1 to 8 */
@@ -106,9 +114,20 @@ typedef struct {
 /* What a call that tells what became of a frame answers. */
 enum { PM_NEXT = 0, PM_DONE = 1, PM_DIFFERS = 2, PM_UNKNOWN = 3, PM_LEARNED = 4 };
 typedef struct {
-    uint16_t kind; /* PM_NEXT, or how the job ended; or PM_NO_HOST, PM_OTHER_FRAME */
+    uint16_t kind; /* PM_NEXT, or how the job ended; or a refusal, PM_NO_HOST or PM_OTHER_FRAME */
     uint16_t word; /* with PM_DIFFERS the word that was read, otherwise 0 */
 } pm_step;
+
+/* Ends and refusals share `kind`: look for a refusal first, before a table is asked by it. A loop that sends
+ * what there is begins with an end of its own, for a host that has no job open:
+ *
+ *     pm_step step = {PM_UNKNOWN, 0};
+ *     while (pm_host_sending(host, &sending) == PM_OK && sending.kind != PM_NOTHING)
+ *         step = sending.kind == PM_WRITE ? pm_host_finished(host, write_frame(&sending))
+ *                                         : pm_host_got(host, answer, read_answer(&sending, answer));
+ *     if (step.kind > PM_LEARNED)
+ *         return refused(step.kind);
+ *     return ended(step.kind, step.word); */
 
 /* The words that a cell may hold: the first `count` of `words`, at most 16; any word where the count is 0. */
 typedef struct { uint16_t count; uint16_t words[16]; } pm_words;
@@ -181,12 +200,14 @@ uint8_t pm_host_standing(const pm_host *host, uint8_t output, uint8_t code, pm_s
 uint8_t pm_host_possible(const pm_host *host, uint8_t output, uint8_t code, pm_words *words);
 uint8_t pm_host_format(const pm_host *host, uint8_t output, pm_format *format);
 
-/* 1 where a restart of the device was seen since the host started, 0 where none was. PM_NO_HOST. */
+/* 1 where a restart of the device was seen since the host started, 0 where none was. PM_NO_HOST, which isn't
+ * 0 either: ask `pm_host_restart_seen(host) == 1`. */
 uint8_t pm_host_restart_seen(const pm_host *host);
 
 /* ---- Numbers and packets alone ---- */
 
-/* The whole microvolts of a word, rounded down. H7 where the format is none, N5. */
+/* The whole microvolts of a word, rounded down. H7 where the format is none, N5 exactly where the word's value
+ * is beyond 10^15 microvolts in size. */
 uint8_t pm_microvolts(const pm_format *format, uint16_t word, int64_t *microvolts);
 
 /* The word nearest to a number of microvolts. H7 where the format is none, N5, N3, N4. */
@@ -236,21 +257,25 @@ typedef struct {
     pm_output words[8];
 } pm_desk;
 
-/* What it answers to a request: 0 bytes where it answers none. */
+/* What it answers to a request: 0 bytes where it answers none. `unused` and the bytes after the answer stay as
+ * they were. */
 typedef struct { uint8_t length; uint8_t unused; uint8_t bytes[16]; } pm_reply;
 
 /* The size of a pm_desk: compare it at start with PM_DESK_SIZE. */
 size_t pm_desk_size(void);
 
 /* It hears one frame, which a repeated start ends where `is_request` isn't 0, otherwise a stop. Answers
- * PM_SILENT, PM_TAKEN or PM_ANSWERED, or a refusal, K1 to K7; PM_NO_CONVERTER. */
-enum { PM_SILENT = 0, PM_TAKEN = 1, PM_ANSWERED = 2 };
+ * PM_SILENT, PM_TAKEN or PM_ANSWERED, or a refusal, K1 to K7, with which no word changes and the reply is
+ * empty; PM_NO_CONVERTER, with which nothing changes. Only words of outputs that there are and WRITE_PROTECT
+ * ever change in a pm_desk. */
+enum { PM_SILENT = 0x81, PM_TAKEN = 0x82, PM_ANSWERED = 0x83 };
 uint8_t pm_desk_hear(pm_desk *desk, const uint8_t *bytes, size_t count, uint8_t is_request, pm_reply *reply);
 
 /* The word of a cell. PM_NO_CONVERTER, PM_NO_CELL, H4. */
 uint8_t pm_desk_word(const pm_desk *desk, uint8_t output, uint8_t code, uint16_t *word);
 
-/* The whole microvolts that an output commands, rounded down. PM_NO_CONVERTER, H4, N5. */
+/* The whole microvolts that an output commands, rounded down. PM_NO_CONVERTER, H4, N5 exactly where what it
+ * commands is beyond 10^15 microvolts in size. */
 uint8_t pm_desk_commanded(const pm_desk *desk, uint8_t output, int64_t *microvolts);
 
 #ifdef __cplusplus

@@ -1,8 +1,7 @@
 -- A converter on a desk: its configuration and the words that its cells hold now, as plain numbers. At
 -- each call a converter starts with these words, which its store then has too: it keeps no PAGE, no
 -- readings, no latched status and no store of other words.
-use Rattle.std.specs.Prelude.{◌≡◌, ℕ, if◌then◌else◌, ◌==◌, ◌<◌, slice_index, slice_index_or, List, [], map, take, Option, Some, None, is_none}
-use Rattle.std.specs.Option.{option_map_or}
+use Rattle.std.specs.Prelude.{◌≡◌, ℕ, if◌then◌else◌, ◌==◌, ◌<◌, ◌≤◌, nat_lt, slice_index, slice_index_or, List, [], map, take, drop, Option, Some, None, is_none}
 use Rattle.pm_table.specs.declared.cell.Cell.{Cell}
 use Rattle.pm_table.specs.declared.cell.Cell.TheVariants.{Out, Protect}
 use Rattle.pm_table.specs.Cell.{is_cell, register_number, registers}
@@ -25,7 +24,8 @@ use Rattle.pm_num.specs.Ratio.{Ratio}
 use Rattle.pm_c.specs.declared.desk.Desk.{Desk}
 use Rattle.pm_c.specs.declared.output_words.OutputWords.{OutputWords}
 use Rattle.pm_c.specs.declared.reply_image.ReplyImage.{ReplyImage}
-use Rattle.pm_c.specs.Numbers.{accepted, no_cell, no_converter, host_number}
+use Rattle.pm_c.specs.Numbers.{accepted, no_cell, no_converter, host_number, silent, taken, answered}
+use Rattle.pm_c.specs.Voltages.{floor_number}
 
 -- an output's mode and words
 abbrev pub output_start : OutputWords → OutputStart
@@ -57,11 +57,11 @@ device_number Protected = 0x45
 device_number Nested = 0x46
 device_number ReadOnly = 0x47
 
--- what it answers: 0 for silence, 1 for a write that it took, 2 for bytes
+-- what it answers
 abbrev pub heard_number : Heard → ℕ
-heard_number Silent = 0
-heard_number Taken = 1
-heard_number (Answer frame) = 2
+heard_number Silent = silent
+heard_number Taken = taken
+heard_number (Answer frame) = answered
 heard_number (Refused fault) = device_number fault
 
 abbrev pub desk_number : Option Heard → ℕ
@@ -73,8 +73,16 @@ abbrev pub heard_bytes : Heard → List ℕ
 heard_bytes (Answer frame) = frame.items
 heard_bytes _ = []
 
-abbrev pub IsReply : Option Heard → ReplyImage → Type 0
-IsReply heard reply = take reply.length reply.bytes ≡ option_map_or heard_bytes heard []
+-- the bytes of the answer stand in front, and what stands after them stays
+pub record HasReply (heard : Heard) (before after : ReplyImage) : Type 0 where
+  pub bytes : take after.length after.bytes ≡ heard_bytes heard
+  pub rest : drop after.length after.bytes ≡ drop after.length before.bytes
+  pub unused : after.unused ≡ before.unused
+
+-- where the memory holds no converter all of it stays
+abbrev pub IsReply : Option Heard → ReplyImage → ReplyImage → Type 0
+IsReply None before after = after ≡ before
+IsReply (Some heard) before after = HasReply heard before after
 
 -- a stop ends the frame, or a repeated start where this isn't 0
 abbrev pub ending_of : ℕ → Ending
@@ -95,6 +103,13 @@ IsWord _ _ word = Unit {0}
 abbrev pub commanded_now : Held → ℕ → Ratio
 commanded_now held output = commanded (value_for held.config output) held.words output
 
+-- its whole microvolts are asked
+abbrev pub commanded_number : Option Held → ℕ → ℕ
+commanded_number None output = no_converter
+commanded_number (Some held) output =
+    if nat_lt output held.config.count then floor_number (commanded_now held output)
+    else host_number UnknownOutput
+
 -- nothing, where no output is
 abbrev pub no_output : OutputWords
 no_output = record { mode = 0; unused = 0; words = [] }
@@ -109,10 +124,17 @@ abbrev pub AreKept : List OutputWords → Held → Type 0
 AreKept kept held = (output : ℕ) → output < held.config.count
     → HasWords (slice_index_or kept output no_output) held.words output
 
--- each output's VOUT_MODE is the same in both
-abbrev pub HaveSameModes : List OutputWords → List OutputWords → Type 0
-HaveSameModes before after = (output : ℕ)
-    → (slice_index_or after output no_output).mode ≡ (slice_index_or before output no_output).mode
+-- an output has the same VOUT_MODE, and the same byte of no meaning
+pub record HasSameHead (before after : OutputWords) : Type 0 where
+  pub mode : after.mode ≡ before.mode
+  pub unused : after.unused ≡ before.unused
+
+-- Each output keeps these, and an output past so many, which isn't there, all of it.
+pub record AreSameOutputs (count : ℕ) (before after : List OutputWords) : Type 0 where
+  pub heads : (output : ℕ)
+      → HasSameHead (slice_index_or before output no_output) (slice_index_or after output no_output)
+  pub missing : (output : ℕ) → count ≤ output
+      → slice_index_or after output no_output ≡ slice_index_or before output no_output
 
 -- the desk holds the words of the converter after it heard this
 abbrev pub IsAfter : Option Held → Event → Desk → Type 0
@@ -127,4 +149,5 @@ pub record IsSameDevice (before after : Desk) : Type 0 where
   pub m : after.m ≡ before.m
   pub b : after.b ≡ before.b
   pub r : after.r ≡ before.r
-  pub modes : HaveSameModes before.words after.words
+  pub unused : after.unused ≡ before.unused
+  pub words : AreSameOutputs before.outputs before.words after.words

@@ -1,14 +1,14 @@
 -- The word of a voltage and the voltage of a word, in the format that an image means.
-use Rattle.std.specs.Prelude.{◌≡◌, ℕ, ℤ, ◌≤ℤ◌, ◌^◌, ◌<◌, nat_lt, unsigned_abs, if◌then◌else◌, Option, Some, None}
-use Rattle.pm_num.specs.AnyFormat.{Shape}
-use Rattle.pm_num.specs.Ratio.{Ratio, AtMost, micros}
-use Rattle.pm_host.specs.declared.fault.HostFault.TheVariants.{FormatUnknown}
+use Rattle.std.specs.Prelude.{◌≡◌, ℕ, ℤ, pos, neg_ℤ, ◌≤ℤ◌, ◌^◌, Bool, ◌||◌, nat_lt, if◌then◌else◌, Option, Some, None}
+use Rattle.pm_num.specs.declared.fault.NumFault.TheVariants.{TooLarge}
+use Rattle.pm_num.specs.AnyFormat.{Shape, shape_value}
+use Rattle.pm_num.specs.Ratio.{Ratio, AtMost, is_above, micros}
+use Rattle.pm_host.specs.declared.fault.HostFault.TheVariants.{FormatUnknown, UnknownOutput}
 use Rattle.pm_host.specs.Refusals.{range_fault}
-use Rattle.pm_host.specs.declared.fault.HostFault.TheVariants.{UnknownOutput}
 use Rattle.pm_host.specs.declared.format_image.FormatImage.{FormatImage}
 use Rattle.pm_host.specs.Image.{format_held}
 use Rattle.pm_host.specs.Summary.{Summary}
-use Rattle.pm_c.specs.Numbers.{accepted, no_host, host_number, outcome}
+use Rattle.pm_c.specs.Numbers.{accepted, no_host, host_number, num_number, outcome}
 
 -- H7 where there is no format, then N5, N3 and N4
 abbrev pub word_number : Option Shape → ℤ → ℕ
@@ -20,9 +20,18 @@ pub record IsFloor (value : Ratio) (x : ℤ) : Type 0 where
   pub reached : AtMost (micros x) value
   pub greatest : (k : ℤ) → AtMost (micros k) value → k ≤ℤ x
 
--- a value of more than 10^15 microvolts in size is refused
-abbrev pub IsFar : Ratio → Type 0
-IsFar value = (x : ℤ) × (IsFloor value x × (10 ^ 15 < unsigned_abs x))
+-- the value is beyond 10^15 microvolts in size
+abbrev pub is_far : Ratio → Bool
+is_far value = is_above value (micros (pos (10 ^ 15))) || is_above (micros (neg_ℤ (pos (10 ^ 15)))) value
+
+-- the whole microvolts of a value are asked: N5 where it is that far
+abbrev pub floor_number : Ratio → ℕ
+floor_number value = if is_far value then num_number TooLarge else accepted
+
+-- those of a word: H7 where there is no format
+abbrev pub value_number : Option Shape → ℕ → ℕ
+value_number None word = host_number FormatUnknown
+value_number (Some shape) word = floor_number (shape_value shape word)
 
 -- the numbers mean the format that is known; of kind 0 where none is, whatever the memory has there
 abbrev pub IsFormat : Option Shape → FormatImage → Type 0

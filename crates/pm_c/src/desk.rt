@@ -1,13 +1,13 @@
 //! A model converter on a desk.
 
-ghost use Rattle.std.specs.Prelude.{◌≡◌, ◌≢◌, ◌↔◌, ◌<◌, ◌≤◌, ◌⊎◌, true, map, None, option_map, IfSome, IsSomeAnd};
+ghost use Rattle.std.specs.Prelude.{◌≡◌, ◌≢◌, ◌<◌, map, None, option_map, IsSomeAnd};
 ghost use Rattle.pm_table.specs.Cell.{cell_at};
 ghost use Rattle.pm_device.specs.Effect.{Hearing};
 ghost use Rattle.pm_device.specs.Reply.{reply_of};
 ghost use Rattle.pm_model.specs.Settings.{word_at};
-ghost use Rattle.pm_c.specs.Desk.{asked_number, commanded_now, desk_config, desk_of, desk_number, ending_of, output_start, AreKept, HasWords, HaveSameModes, IsAfter, IsReply, IsSameDevice, IsWord};
+ghost use Rattle.pm_c.specs.Desk.{asked_number, commanded_now, commanded_number, desk_config, desk_of, desk_number, ending_of, output_start, AreKept, AreSameOutputs, HasSameHead, HasWords, IsAfter, IsReply, IsSameDevice, IsWord};
 ghost use Rattle.pm_c.specs.Sizes.{desk_size};
-ghost use Rattle.pm_c.specs.Voltages.{IsFar, IsFloor};
+ghost use Rattle.pm_c.specs.Voltages.{IsFloor};
 
 use crate::numbers::{ACCEPTED, NO_CELL, NO_CONVERTER, NO_OUTPUT};
 use crate::output_words::OutputWords;
@@ -69,7 +69,7 @@ impl Desk {
     fn take(&mut self, converter: &Converter)
         ensures kept { AreKept self.new.words converter.now }
         ensures protect { self.new.protect ≡ word_at converter.now.words Cell.Protect }
-        ensures same { IsSameDevice self.old self.new }
+        ensures same { converter.now.config.count ≡ self.old.outputs → IsSameDevice self.old self.new }
     {
         store(&mut self.words, converter);
         self.protect = converter.word(Cell::Protect);
@@ -79,24 +79,23 @@ impl Desk {
 // The words of the outputs that there are, as the converter has them.
 fn store(words: &mut [OutputWords; 8], converter: &Converter)
     ensures kept { AreKept words.new converter.now }
-    ensures modes { HaveSameModes words.old words.new }
+    ensures same { AreSameOutputs converter.now.config.count words.old words.new }
 {
     for output in 0..converter.count() {
-        let mode = words[usize::from(output)].mode;
-        words[usize::from(output)] = output_words(converter, output, mode);
+        let before = words[usize::from(output)];
+        words[usize::from(output)] = output_words(converter, output, before);
     }
 }
 
-// The words of an output.
-fn output_words(converter: &Converter, output: u8, mode: u8) -> OutputWords
+// An output with the words that the converter has for it.
+fn output_words(converter: &Converter, output: u8, before: OutputWords) -> OutputWords
     requires { output < converter.now.config.count }
     ensures words { HasWords result converter.now.words output }
-    ensures mode { result.mode ≡ mode }
+    ensures same { HasSameHead before result }
 {
     OutputWords {
-        mode,
-        unused: 0,
         words: from_fn(|place| converter.word(Cell::Out(output, Reg::ALL[place]))),
+        ..before
     }
 }
 
@@ -109,8 +108,9 @@ pub extern "C" fn pm_desk_size() -> usize
 }
 
 /// The converter hears the bytes of one frame, which a repeated start ends where `is_request` isn't 0,
-/// otherwise a stop. 0 where it is silent, 1 where it took a write, 2 where it answers a read, K1 to
-/// K7 as 41h to 47h, E5h where the memory holds no converter.
+/// otherwise a stop. 81h where it is silent, 82h where it took a write, 83h where it answers a read, K1 to
+/// K7 as 41h to 47h; the reply is empty for all but 83h. E5h where the memory holds no converter, and then
+/// nothing changes.
 #[unsafe(no_mangle)]
 pub extern "C" fn pm_desk_hear(
     desk: &mut Desk,
@@ -123,7 +123,7 @@ pub extern "C" fn pm_desk_hear(
         result ≡ desk_number heard }
     ensures answer { let heard = option_map (λ held. reply_of held bytes.now (ending_of is_request))
         (desk_of desk.old) in
-        IsReply heard reply.new }
+        IsReply heard reply.old reply.new }
     ensures after { IsAfter (desk_of desk.old) (Hearing bytes.now (ending_of is_request)) desk.new }
     ensures same { IsSameDevice desk.old desk.new }
     ensures refused { desk_of desk.old ≡ None → desk.new ≡ desk.old }
@@ -134,10 +134,7 @@ pub extern "C" fn pm_desk_hear(
             desk.take(converter);
             reply.give(heard)
         }
-        Err(_) => {
-            reply.length = 0;
-            NO_CONVERTER
-        }
+        Err(_) => NO_CONVERTER,
     }
 }
 
@@ -173,17 +170,12 @@ pub extern "C" fn pm_desk_word(desk: &Desk, output: u8, code: u8, word: &mut u16
 }
 
 /// The whole microvolts that an output commands, rounded down. E5h, 4 where the output isn't there, N5
-/// beyond 10^15 in size.
+/// exactly where what it commands is beyond 10^15 microvolts in size.
 #[unsafe(no_mangle)]
 pub extern "C" fn pm_desk_commanded(desk: &Desk, output: u8, microvolts: &mut i64) -> u8
+    ensures number { result ≡ commanded_number (desk_of desk.now) output }
     ensures floor { result ≡ 0 → IsSomeAnd (desk_of desk.now)
         (λ held. IsFloor (commanded_now held output) microvolts.new) }
-    ensures far { result ≡ 0x15 → IsSomeAnd (desk_of desk.now)
-        (λ held. IsFar (commanded_now held output)) }
-    ensures none { (result ≡ 0xE5) ↔ (desk_of desk.now ≡ None) }
-    ensures missing { IfSome (desk_of desk.now)
-        (λ held. (result ≡ 4) ↔ (held.config.count ≤ output)) }
-    ensures number { (result ≡ 0) ⊎ (result ≡ 4) ⊎ (result ≡ 0x15) ⊎ (result ≡ 0xE5) }
     ensures refused { result ≢ 0 → microvolts.new ≡ microvolts.old }
 {
     let Ok(converter) = &Converter::new(desk.config()) else {

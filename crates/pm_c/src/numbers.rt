@@ -32,6 +32,15 @@ pub const NO_PACKET: u8 = 0xE4;
 /// The memory holds no converter.
 pub const NO_CONVERTER: u8 = 0xE5;
 
+/// A converter is silent: the frame is for another device.
+pub const SILENT: u8 = 0x81;
+
+/// A converter took a write.
+pub const TAKEN: u8 = 0x82;
+
+/// A converter answers a read.
+pub const ANSWERED: u8 = 0x83;
+
 /// H4, the output isn't there.
 pub const NO_OUTPUT: u8 = 4;
 

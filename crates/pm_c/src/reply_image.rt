@@ -1,7 +1,7 @@
-ghost use Rattle.std.specs.Prelude.{◌≡◌, take};
-ghost use Rattle.pm_c.specs.Desk.{heard_bytes, heard_number};
+ghost use Rattle.std.specs.Prelude.{◌≡◌};
+ghost use Rattle.pm_c.specs.Desk.{heard_number, HasReply};
 
-use crate::numbers::of_device;
+use crate::numbers::{ANSWERED, SILENT, TAKEN, of_device};
 use crate::sending_image::copy_frame;
 use pm_device::Heard;
 
@@ -13,7 +13,7 @@ pub struct ReplyImage {
     pub length: u8,
     /// No meaning.
     pub unused: u8,
-    /// The bytes; after them anything.
+    /// The bytes; after them what stood there before.
     pub bytes: [u8; 16],
 }
 
@@ -21,15 +21,15 @@ impl ReplyImage {
     /// Takes the bytes of what a converter made of a frame, where it has any, and answers its number.
     pub(crate) fn give(&mut self, heard: Heard) -> u8
         ensures number { result ≡ heard_number heard }
-        ensures reply { take self.new.length self.new.bytes ≡ heard_bytes heard }
+        ensures reply { HasReply heard self.old self.new }
     {
         self.length = 0;
         match heard {
-            Heard::Silent => 0,
-            Heard::Taken => 1,
+            Heard::Silent => SILENT,
+            Heard::Taken => TAKEN,
             Heard::Answer(frame) => {
                 self.length = copy_frame(&mut self.bytes, &frame);
-                2
+                ANSWERED
             }
             Heard::Refused(fault) => of_device(fault),
         }

@@ -1,4 +1,4 @@
-ghost use Rattle.std.specs.Prelude.{◌≡◌, true, length, take};
+ghost use Rattle.std.specs.Prelude.{◌≡◌, true, length, take, drop};
 ghost use Rattle.pm_table.specs.Address.{IsAddress};
 ghost use Rattle.pm_frame.specs.Layout.{fits_layout};
 ghost use Rattle.pm_c.specs.Host.{IsNothing, IsSending};
@@ -53,6 +53,7 @@ impl SendingImage {
 pub(crate) fn copy_frame(bytes: &mut [u8; 16], frame: &Frame) -> u8
     ensures length { result ≡ length frame.now.items }
     ensures copied { take result bytes.new ≡ frame.now.items }
+    ensures rest { drop result bytes.new ≡ drop result bytes.old }
 {
     let count = frame.len();
     bytes[..count].copy_from_slice(frame.as_slice());

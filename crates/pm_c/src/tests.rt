@@ -1,5 +1,6 @@
 mod calls;
 mod checks;
+mod desk;
 
 use self::calls::{
     PACKET, check, clear, finished, format, got, host, learn, microvolts, nearest, new, order,
@@ -7,29 +8,10 @@ use self::calls::{
     shown, standing, store, written,
 };
 use self::checks::{equal, is_true};
-use crate::desk::{Desk, pm_desk_commanded, pm_desk_hear, pm_desk_size, pm_desk_word};
+use crate::desk::pm_desk_size;
 use crate::host::{pm_host_size, pm_host_version};
-use crate::output_words::OutputWords;
 use crate::packet::pm_pec;
-use crate::reply_image::ReplyImage;
 use pm_host::{FormatImage, Image, WordsImage};
-
-const OUTPUT: OutputWords = OutputWords {
-    mode: 0x14,
-    unused: 0,
-    words: [0x80, 0x1000, 0x4000, 0x1100, 0x0F00, 0x0000],
-};
-
-const DESK: Desk = Desk {
-    address: 0x58,
-    outputs: 2,
-    r: 0,
-    unused: 0,
-    m: 1,
-    b: 0,
-    protect: 0x00,
-    words: [OUTPUT; 8],
-};
 
 #[test]
 fn sizes_are_those_of_the_header(rt: HostRuntime) {
@@ -275,73 +257,25 @@ fn numbers_stand_alone(rt: HostRuntime) {
     equal(&rt, &microvolts(&none, 1), &(7, 7), &7);
 }
 
-// What the desk says of a frame, and its answer.
-fn hear(desk: &mut Desk, bytes: &[u8], is_request: u8) -> (u8, ReplyImage) {
-    let mut reply = ReplyImage {
-        length: 0,
-        unused: 0,
-        bytes: [0; 16],
-    };
-    let number = pm_desk_hear(desk, bytes, is_request, &mut reply);
-    (number, reply)
-}
-
-// What becomes of one frame: the desk hears it, unless it is lost, and its answer comes back, or a damaged
-// one; the acknowledgement may be lost.
-fn exchanged(image: &mut Image, desk: &mut Desk, fate: u32) -> (u16, u16) {
-    let frame = sending(image);
-    let length = if fate == 1 {
-        0
-    } else {
-        usize::from(frame.length.min(16))
-    };
-    let is_request = u8::from(frame.kind == 2);
-    let (number, mut reply) = hear(desk, &frame.bytes[..length], is_request);
-    if frame.kind == 1 {
-        return finished(image, u8::from(number == 1 && fate != 2));
-    }
-    if fate == 3 {
-        reply.bytes[2] ^= 0x40;
-    }
-    got(image, &reply.bytes[..usize::from(reply.length.min(16))])
-}
-
-// A whole order under these fates, three bits for each frame: how it ended.
-fn lived(image: &mut Image, desk: &mut Desk, word: u16, fates: u32) -> u16 {
-    let mut end = 0xE0;
-    if order(image, 1, 0x21, word) == 0 {
-        for frame in 0..6u32 {
-            if sending(image).kind != 0 {
-                end = exchanged(image, desk, fates >> (3 * frame) & 7).0;
-            }
-        }
-    }
-    end
-}
-
-// Whether the word that the host calls confirmed, if it does, is the desk's.
-fn is_right(image: &Image, desk: &Desk) -> bool {
-    let mut held = 0;
-    let number = pm_desk_word(desk, 1, 0x21, &mut held);
-    let (_, is_confirmed, word) = standing(image, 1, 0x21);
-    number == 0 && (is_confirmed != 1 || word == held)
-}
+// Words of DIRECT with m = 1, an offset b, and R = -9, whose values are 10^9 volts apart, and what is
+// answered: 10^15 microvolts are the most.
+static LARGE: [(i16, u16, (u8, i64)); 5] = [
+    (0, 0x0001, (0, 1_000_000_000_000_000)),
+    (0, 0xFFFF, (0, -1_000_000_000_000_000)),
+    (-1, 0x0001, (0x15, 7)),
+    (1, 0xFFFF, (0x15, 7)),
+    (0, 0x0002, (0x15, 7)),
+];
 
 #[test]
-fn no_confirmed_word_is_wrong_under_faults(rt: HostRuntime) {
-    let mut image = host(3);
-    let mut desk = DESK;
-    let mut drawn = 1u32;
-    let mut done = 0u16;
-    for job in 0..300u16 {
-        drawn = drawn.wrapping_mul(1_664_525).wrapping_add(1_013_904_223);
-        let end = lived(&mut image, &mut desk, 0x1000 + job % 7, drawn >> 14);
-        done = done.saturating_add(u16::from(end == 1));
-        is_true(&rt, end != 0xE0, &job);
-        is_true(&rt, is_right(&image, &desk), &job);
+fn what_is_beyond_the_most_is_refused(rt: HostRuntime) {
+    for &(b, word, wanted) in &LARGE {
+        let format = FormatImage {
+            kind: 2,
+            exponent: -9,
+            m: 1,
+            b,
+        };
+        equal(&rt, &microvolts(&format, word), &wanted, &(b, word));
     }
-    is_true(&rt, done > 200, &done);
-    let mut microvolts = 0;
-    equal(&rt, &pm_desk_commanded(&desk, 0, &mut microvolts), &0, &1);
-    equal(&rt, &microvolts, &1_000_000, &2);
 }

@@ -1,19 +1,22 @@
 //! Words and microvolts, both ways.
 
-ghost use Rattle.std.specs.Prelude.{◌≡◌, ◌≢◌, ◌↔◌, ◌⊎◌, Some, IsSomeAnd, is_none, true};
+ghost use Rattle.std.specs.Prelude.{◌≡◌, ◌≢◌, pos, Some, IsSomeAnd};
 ghost use Rattle.pm_num.specs.AnyFormat.{shape_value, shape_rank};
 ghost use Rattle.pm_num.specs.NearestWord.{nearest_word as spec_nearest_word};
-ghost use Rattle.pm_num.specs.Ratio.{micros};
+ghost use Rattle.pm_num.specs.Ratio.{micros, InBounds};
 ghost use Rattle.pm_host.specs.Image.{format_held, host_of};
 ghost use Rattle.pm_host.specs.Summary.{format_at};
-ghost use Rattle.pm_c.specs.Voltages.{output_number, word_number, IsFar, IsFloor, IsFormat};
+ghost use Rattle.pm_c.specs.Voltages.{floor_number, is_far as spec_is_far, output_number, value_number, word_number, IsFloor, IsFormat};
 
 use crate::numbers::{ACCEPTED, NO_HOST, of_host, of_number};
 use pm_host::{FormatImage, HostFault, Image, nearest_word};
 use pm_num::{Frac, NumFault, NumFormat};
 
-/// The greatest number of microvolts that there is a word for, in size.
+// The greatest number of microvolts that is answered, in size.
 const LIMIT: i128 = 1_000_000_000_000_000;
+
+// Microvolts in a volt.
+const MILLION: i128 = 1_000_000;
 
 /// The format of an output's voltages, as far as the host learned it. E0h, H4.
 #[unsafe(no_mangle)]
@@ -49,16 +52,13 @@ fn kinded(format: FormatImage) -> FormatImage
     }
 }
 
-/// The whole microvolts of a word, rounded down. H7 where the numbers mean no format, N5 beyond 10^15
-/// in size.
+/// The whole microvolts of a word, rounded down. H7 where the numbers mean no format, N5 exactly where
+/// the word's value is beyond 10^15 microvolts in size.
 #[unsafe(no_mangle)]
 pub extern "C" fn pm_microvolts(format: &FormatImage, word: u16, microvolts: &mut i64) -> u8
-    ensures unknown { (result ≡ 7) ↔ (is_none (format_held format.now) ≡ true) }
+    ensures number { result ≡ value_number (format_held format.now) word }
     ensures floor { result ≡ 0 → IsSomeAnd (format_held format.now)
         (λ shape. IsFloor (shape_value shape word) microvolts.new) }
-    ensures far { result ≡ 0x15 → IsSomeAnd (format_held format.now)
-        (λ shape. IsFar (shape_value shape word)) }
-    ensures number { (result ≡ 0) ⊎ (result ≡ 7) ⊎ (result ≡ 0x15) }
     ensures refused { result ≢ 0 → microvolts.new ≡ microvolts.old }
 {
     let Some(format) = format.format() else {
@@ -67,19 +67,27 @@ pub extern "C" fn pm_microvolts(format: &FormatImage, word: u16, microvolts: &mu
     put_floor(&format.value_of(word), microvolts)
 }
 
-/// The whole microvolts of a value, rounded down. N5 beyond 10^15 in size.
+/// The whole microvolts of a value, rounded down. N5 exactly where the value is beyond 10^15 microvolts in
+/// size.
 pub(crate) fn put_floor(value: &Frac, microvolts: &mut i64) -> u8
+    ensures number { result ≡ floor_number value.now }
     ensures floor { result ≡ 0 → IsFloor value.now microvolts.new }
-    ensures far { result ≡ 0x15 → IsFar value.now }
-    ensures number { (result ≡ 0) ⊎ (result ≡ 0x15) }
     ensures refused { result ≢ 0 → microvolts.new ≡ microvolts.old }
 {
-    let floor = value.floor_micro();
-    if floor < -LIMIT || LIMIT < floor {
+    if is_far(value) {
         return of_number(NumFault::TooLarge);
     }
-    *microvolts = floor as i64;
+    *microvolts = value.floor_micro() as i64;
     ACCEPTED
+}
+
+// Whether a value is beyond 10^15 microvolts in size, by cross products.
+fn is_far(value: &Frac) -> bool
+    ensures far { result ≡ spec_is_far value.now }
+    ensures bounds { InBounds value.now.num (pos value.now.den) }
+{
+    let microvolts = value.num() * MILLION;
+    LIMIT * value.den() < microvolts || microvolts < -LIMIT * value.den()
 }
 
 /// The word nearest to a number of microvolts. H7 where the numbers mean no format, N5, N3, N4.
