@@ -92,6 +92,7 @@ ok short0 ok short0h ok|/dev/i2c-1 58 0 3300000|0|ended done, confirmed 34CD, 33
 ok short0 ok short0 ok short0|/dev/i2c-1 58 0 3300000|1|ended differs, confirmed 1000, 1000000 uV|order: 3 of 6 transfers failed, the last: 0 of 1 messages went; the write was lost, or the part refused, limited or rounded the word
 ok false ok false ok false|/dev/i2c-1 58 0 3300000|1|ended differs, confirmed 1000, 1000000 uV|order: the write was lost, or the part refused, limited or rounded the word
 ok short0 short1 short0 short0 short0 short1|/dev/i2c-1 58 0 3300000|1|ended unknown, the output may hold the old or the ordered word|order: 6 of 6 transfers failed, the last: 1 of 2 messages went
+ok false ok false ok false empty|/dev/i2c-1 58 0 3300000|1|ended unknown, the output may hold the old or the ordered word|order: no answer was good
 ok ok empty ok empty ok damaged|/dev/i2c-1 58 0 3300000|1|ended unknown, the output may hold the old or the ordered word|order: no answer was good
 END
 }
