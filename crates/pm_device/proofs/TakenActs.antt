@@ -144,7 +144,7 @@ acts-on_code code output word false act e = go (register_of code) e where
   go (Some register) h = subst (λ a. ActsOn output a) (some-one (Put (Out output register) word) act h) refl
 
 -- two acts that are some are one
-some-act : (x y : Act) → Some x ≡ Some y → x ≡ y
+pub some-act : (x y : Act) → Some x ≡ Some y → x ≡ y
 some-act x y h = cc
 
 -- so the act of any code names it

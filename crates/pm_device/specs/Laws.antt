@@ -24,11 +24,11 @@ use Rattle.pm_device.specs.declared.fault.DeviceFault.TheVariants.{UnsupportedCo
 use Rattle.pm_device.specs.declared.ending.Ending.{Ending}
 use Rattle.pm_device.specs.declared.ending.Ending.TheVariants.{Stop, Restart}
 use Rattle.pm_device.specs.declared.heard.Heard.TheVariants.{Silent, Taken, Answer, Refused}
-use Rattle.pm_device.specs.Held.{Held, is_device_reading, is_output_reading, mode_for, reading_at, value_for}
+use Rattle.pm_device.specs.Held.{Held, no_faults, is_device_reading, is_output_reading, mode_for, reading_at, value_for}
 use Rattle.pm_device.specs.Start.{IsSound, has_direct}
 use Rattle.pm_device.specs.Verdict.{is_answered, names_no_output, output_in, payload_word, verdict_of, write_verdict, written_word}
-use Rattle.pm_device.specs.Effect.{Event, Hearing, kept_in, kept_after}
-use Rattle.pm_device.specs.Status.{CmlBit, fault_bit, with_bit, cml_at, cml_in, vout_in, marked, status_byte, status_cml, status_vout, status_word}
+use Rattle.pm_device.specs.Effect.{Event, Hearing, Reading, Restarted, kept_in, kept_after}
+use Rattle.pm_device.specs.Status.{CmlBit, fault_bit, with_bit, cml_at, cml_in, cut_at, vout_in, marked, status_byte, status_cml, status_vout, status_word}
 use Rattle.pm_device.specs.Reply.{payload_for, register_bytes, register_word, reply_of}
 use Rattle.pm_device.specs.History.{AreHeard, WasCarried, loaded_word, stored_word, next, now, start_of}
 
@@ -91,6 +91,36 @@ pub record RefusalsSetOneBit : Type 0 where
       reply_of held bytes ending ≡ Taken →
       cml_at (next held (Hearing bytes ending)).faults bit ≡ true →
       cml_at held.faults bit ≡ true
+
+-- What an event leaves of the readings and of what is latched. A hearing and a restart leave the readings
+-- (`heard`, `restarted`), and another reading changes nothing else (`measured`). A write that is taken clears
+-- at most STATUS_VOUT of the output that it acts on, and of that output only where its code is CLEAR_FAULTS or
+-- STATUS_VOUT (`others`, `vout`). It leaves STATUS_CML where its code is neither CLEAR_FAULTS nor STATUS_CML
+-- (`cml`), and CLEAR_FAULTS, of whichever output, clears all of STATUS_CML (`clears`).
+pub record LatchesStay : Type 0 where
+  pub heard : (held : Held) (bytes : List ℕ) (ending : Ending) →
+      (next held (Hearing bytes ending)).readings ≡ held.readings
+  pub restarted : (held : Held) → (next held Restarted).readings ≡ held.readings
+  pub measured : (held : Held) (output code word : ℕ) →
+      next held (Reading output code word)
+      ≡ record held { readings = (next held (Reading output code word)).readings }
+  pub others : (held : Held) (message : Message) (bytes : List ℕ) (output : ℕ) →
+      IsWrite held.config.addr message bytes → reply_of held bytes Stop ≡ Taken →
+      output ≢ output_in held.page message → output < 8 → cut_at held.cut output ≡ true →
+      cut_at (next held (Hearing bytes Stop)).cut output ≡ true
+  pub vout : (held : Held) (message : Message) (bytes : List ℕ) (output : ℕ) →
+      IsWrite held.config.addr message bytes → reply_of held bytes Stop ≡ Taken →
+      message_code message ≢ command.clear_faults → message_code message ≢ command.status_vout →
+      output < 8 → cut_at held.cut output ≡ true →
+      cut_at (next held (Hearing bytes Stop)).cut output ≡ true
+  pub cml : (held : Held) (message : Message) (bytes : List ℕ) →
+      IsWrite held.config.addr message bytes → reply_of held bytes Stop ≡ Taken →
+      message_code message ≢ command.clear_faults → message_code message ≢ command.status_cml →
+      (next held (Hearing bytes Stop)).faults ≡ held.faults
+  pub clears : (held : Held) (message : Message) (bytes : List ℕ) →
+      IsWrite held.config.addr message bytes → reply_of held bytes Stop ≡ Taken →
+      message_code message ≡ command.clear_faults →
+      (next held (Hearing bytes Stop)).faults ≡ no_faults
 
 -- What a converter keeps of what an event makes of it, the words of the cells, the store and PAGE, is
 -- `kept_after` the event (`kept`), so the rest speaks of each call of `hear`. A request and a faulty write

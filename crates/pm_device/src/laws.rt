@@ -2,7 +2,7 @@
 //! each is the contract of a function that does nothing, or calls laws of the crates below. A past
 //! is a list of events, newest first. What each says in full stands in `specs/Laws.antt`.
 
-ghost use Rattle.pm_device.specs.Laws.{DeviceCodesIgnorePages, PastsAreFollowed, ReadsAreAnswered, RefusalsSetOneBit, RegistersSayWhatCallsSay, RepliesFollowEndings, UnknownCodesAreRefused, WordsHaveAnOrigin, WritesReachOneCell};
+ghost use Rattle.pm_device.specs.Laws.{DeviceCodesIgnorePages, LatchesStay, PastsAreFollowed, ReadsAreAnswered, RefusalsSetOneBit, RegistersSayWhatCallsSay, RepliesFollowEndings, UnknownCodesAreRefused, WordsHaveAnOrigin, WritesReachOneCell};
 
 use pm_frame::{requests_are_exact, writes_are_exact};
 use pm_model::{outputs_stand_alone, settings_are_a_map};
@@ -38,6 +38,16 @@ pub fn words_have_an_origin()
 pub fn refusals_set_one_bit()
     ensures { RefusalsSetOneBit }
 {}
+
+/// What is measured stays over every hearing and every restart. What is latched stays over a write that is
+/// taken, but for what CLEAR_FAULTS and writes of STATUS_VOUT and STATUS_CML clear: so an output that is
+/// switched off and on, a limit or a margin that is written, and WRITE_PROTECT clear nothing.
+pub fn latches_stay()
+    ensures { LatchesStay }
+{
+    // A frame without a fault is the write that it spells.
+    writes_are_exact();
+}
 
 /// What the words of the cells, the store and PAGE are after one frame: a write of a cell's code, plain
 /// or carried, reaches that cell where its page is there, WRITE_PROTECT allows the code and the cell

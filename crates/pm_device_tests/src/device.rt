@@ -4,6 +4,7 @@ ghost use Rattle.std.specs.Prelude.{◌≡◌, ◌<◌};
 
 mod configurations;
 mod example;
+mod latches;
 mod operation;
 mod outputs;
 mod refusals;

@@ -1,6 +1,6 @@
 //! The user store: what STORE_USER_ALL and RESTORE_USER_ALL do, plain and carried, and what a restart loads.
 
-use super::{hears_row, hears_rows, status};
+use super::{hears_row, hears_rows, status, with_protect};
 use crate::checks::{equal, is_true};
 use crate::fixtures::{CELLS, FIRST, SECOND};
 use crate::frames::{base, frame, hear, page_of, restart, status_cml, stored, word};
@@ -30,7 +30,7 @@ const ONE: [u16; 2] = [0x34CD, 0x1000];
 
 const BOTH: [u16; 2] = [0x34CD, 0x2000];
 
-static ROWS: [Row; 34] = [
+static ROWS: [Row; 33] = [
     ("B0 16 2D", None, START, START, 0x00),
     ("B0 05 04 00 21 CD 34 5A", None, ONE, START, 0x00),
     // What names no output, has a byte too many, or is asked for as a read, is refused.
@@ -78,10 +78,9 @@ static ROWS: [Row; 34] = [
     ("B0 00 01 ED", None, [0x1000, 0x2000], BOTH, 0x00),
     ("B0 16 2D", None, BOTH, BOTH, 0x00),
     ("B0 00 / B1 01 C5", None, BOTH, BOTH, 0x00),
-    // A restore leaves WRITE_PROTECT, which isn't stored.
+    // Before the restart that follows, which gives WRITE_PROTECT its start value.
     ("B0 15 24", None, BOTH, BOTH, 0x00),
     ("B0 10 20 5D", None, BOTH, BOTH, 0x20),
-    ("B0 16 2D", K5, BOTH, BOTH, 0x20),
 ];
 
 fn holds(rt: &impl Abort, converter: &Converter, row: &Row) {
@@ -104,6 +103,27 @@ fn the_outputs_settings_are_stored_and_come_back(rt: HostRuntime) -> Result<(), 
     let row = ("a restart", None, BOTH, BOTH, 0x00);
     holds(&rt, &converter, &row);
     equal(&rt, &page_of(&converter), &0, &1);
+    Ok(())
+}
+
+// At a converter that starts with WRITE_PROTECT 20h: neither a restore nor a store reaches it.
+static PROTECTION: [(&str, u16); 5] = [
+    ("B0 10 00 BD", 0x00),
+    ("B0 16 2D", 0x00),
+    ("B0 15 24", 0x00),
+    ("B0 16 2D", 0x00),
+    ("B0 10 40 7A", 0x40),
+];
+
+#[test]
+fn write_protect_is_not_stored(rt: HostRuntime) -> Result<(), Fail> {
+    let mut converter = with_protect(0x20)?;
+    for &(row, wanted) in &PROTECTION {
+        hears_rows(&rt, &mut converter, &[row]);
+        equal(&rt, &word(&converter, Cell::Protect), &wanted, &row);
+    }
+    restart(&mut converter);
+    equal(&rt, &word(&converter, Cell::Protect), &0x20, &"restart");
     Ok(())
 }
 
