@@ -1,7 +1,7 @@
 pub mod PlainLineLemmas
 pub mod CountLemmas
 pub mod DecodeLemmas
-pub mod GatheredLemmas
+pub mod HoldingLemmas
 pub mod Joins
 pub mod MarkLemmas
 pub mod OpenLineLemmas

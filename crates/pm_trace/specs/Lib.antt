@@ -8,7 +8,7 @@ pub mod ShownLines
 pub mod Trace
 pub mod TraceText
 -- How it is kept.
-pub mod Gathered
+pub mod Holdings
 pub mod Marks
 pub mod OpenLines
 pub mod Parts

@@ -1,20 +1,21 @@
-mod gathered;
 mod intake;
 mod line_kind;
 pub(crate) mod open_line;
 mod part;
+pub(crate) mod printer;
 mod slashes;
 
 ghost use Rattle.std.specs.Prelude.{◌≡◌};
 
-use crate::decoder::gathered::Gathered;
 use crate::decoder::intake::Intake;
+use crate::decoder::open_line::OpenLine;
 pub use crate::decoder::part::PART_BYTES;
+use crate::decoder::printer::{Printer, Unprinted};
 use crate::fed::Fed;
 use crate::shown::Shown;
 use crate::tally::Tally;
 use pm_lines::{MAX_TEXT, TextFault};
-use std::alloc::Global;
+use std::alloc::{AllocError, Global};
 use std::marker::Model;
 
 /// Reads a trace as its bytes come, in pieces of any size, and shows each line as it ends. It keeps
@@ -22,40 +23,52 @@ use std::marker::Model;
 /// is shown. It takes no memory but for the count of a code that is new in the trace.
 #[derive(Debug, Drop)]
 pub struct Decoder {
-    gathered: Gathered,
+    // The lines that ended, but for those that are skipped.
+    tally: Tally,
+    // The line that goes on, or the one that is shown.
+    line: OpenLine,
+    // The last call ended the line, which isn't skipped.
+    is_shown: bool,
+    // How many bytes were taken.
+    taken: usize,
+    // How many lines ended, the skipped ones too.
+    ended: u64,
     intake: Intake,
 }
 
 impl Model for Decoder {
     ghost use Rattle.pm_trace.specs.Decoding.{Holding};
-    ghost use Rattle.pm_trace.specs.Gathered.{kept_in, shown_in, lines_at_end, IsBounded};
 
     ghost Value = { Holding };
 
-    ghost view = { λ d. record {
-      kept = kept_in d.gathered;
-      shown = shown_in d.gathered;
-      intake = d.intake;
-    } };
+    ghost use Rattle.pm_trace.specs.Holdings.{holding_in, IsSound};
 
-    ghost invariant = { λ d. IsBounded (lines_at_end d.intake) d.gathered };
+    ghost view = { holding_in };
+
+    ghost invariant = { IsSound };
 }
 
 impl Decoder {
-    ghost use Rattle.std.specs.Prelude.{[], ◌⊎◌, ◌+◌, ◌≤◌, ◌<◌, ◌^◌, ◌++◌, length, take, None, Some, IfOk, IfErr, OnOk, OnErr, option_map, string_bytes};
+    ghost use Rattle.std.specs.Prelude.{[], ◌⊎◌, ◌+◌, ◌≤◌, ◌<◌, ◌^◌, ◌++◌, length, take, flat_map, None, Some, IfOk, IfErr, OnOk, OnErr, option_map};
     ghost use Rattle.std.specs.Result.{result_err};
     ghost use Rattle.pm_trace.specs.Counts.{lines_in};
-    ghost use Rattle.pm_trace.specs.Decoding.{IsFresh, Feeds, Finishes, Fails, CarriesNew, refusal_of, taken_of, first_line, told, told_by, some_told};
+    ghost use Rattle.pm_trace.specs.Decoding.{IsFresh, Feeds, Finishes, Fails, CarriesNew, refusal_of, taken_of, first_line, told, told_by, some_told, line_told, line_ended};
+    ghost use Rattle.pm_trace.specs.Holdings.{IsBounded, Takes, lines_at_end};
+    ghost use Rattle.pm_trace.specs.OpenLines.{is_begun as spec_is_begun};
     ghost use Rattle.pm_trace.specs.ShownLines.{told_in};
-    ghost use Rattle.pm_trace.specs.TraceText.{told_lines};
     ghost use Rattle.pm_lines.specs.Streams.{max_text};
 
     /// A decoder that took no byte. Takes no memory.
+    #[tactic(auto, unfolding(crate::specs::Decoding::now, crate::specs::Decoding::said, crate::specs::Counts::counts_of))]
     pub fn new(alloc: Global) -> Decoder
         ensures { IsFresh result }
     {
         Decoder {
-            gathered: Gathered::new(alloc),
+            tally: Tally::new(alloc),
+            line: OpenLine::new(),
+            is_shown: false,
+            taken: 0,
+            ended: 0,
             intake: Intake::Open,
         }
     }
@@ -91,54 +104,47 @@ impl Decoder {
             ⊎ ((refusal_of self.old piece.now ≡ None) × (fault ≡ TextFault.Memory)
             × CarriesNew self.old.kept.counts (told self.old.kept (taken_of self.old piece.now)))) }
     {
-        let fed = self.take(piece);
+        let fed = self.take(piece, &mut Unprinted);
         if let Err(fault) = fed {
             self.fail(fault);
         }
         fed
     }
 
-    // Takes bytes of a piece.
-    fn take(&mut self, piece: &[u8]) -> Result<Fed, TextFault>
+    /// As `feed`, and prints what the line says that ends, if it isn't skipped. After a refusal the
+    /// decoder is not used again.
+    pub(crate) fn take<P: Printer>(
+        &mut self,
+        piece: &[u8],
+        printer: &mut P,
+    ) -> Result<Fed, TextFault>
         ensures fed { IfOk result (λ fed. Feeds self.old piece.now fed self.new) }
         ensures within { IfOk result (λ fed. fed.taken ≤ length piece.now) }
         ensures room { self.new.kept.taken ≤ max_text }
         ensures counts { OnErr result (self.new.kept.counts ≡ self.old.kept.counts) }
         ensures taken { OnOk result (refusal_of self.old piece.now ≡ None) }
-        ensures refused { IfErr result (λ fault. (refusal_of self.old piece.now ≡ Some fault)
+        ensures printed { OnOk result (P.text printer.new ≡ P.text printer.old
+            ++ flat_map P.line (told self.old.kept (taken_of self.old piece.now))) }
+        ensures refused { IfErr result (λ fault.
+            ((refusal_of self.old piece.now ≡ Some fault) × (P.text printer.new ≡ P.text printer.old))
             ⊎ ((refusal_of self.old piece.now ≡ None) × (fault ≡ TextFault.Memory)
-            × CarriesNew self.old.kept.counts (told self.old.kept (taken_of self.old piece.now)))) }
+            × (CarriesNew self.old.kept.counts (told self.old.kept (taken_of self.old piece.now)) ⊎ P.WantsMemory))) }
     {
         let room = self.room(piece)?;
-        self.gathered.begin();
+        self.begin();
         if room == 0 {
             return Ok(Fed::NOTHING);
         }
-        Ok(self.gathered.take_line(&piece[..room])?)
-    }
-
-    /// As `feed`, and appends what the line says that ends, if it isn't skipped, to a text, with a
-    /// line feed. After a refusal the decoder is not used again.
-    pub(crate) fn tell(&mut self, piece: &[u8], text: &mut String) -> Result<Fed, TextFault>
-        ensures fed { IfOk result (λ fed. Feeds self.old piece.now fed self.new) }
-        ensures within { IfOk result (λ fed. fed.taken ≤ length piece.now) }
-        ensures room { self.new.kept.taken ≤ max_text }
-        ensures text { OnOk result (string_bytes text.new
-            ≡ string_bytes text.old ++ told_lines (told self.old.kept (taken_of self.old piece.now))) }
-        ensures taken { OnOk result (refusal_of self.old piece.now ≡ None) }
-        ensures refused { IfErr result (λ fault. ((refusal_of self.old piece.now ≡ Some fault)
-            × (string_bytes text.new ≡ string_bytes text.old)) ⊎ (fault ≡ TextFault.Memory)) }
-    {
-        let room = self.room(piece)?;
-        self.gathered.begin();
-        if room == 0 {
-            return Ok(Fed::NOTHING);
+        let fed = self.take_bytes(&piece[..room]);
+        if fed.ended {
+            self.end_line(printer)?;
         }
-        Ok(self.gathered.tell_line(&piece[..room], text)?)
+        Ok(fed)
     }
 
     // How many bytes of a piece may be looked at, or why none is taken.
     fn room(&self, piece: &[u8]) -> Result<usize, TextFault>
+        ensures limit { self.now.kept.taken ≤ max_text }
         ensures within { IfOk result (λ room. room ≤ length piece.now) }
         ensures room { IfOk result (λ room. self.now.kept.taken + room ≤ max_text) }
         ensures open { IfOk result (λ room. 0 < room → self.now.intake ≡ Intake.Open) }
@@ -150,11 +156,63 @@ impl Decoder {
             Intake::Finished => return Ok(0),
             Intake::Failed(fault) => return Err(fault),
         }
-        let room = MAX_TEXT - self.gathered.taken;
+        let room = MAX_TEXT - self.taken;
         if room == 0 && !piece.is_empty() {
             return Err(TextFault::TooLong);
         }
         Ok(room.min(piece.len()))
+    }
+
+    // Shows no line from here on.
+    fn begin(&mut self)
+        ensures begun { self.new ≡ record self.old { shown = None } }
+        ensures bounded { IsBounded (lines_at_end self.new.intake) self.new.kept }
+    {
+        if self.is_shown {
+            self.line.clear();
+            self.is_shown = false;
+        }
+    }
+
+    // Takes the bytes up to the first line feed, and with it, or all of them. A line that ends with
+    // them isn't ended yet.
+    fn take_bytes(&mut self, bytes: &[u8]) -> Fed
+        requires unshown { self.old.shown ≡ None }
+        requires room { self.old.kept.taken + length bytes.now ≤ max_text }
+        ensures { Takes self.old bytes.now result self.new }
+    {
+        let rest = self.line.take_line(bytes);
+        let ended = !rest.is_empty();
+        let taken = bytes.len() - rest.len() + usize::from(ended);
+        self.taken += taken;
+        Fed { taken, ended }
+    }
+
+    // Ends the line: counts, prints and shows it, if it isn't skipped. Memory is wanted only where its
+    // code is new, and by the printer; where it was refused nothing changes.
+    fn end_line<P: Printer>(&mut self, printer: &mut P) -> Result<(), AllocError>
+        requires unshown { self.old.shown ≡ None }
+        requires bounded { IsBounded (lines_at_end self.old.intake) self.old.kept }
+        requires ended { self.old.kept.ended + 1 ≤ self.old.kept.taken + lines_at_end self.old.intake }
+        ensures ended { OnOk result (self.new ≡ record self.old {
+          kept = line_ended self.old.kept;
+          shown = line_told self.old.kept;
+        }) }
+        ensures printed { OnOk result (P.text printer.new ≡ P.text printer.old
+            ++ flat_map P.line (some_told (line_told self.old.kept))) }
+        ensures memory { OnErr result (CarriesNew self.old.kept.counts (some_told (line_told self.old.kept)) ⊎ P.WantsMemory) }
+        ensures unchanged { OnErr result (self.new ≡ self.old) }
+    {
+        match self.line.shown() {
+            Some(shown) => {
+                printer.print(self.ended + 1, &shown)?;
+                self.tally.count(&shown)?;
+                self.is_shown = true;
+            }
+            None => self.line.clear(),
+        }
+        self.ended += 1;
+        Ok(())
     }
 
     // Refuses from then on.
@@ -162,7 +220,7 @@ impl Decoder {
         ensures fails { Fails self.old fault self.new }
         ensures room { self.new.kept.taken ≤ max_text }
     {
-        self.gathered.begin();
+        self.begin();
         self.intake = Intake::Failed(fault);
     }
 
@@ -203,13 +261,21 @@ impl Decoder {
             Intake::Finished => false,
             Intake::Failed(fault) => return Err(fault),
         };
-        self.gathered.begin();
-        let ends = is_open && self.gathered.line.is_begun();
-        if ends {
-            self.gathered.end_line()?;
-        }
+        self.begin();
+        let ends = is_open && self.is_begun();
         self.intake = Intake::Finished;
+        if ends {
+            self.end_line(&mut Unprinted)?;
+        }
         Ok(ends)
+    }
+
+    // Whether the line that goes on has a byte.
+    fn is_begun(&self) -> bool
+        requires { self.now.shown ≡ None }
+        ensures { result ≡ spec_is_begun self.now.kept.line }
+    {
+        self.line.is_begun()
     }
 
     /// The line that the last call ended, with its number; the first line of a trace has number 1.
@@ -218,11 +284,11 @@ impl Decoder {
     pub fn line(&self) -> Option<(u64, Shown<'_>)>
         ensures { option_map told_in result ≡ self.now.shown }
     {
-        if !self.gathered.has_ended {
+        if !self.is_shown {
             return None;
         }
-        let shown = self.gathered.line.shown()?;
-        Some((self.gathered.ended, shown))
+        let shown = self.line.shown()?;
+        Some((self.ended, shown))
     }
 
     /// How many lines ended that are not skipped, and how many of these were accepted, have a faulty
@@ -235,7 +301,7 @@ impl Decoder {
           self.now.kept.counts.bad,
         ) }
     {
-        self.gathered.tally.lines()
+        self.tally.lines()
     }
 
     /// The counts, with those of the codes.
@@ -243,6 +309,6 @@ impl Decoder {
         ensures tally { result.now ≡ self.now.kept.counts }
         ensures few { lines_in result.now < 2 ^ 64 }
     {
-        &self.gathered.tally
+        &self.tally
     }
 }

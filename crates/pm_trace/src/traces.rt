@@ -146,7 +146,7 @@ fn push_lines(text: &mut String, decoder: &mut Decoder, piece: &[u8]) -> Result<
 {
     let mut rest = piece;
     'pieces: while !rest.is_empty() {
-        match decoder.tell(rest, text) {
+        match decoder.take(rest, text) {
             Ok(fed) => rest = past(rest, fed.taken),
             Err(TextFault::TooLong) => return Ok(false),
             Err(fault) => return Err(fault),
