@@ -146,7 +146,8 @@ BUSES = [
         "(ls /dev/i2c-*)\n", 2, faults={"open": errno.ENOENT}),
     Row(ALL, "", "bus.py: /dev/i2c-7: Permission denied: be root, or ask for leave to open it (ls -l /dev/i2c-7)\n", 2,
         faults={"open": errno.EACCES}),
-    Row(ALL, "", "bus.py: /dev/i2c-7: No such device\n", 2, faults={"open": errno.ENODEV}),
+    Row(ALL, "", "bus.py: /dev/i2c-7: No such device: no adapter has this number (ls /sys/bus/i2c/devices)\n", 2,
+        faults={"open": errno.ENODEV}),
     Row(ALL, "", "bus.py: 7-0058 is held by a driver of the kernel: unbind it, echo 7-0058 > "
         "/sys/bus/i2c/devices/7-0058/driver/unbind, or give --force\n", 2, faults={I2C_SLAVE: errno.EBUSY}),
     Row("probe", "", "bus.py: 7-0058 is held by a driver of the kernel: unbind it, echo 7-0058 > "
