@@ -134,7 +134,8 @@ SHORT_COUNTS = [
     # at this address the zeros of an empty buffer would be a good answer, with the right PEC
     Row("--passes=2 check - WRITE_PROTECT + state - WRITE_PROTECT",
         "check - WRITE_PROTECT: ended unknown\nstate - WRITE_PROTECT: state unknown possible any\n",
-        failed("check - WRITE_PROTECT", 2, "1 of 2 messages went"), 1, mishaps="short0 short1", address="48", part=Absent),
+        failed("check - WRITE_PROTECT", 2, "1 of 2 messages went"), 1, mishaps="short0 short1", address="48",
+        part=Absent),
     # each message of each pass of an order, once: the job is done in a further pass
     *[Row(f"{LEARN} + {VOLTS}", f"{LEARN}: ended learned\n{VOLTS}: ended done\n", held="34CD",
           mishaps="ok " * place + mishap)
