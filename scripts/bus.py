@@ -84,6 +84,15 @@ def complain(words):
         print(f"bus.py: {words}", file=sys.stderr, flush=True)
 
 
+def frame_of(answer):
+    """The frame that the host wants sent, and how many bytes it wants back, None of a write."""
+    found = SEND.fullmatch(answer)
+    if not found:
+        raise NoAnswer(f"the host said {answer!r}")
+    frame, count = found.groups()
+    return list(bytes.fromhex(frame)), None if count is None else int(count)
+
+
 class Run:
     """The jobs of a call over a bus. What is under way stands in `attempts`."""
 
@@ -113,9 +122,7 @@ class Run:
         self.attempts = Attempts(job)
         answer = self.host.ask(self.attempts.said)
         while answer.startswith("send "):
-            frame, count = SEND.fullmatch(answer).groups()
-            frame, count = list(bytes.fromhex(frame)), None if count is None else int(count)
-            answer = self.host.ask(self.attempts.told(self.bus, frame, count))
+            answer = self.host.ask(self.attempts.told(self.bus, *frame_of(answer)))
         self.say(f"{self.attempts.said}: {answer}")
         why = refused_words(answer) if answer.startswith("refused") else self.attempts.why()
         if why and not answer.startswith(ENDED_WELL):
@@ -130,9 +137,7 @@ class Run:
 
     def unsure(self):
         """What is unknown of the job under way."""
-        if not self.attempts:
-            return "no job was open"
-        return self.attempts.unsure()
+        return self.attempts.unsure() if self.attempts else "no job was open"
 
 
 def carry_out(call, kernel):
@@ -155,7 +160,7 @@ def carry_out(call, kernel):
         complain(f"{fault}{run.unsaid}")
         return BAD_CALL
     except NoAnswer as fault:
-        complain(f"{fault}; {run.unsure()}" if run and run.attempts and run.attempts.has_written else fault)
+        complain(f"{run.attempts.said}: {fault}; {run.unsure()}" if run and run.attempts else fault)
         return 1
     except NoBus as fault:
         complain(fault)

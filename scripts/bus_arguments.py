@@ -30,7 +30,7 @@ class Call:
     address: int
     outputs: int = 8
     passes: int = 3
-    trace: str | None = None
+    trace: str = None
     is_forced: bool = False
     jobs: tuple = ()
 

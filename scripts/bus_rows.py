@@ -134,7 +134,8 @@ SHORT_COUNTS = [
     # at this address the zeros of an empty buffer would be a good answer, with the right PEC
     Row("--passes=2 check - WRITE_PROTECT + state - WRITE_PROTECT",
         "check - WRITE_PROTECT: ended unknown\nstate - WRITE_PROTECT: state unknown possible any\n",
-        failed("check - WRITE_PROTECT", 2, "1 of 2 messages went"), 1, mishaps="short0 short1", address="48", part=Absent),
+        failed("check - WRITE_PROTECT", 2, "1 of 2 messages went"), 1, mishaps="short0 short1", address="48",
+        part=Absent),
     # each message of each pass of an order, once: the job is done in a further pass
     *[Row(f"{LEARN} + {VOLTS}", f"{LEARN}: ended learned\n{VOLTS}: ended done\n", held="34CD",
           mishaps="ok " * place + mishap)
@@ -146,7 +147,8 @@ BUSES = [
         "(ls /dev/i2c-*)\n", 2, faults={"open": errno.ENOENT}),
     Row(ALL, "", "bus.py: /dev/i2c-7: Permission denied: be root, or ask for leave to open it (ls -l /dev/i2c-7)\n", 2,
         faults={"open": errno.EACCES}),
-    Row(ALL, "", "bus.py: /dev/i2c-7: No such device\n", 2, faults={"open": errno.ENODEV}),
+    Row(ALL, "", "bus.py: /dev/i2c-7: No such device: no adapter has this number (ls /sys/bus/i2c/devices)\n", 2,
+        faults={"open": errno.ENODEV}),
     Row(ALL, "", "bus.py: 7-0058 is held by a driver of the kernel: unbind it, echo 7-0058 > "
         "/sys/bus/i2c/devices/7-0058/driver/unbind, or give --force\n", 2, faults={I2C_SLAVE: errno.EBUSY}),
     Row("probe", "", "bus.py: 7-0058 is held by a driver of the kernel: unbind it, echo 7-0058 > "

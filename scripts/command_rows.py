@@ -109,6 +109,8 @@ class Process:
     around: tuple = ()
 
 
+# Hosts that aren't pmbhost: one that ends while a frame is sent, one whose frame is none.
+HOSTS = {"ended": "read line; echo send B0 05 04 00 21 CD 34 5A", "babbling": "read line; echo send BO; read line"}
 PROCESSES = [
     Process(ORDER, "", f"{ORDER}: ended done\n", "", 0),
     Process(f"{ORDER} + {CHECK}", "", "",
@@ -126,7 +128,13 @@ PROCESSES = [
     Process(f"--trace=/dev/full {ORDER} + {CHECK}", "", f"{ORDER}: ended done\n",
             "bus.py: /dev/full: No space left on device\n", 2),
     Process("seen", "", "", "no program at /nowhere: build it by", 1, around=(("PMBHOST", "/nowhere"),)),
-    Process("seen", "", "", "bus.py: the host ended: ", 1, around=(("PMBHOST", "/bin/cat"),)),
+    Process("seen", "", "", "bus.py: seen: the host ended: /bin/cat: unrecognized option", 1,
+            around=(("PMBHOST", "/bin/cat"),)),
+    Process(ORDER, "", "",
+            f"bus.py: {ORDER}: the host ended; output 0 VOUT_COMMAND may hold the old or the ordered word\n", 1,
+            around=(("PMBHOST", "./ended"),)),
+    Process(ORDER, "", "", f"bus.py: {ORDER}: the host said 'send BO'; nothing was written\n", 1,
+            around=(("PMBHOST", "./babbling"),)),
     Process("probe", "", "PEC yes, PAGE_PLUS yes, 2 outputs: 0 ULINEAR16 -12, 1 ULINEAR16 -12\n", "", 0,
             around=(("PMBHOST", "/nowhere"),)),
 ]

@@ -44,23 +44,24 @@ class Session:
             self.process.stdin.write(line + b"\n")
             self.process.stdin.flush()
         except OSError as fault:
-            raise NoAnswer(f"the host ended: {self.words()}") from fault
+            raise NoAnswer(self.words()) from fault
         while b"\n" not in self.kept:
             ready, _, _ = select.select([self.process.stdout], [], [], self.seconds)
             piece = os.read(self.process.stdout.fileno(), 4096) if ready else b""
             if not piece:
                 late = f"no answer to {line!r} in {self.seconds} s"
-                raise NoAnswer(f"the host ended: {self.words()}" if ready else late)
+                raise NoAnswer(self.words() if ready else late)
             self.kept += piece
         answer, _, self.kept = self.kept.partition(b"\n")
         if self.kept:
             raise NoAnswer(f"more than one line for {line!r}: {answer + self.kept!r}")
-        return answer.decode()
+        return answer.decode("utf-8", "replace")
 
     def words(self):
-        """What the host said on standard error."""
+        """That the host ended, and what it said on standard error."""
         self.process.wait(self.seconds)
-        return " ".join(self.process.stderr.read().decode().split())
+        said = " ".join(self.process.stderr.read().decode("utf-8", "replace").split())
+        return f"the host ended: {said}" if said else "the host ended"
 
     def abandon(self):
         """Ends the host where it stands."""

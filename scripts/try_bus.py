@@ -26,7 +26,7 @@ import fake_i2c  # noqa: E402
 import program  # noqa: E402
 import session  # noqa: E402
 from bus_rows import JOBS, LAYOUT  # noqa: E402
-from command_rows import ARGUMENTS, PROCESSES, TRANSFERS, WITHOUT_TOOL  # noqa: E402
+from command_rows import ARGUMENTS, HOSTS, PROCESSES, TRANSFERS, WITHOUT_TOOL  # noqa: E402
 
 SCRIPTS = os.path.join(program.ROOT, "scripts")
 # bus.py as a process of its own, over the stand-in.
@@ -44,6 +44,13 @@ class Trial:
     def __init__(self, folder):
         self.folder, self.pmb = folder, program.needed()
         self.passed = self.failed = 0
+
+    def put(self, name, commands):
+        """A shell script in the folder, which can be run where it has commands."""
+        path = os.path.join(self.folder, name)
+        with open(path, "w", encoding="ascii") as file:
+            file.write(f"#!/bin/sh\n{commands}\n")
+        os.chmod(path, 0o755 if commands else 0o600)
 
     def tell(self, name, differences):
         """Counts a run; what differs in it is printed."""
@@ -120,10 +127,7 @@ class Trial:
 
     def transfers(self, row):
         """Frames that frames_to_i2ctransfer.py has a stand-in for i2ctransfer send."""
-        path = os.path.join(self.folder, "i2ctransfer")
-        with open(path, "w", encoding="ascii") as file:
-            file.write(f"#!/bin/sh\n{row.tool}\n")
-        os.chmod(path, 0o755 if row.tool else 0o600)
+        self.put("i2ctransfer", row.tool)
         around = {**os.environ, "PATH": f"{self.folder}:/usr/bin:/bin"}
         tool = os.path.join(SCRIPTS, "frames_to_i2ctransfer.py")
         words = ["bash", "-c", f'"$@" {row.redirections}', "bash", sys.executable, tool, *row.words.split()]
@@ -148,6 +152,8 @@ def main():
             trial.job(row)
         for words, said in ARGUMENTS:
             trial.arguments(words, said)
+        for name, commands in HOSTS.items():
+            trial.put(name, commands)
         for row in PROCESSES:
             trial.process(row)
         installed = shutil.which("i2ctransfer", path="/usr/bin:/bin:/usr/sbin:/sbin")

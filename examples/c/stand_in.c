@@ -83,16 +83,18 @@ static int transfer(const struct i2c_rdwr_ioctl_data *whole) {
 int __wrap_ioctl(int bus, unsigned long request, ...) {
     va_list rest;
     int number = bus - FIRST_FILE;
+    va_start(rest, request);
+    void *argument = va_arg(rest, void *);
+    va_end(rest);
     if (number == 4)
         return fails(ENOTTY);
     if (request == I2C_SLAVE)
         return number == 2 ? fails(EBUSY) : 0;
-    if (number != 1 || request != I2C_RDWR)
-        return fails(EINVAL);
-    va_start(rest, request);
-    const struct i2c_rdwr_ioctl_data *whole = va_arg(rest, void *);
-    va_end(rest);
-    return transfer(whole);
+    if (request == I2C_FUNCS)
+        *(unsigned long *)argument = I2C_FUNC_I2C;
+    else if (number == 1 && request == I2C_RDWR)
+        return transfer(argument);
+    return request == I2C_FUNCS ? 0 : fails(EINVAL);
 }
 
 int __wrap_close(int bus) {

@@ -6,9 +6,10 @@
 #
 # JOBS is how many jobs both ends live through, 20000 if left out. With --archive that file is taken and
 # nothing is built. Programs of gcc and clang are run once more with their sanitizers, where they have them.
-# The order over a Linux bus runs over a stand-in for the kernel, with all that a user or a bus does wrong. The
-# stack that the archive says it needs must be what the header promises. Says a line for each program, what
-# isn't on this machine, and last how many passed and failed.
+# The order over a Linux bus runs over a stand-in for the kernel, with all that a user or a bus does wrong, and
+# so does scripts/bus.py, if pmbhost is built or PMBHOST names one. The stack that the archive says it needs must
+# be what the header promises. Says a line for each program, what isn't on this machine, and last how many passed
+# and failed.
 set -u
 case " $* " in *" --help "* | *" -h "*) sed -n '2,/^[^#]/s/^# \{0,1\}//p' "$0"; exit 0 ;; esac
 cd "$(dirname "$0")/../.."
@@ -97,24 +98,58 @@ ok ok empty ok empty ok damaged|/dev/i2c-1 58 0 3300000|1|ended unknown, the out
 END
 }
 
-# bus_program NAME COMPILER: the order over the Linux bus, and each row of it
-bus_program() {
-    local row=0 mishaps arguments status out err
-    program "$1 Linux bus" examples/c/i2c_dev.expected "$2 -D_DEFAULT_SOURCE $wraps" examples/c/i2c_dev.c \
-        examples/c/stand_in.c -- /dev/i2c-1 58 0 3300000
+# The same of scripts/bus.py, which makes its own calls of the kernel; \n parts the lines.
+script_rows() {
+    cat << 'END'
+short1 ok short0 short0 ok ok|1 58 learn 0 + volts 0 VOUT_COMMAND 3300000|0|learn 0: ended learned\nvolts 0 VOUT_COMMAND 3300000: ended done|
+short0 short0 short0|1 58 clear 0|1|clear 0: ended unknown|clear 0: 3 transfers failed, the last: 0 of 1 message went
+deaf deaf deaf|1 58 learn 0|1|learn 0: ended unknown|learn 0: 3 transfers failed, the last: No such device or address
+damaged empty damaged|1 58 learn 0|1|learn 0: ended unknown|learn 0: 3 answers weren't good: F4 WrongCount 1
+|1 58 probe|0|PEC yes, PAGE_PLUS yes, 1 output: 0 ULINEAR16 -12|
+|2 58 probe|2||2-0058 is held by a driver of the kernel: unbind it, echo 2-0058 > /sys/bus/i2c/devices/2-0058/driver/unbind, or give --force
+|3 58 probe|2||/dev/i2c-3: Permission denied: be root, or ask for leave to open it (ls -l /dev/i2c-3)
+|4 58 probe|2||/dev/i2c-4: Inappropriate ioctl for device: it is no I2C bus
+|9 58 probe|2||/dev/i2c-9: No such file or directory: load i2c-dev (modprobe i2c-dev), and look for the bus (ls /dev/i2c-*)
+END
+}
+
+# rows NAME PREFIX PROGRAM: runs a program on each row of standard input; PREFIX begins what it says on standard error
+rows() {
+    local row=0 mishaps arguments status out err ended
     while IFS='|' read -r mishaps arguments status out err; do
         row=$((row + 1))
-        printf '%s' "${out:+$out$'\n'}${err:+i2c_dev: $err$'\n'}" > "$folder/wanted"
-        eval "MISHAPS=\$mishaps timeout 60 \$folder/program $arguments" > "$folder/out" 2> "$folder/log"
-        local ended=$?
+        printf '%b' "${out:+$out\n}${err:+$2: $err\n}" > "$folder/wanted"
+        eval "MISHAPS=\$mishaps timeout 60 $3 $arguments" > "$folder/out" 2> "$folder/log" < /dev/null
+        ended=$?
         cat "$folder/log" >> "$folder/out"
         if [ "$ended" = "$status" ] && cmp -s "$folder/wanted" "$folder/out"; then
             passed=$((passed + 1))
         else
-            failed=$((failed + 1)); echo "$1 Linux bus, $arguments with '$mishaps': FAILED (status $ended)"; cat "$folder/out"
+            failed=$((failed + 1)); echo "$1, $arguments with '$mishaps': FAILED (status $ended)"; cat "$folder/out"
         fi
-    done < <(bus_rows)
-    echo "$1 Linux bus: $row rows"
+    done
+    echo "$1: $row rows"
+}
+
+# bus_program NAME COMPILER: the order over the Linux bus, and each row of it
+bus_program() {
+    program "$1 Linux bus" examples/c/i2c_dev.expected "$2 -D_DEFAULT_SOURCE $wraps" examples/c/i2c_dev.c \
+        examples/c/stand_in.c -- /dev/i2c-1 58 0 3300000
+    bus_rows > "$folder/rows"
+    rows "$1 Linux bus" i2c_dev "$folder/program" < "$folder/rows"
+}
+
+# bus_script: scripts/bus.py over the stand-in, where Python, gcc and pmbhost are there
+bus_script() {
+    if ! command -v python3 > /dev/null || ! command -v gcc > /dev/null || ! command -v "$host" > /dev/null; then
+        echo "scripts/bus.py: no python3, no gcc or no pmbhost here"; return
+    fi
+    if ! gcc -O2 -Wall -Wextra -Werror -shared -fPIC -Icrates/pm_c/include scripts/c/preload.c "$archive" \
+        -o "$folder/preload.so" -ldl > "$folder/log" 2>&1; then
+        told "scripts/bus.py" build; return
+    fi
+    script_rows > "$folder/rows"
+    rows scripts/bus.py bus.py "env PMBHOST=$host LD_PRELOAD=$folder/preload.so scripts/bus.py" < "$folder/rows"
 }
 
 # program NAME WANTED COMPILER SOURCES .. -- ARGUMENTS ..
@@ -135,6 +170,8 @@ size -t "$archive" | awk 'END {print "archive: " $1 " bytes of text"}'
 mkdir "$folder/objects"
 (cd "$folder/objects" && ar x "$archive")
 for object in "$folder"/objects/*; do bound "$object"; done
+host=${PMBHOST-$PWD/crates/pmbhost/out/pmbhost}
+bus_script
 printf 'first' > "$folder/faults.wanted"
 wraps="-Wl,--wrap=open,--wrap=ioctl,--wrap=close"
 for each in gcc clang g++ clang++; do
