@@ -200,9 +200,9 @@ class Picture:
         for x, lane in self.lanes.values():
             self.parts += lane.heads(x, y, first)
         for register, x in self.beliefs_at.items():
-            self.parts.append(text(x, y - 8, register[1], 12, PALE))
+            self.parts.append(text(x, y - 8, register[1], 11, PALE))
         for output, (x, _) in self.status_at.items():
-            self.parts.append(text(x, y - 8, "STATUS_CML" if output is None else "STATUS_WORD", 12, PALE))
+            self.parts.append(text(x, y - 8, "STATUS_CML" if output is None else "STATUS_WORD", 11, PALE))
 
     def draw_row(self, place, row):
         top, colour = self.tops(place), MARKS[row.mark[0]]

@@ -193,7 +193,7 @@ class Seen:
         if last:
             mark = "fault", f"not taken: {self.run.stop}"
             self.rows.append(Row(last.number, last.words, mark, self.run.reports[-1], model))
-        self.jobs = jobs_of(self.rows)
+        self.jobs = jobs_of(self.rows[:len(self.run.events) + 1])
 
 
 def jobs_of(rows):
