@@ -73,7 +73,8 @@ class Drawn:
                 said = [it.words for it in self.texts
                         if it.anchor == "middle" and x < it.x < x + wide and y < it.y < y + high]
                 for place in self.rows_over(y, y + high):
-                    found[self.output_at(x), self.columns[x], place] = (title.text, bar.get("stroke"), bar.get("fill"), said)
+                    told = title.text, bar.get("stroke"), bar.get("fill"), said
+                    found[self.output_at(x), self.columns[x], place] = told
         return found
 
     def boxes(self, fill, radius):

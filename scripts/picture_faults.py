@@ -103,7 +103,7 @@ def word_faults(drawn, plain):
 
 
 def status_faults(drawn, plain):
-    """STATUS_CML is drawn where it isn't 0, and an output's STATUS_WORD with STATUS_VOUT, with the names of their bits."""
+    """STATUS_CML is drawn where it isn't 0, and an output's STATUS_WORD with STATUS_VOUT, with their bits' names."""
     bars = drawn.bars()
     for output in [None, *drawn.lanes]:
         name = "STATUS_WORD" if output is not None else "STATUS_CML"
@@ -157,7 +157,8 @@ def scale_faults(drawn, plain):
         if max(every) > min(every) and ends[1] - ends[0] > 1.35 * (max(every) - min(every)) + 2:
             yield f"the scale of output {output} has too much room: {low.words} to {high.words}"
         for place, after in enumerate(plain.reports):
-            for micros, found in (([after.outputs[output][1]], voltages), (plain.limits(output, place).values(), limits)):
+            those = plain.limits(output, place).values()
+            for micros, found in ([after.outputs[output][1]], voltages), (those, limits):
                 shares = [(it - ends[0]) / (ends[1] - ends[0]) for it in micros]
                 wanted = sorted(lane.PAD + it * (wide - 2 * lane.PAD) for it in shares)
                 at = sorted(found.get((output, place), []))
@@ -176,8 +177,9 @@ def limit_faults(drawn, plain):
             for place in range(first + 1, end):
                 before, after = (plain.limits(output, it) for it in (place - 1, place))
                 changed = {name: micro for name, micro in after.items() if before[name] != micro}
-                label = [it.words for it in drawn.texts if it.colour == drawing.LIMIT and drawn.output_at(it.x) == output
-                         and drawn.row_at(it.y) == place and it.y < drawn.tops[place] + picture.ROW]
+                label = [it.words for it in drawn.texts if it.colour == drawing.LIMIT
+                         and (drawn.output_at(it.x), drawn.row_at(it.y)) == (output, place)
+                         and it.y < drawn.tops[place] + picture.ROW]
                 told = dict(it.split(" ", 1) for it in "; ".join(label).split("; ") if it)
                 if not agree(told, changed):
                     yield f"row {place}: changed limits of output {output} are told as {label}"

@@ -1,9 +1,10 @@
 #!/usr/bin/env python3
 """Holds scripts/timeline.py and scripts/picture.py to the plain model, event by event: for the scenarios of examples/,
-for some written here, and for some random ones. Of a picture it reads back what stands where: each output's scale, limits
-and voltage with their labels, each bar and its words, jobs and their ends, status, heads, restarts; it finds labels that
-overlap or leave their place, and colours that can't be read. 5,000 events must be told and drawn in 30 processor seconds
-each. The pictures of docs/pictures/ must be those that the examples give. What is wrong is printed, and the status is then 1.
+for some written here, and for some random ones. Of a picture it reads back what stands where: each output's scale,
+limits and voltage with their labels, each bar and its words, jobs and their ends, status, heads, restarts; it finds
+labels that overlap or leave their place, and colours that can't be read. 5,000 events must be told and drawn in 30
+processor seconds each. The pictures of docs/pictures/ must be those that the examples give. What is wrong is printed,
+and the status is then 1.
 
     scripts/try_pictures.py [--store]
 
@@ -21,6 +22,7 @@ import time
 
 sys.dont_write_bytecode = True
 
+import drawing  # noqa: E402
 import picture  # noqa: E402
 import picture_faults as faults_in  # noqa: E402
 import program  # noqa: E402
@@ -43,8 +45,8 @@ MARKS = {
     "one-order": CONFIRMS,
     "answer-lost": ["", "reads 1000, 1 V", "", "the write is taken", "taken, not acknowledged", "the answer is lost",
                     "the write is lost", "not acknowledged", "the answer is lost"],
-    "false-acknowledgement": ["", "reads 1000, 1 V", "", "the write is lost", "acknowledged, not taken", "reads 1000, 1 V",
-                              *CONFIRMS[1:]],
+    "false-acknowledgement": ["", "reads 1000, 1 V", "", "the write is lost", "acknowledged, not taken",
+                              "reads 1000, 1 V", *CONFIRMS[1:]],
     "restart-noticed": ["", "reads 1000, 1 V", *CONFIRMS, "the converter restarts", "",
                         "reads 1000, 1 V, restart seen"],
     "floor": [*CONFIRMS[:3], "reads 0400, 0.25 V", *CONFIRMS[:3], "reads 5000, 5 V"],
@@ -76,8 +78,8 @@ deliver whole
 finish ack
 exchange whole whole
 """
-IN_THREE = {"min 0.5 V, max 3.465 V", "max 3.465 V", "min 0 V, max 0.85 V", "min 0.5 V, max 6.144 V", "confirmed 3.6 V", "done",
-            "02", "OTHER_COMMUNICATION", "off"}
+IN_THREE = {"min 0.5 V, max 3.465 V", "max 3.465 V", "min 0 V, max 0.85 V", "min 0.5 V, max 6.144 V",
+            "confirmed 3.6 V", "done", "02", "OTHER_COMMUNICATION", "off"}
 TOLD_OF_THREE = """line 11  deliver whole
         output 1 commands 3.3 V (3300000 uV) -> 3.465 V (3465000 uV)
         output 1 VOUT_COMMAND: the converter's word 0CE4 (3.3 V) -> 0E10 (3.6 V)
@@ -152,9 +154,10 @@ GOOD = "deliver whole|finish ack|exchange whole whole"
 LOST = f"deliver whole|finish nack|exchange whole cut 0|{GOOD}"
 LIES = f"deliver cut 0|finish ack|exchange whole whole|{GOOD}"
 LATE = "deliver whole|finish ack|exchange whole cut 1|deliver whole|finish nack|exchange whole whole"
-LIVES = [("0", "0D0E", LATE), ("3", "0F5C", LIES), ("6", "2666", GOOD), ("1", "374C", LOST), ("4", "24DD", LOST), ("7", "0DD3", GOOD),
-         ("2", "0C60", LOST), ("5", "13EC", LATE), ("0", "0DDF", GOOD), ("3", "1052", LOST), ("6", "28CD", GOOD), "restart device",
-         ("1", "3AC1", LIES), ("4", "272B", LOST), ("7", "0EB0", LOST), "restart host", ("2", "0D26", GOOD), ("5", "141E", GOOD),
+LIVES = [("0", "0D0E", LATE), ("3", "0F5C", LIES), ("6", "2666", GOOD), ("1", "374C", LOST), ("4", "24DD", LOST),
+         ("7", "0DD3", GOOD), ("2", "0C60", LOST), ("5", "13EC", LATE), ("0", "0DDF", GOOD), ("3", "1052", LOST),
+         ("6", "28CD", GOOD), "restart device", ("1", "3AC1", LIES), ("4", "272B", LOST), ("7", "0EB0", LOST),
+         "restart host", ("2", "0D26", GOOD), ("5", "141E", GOOD),
          ("0", "0E02", "deliver whole|finish nack|exchange whole cut 0")]
 
 
@@ -167,7 +170,8 @@ def eight_rails(lives):
 def long_rails(count):
     """So many events: formats are learned first, and then words and volts are ordered."""
     dice, volts = random.Random(5), (850000, 1800000, 3300000, 1000000, 1200000, 5000000, 2500000, 900000)
-    lines = [line for output in range(8) for line in [f"learn {output}", *["exchange whole whole"] * (1 + (output in (2, 5)))]]
+    reads = "exchange whole whole"
+    lines = [line for output in range(8) for line in [f"learn {output}", *[reads] * (1 + (output in (2, 5)))]]
     while len(lines) < count:
         output = dice.randrange(8)
         micro = volts[output] * dice.choice((96, 100, 102, 104)) // 100
@@ -261,7 +265,7 @@ def by_hand():
 def shift_faults():
     """34 mV of a rail of 0.85 V, beside one of 5 V, are seen."""
     drawn = Drawn(picture.Picture(Seen(eight_rails(LIVES)), "rails").svg())
-    at = [it[0] for (output, _), it in sorted(drawn.upright(picture.LINE, 3).items()) if output == 0]
+    at = [it[0] for (output, _), it in sorted(drawn.upright(drawing.LINE, 3).items()) if output == 0]
     return [] if max(at) - min(at) >= 8 else [f"output 0 moves by {max(at) - min(at):.1f} pixels alone"]
 
 
@@ -273,7 +277,8 @@ def slow_faults(script, count):
             file.write(long_rails(count))
         start, used = time.time(), processor_seconds()
         try:
-            ran = subprocess.run([os.path.join(program.ROOT, "scripts", script), path], capture_output=True, timeout=5 * SECONDS)
+            words = os.path.join(program.ROOT, "scripts", script), path
+            ran = subprocess.run(words, capture_output=True, timeout=5 * SECONDS)
         except subprocess.TimeoutExpired:
             return [f"{script} takes more than {5 * SECONDS} s for {count} events"]
     used = processor_seconds() - used
