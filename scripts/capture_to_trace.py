@@ -1,9 +1,10 @@
 #!/usr/bin/env python3
-"""Turns a capture of a bus into a trace for `pmb decode`, on standard input and output. Packets of other devices, those
-with no stop, of more than two parts, and reads with no write part become comments; a byte that wasn't acknowledged
-is told in a comment above its packet.
+"""Turns a capture of a bus into a trace for `pmb decode`, on standard input and output, packet by packet as they end,
+so that a live capture can be read. Packets of other devices, those with no stop, of more than two parts, and reads with
+no write part become comments; so does an address that nobody acknowledged. Another byte that wasn't acknowledged is
+told in a comment above its packet.
 
-    scripts/capture_to_trace.py FORMAT [--address=HH] < CAPTURE | pmb decode
+    scripts/capture_to_trace.py FORMAT [--address=HH] [--bus=N] < CAPTURE | pmb decode
 
 FORMAT is one of
 
@@ -11,10 +12,12 @@ FORMAT is one of
     linux   the kernel's tracepoints i2c_write, i2c_read, i2c_reply and i2c_result (those of smbus_ have no PEC)
     saleae  Logic 2's table of an I2C analyser as CSV, with the columns type, ack, address, read, data
 
-HH is a device's seven-bit address, as 58. Without it the packets of all devices are in the trace. The status is 1 where
-no packet is found, or the text isn't a capture of that format.
+HH is a device's seven-bit address, as 58. Without it the packets of all devices are in the trace. N is the kernel's
+number of a bus, as 1 of i2c-1: an adapter over another, as of a multiplexer, leaves events of both, so that without it
+each packet is in the trace twice. The status is 1 where no packet is found, or the text isn't a capture of that format.
 """
 import csv
+import os
 import re
 import sys
 
@@ -26,6 +29,8 @@ SIGROK = re.compile(r"(?:^|[ :])(Start repeat|Start|Stop|NACK|(Address|Data) (re
 LINUX = re.compile(r"i2c_(write|read|reply|result):\s+i2c-(\d+) (.*)")
 MESSAGE = re.compile(r"#(\d+) a=([0-9a-f]+) f=([0-9a-f]+) l=(\d+)(?: \[([0-9a-f-]*)\])?")
 TEN_BITS, READS = 0x10, 0x01
+# A part in a trace has at most so many bytes; of a packet of more parts than a trace can tell so many are shown.
+MOST_BYTES, MOST_PARTS = 300, 4
 
 
 class NoCapture(Exception):
@@ -37,15 +42,25 @@ class Packet:
     with its end, if anything is."""
 
     def __init__(self):
-        self.parts, self.ending = [], "no stop"
+        self.parts, self.ending, self.begun, self.is_long = [], "no stop", 0, False
 
     def begin(self):
-        self.parts.append([])
+        """Begins a part. Of more than a trace can tell the first ones are kept, so that no capture fills the memory."""
+        self.begun += 1
+        if self.begun <= MOST_PARTS:
+            self.parts.append([])
 
     def add(self, byte, is_acknowledged=True):
         if not self.parts:
             raise NoCapture("a byte comes before any start")
-        self.parts[-1].append([byte, is_acknowledged])
+        self.is_long |= len(self.parts[-1]) == MOST_BYTES
+        if self.begun <= MOST_PARTS and len(self.parts[-1]) < MOST_BYTES:
+            self.parts[-1].append([byte, is_acknowledged])
+
+    def is_refused(self):
+        """The last byte wasn't acknowledged."""
+        if self.begun <= MOST_PARTS and self.parts[-1]:
+            self.parts[-1][-1][1] = False
 
     def bytes(self):
         return " / ".join(" ".join(f"{byte:02X}" for byte, _ in part) for part in self.parts)
@@ -58,18 +73,26 @@ class Packet:
         firsts = [part[0][0] for part in self.parts if part]
         if address is not None and self.address() not in (address, None):
             return "another device"
+        if self.is_unheard():
+            return "no device acknowledged the address"
         if self.ending:
             return self.ending
         if len(firsts) != len(self.parts):
             return "a part with no byte"
-        if len(firsts) > 2:
-            return f"{len(firsts)} parts"
+        if self.begun > 2:
+            return f"{self.begun} parts"
+        if self.is_long:
+            return f"a part of more than {MOST_BYTES} bytes"
         if firsts[0] & 1:
             return "a read alone"
         return "the second part is no read of the device" if firsts[1:] not in ([], [firsts[0] + 1]) else None
 
+    def is_unheard(self):
+        """The address alone was sent, and wasn't acknowledged: no frame, so no fault of one."""
+        return len(self.parts) == 1 and [is_acknowledged for _, is_acknowledged in self.parts[0]] == [False]
+
     def unacknowledged(self):
-        """The first byte of each part that wasn't acknowledged. A host doesn't acknowledge the last one that it reads."""
+        """The first byte of each part that wasn't acknowledged; a host doesn't acknowledge the last one it reads."""
         for name, part in zip(("", " of the answer"), self.parts):
             for place, (_, is_acknowledged) in enumerate(part):
                 if not is_acknowledged and not (part[0][0] & 1 and place and place == len(part) - 1):
@@ -83,9 +106,9 @@ class Packet:
         return [*self.unacknowledged(), self.bytes()]
 
 
-def sigrok_packets(text):
+def sigrok_packets(lines):
     packet = None
-    for number, line in enumerate(text.splitlines(), 1):
+    for number, line in enumerate(lines, 1):
         found = SIGROK.search(line)
         if not found:
             continue
@@ -99,8 +122,7 @@ def sigrok_packets(text):
         if kind in ("Start", "Start repeat"):
             packet.begin()
         elif kind == "NACK":
-            if packet.parts[-1]:
-                packet.parts[-1][-1][1] = False
+            packet.is_refused()
         elif kind == "Stop":
             packet.ending = None
             yield packet
@@ -136,7 +158,7 @@ class Messages:
         packet = Packet()
         packet.ending = self.fault
         if result != wanted or len(self.sent) != wanted:
-            packet.ending = f"failed ({result})"
+            packet.ending = f"failed ({result})" if result < 0 else f"failed ({result} of {wanted})"
         for place in sorted(self.sent):
             packet.begin()
             for byte in self.sent[place]:
@@ -144,11 +166,11 @@ class Messages:
         return packet
 
 
-def linux_packets(text):
+def linux_packets(lines, wanted=None):
     buses = {}
-    for number, line in enumerate(text.splitlines(), 1):
+    for number, line in enumerate(lines, 1):
         found = LINUX.search(line)
-        if not found:
+        if not found or wanted not in (None, int(found[2])):
             continue
         kind, bus, rest = found.groups()
         if kind != "result":
@@ -165,8 +187,8 @@ def linux_packets(text):
         yield packet
 
 
-def saleae_packets(text):
-    rows = csv.DictReader(text.splitlines())
+def saleae_packets(lines):
+    rows = csv.DictReader(lines)
     if not {"type", "ack", "address", "read", "data"} <= set(rows.fieldnames or ()):
         raise NoCapture("the first line doesn't name the columns type, ack, address, read and data")
     packet = None
@@ -179,10 +201,10 @@ def saleae_packets(text):
             yield packet
             packet = None
         elif row["type"] in ("address", "data") and packet:
-            try:
-                byte = int(row[row["type"]], 16)
-            except ValueError:
-                raise NoCapture(f"line {number}: no byte in the column {row['type']}") from None
+            shown = row[row["type"]] or ""
+            if not re.fullmatch("(?:0[xX])?0*[0-9A-Fa-f]{1,2}", shown):
+                raise NoCapture(f"line {number}: no byte in the column {row['type']}")
+            byte = int(shown, 16)
             if row["type"] == "address":
                 byte = byte << 1 & 0xFF | (row["read"] == "true")
             packet.add(byte, row["ack"] == "true")
@@ -193,25 +215,52 @@ def saleae_packets(text):
 FORMATS = {"sigrok": sigrok_packets, "linux": linux_packets, "saleae": saleae_packets}
 
 
-def trace(form, text, address=None):
-    """The lines of the trace."""
-    packets = list(FORMATS[form](text))
-    if not packets:
+def trace(form, lines, address=None, bus=None):
+    """The lines of the trace, one after another as the capture's lines come."""
+    is_empty = True
+    for packet in FORMATS[form](lines) if bus is None else linux_packets(lines, bus):
+        is_empty = False
+        yield from packet.lines(address)
+    if is_empty:
         raise NoCapture("no packet")
-    return [line for packet in packets for line in packet.lines(address)]
+
+
+def captured(file):
+    """The lines of a capture as they come, without what ends them."""
+    for number, line in enumerate(file):
+        text = line.decode("utf-8", "replace").rstrip("\r\n")
+        yield text if number else text.removeprefix("\N{BYTE ORDER MARK}")
+
+
+def arguments(words):
+    """The format, the address and the bus that the words name; None where they don't."""
+    found = {"--address": None, "--bus": None}
+    for word in words[1:]:
+        name, _, value = word.partition("=")
+        bound = {"--address": "[0-7][0-9A-Fa-f]", "--bus": "[0-9]{1,9}"}.get(name)
+        if not bound or found[name] is not None or not re.fullmatch(bound, value):
+            return None
+        found[name] = int(value, 16 if name == "--address" else 10)
+    if not words or words[0] not in FORMATS or found["--bus"] is not None and words[0] != "linux":
+        return None
+    return words[0], found["--address"], found["--bus"]
 
 
 def main():
     answer_help(__doc__)
-    words, address = sys.argv[1:], None
-    if len(words) == 2 and re.fullmatch("--address=[0-7][0-9A-Fa-f]", words[1]):
-        address = int(words.pop()[-2:], 16)
-    if len(words) != 1 or words[0] not in FORMATS:
+    asked = arguments(sys.argv[1:])
+    if not asked:
         sys.exit(__doc__.strip())
+    form, address, bus = asked
     try:
-        print("\n".join(trace(words[0], sys.stdin.buffer.read().decode("utf-8-sig", "replace"), address)))
-    except NoCapture as fault:
-        sys.exit(f"no {words[0]} capture: {fault}")
+        for line in trace(form, captured(sys.stdin.buffer), address, bus):
+            print(line, flush=True)
+    except (NoCapture, csv.Error) as fault:
+        sys.exit(f"no {form} capture: {fault}")
+    except (KeyboardInterrupt, BrokenPipeError):
+        # Nobody reads on: what is left of standard output is dropped, so that no line of Python's comes at the end.
+        os.dup2(os.open(os.devnull, os.O_WRONLY), sys.stdout.fileno())
+        sys.exit(1)
 
 
 if __name__ == "__main__":

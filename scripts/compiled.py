@@ -1,6 +1,6 @@
-"""Whether the sources and the definitions of a copy's crate compile, in seconds: a function is added whose contract names
-every definition, and it alone is checked. So each name in src/ and in specs/ is resolved and each type is checked; the
-clauses of contracts, lemmas and proofs aren't read."""
+"""Whether the sources and the definitions of a copy's crate compile, in seconds: a function is added whose contract
+names every definition, and it alone is checked. So each name in src/ and in specs/ is resolved and each type is
+checked; the clauses of contracts, lemmas and proofs aren't read."""
 import os
 import re
 
@@ -104,7 +104,7 @@ def bundles(edits, originals):
 
 
 def compile_faults(copy, edits, joined):
-    """Each edit, with the line that says why it doesn't compile, or None. `joined` gives the files' texts with several."""
+    """Each edit, with the line that says why it doesn't compile, or None. `joined` gives the texts with several."""
     groups = bundles(edits, lambda name: read_original(copy, name))
     while groups:
         group = groups.pop()

@@ -69,7 +69,8 @@ class CrateCopy:
         checked = {crate} | all_below(uses, crate)
         for name in uses:
             out = None if name in checked else shutil.ignore_patterns("out")
-            shutil.copytree(os.path.join("crates", name), os.path.join(self.top, "crates", name), symlinks=True, ignore=out)
+            folder = os.path.join("crates", name)
+            shutil.copytree(folder, os.path.join(self.top, folder), symlinks=True, ignore=out)
         shutil.rmtree(os.path.join(self.home, "must-fail"), ignore_errors=True)
         for name in ("crates.txt", "HANDLES"):
             if os.path.exists(name):

@@ -18,8 +18,8 @@ sys.dont_write_bytecode = True
 
 import program  # noqa: E402
 from drawing import (  # noqa: E402
-    EDGES, FAULT, GOOD, INK, LIMIT, LINE, MARKS, MONO, PALE, PANEL, RESTART, box, first_that_fits, line, path, symbol, text,
-    width_of,
+    EDGES, FAULT, GOOD, INK, LIMIT, MARKS, MONO, PALE, PANEL, RESTART, box, first_that_fits, line, path, symbol,
+    text, width_of,
 )
 from lane import INSIDE, OUTSIDE, Lane  # noqa: E402
 from lived import Refused  # noqa: E402
@@ -42,8 +42,8 @@ STRIPES = "#cfe8d8", "#a3d3b6"
 # Of a status that is 0, and of one that isn't: what fills it, its edge, the colour of its words.
 STATUS = {False: ("none", EDGES, PALE), True: ("#fbe6e3", FAULT, "#8c1d18")}
 # Of a job's end: what fills it, and the colour of its words.
-ENDS = {"done": (GOOD, "#ffffff"), "learned": (GOOD, "#ffffff"), "differs": (FAULT, "#ffffff"), "unknown": ("#f4c95d", INK),
-        "dropped": (RESTART, "#ffffff")}
+ENDS = {"done": (GOOD, "#ffffff"), "learned": (GOOD, "#ffffff"), "differs": (FAULT, "#ffffff"),
+        "unknown": ("#f4c95d", INK), "dropped": (RESTART, "#ffffff")}
 MOST_LABEL = 44
 
 
@@ -79,8 +79,8 @@ class Picture:
         self.marks_at = self.labels_at + max(width_of(shortened(row.label), 12, True) for row in rows) + GAP
         marks = max(width_of(row.mark[1], 12) for row in rows)
         self.jobs_at = self.marks_at + MARK + max(marks, 60) + GAP
-        ends = max((width_of(end_in_words(job), 12) for job in seen.jobs), default=0)
-        self.lanes_at = self.jobs_at + max(ends + 36, 96) + GAP
+        ends = max((pill_width(end_in_words(job)) for job in seen.jobs), default=0)
+        self.lanes_at = self.jobs_at + max(ends + 20, 96) + GAP
         self.place_columns()
 
     # Where everything stands.
@@ -188,7 +188,7 @@ class Picture:
             self.parts.append(text(x, top + 18, words, 12, PALE))
             return
         fill, ink = ENDS[job.end.split()[0]]
-        self.parts.append(box(x, top + 4, width_of(words, 12) + 16, ROW - 8, fill, ' rx="10"'))
+        self.parts.append(box(x, top + 4, pill_width(words), ROW - 8, fill, ' rx="10"'))
         self.parts.append(text(x + 8, top + 18, words, 12, ink, extra=' font-weight="bold"'))
 
     # The rest.
@@ -200,9 +200,9 @@ class Picture:
         for x, lane in self.lanes.values():
             self.parts += lane.heads(x, y, first)
         for register, x in self.beliefs_at.items():
-            self.parts.append(text(x, y - 8, register[1], 12, PALE))
+            self.parts.append(text(x, y - 8, register[1], 11, PALE))
         for output, (x, _) in self.status_at.items():
-            self.parts.append(text(x, y - 8, "STATUS_CML" if output is None else "STATUS_WORD", 12, PALE))
+            self.parts.append(text(x, y - 8, "STATUS_CML" if output is None else "STATUS_WORD", 11, PALE))
 
     def draw_row(self, place, row):
         top, colour = self.tops(place), MARKS[row.mark[0]]
@@ -242,10 +242,10 @@ class Picture:
         if self.seen.jobs:
             entries.append((BAND, "", "a job, from its order to its end"))
         zero = [] if None in self.status_at else ["STATUS_CML stays 00"]
-        plain = [it for it in self.seen.model.outputs if it not in self.status_at]
-        if plain:
-            zero.append("STATUS_VOUT stays 00" + (f" of {joined([str(it) for it in plain])}" if self.status_at.keys() - {None}
-                                                  else ""))
+        if not self.status_at.keys() - {None}:
+            zero.append("STATUS_VOUT stays 00")
+        elif self.status_at.keys() - {None} != {*self.seen.model.outputs}:
+            zero.append("of outputs with no STATUS_WORD here STATUS_VOUT stays 00")
         return [*entries, (None, "", "of other registers the host knows nothing"), *((None, "", it) for it in zero)]
 
     def draw_legend(self, y):
@@ -281,8 +281,9 @@ class Picture:
 
 def hatch():
     ground, stripe = STRIPES
-    return ('<defs><pattern id="doubt" width="10" height="10" patternUnits="userSpaceOnUse" patternTransform="rotate(45)">'
-            f'<rect width="10" height="10" fill="{ground}"/><rect width="4" height="10" fill="{stripe}"/></pattern></defs>')
+    return ('<defs><pattern id="doubt" width="10" height="10" patternUnits="userSpaceOnUse"'
+            f' patternTransform="rotate(45)"><rect width="10" height="10" fill="{ground}"/>'
+            f'<rect width="4" height="10" fill="{stripe}"/></pattern></defs>')
 
 
 def hexadecimal(register, words):
@@ -301,6 +302,11 @@ def edge_of(kind, is_false):
     if kind == "doubtful":
         return f' stroke="{GOOD}"'
     return f' stroke="{EDGES}" stroke-dasharray="4 3"' if kind == "any" else ""
+
+
+def pill_width(words):
+    """Of bold words, which are wider."""
+    return 1.15 * width_of(words, 12) + 16
 
 
 def end_in_words(job):

@@ -1,6 +1,6 @@
-"""What a picture of a scenario's run shows, row by row. Voltages, words, status, jobs and what the host believes are the
-program's own reports; a report of version 1 doesn't tell possible words, so that of such a text its form in version 2
-is run. What came of each event on the bus, and which confirmed words are in doubt, is found by the plain model."""
+"""What a picture of a scenario's run shows, row by row. Voltages, words, status, jobs and what the host believes are
+the program's own reports; a report of version 1 doesn't tell possible words, so that of such a text its form in version
+2 is run. What came of each event on the bus, and which confirmed words are in doubt, is found by the plain model."""
 import program
 from lived import lived, report_of
 from plain.converter import MAX, MIN, PROTECT, REGISTERS
@@ -103,7 +103,7 @@ class Model:
         return mark
 
     def note_doubts(self):
-        """Which cells may hold any word since a restart was seen: all but the one that showed it, until each is read."""
+        """Which cells may hold any word since a restart was seen: all but the one that showed it, until it is read."""
         marks = self.world.host.marks
         for kind, cell, *rest in marks[self.looked_at:]:
             if kind == "restart":
@@ -193,7 +193,7 @@ class Seen:
         if last:
             mark = "fault", f"not taken: {self.run.stop}"
             self.rows.append(Row(last.number, last.words, mark, self.run.reports[-1], model))
-        self.jobs = jobs_of(self.rows)
+        self.jobs = jobs_of(self.rows[:len(self.run.events) + 1])
 
 
 def jobs_of(rows):

@@ -26,8 +26,9 @@ def facts(report, words):
         told[f"output {output}:"] = "on" if is_on else "off"
         told[f"output {output} commands"] = f"{in_volts(micro)} ({micro} uV)"
         for register in (it for it in report.words if it[0] == output):
-            told[f"output {output} {register[1]}: the converter's word"] = words.beside(register, report.words[register])
-            told[f"output {output} {register[1]}: the host says"] = said(report.beliefs[register], register, words)
+            name = f"output {output} {register[1]}"
+            told[f"{name}: the converter's word"] = words.beside(register, report.words[register])
+            told[f"{name}: the host says"] = said(report.beliefs[register], register, words)
         _, word, vout = report.status[output].split()
         told[f"output {output} STATUS_WORD"] = with_bits("STATUS_WORD", word)
         told[f"output {output} STATUS_VOUT"] = with_bits("STATUS_VOUT", vout)

@@ -19,8 +19,8 @@ nothing: it says of each edit of attacks/, attacks/definitions/ and must-fail/ o
 compiles, in about a minute a crate.
 
 Run it at the top of the repository after an `rt check` of the crate, whose work the copy keeps. --folder takes
-the edits from elsewhere, as crates/CRATE/must-fail. The last line is `N passed, M failed`: an edit that is broken counts
-for nothing, and with one the status is 1.
+the edits from elsewhere, as crates/CRATE/must-fail. The last line is `N passed, M failed`: an edit that is broken
+counts for nothing, and with one the status is 1.
 """
 import os
 import re

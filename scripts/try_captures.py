@@ -1,13 +1,15 @@
 #!/usr/bin/env python3
 """Tries scripts/capture_to_trace.py and scripts/frames_to_i2ctransfer.py on scripts/captures/: each capture must give
-its trace; frames become commands and come back; and commands are run by a stand-in for i2ctransfer that asks `pmb hear`.
-Where sigrok-cli is installed, the waveforms are decoded anew. What is wrong is printed, and the status is then 1.
+its trace, its first line before its input ends, and the memory that is taken doesn't grow with it; frames become
+commands and come back; and commands are run by a stand-in for i2ctransfer that asks `pmb hear`. Where sigrok-cli is
+installed, the waveforms are decoded anew. What is wrong is printed, and the status is then 1.
 
     scripts/try_captures.py
 
 It runs the built program, or the one that the environment variable PMB names.
 """
 import os
+import select
 import shutil
 import subprocess
 import sys
@@ -21,17 +23,35 @@ from draw_waveform import waveform  # noqa: E402
 
 FOLDER = os.path.join(program.ROOT, "scripts/captures")
 TOOL = os.path.join(program.ROOT, "scripts/frames_to_i2ctransfer.py")
+READER = os.path.join(program.ROOT, "scripts/capture_to_trace.py")
+# The lines of a capture's head, which stand before its packets; how long a text is tried, and what memory it may take.
+HEADS = {"sigrok": 0, "linux": 0, "saleae": 1}
+LONG, MOST_MEMORY = 20_000_000, 50_000
 CAPTURES = [("bus", "sigrok", "bus.trace"), ("bus", "linux", "bus.trace"), ("bus", "saleae", "bus.trace"),
             ("faults", "sigrok", "faults.trace"), ("faults", "saleae", "faults.trace"),
             ("faults", "linux", "faults_of_linux.trace")]
 DRAWN = [("bus", os.path.join(program.ROOT, "examples/bus.trace")), ("faults", os.path.join(FOLDER, "faults.bus"))]
+SALEAE = "type,ack,address,read,data\nstart,,,,\n"
 # Texts that are no captures, and why.
 REFUSED = [
     ("sigrok", "", "no packet"), ("linux", "i2c_write: i2c-1 0x58", "line 1: no message of the kernel"),
     ("linux", "i2c_result: i2c-1 none", "line 1: no result of the kernel"), ("saleae", "type,data\n", "the first line"),
     ("sigrok", "i2c-1: Start\ni2c-1: Address read: 58\n", "line 2: the address has no direction bit"),
-    ("saleae", "type,ack,address,read,data\nstart,,,,\naddress,true,here,false,\n", "line 3: no byte in the column address"),
+    ("saleae", f"{SALEAE}address,true,here,false,\n", "line 3: no byte in the column address"),
+    ("saleae", f"{SALEAE}address,true\n", "line 3: no byte in the column address"),
+    ("saleae", f"{SALEAE}data,true,,,0x134\n", "line 3: no byte in the column data"),
 ]
+# What `decode` counts of the traces of faults: an address that nobody acknowledged is no packet, and no fault of one.
+COUNTS = [("faults.trace", "lines 4 accepted 3 faults 1 bad 0"),
+          ("faults_of_linux.trace", "lines 1 accepted 1 faults 0 bad 0")]
+# Arguments that are none of the script's.
+WRONG = [["linux", "--bus=x"], ["sigrok", "--bus=1"], ["linux", "--bus=1", "--bus=2"], ["linux", "--address=80"],
+         ["vcd"], []]
+# A packet that never ends, and one of too many bytes: neither fills the memory, and no line is too long for `decode`.
+ENDLESS = [("i2c-1: Start\ni2c-1: Address write: B0\n" + "i2c-1: Data write: 00\n" * 5000 + "i2c-1: Stop\n",
+            "# a part of more than 300 bytes: B0 00"),
+           ("i2c-1: Start\ni2c-1: Address write: B0\n" + "i2c-1: Start repeat\ni2c-1: Address read: B1\n" * 5000
+            + "i2c-1: Stop\n", "# 5001 parts: B0 / B1 / B1 / B1")]
 # Frames of `hear`, the command of each, and the line of the trace that comes of it.
 FRAMES = [
     ("B0 00 01 ED", "w3@0x58 0x00 0x01 0xed", "B0 00 01 ED"),
@@ -87,20 +107,102 @@ def waveform_faults():
                 yield f"sigrok-cli makes something else of {name}.vcd: {ran.stderr or ran.stdout[:200]!r}"
 
 
-def capture_faults():
-    for name, form, wanted in CAPTURES:
-        found = trace(form, stored(f"{name}.{form}"), 0x58)
-        if "\n".join(found) + "\n" != stored(wanted):
-            yield f"{name}.{form} gives {found}"
-    every = trace("linux", stored("faults.linux"))
+def read_back(form, text, address=None, bus=None):
+    return [*trace(form, text.splitlines(), address, bus)]
+
+
+def capture_faults(name, form, wanted):
+    """A capture gives its trace."""
+    found = read_back(form, stored(f"{name}.{form}"), 0x58)
+    if "\n".join(found) + "\n" != stored(wanted):
+        yield f"{name}.{form} gives {found}"
+
+
+def other_faults():
+    """Without an address the packets of all devices; and texts that are no captures."""
+    every = read_back("linux", stored("faults.linux"))
     if "A0 00 / A1 12" not in every or "A0 00 01" not in every:
         yield "without an address other devices aren't in the trace"
     for form, text, why in REFUSED:
         try:
-            yield f"{form} takes {text!r}: {trace(form, text)}"
+            yield f"{form} takes {text!r}: {read_back(form, text)}"
         except NoCapture as fault:
             if not str(fault).startswith(why):
                 yield f"{form} refuses {text!r} by {fault}"
+    for text, line in ENDLESS:
+        found = read_back("sigrok", text)
+        if len(found) != 1 or not found[0].startswith(line) or len(found[0]) > 1000:
+            yield f"an endless packet gives {len(found)} lines, {found[0][:80]}"
+
+
+def count_faults(pmb):
+    """What `decode` counts of the traces of faults, and how transfers that fail are told."""
+    for name, wanted in COUNTS:
+        told = subprocess.run([pmb, "decode"], input=stored(name), capture_output=True, text=True).stdout.splitlines()
+        if told[-1:] != [wanted]:
+            yield f"decode says {told[-1:]} of {name}"
+    for form, line in (("linux", "# failed (1 of 2): B0 06 02 00 21 / B1"), ("linux", "# failed (-6): B0"),
+                       ("sigrok", "# no device acknowledged the address: B0"),
+                       ("saleae", "# no device acknowledged the address: B0")):
+        found = read_back(form, stored(f"faults.{form}"), 0x58)
+        if line not in found or "B0" in found:
+            yield f"{form} gives {found}, and not {line}"
+
+
+def bus_faults():
+    """An adapter over another leaves events of both: one bus's are each packet once."""
+    both = "".join(line + "\n" + line.replace("i2c-1 ", "i2c-0 ") + "\n" for line in stored("bus.linux").splitlines()
+                   if "i2c-1 " in line)
+    once = stored("bus.trace").splitlines()
+    for bus, wanted in ((None, [line for line in once for _ in (0, 1)]), (1, once), (0, once)):
+        if read_back("linux", both, 0x58, bus) != wanted:
+            yield f"bus {bus} gives {read_back('linux', both, 0x58, bus)}"
+    for words, text, wanted in ([["linux", "--bus=1", "--address=58"], both, (0, stored("bus.trace"), "")],
+                                [["linux", "--bus=7"], both, (1, "", "no linux capture: no packet\n")]):
+        ran = subprocess.run([READER, *words], input=text, capture_output=True, text=True)
+        if (ran.returncode, ran.stdout, ran.stderr) != wanted:
+            yield f"{words} gives {ran.stdout!r}, {ran.stderr!r}"
+    for words in WRONG:
+        ran = subprocess.run([READER, *words], input=both, capture_output=True, text=True)
+        if ran.returncode != 1 or ran.stdout or "FORMAT" not in ran.stderr:
+            yield f"{words} gives {ran.stdout!r}, {ran.stderr!r}"
+
+
+def first_line_faults(form):
+    """The first line comes before the input ends."""
+    text, wanted = stored(f"bus.{form}"), stored("bus.trace").splitlines()[0]
+    pipe = subprocess.PIPE
+    with subprocess.Popen([READER, form, "--address=58"], stdin=pipe, stdout=pipe, text=True) as ran:
+        ran.stdin.write(text)
+        ran.stdin.flush()
+        is_there = select.select([ran.stdout], [], [], 20)[0]
+        found = ran.stdout.readline().strip() if is_there else None
+        ran.stdin.close()
+        ran.stdout.read()
+    if found != wanted:
+        yield f"{form} gives {found!r} before the end of input, and not {wanted!r}"
+
+
+def memory_faults(form):
+    """A long text gives each packet's line, in little memory."""
+    lines = stored(f"bus.{form}").splitlines(keepends=True)
+    head, body = lines[:HEADS[form]], "".join(lines[HEADS[form]:])
+    times = LONG // len(body) + 1
+    with tempfile.TemporaryDirectory() as folder:
+        path = os.path.join(folder, "long")
+        with open(path, "w", encoding="utf-8") as file:
+            file.writelines(head)
+            file.writelines(body for _ in range(times))
+        with open(path, "rb") as file, open(os.path.join(folder, "trace"), "w+b") as out:
+            ran = subprocess.Popen([READER, form, "--address=58"], stdin=file, stdout=out)
+            _, status, used = os.wait4(ran.pid, 0)
+            ran.returncode = os.waitstatus_to_exitcode(status)
+            out.seek(0)
+            count = sum(1 for _ in out)
+    wanted = times * len(stored("bus.trace").splitlines())
+    print(f"{form}: {count} lines of {LONG} bytes in {used.ru_utime:.1f} s and {used.ru_maxrss} KiB", flush=True)
+    if ran.returncode or count != wanted or used.ru_maxrss > MOST_MEMORY:
+        yield f"{form} takes {used.ru_maxrss} KiB for {count} lines of {wanted}, and has status {ran.returncode}"
 
 
 def tool(arguments, text, around=None):
@@ -143,13 +245,33 @@ def run_faults(pmb):
         yield f"decode says {told}"
 
 
+def checks(pmb):
+    """Each check by its name, with what is wrong."""
+    yield "waveforms", waveform_faults()
+    for name, form, wanted in CAPTURES:
+        yield f"{name}.{form}", capture_faults(name, form, wanted)
+    yield "other captures", other_faults()
+    yield "counts of faults", count_faults(pmb)
+    yield "one bus of several", bus_faults()
+    for form in HEADS:
+        yield f"the first line of {form}", first_line_faults(form)
+        yield f"the memory of {form}", memory_faults(form)
+    yield "commands", command_faults()
+    yield "a run", run_faults(pmb)
+
+
 def main():
     program.answer_help(__doc__)
     pmb = program.needed()
-    faults = [*waveform_faults(), *capture_faults(), *command_faults(), *run_faults(pmb)]
-    way = "sigrok-cli decoded the waveforms" if shutil.which("sigrok-cli") else "no sigrok-cli here: its stored lines served"
-    print("\n".join([*faults, f"{len(CAPTURES)} captures, {len(FRAMES)} frames, {len(faults)} faults; {way}"]))
-    return 1 if faults else 0
+    passed = failed = 0
+    for name, found in checks(pmb):
+        wrong = [*found]
+        print("".join(f"{name}: {it}\n" for it in wrong), end="", flush=True)
+        passed, failed = passed + (not wrong), failed + bool(wrong)
+    has_sigrok = shutil.which("sigrok-cli")
+    print("sigrok-cli decoded the waveforms" if has_sigrok else "no sigrok-cli here: its stored lines served")
+    print(f"{passed} passed, {failed} failed")
+    return 1 if failed else 0
 
 
 if __name__ == "__main__":

@@ -1,9 +1,10 @@
 #!/usr/bin/env python3
 """Holds scripts/timeline.py and scripts/picture.py to the plain model, event by event: for the scenarios of examples/,
-for one of eight outputs and for some random ones. Of a picture it reads back what stands where: each voltage's line and
-label, each bar and its words, the restarts; it finds labels that overlap or leave their place, and colours that can't
-be read. The pictures of docs/pictures/ must be those that the examples give. What is wrong is
-printed, and the status is then 1.
+for some written here, and for some random ones. Of a picture it reads back what stands where: each output's scale,
+limits and voltage with their labels, each bar and its words, jobs and their ends, status, heads, restarts; it finds
+labels that overlap or leave their place, and colours that can't be read. 5,000 events must be told and drawn in 30
+processor seconds each. The pictures of docs/pictures/ must be those that the examples give. What is wrong is printed,
+and the status is then 1.
 
     scripts/try_pictures.py [--store]
 
@@ -13,44 +14,83 @@ import glob
 import os
 import random
 import re
+import resource
+import subprocess
 import sys
-import xml.etree.ElementTree as tree
+import tempfile
+import time
 
 sys.dont_write_bytecode = True
 
+import drawing  # noqa: E402
 import picture  # noqa: E402
+import picture_faults as faults_in  # noqa: E402
 import program  # noqa: E402
 import search_promises  # noqa: E402
-from lived import Report, lived  # noqa: E402
+from drawn import Drawn  # noqa: E402
+from lived import lived  # noqa: E402
+from picture_faults import Plain, tells  # noqa: E402
 from plain.lines import numbered  # noqa: E402
-from plain.converter import MAX, MIN  # noqa: E402
-from plain.packets import CODES  # noqa: E402
-from plain.report import report  # noqa: E402
 from plain.scenario import read_scenario  # noqa: E402
-from plain.world import World  # noqa: E402
-from seen import Model, Seen  # noqa: E402
+from seen import Seen  # noqa: E402
 from timeline import facts, timeline  # noqa: E402
+from told import Words  # noqa: E402
 
 STORED = ("answer-lost", "restart-noticed")
 PICTURES = os.path.join(program.ROOT, "docs/pictures")
-SVG = "{http://www.w3.org/2000/svg}"
+SECONDS = 30
 # What the pictures of examples/ say of each event, written by hand.
-CONFIRMS = ["", "the write is taken", "acknowledged", "reads 34CD: done"]
+CONFIRMS = ["", "the write is taken", "acknowledged", "reads 34CD, 3.3 V"]
 MARKS = {
     "one-order": CONFIRMS,
-    "answer-lost": ["", "reads 1000: done", "", "the write is taken", "taken, not acknowledged", "the answer is lost",
-                    "the write is lost", "not acknowledged", "the answer is lost: unknown"],
-    "false-acknowledgement": ["", "reads 1000: done", "", "the write is lost", "acknowledged, not taken", "reads 1000",
-                              *CONFIRMS[1:]],
-    "restart-noticed": ["", "reads 1000: done", *CONFIRMS, "the converter restarts", "",
-                        "reads 1000: done, restart seen"],
-    "floor": [*CONFIRMS[:3], "reads 0400: done", *CONFIRMS[:3], "reads 5000: done"],
-    "store": [*CONFIRMS, "", "the write is taken", "acknowledged: done", "the converter restarts", *CONFIRMS[:3],
-              "reads 2000: done", "", "the write is cut", "not acknowledged", "the write is taken",
-              "taken, not acknowledged: unknown", "", "reads 34CD: done"],
-    "direct-negative-slope": ["", "reads 40", "reads coefficients: learned", "", "the write is taken", "acknowledged",
-                              "reads 06A4: done", "", "the write is taken", "acknowledged", "reads 01F4: done"],
+    "answer-lost": ["", "reads 1000, 1 V", "", "the write is taken", "taken, not acknowledged", "the answer is lost",
+                    "the write is lost", "not acknowledged", "the answer is lost"],
+    "false-acknowledgement": ["", "reads 1000, 1 V", "", "the write is lost", "acknowledged, not taken",
+                              "reads 1000, 1 V", *CONFIRMS[1:]],
+    "restart-noticed": ["", "reads 1000, 1 V", *CONFIRMS, "the converter restarts", "",
+                        "reads 1000, 1 V, restart seen"],
+    "floor": [*CONFIRMS[:3], "reads 0400, 0.25 V", *CONFIRMS[:3], "reads 5000, 5 V"],
+    "store": [*CONFIRMS, "", "the write is taken", "acknowledged", "the converter restarts", *CONFIRMS[:3],
+              "reads 2000, 2 V", "", "the write is cut", "not acknowledged", "the write is taken",
+              "taken, not acknowledged", "", "reads 34CD, 3.3 V"],
+    "direct-negative-slope": ["", "reads 40", "reads coefficients", "", "the write is taken", "acknowledged",
+                              "reads 06A4, 3.3 V", "", "the write is taken", "acknowledged", "reads 01F4, 4.5 V"],
 }
+# What must stand in a picture, word for word, and what the timeline must say, written by hand.
+THREE = b"""scenario 2
+address 40
+passes 3
+protect 00
+coefficients 1 0 3
+output 40 80 0352 0352 0352 0352 0000
+output 40 80 0CE4 0D89 0D48 0C80 01F4
+output 40 80 17AC 1800 1800 1000 01F4
+begin
+order 1 VOUT_COMMAND 0E10
+deliver whole
+finish ack
+exchange whole whole
+order 0 OPERATION 40
+deliver cut 3
+finish nack
+exchange whole whole
+deliver whole
+finish ack
+exchange whole whole
+"""
+IN_THREE = {"min 0.5 V, max 3.465 V", "max 3.465 V", "min 0 V, max 0.85 V", "min 0.5 V, max 6.144 V",
+            "confirmed 3.6 V", "done", "02", "OTHER_COMMUNICATION", "off"}
+TOLD_OF_THREE = """line 11  deliver whole
+        output 1 commands 3.3 V (3300000 uV) -> 3.465 V (3465000 uV)
+        output 1 VOUT_COMMAND: the converter's word 0CE4 (3.3 V) -> 0E10 (3.6 V)
+        output 1 STATUS_WORD 0000 -> 8001 (VOUT, NONE_OF_THE_ABOVE)
+        output 1 STATUS_VOUT 00 -> 08 (MAX_WARNING)
+line 15  deliver cut 3
+        output 0 STATUS_WORD 0000 -> 0002 (CML)
+        output 1 STATUS_WORD 8001 (VOUT, NONE_OF_THE_ABOVE) -> 8003 (VOUT, CML, NONE_OF_THE_ABOVE)
+        output 2 STATUS_WORD 0000 -> 0002 (CML)
+        STATUS_CML 00 -> 02 (OTHER_COMMUNICATION)
+"""
 EIGHT = b"""scenario 2
 address 58
 passes 2
@@ -94,216 +134,61 @@ exchange whole whole
 finish ack
 clear 1
 """
+# Eight rails, of 0.85 to 5 V, in 100 rows: a job, its output and word, and what comes of it on the bus, a line each.
+RAILS = """scenario 2
+address 40
+passes 3
+protect 00
+coefficients 1 0 3
+output 14 80 0D9A 0EF6 0E48 0CEC 06CD
+output 13 80 399A 3F5C 3C7B 36B8 1CCD
+output 40 80 0CE4 0E2E 0D89 0C3F 0672
+output 14 80 1000 119A 10CD 0F33 0800
+output 13 80 2666 2A3D 2852 247B 1333
+output 40 80 1388 157C 1482 128E 09C4
+output 14 80 2800 2C00 2A00 2600 1400
+output 14 80 0E66 0FD7 0F1F 0DAE 0733
+begin
+"""
+GOOD = "deliver whole|finish ack|exchange whole whole"
+LOST = f"deliver whole|finish nack|exchange whole cut 0|{GOOD}"
+LIES = f"deliver cut 0|finish ack|exchange whole whole|{GOOD}"
+LATE = "deliver whole|finish ack|exchange whole cut 1|deliver whole|finish nack|exchange whole whole"
+LIVES = [("0", "0D0E", LATE), ("3", "0F5C", LIES), ("6", "2666", GOOD), ("1", "374C", LOST), ("4", "24DD", LOST),
+         ("7", "0DD3", GOOD), ("2", "0C60", LOST), ("5", "13EC", LATE), ("0", "0DDF", GOOD), ("3", "1052", LOST),
+         ("6", "28CD", GOOD), "restart device", ("1", "3AC1", LIES), ("4", "272B", LOST), ("7", "0EB0", LOST),
+         "restart host", ("2", "0D26", GOOD), ("5", "141E", GOOD),
+         ("0", "0E02", "deliver whole|finish nack|exchange whole cut 0")]
 
 
-class Plain:
-    """The reports of the plain model, and what its host thinks, after each event that is taken."""
-
-    def __init__(self, text):
-        setup, passes, events = read_scenario(text)
-        world = World(setup, passes)
-        self.model, self.reports, self.thoughts, self.limits = Model(text), [], [], []
-        self.note(world)
-        for event in events:
-            world.stop = world.step(event)
-            if world.stop:
-                break
-            world.taken += 1
-            self.note(world)
-        # A stop's row, which shows what stood before.
-        if world.stop:
-            for those in self.reports, self.thoughts, self.limits:
-                those.append(those[-1])
-        self.stop = world.stop
-
-    def note(self, world):
-        self.reports.append(Report("\n".join(report(world))))
-        host, cells, device = world.host, world.device.cells, world.device
-        self.limits.append({it: {MAX: "max ", MIN: "min "}.get(device.commanding(it)) for it in device.outputs
-                            if device.is_cut(it) and device.is_on(it)})
-        self.thoughts.append({cell: (host.standing(cell), host.possible(cell), cells[cell]) for cell in cells})
+def eight_rails(lives):
+    """A scenario's text of jobs at eight rails."""
+    lines = [it if isinstance(it, str) else f"order {it[0]} VOUT_COMMAND {it[1]}|{it[2]}" for it in lives]
+    return (RAILS + "\n".join(lines).replace("|", "\n") + "\n").encode()
 
 
-class Drawn:
-    """A picture, read."""
-
-    def __init__(self, svg):
-        self.root = tree.fromstring(svg)
-        self.width, self.height = (float(self.root.get(name)) for name in ("width", "height"))
-        self.texts = [(float(it.get("x")), float(it.get("y")), it.text or "", it) for it in self.root.iter(SVG + "text")]
-        self.labels = [(y, words) for _, y, words, it in self.texts if "Mono" in it.get("font-family")]
-        self.tops = [y - 19 for y, _ in self.labels]
-        self.lanes = {int(words.split()[1]): x for x, _, words, _ in self.texts if re.fullmatch(r"output \d", words)}
-        names = ("OPERATION", "WRITE_PROTECT")
-        heads = [(x, words) for x, y, words, _ in self.texts if y == self.tops[0] - 12]
-        self.columns = {x: words for x, words in heads if words in names or words.startswith("VOUT_")}
-
-    def output_at(self, x):
-        """The output whose lane is here; None before the first."""
-        return max(((lane, output) for output, lane in self.lanes.items() if lane < x), default=(0, None))[1]
-
-    def bars(self):
-        """By output, name and row: the bar's kind, its words, and whether it is marked as false."""
-        found = {}
-        for bar in self.root.iter(SVG + "rect"):
-            title = bar.find(SVG + "title")
-            if title is None:
-                continue
-            x, y, height = (float(bar.get(name)) for name in ("x", "y", "height"))
-            output = self.output_at(x)
-            kind, _, words = title.text.partition(" ")
-            for place, top in enumerate(self.tops):
-                if y <= top + 14 <= y + height:
-                    exact = [int(word, 16) for word in words.split(", ") if word]
-                    found[output, self.columns[x], place] = kind, exact, bar.get("stroke") == picture.FAULT
-        return found
-
-    def paths(self, colour, width):
-        """The ends of the straight lines of this colour and width."""
-        for it in self.root.iter(SVG + "path"):
-            if it.get("stroke") == colour and it.get("stroke-width") == str(width):
-                yield [float(number) for number in re.findall(r"-?[\d.]+", it.get("d"))]
-
-    def places(self):
-        """By output and row, how far to the right the voltage stands in its lane."""
-        found = {}
-        for x, top, other, end in self.paths(picture.LINE, 3):
-            if x == other and end > top:
-                output = self.output_at(x)
-                found[output, self.tops.index(top)] = x - self.lanes[output]
-        return found
+def long_rails(count):
+    """So many events: formats are learned first, and then words and volts are ordered."""
+    dice, volts = random.Random(5), (850000, 1800000, 3300000, 1000000, 1200000, 5000000, 2500000, 900000)
+    reads = "exchange whole whole"
+    lines = [line for output in range(8) for line in [f"learn {output}", *[reads] * (1 + (output in (2, 5)))]]
+    while len(lines) < count:
+        output = dice.randrange(8)
+        micro = volts[output] * dice.choice((96, 100, 102, 104)) // 100
+        lines += [f"volts {output} {dice.choice(('VOUT_COMMAND', 'VOUT_MARGIN_HIGH'))} {micro}", *GOOD.split("|")]
+    return (RAILS + "\n".join(lines[:count]) + "\n").encode()
 
 
-def bar_faults(drawn, plain):
-    bars = drawn.bars()
-    for place, thoughts in enumerate(plain.thoughts):
-        for (output, code), (standing, possible, word) in thoughts.items():
-            name = next(it for it, at in CODES.items() if at == code)
-            wanted = ("any", []) if possible is None else ("possible", possible)
-            wanted = wanted if standing is None else ("confirmed", [standing])
-            found = bars.get((output, name, place), ("any", [], False))
-            if found != (*wanted, wanted[0] != "any" and word not in wanted[1]):
-                yield f"row {place}: of {output} {name} it draws {found}, and not {wanted}"
-
-
-def word_faults(drawn, plain):
-    """What stands in a bar is its belief, in volts or in hexadecimal."""
-    for bar in drawn.root.iter(SVG + "rect"):
-        if bar.find(SVG + "title") is None:
-            continue
-        x, y, height = (float(bar.get(name)) for name in ("x", "y", "height"))
-        said = " ".join(words for left, base, words, _ in drawn.texts
-                        if left == x + picture.BELIEF / 2 and y < base < y + height)
-        kind, _, exact = bar.find(SVG + "title").text.partition(" ")
-        exact = exact.split(", ") if exact else []
-        register = drawn.output_at(x), drawn.columns[x]
-        values = [plain.model.volts(register, int(word, 16)) for word in exact]
-        numbers = said.removeprefix("confirmed ").removeprefix("only ").removesuffix(" V").replace(" or ", ", ").split(", ")
-        wanted = [exact, [f"{len(exact)} words"], [f"{float(it):.4g}" for it in values if it is not None]]
-        if numbers not in wanted if exact else said != "any word":
-            yield f"{said!r} stands for {kind} {exact}"
-
-
-def value_faults(drawn, plain):
-    """The label beside a voltage's line is its value, and stands where it changes."""
-    found = {}
-    for x, y, words, it in drawn.texts:
-        if it.get("fill") == picture.LINE:
-            found[drawn.output_at(x), drawn.tops.index(y - 19)] = words
-    for output in drawn.lanes:
-        told = None
-        for place, after in enumerate(plain.reports):
-            is_on, micro = after.outputs[output]
-            said = found.get((output, place))
-            if said is None and told and told != (is_on, micro):
-                yield f"row {place}: output {output} has no value"
-            number = (said or "").removeprefix("max ").removeprefix("min ").removesuffix(" V")
-            if said and said[:4] in ("max ", "min ") and said[:4] != plain.limits[place].get(output):
-                yield f"row {place}: output {output} isn't cut as {said!r}"
-            if said and (said == "off") == is_on or is_on and said and number not in rounded(micro / 1e6):
-                yield f"row {place}: output {output} has {said!r}, and not {micro} uV"
-            told = is_on, micro
-
-
-def rounded(volts):
-    return [f"{volts:.{digits}g}" for digits in (4, 3, 2, 1)]
-
-
-def volt_faults(drawn, plain):
-    """Each place must be the same straight function of the voltage, in microvolts."""
-    pairs = [(plain.reports[place].outputs[output][1], x) for (output, place), x in drawn.places().items()]
-    wanted = sum(len(it.outputs) for it in plain.reports)
-    if len(pairs) != wanted:
-        yield f"{len(pairs)} voltages are drawn, and not {wanted}"
-    (least, left), (most, right) = min(pairs), max(pairs)
-    for micro, x in pairs:
-        wanted = left if most == least else left + (micro - least) / (most - least) * (right - left)
-        if abs(x - wanted) > 0.2 or most > least and right <= left:
-            yield f"{micro} uV stands at {x}, and not at {wanted:.1f}"
-
-
-def row_faults(drawn, plain, events):
-    """The events with their lines, and the restarts."""
-    wanted = ["start", *(picture.shortened(" ".join(line.decode().split())) for _, line in events)]
-    shown = len(plain.reports)
-    if [words for _, words in drawn.labels] != wanted[:shown]:
-        yield "the rows are the events"
-    numbers = [words for x, y, words, _ in drawn.texts if x == picture.EDGE + 24 and y > drawn.tops[0]]
-    if numbers != ["", *(str(number) for number, _ in events)][:shown]:
-        yield "the numbers are those of the lines"
-    restarts = [drawn.tops[place] for place, words in enumerate(wanted[:shown]) if words.startswith("restart")]
-    if [y for _, y, _, _ in drawn.paths(picture.RESTART, 1.6)] != restarts:
-        yield "the restarts are those of the events"
-
-
-def box(x, y, words, it):
-    size = float(it.get("font-size"))
-    wide = picture.width_of(words, size, "Mono" in it.get("font-family"))
-    left = x - {"start": 0, "middle": wide / 2, "end": wide}[it.get("text-anchor")]
-    return left, y - size * 0.8, left + wide, y + size * 0.25
-
-
-def layout_faults(drawn):
-    """Labels that overlap each other or a voltage's line, or leave the picture."""
-    boxes = [(box(*it), it[2]) for it in drawn.texts if it[2]]
-    paths = [path for path in drawn.paths(picture.LINE, 3) if path[0] == path[2]]
-    lines = [((x - 1.5, top, x + 1.5, end), "a voltage") for x, top, _, end in paths]
-    for place, ((left, top, right, end), words) in enumerate(boxes):
-        if left < 0 or top < 0 or right > drawn.width or end > drawn.height:
-            yield f"{words!r} leaves the picture"
-        for (left2, top2, right2, end2), other in boxes[place + 1:] + lines:
-            if left < right2 and left2 < right and top < end2 and top2 < end:
-                yield f"{words!r} and {other!r} overlap"
-    for (x, y, words, it), ((left, _, right, _), _) in zip([it for it in drawn.texts if it[2]], boxes):
-        if it.get("text-anchor") == "middle" and right - left > picture.BELIEF:
-            yield f"{words!r} leaves its bar"
-
-
-def brightness(colour):
-    parts = [int(colour[at:at + 2], 16) / 255 for at in (1, 3, 5)]
-    parts = [part / 12.92 if part <= 0.04045 else ((part + 0.055) / 1.055) ** 2.4 for part in parts]
-    return 0.2126 * parts[0] + 0.7152 * parts[1] + 0.0722 * parts[2]
-
-
-def colour_faults():
-    """Words must stand out from what is behind them, 4.5 to 1."""
-    pairs = [(ink, picture.PANEL) for ink in (picture.INK, picture.PALE, picture.LINE, *picture.MARKS.values())]
-    pairs += [(ink, picture.PANEL if fill == "none" else fill) for fill, ink, _ in picture.BELIEFS.values()]
-    for pair in pairs:
-        low, high = sorted(map(brightness, pair))
-        if (high + 0.05) / (low + 0.05) < 4.5:
-            yield f"{pair[0]} can't be read on {pair[1]}"
-
-
-def timeline_faults(run, plain, events):
+def timeline_faults(text, plain, events):
     """The lines of the timeline are the differences of the plain model's reports, and the stop."""
+    words = Words(read_scenario(text)[0])
     wanted, reports = [], plain.reports
     for (number, line), before, after in zip(events, reports, reports[1:]):
         wanted.append((number, " ".join(line.decode().split())))
-        old, new = facts(before), facts(after)
+        old, new = facts(before, words), facts(after, words)
         wanted += [f"{name} {old[name]} -> {new[name]}" for name in old if old[name] != new[name]]
-    found = [(int(words[1]), " ".join(words[2:])) if words[0] == "line" else " ".join(words)
-             for words in map(str.split, timeline(run))]
+    found = [(int(it[1]), " ".join(it[2:])) if it[0] == "line" else " ".join(it)
+             for it in map(str.split, timeline(lived(text), words))]
     if plain.stop:
         stop = next((it for it in found if isinstance(it, str) and it.startswith("stopped:")), "")
         if not re.match(re.escape(f"stopped: {plain.stop}: ") + ".", stop):
@@ -313,21 +198,45 @@ def timeline_faults(run, plain, events):
         yield f"the timeline has {[it for it in found if it not in wanted]}"
 
 
-def faults_of(name, text):
-    plain, events, seen = Plain(text), search_events(text), Seen(text)
+def volt_faults(text, plain, pmb):
+    """The volts beside words in the timeline are those of the program's own `number`."""
+    setup = plain.setup
+    told = {it for line in timeline(lived(text), Words(setup)) for it in re.findall(
+        r"output (\d) \w+: .*?\b([0-9A-F]{4}) \(([^)]* u?V)\)", line)}
+    for output, word, said in sorted(told)[:20]:
+        mode = setup["outputs"][int(output)][0]
+        power = mode - 32 if mode & 0x10 else mode
+        form = "direct:%d:%d:%d" % setup["coefficients"] if mode == 0x40 else f"ulinear16:{power}"
+        ran = subprocess.run([pmb, "number", f"--format={form}", f"--word={word}"], capture_output=True, text=True)
+        if not tells(said, int(ran.stdout.split()[-1])):
+            yield f"{word} of output {output} is told as {said}: {ran.stdout}"
+
+
+def faults_of(name, text, pmb):
+    """By what is looked at, what is wrong with the picture and the timeline of a text."""
+    plain, events, seen = Plain(text), events_in(text), Seen(text)
     drawn = Drawn(picture.Picture(seen, name).svg())
-    yield from row_faults(drawn, plain, events)
-    yield from bar_faults(drawn, plain)
-    yield from word_faults(drawn, plain)
-    yield from volt_faults(drawn, plain)
-    yield from value_faults(drawn, plain)
-    yield from layout_faults(drawn)
-    yield from timeline_faults(lived(text), plain, events)
-    if name in MARKS and [row.mark[1] for row in seen.rows[1:]] != MARKS[name]:
-        yield f"the marks are {[row.mark[1] for row in seen.rows[1:]]}"
+    found = {
+        "rows": [*faults_in.row_faults(drawn, plain, events)],
+        "heads": [*faults_in.head_faults(drawn)],
+        "jobs": [*faults_in.job_faults(drawn, plain, events)],
+        "bars": [*faults_in.bar_faults(drawn, plain)],
+        "words of bars": [*faults_in.word_faults(drawn, plain)],
+        "status": [*faults_in.status_faults(drawn, plain)],
+        "values": [*faults_in.value_faults(drawn, plain)],
+        "scales": [*faults_in.scale_faults(drawn, plain)],
+        "limits": [*faults_in.limit_faults(drawn, plain)],
+        "layout": [*faults_in.layout_faults(drawn)],
+        "timeline": [*timeline_faults(text, plain, events)],
+        "volts": [*volt_faults(text, plain, pmb)],
+    }
+    if name in MARKS:
+        found["marks"] = [f"they are {[row.mark[1] for row in seen.rows[1:]]}"] * (
+            [row.mark[1] for row in seen.rows[1:]] != MARKS[name])
+    return found
 
 
-def search_events(text):
+def events_in(text):
     lines = numbered(text)
     return lines[[line.split() for _, line in lines].index([b"begin"]) + 1:]
 
@@ -337,37 +246,95 @@ def scenarios():
     for path in sorted(glob.glob(os.path.join(program.ROOT, "examples/*.scenario"))):
         with open(path, "rb") as file:
             yield os.path.basename(path).removesuffix(".scenario"), file.read()
-    yield "eight", EIGHT
+    yield from (("eight", EIGHT), ("three rails", THREE), ("eight rails", eight_rails(LIVES)))
     dice = random.Random(1)
     for number in range(12):
         setup, passes = search_promises.sound_setup(dice)
-        events = search_promises.draw_list(dice, setup, passes, False)[:25]
+        events = search_promises.draw_list(dice, setup, passes, False)[:60 if number % 3 == 0 else 25]
         yield f"drawn {number}", search_promises.text_of(dice, setup, passes, events)
 
 
-def stored_faults(is_written):
+def by_hand():
+    """What stands word for word in the picture and the timeline of three rails."""
+    drawn = Drawn(picture.Picture(Seen(THREE), "three").svg())
+    lines = [*timeline(lived(THREE), Words(read_scenario(THREE)[0]))]
+    return {"words by hand": [f"{it!r} isn't drawn" for it in IN_THREE - {it.words for it in drawn.texts}],
+            "lines by hand": [f"{it!r} isn't told" for it in TOLD_OF_THREE.splitlines() if it not in lines]}
+
+
+def shift_faults():
+    """34 mV of a rail of 0.85 V, beside one of 5 V, are seen."""
+    drawn = Drawn(picture.Picture(Seen(eight_rails(LIVES)), "rails").svg())
+    at = [it[0] for (output, _), it in sorted(drawn.upright(drawing.LINE, 3).items()) if output == 0]
+    return [] if max(at) - min(at) >= 8 else [f"output 0 moves by {max(at) - min(at):.1f} pixels alone"]
+
+
+def slow_faults(script, count):
+    """A script that takes too long for so many events."""
+    with tempfile.TemporaryDirectory() as folder:
+        path = os.path.join(folder, "long.scenario")
+        with open(path, "wb") as file:
+            file.write(long_rails(count))
+        start, used = time.time(), processor_seconds()
+        try:
+            words = os.path.join(program.ROOT, "scripts", script), path
+            ran = subprocess.run(words, capture_output=True, timeout=5 * SECONDS)
+        except subprocess.TimeoutExpired:
+            return [f"{script} takes more than {5 * SECONDS} s for {count} events"]
+    used = processor_seconds() - used
+    print(f"{script}: {count} events in {time.time() - start:.1f} s, {used:.1f} processor seconds", flush=True)
+    if ran.returncode or len(ran.stdout) < 50 * count:
+        return [f"{script} says {ran.stderr[-200:]}"]
+    return [f"{script} takes {used:.1f} processor seconds for {count} events"] if used >= SECONDS else []
+
+
+def processor_seconds():
+    """Those of the scripts that were run, with what they ran."""
+    used = resource.getrusage(resource.RUSAGE_CHILDREN)
+    return used.ru_utime + used.ru_stime
+
+
+def help_faults():
+    """The help says what comes from where."""
+    said = " ".join((picture.__doc__ or "").split())
+    return [it for it in ("reports of the built program", "plain model of scripts/plain") if it not in said]
+
+
+def stored_faults(name, is_written):
+    path = os.path.join(PICTURES, f"{name}.svg")
+    with open(os.path.join(program.ROOT, f"examples/{name}.scenario"), "rb") as file:
+        svg = picture.Picture(Seen(file.read()), f"{name}.scenario").svg()
+    if is_written:
+        os.makedirs(PICTURES, exist_ok=True)
+        with open(path, "w", encoding="utf-8") as file:
+            file.write(svg)
+    elif not os.path.exists(path) or open(path, encoding="utf-8").read() != svg:
+        yield f"docs/pictures/{name}.svg isn't what the example gives: scripts/try_pictures.py --store"
+
+
+def checks():
+    """Each check by its name, with what is wrong."""
+    pmb = program.needed()
     for name in STORED:
-        path = os.path.join(PICTURES, f"{name}.svg")
-        with open(os.path.join(program.ROOT, f"examples/{name}.scenario"), "rb") as file:
-            svg = picture.Picture(Seen(file.read()), f"{name}.scenario").svg()
-        if is_written:
-            os.makedirs(PICTURES, exist_ok=True)
-            with open(path, "w", encoding="utf-8") as file:
-                file.write(svg)
-        elif not os.path.exists(path) or open(path, encoding="utf-8").read() != svg:
-            yield f"docs/pictures/{name}.svg isn't what the example gives: scripts/try_pictures.py --store"
+        yield f"docs/pictures/{name}.svg", [*stored_faults(name, "--store" in sys.argv)]
+    yield "colours", [*faults_in.colour_faults()]
+    yield "help", help_faults()
+    yield "a shift of 34 mV", shift_faults()
+    yield from by_hand().items()
+    for script in "timeline.py", "picture.py":
+        yield f"time of {script}", slow_faults(script, 5000)
+    for name, text in scenarios():
+        yield from ((f"{name}: {what}", wrong) for what, wrong in faults_of(name, text, pmb).items())
 
 
 def main():
     program.answer_help(__doc__)
-    program.needed()
-    faults = [*stored_faults("--store" in sys.argv), *colour_faults()]
-    count = 0
-    for name, text in scenarios():
-        faults += [f"{name}: {fault}" for fault in faults_of(name, text)]
-        count += 1
-    print("\n".join([*faults, f"{count} runs told and drawn, {len(faults)} faults"]))
-    return 1 if faults else 0
+    passed = failed = 0
+    for name, wrong in checks():
+        print("".join(f"{name}: {it}\n" for it in wrong), end="", flush=True)
+        passed, failed = passed + (not wrong), failed + bool(wrong)
+    print(f"{passed} passed, {failed} failed")
+    return 1 if failed else 0
 
 
 if __name__ == "__main__":
