@@ -1,3 +1,4 @@
+mod FailureLemmas
 mod GotLemmas
 pub mod Joins
 mod SendLemmas

@@ -10,9 +10,9 @@ use Rattle.pm_lines.specs.declared.fault.TextFault.TheVariants as text
 use Rattle.pm_session.specs.AskLines.{ask_of}
 use Rattle.pm_session.specs.ReplyText.{reply_text}
 use Rattle.pm_session.specs.Session.{Answered, answer_to, answers_asked}
-use Rattle.pm_session.specs.Talk.{after_lines, answer_text, answered, came, heard, is_line, last_turn, talk, turn, went, IsCut, IsTurn}
+use Rattle.pm_session.specs.Talk.{after_lines, answer_text, answered, came, handed_on, heard, is_line, last_turn, talk, turn, went, IsCut, IsCutShort, IsTurn}
 use Rattle.pm_session.specs.declared.happening.Happening.{Happening}
-use Rattle.pm_session.specs.declared.happening.Happening.TheVariants.{Came, Ended, Flushed, WriteFailed}
+use Rattle.pm_session.specs.declared.happening.Happening.TheVariants.{Came, Ended, WriteFailed}
 use Rattle.pm_session.specs.declared.refusal.Refusal.TheVariants.{TooLong}
 
 -- one more byte
@@ -75,19 +75,10 @@ pub kept_text : (s : Summary) (line : List ℕ) → answer_text s (take 257 line
 unfolding answer_text
 kept_text s line = ap (λ (a : Answered). reply_text a.reply) (kept_answers s line)
 
--- the answer's text goes, and is flushed
-abbrev answered_by : List ℕ → List Happening
-answered_by text = went text ++ Flushed ∷ []
-
 -- a line came whole, of which the first 257 bytes are kept
 abbrev pub IsHeard : {P : Type 0} → (P → List Happening → P → Type 0) → P → P → Bool → List ℕ → Type 0
 IsHeard goes a b more kept =
     (bytes : List ℕ) × (is_line bytes ≡ true) × (kept ≡ take 257 bytes) × goes a (heard more bytes) b
-
--- a prefix of its answer went, and a write failed
-abbrev pub IsCutShort : {P : Type 0} → (P → List Happening → P → Type 0) → P → P → List ℕ → Type 0
-IsCutShort goes b d text =
-    (front : List ℕ) × (rest : List ℕ) × (text ≡ front ++ rest) × goes b (went front ++ WriteFailed ∷ []) d
 
 module _ {P : Type 0} (goes : P → List Happening → P → Type 0)
     (joined : (a b c : P) (xs ys : List Happening) → goes a xs b → goes b ys c → goes a (xs ++ ys) c) (s after : Summary) where
@@ -96,7 +87,7 @@ module _ {P : Type 0} (goes : P → List Happening → P → Type 0)
       → goes b (answered s kept) d → (things : List Happening) × IsTurn s after true things × goes a things d
   unfolding turn
   whole_turn a b d kept (bytes, line, is, came) ends went =
-      let same : answered s kept ≡ answered s bytes = ap (answered s) is ∙ ap answered_by (kept_text s bytes) in (
+      let same : answered s kept ≡ answered s bytes = ap (answered s) is ∙ ap handed_on (kept_text s bytes) in (
         turn s bytes,
         (bytes, line, refl, ends ∙ ap (λ k. (answer_to s k).after) is ∙ ap (λ (x : Answered). x.after) (kept_answers s bytes)),
         joined a b d _ _ came (subst (λ things. goes b things d) same went),
@@ -108,7 +99,7 @@ module _ {P : Type 0} (goes : P → List Happening → P → Type 0)
   last_whole a b d kept some ([], line, is, came) ends went = let none = ap length is in absurd (omega arith)
   last_whole a b d kept some (byte ∷ bytes, line, is, came) ends went =
       let all = byte ∷ bytes in
-      let same : answered s kept ≡ answered s all = ap (answered s) is ∙ ap answered_by (kept_text s all) in (
+      let same : answered s kept ≡ answered s all = ap (answered s) is ∙ ap handed_on (kept_text s all) in (
         last_turn s all,
         (all, line, refl, ends ∙ ap (λ k. (answer_to s k).after) is ∙ ap (λ (x : Answered). x.after) (kept_answers s all)),
         joined a b d _ _ came (subst (λ things. goes b things d) same went),

@@ -1,6 +1,7 @@
 -- What the crate promises.
 pub mod AskLines
 pub mod Execution
+pub mod Laws
 pub mod Options
 pub mod Ports
 pub mod ReplyText

@@ -34,9 +34,13 @@ heard more line = came line ++ line_end more ∷ []
 unfoldable pub answer_text : Summary → List ℕ → List ℕ
 answer_text s line = reply_text (answer_to s line).reply
 
--- the answer goes, and is flushed
+-- a text goes, and is flushed
+abbrev pub handed_on : List ℕ → List Happening
+handed_on text = went text ++ Flushed ∷ []
+
+-- the answer does
 abbrev pub answered : Summary → List ℕ → List Happening
-answered s line = went (answer_text s line) ++ Flushed ∷ []
+answered s line = handed_on (answer_text s line)
 
 -- a line comes and is answered
 unfoldable pub turn : Summary → List ℕ → List Happening
@@ -87,6 +91,11 @@ IsCut s after (Syntax line) things = ⊥
 IsCut s after (BadHex line) things = ⊥
 IsCut s after Memory things = ⊥
 IsCut s after (Setup fault) things = ⊥
+
+-- a prefix of a text went, and a write or the flush failed
+abbrev pub IsCutShort : {P : Type 0} → (P → List Happening → P → Type 0) → P → P → List ℕ → Type 0
+IsCutShort goes old new text = (front : List ℕ) × (rest : List ℕ) × (text ≡ front ++ rest)
+    × goes old (went front ++ WriteFailed ∷ []) new
 
 -- what comes of a line that broke off before it had come whole
 abbrev pub IsUnheard : TextFault → List Happening → Type 0

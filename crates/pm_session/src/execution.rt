@@ -1,62 +1,96 @@
-//! The program: its options make a host, which is then spoken to over its streams.
-ghost use Rattle.std.specs.Prelude.{◌≡◌, ◌≤◌, ℕ, List, IsFalse, not};
-ghost use Rattle.std.specs.Io.KnownBytes.{Appends};
+//! The program: its options make a host, which is then spoken to over its port.
+ghost use Rattle.std.specs.Prelude.{◌≡◌, ◌≤◌, IfOk, IsFalse, MatchResult, Err, Ok, map, string_bytes};
+ghost use Rattle.std.specs.IoError.{error_kind};
 ghost use Rattle.std.specs.Process.{exit_status};
+ghost use Rattle.std.specs.Vec.Iter.{into_iter_items};
 ghost use Rattle.clap.specs.Words.{kind_of};
 ghost use Rattle.pm_lines.specs.Faults.{fault_words};
 ghost use Rattle.pm_lines.specs.declared.fault.TextFault.TheVariants.{Memory};
-ghost use Rattle.pm_session.specs.Execution.{Run, RunEnds, Says, ServeEnds, Shows, UsageEnds};
-ghost use Rattle.pm_session.specs.Execution.{no_words, no_words_status, refusal_line};
+ghost use Rattle.pm_session.specs.Execution.{EndsLine, Run, RunEnds, Says, ServeEnds, UsageEnds};
+ghost use Rattle.pm_session.specs.Execution.{arguments_of, no_words, no_words_status, refusal_line};
 ghost use Rattle.pm_session.specs.Options.{start_of};
 
 use crate::options::Options;
-use crate::streams::Streams;
-use crate::talk::converse;
+use crate::port::Port;
+use crate::talk::{converse, hand_on};
 use clap::error::ErrorKind;
-use pm_lines::{Sink, Source, TextFault};
-use std::alloc::Global;
-use std::env::{self, Env};
-use std::io::{self, Read, Write};
+use pm_lines::{Sink, TextFault};
+use std::alloc::{AllocError, Global};
+use std::env::Args;
+use std::io::{self, Write};
 use std::process::ExitCode;
 
-/// Runs the program over the arguments of a runtime, and its standard input, output and error. What
-/// `main` does is this one call. No clause can say what a terminal or a pipe gives or takes: `run` says
-/// what is read and written. The status is at most 2. Takes memory for the arguments, and then as `run`.
-pub fn program<R: Env + AllocGlobal, I: Read + Drop, W: Write + Drop, E: Write + Drop>(
-    rt: &R,
-    input: I,
-    output: W,
-    errors: E,
+/// Runs the program over what `env::args` gave, over a port and over standard error, as `run` does. `main`
+/// hands on what its runtime has: no clause can say what a terminal or a pipe gives or takes. `errors` hasn't
+/// failed before. The status is at most 2. Takes memory for the arguments, and then as `run`.
+pub fn program<P: Port, E: Write>(
+    alloc: Global,
+    arguments: io::Result<Args>,
+    port: &mut P,
+    errors: &mut Sink<E>,
 ) -> ExitCode
-    ensures { exit_status result ≤ 2 }
+    requires { IsFalse errors.old.failed }
+    ensures ends { let run : Run _ _ = record {
+      told = E.contents;
+      port = port.old;
+      port' = port.new;
+      errors = errors.old;
+      errors' = errors.new;
+    } in MatchResult arguments
+        (λ given. RunEnds P.goes run (exit_status result) (Ok (map string_bytes (into_iter_items given))))
+        (λ error. RunEnds P.goes run (exit_status result) (Err (error_kind error))) }
+    ensures status { exit_status result ≤ 2 }
 {
-    let mut streams = Streams {
-        source: Source::new(input),
-        sink: Sink::new(output),
-    };
-    let mut errors = Sink::new(errors);
-    let texts = arguments(rt);
-    let words = match &texts {
-        Ok(texts) => texts
-            .iter()
-            .map(|text| text.as_str())
-            .collect(rt.alloc())
-            .map_err(|error| io::Error::from(error).kind()),
-        Err(kind) => Err(*kind),
-    };
-    let words = words
-        .as_ref()
-        .map(|words: &Vec<&str>| words.as_slice())
-        .map_err(|kind| *kind);
-    ExitCode::from(run(rt.alloc(), words, &mut streams, &mut errors))
+    ExitCode::from(run_given(alloc, arguments, port, errors))
 }
 
-// The arguments as texts, or why they can't be had as such.
-fn arguments<R: Env + AllocGlobal>(rt: &R) -> Result<Vec<String>, io::ErrorKind> {
-    let arguments = env::args(rt).map_err(|error| error.kind())?;
-    arguments
-        .collect(rt.alloc())
-        .map_err(|error| io::Error::from(error).kind())
+// Runs the program over the arguments, and answers the status.
+fn run_given<P: Port, E: Write>(
+    alloc: Global,
+    arguments: io::Result<Args>,
+    port: &mut P,
+    errors: &mut Sink<E>,
+) -> u8
+    requires { IsFalse errors.old.failed }
+    ensures { let run : Run _ _ = record {
+      told = E.contents;
+      port = port.old;
+      port' = port.new;
+      errors = errors.old;
+      errors' = errors.new;
+    } in MatchResult arguments
+        (λ given. RunEnds P.goes run result (Ok (map string_bytes (into_iter_items given))))
+        (λ error. RunEnds P.goes run result (Err (error_kind error))) }
+{
+    let given = match arguments {
+        Ok(given) => given,
+        Err(error) => return refuse_arguments(error.kind(), errors),
+    };
+    let Ok(given) = texts_of(alloc, given) else {
+        return refuse_memory(errors);
+    };
+    let Ok(words) = words_of(alloc, &given) else {
+        return refuse_memory(errors);
+    };
+    run(alloc, Ok(words.as_slice()), port, errors)
+}
+
+// The arguments as texts.
+fn texts_of(alloc: Global, given: Args) -> Result<Vec<String>, AllocError>
+    ensures { IfOk result (λ texts. texts.items ≡ into_iter_items given) }
+{
+    given.collect(alloc)
+}
+
+// The texts as words.
+fn words_of(alloc: Global, given: &Vec<String>) -> Result<Vec<&str>, AllocError>
+    ensures { IfOk result (λ words. map (λ word. word.now) words.items ≡ map string_bytes given.now.items) }
+{
+    let mut words = Vec::new(alloc);
+    'words: for text in given {
+        words.push(text.as_str()).map_err(AllocError::from)?;
+    }
+    Ok(words)
 }
 
 /// Runs the program: makes the host that the words of the command line ask for, answers the lines that
@@ -67,53 +101,44 @@ fn arguments<R: Env + AllocGlobal>(rt: &R) -> Result<Vec<String>, io::ErrorKind>
 /// Status 0 at the end of input, and for help or the version that was asked for; 1 for a failed stream,
 /// for H1 and H2, and for want of memory, which is wanted for the command line alone; 2 for bad options.
 /// Status 1 and 2 come with one line on `errors`, but for the parser's own texts.
-pub fn run<R: Read, W: Write, E: Write>(
+///
+/// What is read, written and flushed, and in which order, is said over every port; `Streams` says what each
+/// of these is over a reader and a writer.
+pub fn run<P: Port, E: Write>(
     alloc: Global,
     words: Result<&[&str], io::ErrorKind>,
-    streams: &mut Streams<R, W>,
+    port: &mut P,
     errors: &mut Sink<E>,
 ) -> u8
     requires { IsFalse errors.old.failed }
-    ensures { let run : Run _ _ _ = record {
-      remaining = R.remaining;
-      contents = W.contents;
+    ensures { let run : Run _ _ = record {
       told = E.contents;
-      source = streams.old.source;
-      source' = streams.new.source;
-      sink = streams.old.sink;
-      sink' = streams.new.sink;
+      port = port.old;
+      port' = port.new;
       errors = errors.old;
       errors' = errors.new;
-    } in RunEnds run result words.entry }
+    } in RunEnds P.goes run result (arguments_of words.entry) }
 {
     let words = match words {
         Ok(words) => words,
         Err(kind) => return refuse_arguments(kind, errors),
     };
     match Options::read(alloc, words) {
-        Ok(options) => serve(&options, streams, errors),
-        Err(error) => show_usage(alloc, &error, streams, errors),
+        Ok(options) => serve(&options, port, errors),
+        Err(error) => show_usage(alloc, &error, port, errors),
     }
 }
 
 // Answers the lines that come, over a host that these options make.
-fn serve<R: Read, W: Write, E: Write>(
-    options: &Options<'_>,
-    streams: &mut Streams<R, W>,
-    errors: &mut Sink<E>,
-) -> u8
+fn serve<P: Port, E: Write>(options: &Options<'_>, port: &mut P, errors: &mut Sink<E>) -> u8
     requires { IsFalse errors.old.failed }
-    ensures { let run : Run _ _ _ = record {
-      remaining = R.remaining;
-      contents = W.contents;
+    ensures { let run : Run _ _ = record {
       told = E.contents;
-      source = streams.old.source;
-      source' = streams.new.source;
-      sink = streams.old.sink;
-      sink' = streams.new.sink;
+      port = port.old;
+      port' = port.new;
       errors = errors.old;
       errors' = errors.new;
-    } in ServeEnds run result (start_of options.now) }
+    } in ServeEnds P.goes run result (start_of options.now) }
 {
     let mut host = match options.start() {
         Ok(host) => host,
@@ -122,42 +147,39 @@ fn serve<R: Read, W: Write, E: Write>(
             return fault.status();
         }
     };
-    match converse(&mut host, streams) {
+    match converse(&mut host, port) {
         Ok(()) => 0,
         Err(fault) => refuse(errors, fault),
     }
 }
 
 // What the parser says in place of options: help and the version on the output, a fault on `errors`.
-fn show_usage<R: Read, W: Write, E: Write>(
+fn show_usage<P: Port, E: Write>(
     alloc: Global,
     error: &clap::Error,
-    streams: &mut Streams<R, W>,
+    port: &mut P,
     errors: &mut Sink<E>,
 ) -> u8
     requires { IsFalse errors.old.failed }
-    ensures { let run : Run _ _ _ = record {
-      remaining = R.remaining;
-      contents = W.contents;
+    ensures { let run : Run _ _ = record {
       told = E.contents;
-      source = streams.old.source;
-      source' = streams.new.source;
-      sink = streams.old.sink;
-      sink' = streams.new.sink;
+      port = port.old;
+      port' = port.new;
       errors = errors.old;
       errors' = errors.new;
-    } in UsageEnds run result (kind_of error.now) }
+    } in UsageEnds P.goes run result (kind_of error.now) }
 {
-    let Ok(text) = format!(in alloc; "{error}") else {
+    let Ok(text) = usage_text(alloc, error) else {
         return refuse_memory(errors);
     };
     match error.kind() {
         ErrorKind::OutOfMemory => refuse_memory(errors),
-        ErrorKind::DisplayHelp | ErrorKind::DisplayVersion => print_whole(
-            text.as_bytes(),
-            streams,
-            errors,
-        ),
+        ErrorKind::DisplayHelp | ErrorKind::DisplayVersion => {
+            match hand_on(port, text.as_bytes()) {
+                Ok(()) => 0,
+                Err(_) => refuse(errors, TextFault::Write),
+            }
+        }
         _ => {
             let _ = errors.put(text.as_bytes());
             2
@@ -165,39 +187,23 @@ fn show_usage<R: Read, W: Write, E: Write>(
     }
 }
 
-// Prints a whole text.
-fn print_whole<R: Read, W: Write, E: Write>(
-    text: &[u8],
-    streams: &mut Streams<R, W>,
-    errors: &mut Sink<E>,
-) -> u8
-    requires { IsFalse errors.old.failed }
-    ensures read { streams.new.source ≡ streams.old.source }
-    ensures shown { let run : Run _ _ _ = record {
-      remaining = R.remaining;
-      contents = W.contents;
-      told = E.contents;
-      source = streams.old.source;
-      source' = streams.new.source;
-      sink = streams.old.sink;
-      sink' = streams.new.sink;
-      errors = errors.old;
-      errors' = errors.new;
-    } in Shows run result }
+// The parser's text.
+fn usage_text(alloc: Global, error: &clap::Error) -> Result<String, AllocError>
+    ensures { IfOk result (λ text. EndsLine (string_bytes text)) }
 {
-    if is_printed(text, &mut streams.sink) {
-        return 0;
-    }
-    refuse(errors, TextFault::Write)
+    ended(format!(in alloc; "{error}")?)
 }
 
-// Whether a whole text was written and handed on.
-fn is_printed<W: Write>(text: &[u8], output: &mut Sink<W>) -> bool
-    ensures failed { output.new.failed ≡ not result }
-    ensures written { (bytes : List ℕ)
-        × Appends (W.contents output.old.inner) (W.contents output.new.inner) bytes }
+// A text with a line feed at its end, which those of the parser have.
+fn ended(text: String) -> Result<String, AllocError>
+    ensures { IfOk result (λ whole. EndsLine (string_bytes whole)) }
 {
-    !output.failed() && output.put(text).is_ok() && output.flush().is_ok()
+    if text.as_bytes().ends_with(b"\n") {
+        return Ok(text);
+    }
+    let mut whole = text;
+    whole.push('\n')?;
+    Ok(whole)
 }
 
 // Says that the arguments couldn't be had as texts, for want of memory or since they are none.

@@ -8,6 +8,11 @@ use std::io::{Read, Write};
 /// A reader and a writer as a port. It reads one byte a call, so that no byte after a line is asked for
 /// before the line's answer is flushed. Once a read failed nothing more is read, and once a write or a
 /// flush failed nothing more is written.
+///
+/// Each of its calls uses one of the two and leaves the other as it was. X4 comes exactly where the source
+/// has failed, X5 exactly where the sink has, and the end of input only where no byte is left. What the
+/// traits of the standard library don't tell is in no clause: when a call of a reader or a writer fails,
+/// and whether a flush reaches anything. Tests count these calls.
 #[derive(Debug, Drop)]
 pub struct Streams<R, W> {
     /// Where the lines come from.
@@ -17,14 +22,10 @@ pub struct Streams<R, W> {
 }
 
 impl<R: Read, W: Write> Port for Streams<R, W> {
-    ghost use Rattle.std.specs.Io.KnownBytes.{Appends, Consumes};
-    ghost use Rattle.std.proofs.KnownBytes.{Appends-nil, Consumes-nil};
-    ghost use Rattle.pm_session.specs.Ports.{bytes_in, bytes_out};
-    ghost use Rattle.pm_session.specs.Lemmas.Ports.{appends_joined, consumes_joined};
+    ghost use Rattle.pm_session.specs.Ports.{Passes};
+    ghost use Rattle.pm_session.specs.Lemmas.Ports.{reads_joined, reads_nothing, writes_joined, writes_nothing};
 
-    ghost goes = { λ a happenings b.
-        Consumes (R.remaining a.source.inner) (R.remaining b.source.inner) (bytes_in happenings)
-        × Appends (W.contents a.sink.inner) (W.contents b.sink.inner) (bytes_out happenings) };
+    ghost goes = { Passes R.remaining W.contents };
 
     fn next_byte(&mut self) -> Result<Option<u8>, TextFault> {
         if self.source.failed() {
@@ -55,8 +56,8 @@ impl<R: Read, W: Write> Port for Streams<R, W> {
         self.sink.flush()
     }
 
-    ghost nothing = { λ p. (Consumes-nil (R.remaining p.source.inner), Appends-nil (W.contents p.sink.inner)) };
+    ghost nothing = { λ p. (reads_nothing R.remaining p.source, writes_nothing W.contents p.sink) };
 
     ghost joined = { λ a b c xs ys before after.
-        (consumes_joined _ _ _ xs ys before.0 after.0, appends_joined _ _ _ xs ys before.1 after.1) };
+        (reads_joined _ _ _ _ xs ys before.0 after.0, writes_joined _ _ _ _ xs ys before.1 after.1) };
 }

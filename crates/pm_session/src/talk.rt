@@ -3,9 +3,8 @@
 ghost use Rattle.std.specs.Prelude.{◌≡◌, ◌⊎◌, ℕ, ◌++◌, [], ◌∷◌, List, true, IfErr, IfOk, OnOk, take};
 ghost use Rattle.std.specs.List.{list_all};
 ghost use Rattle.pm_session.specs.Session.{answer_to};
-ghost use Rattle.pm_session.specs.Talk.{after_lines, answer_text, answered, heard, is_line, last_after, last_turn, talk, went, IsCut, IsOver, IsTurn, IsUnheard};
+ghost use Rattle.pm_session.specs.Talk.{after_lines, answer_text, answered, handed_on, heard, is_line, last_after, last_turn, talk, IsCut, IsCutShort, IsOver, IsTurn, IsUnheard};
 ghost use Rattle.pm_session.specs.declared.happening.Happening.{Happening};
-ghost use Rattle.pm_session.specs.declared.happening.Happening.TheVariants.{WriteFailed};
 
 use crate::port::Port;
 use crate::reply_text::reply_text;
@@ -106,15 +105,23 @@ fn answer_kept<P: Port>(
     ensures ok { IfOk result (λ handed. (handed ≡ more)
         × P.goes port.old (answered host.old line.now) port.new) }
     ensures err { IfErr result (λ fault. (fault ≡ TextFault.Write)
-        × (front : List ℕ) × (rest : List ℕ) × (answer_text host.old line.now ≡ front ++ rest)
-        × P.goes port.old (went front ++ WriteFailed ∷ []) port.new) }
+        × IsCutShort P.goes port.old port.new (answer_text host.old line.now)) }
 {
     let text = reply_text(&answer_line(host, line));
-    if let Err(fault) = port.put(text.as_slice()) {
-        return Err(fault);
-    }
-    match port.flush() {
+    match hand_on(port, text.as_slice()) {
         Ok(()) => Ok(more),
         Err(fault) => Err(fault),
     }
+}
+
+/// Writes a whole text and flushes it. X5 where that failed; then a prefix of it was written.
+pub(crate) fn hand_on<P: Port>(port: &mut P, text: &[u8]) -> Result<(), TextFault>
+    ensures ok { OnOk result (P.goes port.old (handed_on text.now) port.new) }
+    ensures err { IfErr result (λ fault. (fault ≡ TextFault.Write)
+        × IsCutShort P.goes port.old port.new text.now) }
+{
+    if let Err(fault) = port.put(text) {
+        return Err(fault);
+    }
+    port.flush()
 }

@@ -1,14 +1,15 @@
-//! The program `pmbhost`: it hands the runtime and its standard streams to the library.
+//! The program `pmbhost`: it hands the arguments and the standard streams of its runtime to the library.
 #![tactic(auto)]
 
-use pm_session::program;
+use pm_session::{Sink, Source, Streams, program};
+use std::env;
 use std::process::ExitCode;
 
 fn main(rt: HostRuntime) -> ExitCode {
-    program(
-        &rt,
-        rt.stdin().lock(),
-        rt.stdout().lock(),
-        rt.stderr().lock(),
-    )
+    let mut streams = Streams {
+        source: Source::new(rt.stdin().lock()),
+        sink: Sink::new(rt.stdout().lock()),
+    };
+    let mut errors = Sink::new(rt.stderr().lock());
+    program(rt.alloc(), env::args(&rt), &mut streams, &mut errors)
 }

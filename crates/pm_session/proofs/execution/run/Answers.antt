@@ -13,8 +13,7 @@ memory_ends kind memory (inr (inr wants)) = wants
 
 pub returns-in-Err-read : goal.returns-in-Err-read
 returns-in-Err-read g c =
-    let (read, ends) = c.show_usage.ensures in
     rw c.in-Ok.is (elim c.in-Err-read.ensures.kinds [
-      | inl memory ↦ inr (inr (memory_ends _ memory ends))
+      | inl memory ↦ inr (inr (memory_ends _ memory c.show_usage.ensures))
       | inr among ↦ inr (inl (_, among, c.show_usage.ensures))
     ])

@@ -38,7 +38,7 @@ returns-in-Ok-true-clause-err g c =
     IfErr-weaker c.answer_kept.result _ _ (λ fault fact. subst (λ (f : TextFault). (things : List Happening) × IsCut s after f things
     × g.P.Port.goes c.args.port.now things c.answer_kept.new.port) (sym fact.0)
     (cut_turn g.P.Port.goes g.met.P.Port.joined s after c.args.port.now c.read_line.new.port c.answer_kept.new.port
-    kept true heard c.answer_kept.ensures.after (fact.1, fact.2, fact.3, fact.4)))
+    kept true heard c.answer_kept.ensures.after fact.1))
     c.answer_kept.ensures.err
 
 pub returns-else-is_empty-clause-ok : goal.returns-else-is_empty-clause-ok
@@ -70,4 +70,4 @@ returns-else-is_empty-clause-err g c =
     × IsCut s after f things × g.P.Port.goes c.args.port.now things c.answer_kept-in-Ok-false.new.port) (sym fact.0)
     (cut_turn g.P.Port.goes g.met.P.Port.joined s after c.args.port.now c.read_line.new.port c.answer_kept-in-Ok-false.new.port
     kept false heard c.answer_kept-in-Ok-false.ensures.after
-    (fact.1, fact.2, fact.3, fact.4))) c.answer_kept-in-Ok-false.ensures.err
+    fact.1)) c.answer_kept-in-Ok-false.ensures.err

@@ -1,0 +1,10 @@
+use Rattle.std.proofs.Common.{◌∙◌, ◌-◌, [], ◌∷◌, length, sym, take}
+use Rattle.std.proofs.lemmas.Bool.Decides.{Decides-eqb}
+use Rattle.std.proofs.lemmas.Slice.Eq.{ends_is}
+use Rattle.pm_session.proofs.execution.ended.Goals as goal
+
+pub returns-then-ends_with : goal.returns-then-ends_with
+returns-then-ends_with c =
+    let bytes = c.as_bytes.result.now in
+    let ends = ends_is Decides-eqb bytes (10 ∷ []) c.ends_with.result c.ends_with.ensures.value in
+    (take (length bytes - 1) bytes, sym c.as_bytes.ensures.value ∙ ends.0 c.if-ends_with.true)

@@ -1,0 +1,11 @@
+//! Laws over the definitions: functions that do nothing, whose contracts are facts on every value.
+
+ghost use Rattle.pm_session.specs.Laws.{StreamsFailAsTold};
+
+use std::io::{Read, Write};
+
+/// What a run over `Streams` tells of how it ended: status 0 only where the input is at its end and neither
+/// stream failed, X4 exactly where the source failed, and X5 exactly where the sink failed.
+pub fn streams_fail_as_told<R: Read, W: Write, E: Write>()
+    ensures { StreamsFailAsTold R.remaining W.contents E.contents }
+{}
