@@ -17,13 +17,13 @@ number of a bus, as 1 of i2c-1: an adapter over another, as of a multiplexer, le
 each packet is in the trace twice. The status is 1 where no packet is found, or the text isn't a capture of that format.
 """
 import csv
-import os
 import re
 import sys
 
 sys.dont_write_bytecode = True
 
 from program import answer_help  # noqa: E402
+from standard_streams import write_all  # noqa: E402
 
 SIGROK = re.compile(r"(?:^|[ :])(Start repeat|Start|Stop|NACK|(Address|Data) (read|write): ([0-9A-Fa-f]{2}))\s*$")
 LINUX = re.compile(r"i2c_(write|read|reply|result):\s+i2c-(\d+) (.*)")
@@ -253,14 +253,9 @@ def main():
         sys.exit(__doc__.strip())
     form, address, bus = asked
     try:
-        for line in trace(form, captured(sys.stdin.buffer), address, bus):
-            print(line, flush=True)
+        write_all(trace(form, captured(sys.stdin.buffer), address, bus))
     except (NoCapture, csv.Error) as fault:
         sys.exit(f"no {form} capture: {fault}")
-    except (KeyboardInterrupt, BrokenPipeError):
-        # Nobody reads on: what is left of standard output is dropped, so that no line of Python's comes at the end.
-        os.dup2(os.open(os.devnull, os.O_WRONLY), sys.stdout.fileno())
-        sys.exit(1)
 
 
 if __name__ == "__main__":

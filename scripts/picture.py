@@ -25,6 +25,7 @@ from lane import INSIDE, OUTSIDE, Lane  # noqa: E402
 from lived import Refused  # noqa: E402
 from refusals import in_words  # noqa: E402
 from seen import Seen  # noqa: E402
+from standard_streams import write_all  # noqa: E402
 from told import NAMES, bits_in  # noqa: E402
 
 ROW, HEADS, EDGE, GAP, PITCH = 28, 84, 18, 20, 15
@@ -340,7 +341,7 @@ def main():
     except Refused as refused:
         letter = in_words(str(refused))
         sys.exit(f"{refused}: {letter}" if letter else str(refused))
-    sys.stdout.write(Picture(seen, os.path.basename(sys.argv[1])).svg())
+    write_all([Picture(seen, os.path.basename(sys.argv[1])).svg().rstrip("\n")])
 
 
 if __name__ == "__main__":

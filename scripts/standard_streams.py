@@ -2,6 +2,8 @@
 import os
 import sys
 
+INTERRUPTED = 130
+
 
 class NoStream(Exception):
     """A standard stream failed: which one, and why."""
@@ -42,3 +44,15 @@ def read():
         return sys.stdin.buffer.read()
     except OSError as fault:
         raise NoStream(f"standard input: {fault.strerror}") from fault
+
+
+def write_all(texts):
+    """Texts, each as it comes, on standard output. Where that fails, or the script is interrupted, it ends: without a
+    word where the reader of a pipe left, otherwise with one line."""
+    try:
+        for text in texts:
+            write(text)
+    except NoStream as fault:
+        sys.exit(1 if isinstance(fault.__cause__, BrokenPipeError) else f"{os.path.basename(sys.argv[0])}: {fault}")
+    except KeyboardInterrupt:
+        sys.exit(INTERRUPTED)

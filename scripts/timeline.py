@@ -16,6 +16,7 @@ import program  # noqa: E402
 from lived import Refused, lived  # noqa: E402
 from plain.scenario import read_scenario  # noqa: E402
 from refusals import in_words  # noqa: E402
+from standard_streams import write_all  # noqa: E402
 from told import Words, in_volts, with_bits  # noqa: E402
 
 
@@ -71,8 +72,7 @@ def main():
     except Refused as refused:
         letter = in_words(str(refused))
         sys.exit(f"{refused}: {letter}" if letter else str(refused))
-    for line in timeline(run, Words(read_scenario(text)[0])):
-        print(line)
+    write_all(timeline(run, Words(read_scenario(text)[0])))
     return 1 if run.stopping else 0
 
 
