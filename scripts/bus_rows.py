@@ -43,7 +43,7 @@ def modes(*found, coefficients=(1, 0, 3), kind=Part):
 
 
 def failed(job, count, why):
-    return f"bus.py: {job}: {count} transfer{'s' * (count > 1)} failed, {'the last: '}{why}\n"
+    return f"bus.py: {job}: {count} transfer{'s' * (count > 1)} failed, the last: {why}\n"
 
 
 NXIO, REMOTE = "No such device or address", "Remote I/O error"
@@ -72,6 +72,8 @@ MISHAPS = [
     Row(ORDER, f"{ORDER}: ended done\n", mishaps="false", held="34CD"),
     # every acknowledgement is false, and the last read shows the old word
     Row(f"--passes=2 {ORDER}", f"{ORDER}: ended differs 1000\n", mishaps="false ok false ok", status=1),
+    # the write isn't heard, and the read shows the old word
+    Row(f"--passes=1 {ORDER}", f"{ORDER}: ended differs 1000\n", failed(ORDER, 1, NXIO), 1, mishaps="deaf ok"),
     # the answers are lost: the host doesn't claim to know, and what it knows can be asked, but nothing more is begun
     Row(f"--passes=2 {ORDER} + seen + clear 0 + {STATE}",
         f"{ORDER}: ended unknown\nseen: seen no\n{STATE}: state unknown possible any\n",
