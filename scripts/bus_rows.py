@@ -103,7 +103,8 @@ MISHAPS = [
         comments=[f"B0 05 04 00 21 CD 34 5A: {NXIO}", f"B0 06 02 00 21: {NXIO}"]),
     Row("--passes=3 clear 1", "clear 1: ended unknown\n", failed("clear 1", 3, NXIO), 1, mishaps="deaf deaf deaf"),
     # a line is held low
-    Row(f"--passes=2 {CHECK}", f"{CHECK}: ended unknown\n", failed(CHECK, 2, "Connection timed out"), 1, mishaps="hung hung"),
+    Row(f"--passes=2 {CHECK}", f"{CHECK}: ended unknown\n", failed(CHECK, 2, "Connection timed out"), 1,
+        mishaps="hung hung"),
     # what the host refuses isn't sent, and nothing is carried out behind it
     Row(f"{VOLTS} + {ORDER}", f"{VOLTS}: refused H7 FormatUnknown\n",
         f"bus.py: {VOLTS}: the output's format isn't known: learn the output first\n", 1),
