@@ -104,6 +104,7 @@ class Run:
         self.attempts = Attempts(["probe"])
         words, is_fit = probe(self.bus, self.call.outputs)
         self.say(words)
+        self.bus.trace.raise_fault()
         return 0 if is_fit else 1
 
     def jobs(self):
@@ -113,8 +114,7 @@ class Run:
             if is_well or job[0] in QUESTIONS:
                 answer = self.carried_out(job)
                 is_well = answer.startswith(ENDED_WELL) and is_well
-                if self.bus.trace.fault:
-                    raise NoBus(f"{self.bus.trace.path}: {self.bus.trace.fault.strerror}")
+                self.bus.trace.raise_fault()
         return 0 if is_well else 1
 
     def carried_out(self, job):
@@ -164,9 +164,6 @@ def carry_out(call, kernel):
         return 1
     except NoBus as fault:
         complain(fault)
-        return BAD_CALL
-    except OSError as fault:
-        complain(f"{fault.filename}: {fault.strerror}")
         return BAD_CALL
     finally:
         if host:

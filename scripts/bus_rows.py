@@ -43,7 +43,7 @@ def modes(*found, coefficients=(1, 0, 3), kind=Part):
 
 
 def failed(job, count, why):
-    return f"bus.py: {job}: {count} transfer{'s' * (count > 1)} failed, {'the last: '}{why}\n"
+    return f"bus.py: {job}: {count} transfer{'s' * (count > 1)} failed, the last: {why}\n"
 
 
 NXIO, REMOTE = "No such device or address", "Remote I/O error"
@@ -72,6 +72,8 @@ MISHAPS = [
     Row(ORDER, f"{ORDER}: ended done\n", mishaps="false", held="34CD"),
     # every acknowledgement is false, and the last read shows the old word
     Row(f"--passes=2 {ORDER}", f"{ORDER}: ended differs 1000\n", mishaps="false ok false ok", status=1),
+    # the write isn't heard, and the read shows the old word
+    Row(f"--passes=1 {ORDER}", f"{ORDER}: ended differs 1000\n", failed(ORDER, 1, NXIO), 1, mishaps="deaf ok"),
     # the answers are lost: the host doesn't claim to know, and what it knows can be asked, but nothing more is begun
     Row(f"--passes=2 {ORDER} + seen + clear 0 + {STATE}",
         f"{ORDER}: ended unknown\nseen: seen no\n{STATE}: state unknown possible any\n",
@@ -100,6 +102,9 @@ MISHAPS = [
     Row(f"--passes=1 {ORDER}", f"{ORDER}: ended unknown\n", failed(ORDER, 2, NXIO), 1, mishaps="deaf deaf",
         comments=[f"B0 05 04 00 21 CD 34 5A: {NXIO}", f"B0 06 02 00 21: {NXIO}"]),
     Row("--passes=3 clear 1", "clear 1: ended unknown\n", failed("clear 1", 3, NXIO), 1, mishaps="deaf deaf deaf"),
+    # a line is held low
+    Row(f"--passes=2 {CHECK}", f"{CHECK}: ended unknown\n", failed(CHECK, 2, "Connection timed out"), 1,
+        mishaps="hung hung"),
     # what the host refuses isn't sent, and nothing is carried out behind it
     Row(f"{VOLTS} + {ORDER}", f"{VOLTS}: refused H7 FormatUnknown\n",
         f"bus.py: {VOLTS}: the output's format isn't known: learn the output first\n", 1),
@@ -172,6 +177,7 @@ FAULTY_PARTS = [
         is_faulty=True),
     Row(ALL, UNKNOWN, f"bus.py: {LEARN}: its format is VID (VOUT_MODE 21): {SPOKEN}", 1, part=modes(0x21)),
     Row("probe", f"PEC yes, PAGE_PLUS yes, 1 output: 0 VID (VOUT_MODE 21): {SPOKEN}", status=1, part=modes(0x21)),
+    Row(ORDER, f"{ORDER}: ended done\n", held="34CD", part=modes(0x21)),
     Row("probe", f"PEC yes, PAGE_PLUS yes, 2 outputs: 0 ULINEAR16 -9, 1 IEEE half (VOUT_MODE 60): {SPOKEN}", status=1,
         part=modes(0x17, 0x60)),
     Row(LEARN, f"{LEARN}: ended unknown\n", f"bus.py: {LEARN}: its format is IEEE half (VOUT_MODE 60): {SPOKEN}", 1,

@@ -127,6 +127,8 @@ PROCESSES = [
             f"bus.py: standard output: Broken pipe; unsaid: {ORDER}: ended done\n", 2),
     Process(f"--trace=/dev/full {ORDER} + {CHECK}", "", f"{ORDER}: ended done\n",
             "bus.py: /dev/full: No space left on device\n", 2),
+    Process("--trace=/dev/full probe", "", "PEC yes, PAGE_PLUS yes, 2 outputs: 0 ULINEAR16 -12, 1 ULINEAR16 -12\n",
+            "bus.py: /dev/full: No space left on device\n", 2),
     Process("seen", "", "", "no program at /nowhere: build it by", 1, around=(("PMBHOST", "/nowhere"),)),
     Process("seen", "", "", "bus.py: seen: the host ended: /bin/cat: unrecognized option", 1,
             around=(("PMBHOST", "/bin/cat"),)),

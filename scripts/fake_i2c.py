@@ -6,6 +6,7 @@ A mishap befalls one transfer, in their order:
 
     ok         none
     deaf       the frame isn't heard, and the address isn't acknowledged
+    hung       a line of the bus is held low
     lost       the frame is heard, and the transfer fails
     false      a write isn't heard, and succeeds
     damaged    a bit of what comes back is changed
@@ -179,8 +180,8 @@ class FakeKernel:
         SIGNALS.get(mishap, int)()
         if mishap == "false" and back is None:
             return 1
-        if mishap in ("deaf", "false"):
-            self.fail(errno.ENXIO)
+        if mishap in ("deaf", "false", "hung"):
+            self.fail(errno.ETIMEDOUT if mishap == "hung" else errno.ENXIO)
         if mishap in ("short0", "short1"):
             return 0 if mishap == "short0" else 1
         ending = "stop" if back is None else "restart"

@@ -15,6 +15,7 @@ import errno
 import io
 import os
 import shutil
+import signal
 import subprocess
 import sys
 import tempfile
@@ -23,6 +24,7 @@ sys.dont_write_bytecode = True
 
 import bus  # noqa: E402
 import fake_i2c  # noqa: E402
+import i2c_dev  # noqa: E402
 import program  # noqa: E402
 import session  # noqa: E402
 from bus_rows import JOBS, LAYOUT  # noqa: E402
@@ -146,6 +148,9 @@ def differences(found, row):
 def main():
     program.answer_help(__doc__)
     session.needed()
+    # A shell may have started the trial with signals ignored, which bus.py goes by.
+    for each in i2c_dev.ENDING:
+        signal.signal(each, signal.default_int_handler)
     with tempfile.TemporaryDirectory() as folder:
         trial = Trial(folder)
         for row in JOBS:
