@@ -171,8 +171,8 @@ def bus_faults():
 def first_line_faults(form):
     """The first line comes before the input ends."""
     text, wanted = stored(f"bus.{form}"), stored("bus.trace").splitlines()[0]
-    pipe = subprocess.PIPE
-    with subprocess.Popen([READER, form, "--address=58"], stdin=pipe, stdout=pipe, text=True) as ran:
+    pipe, around = subprocess.PIPE, {name: it for name, it in os.environ.items() if name != "PYTHONUNBUFFERED"}
+    with subprocess.Popen([READER, form, "--address=58"], stdin=pipe, stdout=pipe, text=True, env=around) as ran:
         ran.stdin.write(text)
         ran.stdin.flush()
         is_there = select.select([ran.stdout], [], [], 20)[0]
