@@ -2,16 +2,16 @@
 use Rattle.std.proofs.Common.{◌≡◌, ℕ, ◌+◌, ◌-◌, ◌*◌, ◌<◌, ◌≤◌, true, cond, List, [], ◌∷◌, length, Option, Some, None, Bool}
 use Rattle.std.proofs.Common.{subst, arith, rules}
 use Rattle.pm_table.specs.declared.cell.Cell.{Cell}
-use Rattle.pm_table.specs.declared.coefficients.Coefficients.{Coefficients}
 use Rattle.pm_table.specs.Laws.{CellsHavePlaces}
+use Rattle.pm_host.specs.declared.question.Question.{Question}
 use Rattle.pm_host.specs.declared.stage.Stage.{Stage}
-use Rattle.pm_host.specs.declared.stage.Stage.TheVariants.{Writes, Reads, Checks, AsksMode, AsksCoefficients, Sends}
-use Rattle.pm_host.specs.Answers.{good_word, good_mode, good_coefficients}
-use Rattle.pm_host.specs.Frames.{frames_of, frames_left}
+use Rattle.pm_host.specs.declared.stage.Stage.TheVariants.{Writes, Reads, Asks, Sends}
+use Rattle.pm_host.specs.Answers.{good_payload, good_word}
+use Rattle.pm_host.specs.Frames.{frames_of, frames_from, frames_left}
 use Rattle.pm_host.specs.Now.{now, stage_of, AreTold}
 use Rattle.pm_host.specs.Refusals.{IsSetup, is_busy, sends_read, sends_write}
-use Rattle.pm_host.specs.Summary.{Summary, Change, change, idle, read_back, checked, mode_answered, coefficients_answered, finished}
-use Rattle.pm_host.specs.Summary.{answered}
+use Rattle.pm_host.specs.Question.{question_message}
+use Rattle.pm_host.specs.Summary.{Summary, Change, change, idle, read_back, asked, finished, answered}
 use Rattle.pm_host.specs.Transcript.{Setup, Job, Entry, Accepted, Finished, Got, Restarted, told_since, open_job, end_of}
 use Rattle.pm_host.proofs.Follows.{change-now, IsJob-told}
 use Rattle.pm_host.proofs.Left.{IsLeft, told-left}
@@ -22,20 +22,10 @@ read-spends : (s : Summary) (cell : Cell) (word pass : ℕ) (read : Option ℕ) 
     → frames_left (read_back s cell word pass read).after < 2 * (s.setup.passes - pass) - 1
 read-spends = search rules
 
--- a check that read its cell has its later tries left
-check-spends : (s : Summary) (cell : Cell) (tries : ℕ) (read : Option ℕ) → tries < s.setup.passes
-    → frames_left (checked s cell tries read).after < s.setup.passes - tries
-check-spends = search rules
-
--- likewise a learn that read VOUT_MODE, and one that read COEFFICIENTS
-mode-spends : (s : Summary) (output tries : ℕ) (read : Option ℕ) → tries < s.setup.passes
-    → frames_left (mode_answered s output tries read).after < (s.setup.passes - tries) + s.setup.passes
-mode-spends = search rules
-
--- and one that read COEFFICIENTS
-coefficients-spends : (s : Summary) (output tries : ℕ) (read : Option Coefficients) → tries < s.setup.passes
-    → frames_left (coefficients_answered s output tries read).after < s.setup.passes - tries
-coefficients-spends = search rules
+-- a question that was asked has its later tries left, and a learn that knows VOUT_MODE those of the coefficients
+asked-spends : (s : Summary) (question : Question) (tries : ℕ) (payload : Option (List ℕ)) → tries < s.setup.passes
+    → frames_left (asked s question tries payload).after < frames_from s.setup.passes (Asks question tries)
+asked-spends = search rules
 
 -- a write that was sent leaves fewer frames, whatever became of it
 finished-spends : (s : Summary) (stage : Option Stage) (acked : Bool) → IsLeft s.setup.passes stage
@@ -50,11 +40,8 @@ answered-spends : (s : Summary) (stage : Option Stage) (bytes : List ℕ) → Is
 answered-spends s None bytes left reads = search rules
 answered-spends s (Some (Writes cell word pass)) bytes left reads = search rules
 answered-spends s (Some (Reads cell word pass)) bytes left reads = read-spends s cell word pass (good_word s.setup.addr cell bytes) left
-answered-spends s (Some (Checks cell tries)) bytes left reads = check-spends s cell tries (good_word s.setup.addr cell bytes) left
-answered-spends s (Some (AsksMode output tries)) bytes left reads =
-    mode-spends s output tries (good_mode s.setup.addr output bytes) left
-answered-spends s (Some (AsksCoefficients output tries)) bytes left reads =
-    coefficients-spends s output tries (good_coefficients s.setup.addr bytes) left
+answered-spends s (Some (Asks question tries)) bytes left reads =
+    asked-spends s question tries (good_payload s.setup.addr (question_message question) bytes) left
 answered-spends s (Some (Sends sent tries)) bytes left reads = search rules
 
 -- a job begins with at most twice as many as it has passes, and one is left while it is open

@@ -14,9 +14,10 @@ use Rattle.pm_table.specs.VoutMode.{mode_of}
 use Rattle.pm_frame.specs.Layout.{is_read_message}
 use Rattle.pm_host.specs.declared.stage.Stage.{Stage}
 use Rattle.pm_host.specs.declared.job_end.JobEnd.{JobEnd}
-use Rattle.pm_host.specs.Answers.{good_word, good_mode, good_coefficients}
+use Rattle.pm_host.specs.Answers.{good_payload, good_word, good_mode, word_in}
 use Rattle.pm_host.specs.Known.{known_more}
 use Rattle.pm_host.specs.Marks.{Mark, Good, put_by, read_by}
+use Rattle.pm_host.specs.Messages.{cell_read, mode_read, coefficients_read}
 use Rattle.pm_host.specs.Now.{job_stage}
 use Rattle.pm_host.specs.Summary.{Summary, Change, stage_message, step_by, begins, finished, answered}
 use Rattle.pm_host.specs.Transcript.{Setup, Job, Order, Check, Learn, Send, Entry, Accepted, Finished, Got, Restarted, is_write_turn}
@@ -185,15 +186,15 @@ order_read {s = s} {told = told} (Some found) false false facts =
     rw (facts.reads.0, facts.reads.1, facts.is, after.0, facts.done_is, facts.last_is)
     (rw (after.1.1, facts.last_is, after.0, after.1.0) refl)
 
--- what came back for the read of a check: its word, and whether this was the last try
-record CheckRead (s : Summary) (cell : Cell) (told : List Entry) (bytes : List ℕ) (read : Option ℕ) (last : Bool) : Type 0 where
-  is : good_word s.setup.addr cell bytes ≡ read
+-- what came back for the read of a check: its payload, and whether this was the last try
+record CheckRead (s : Summary) (cell : Cell) (told : List Entry) (bytes : List ℕ) (payload : Option (List ℕ)) (last : Bool) : Type 0 where
+  is : good_payload s.setup.addr (cell_read cell) bytes ≡ payload
   last_is : eqb (suc (length told)) s.setup.passes ≡ last
   reads : ReadsBy s.setup (Some (Check cell)) told
 
 -- a check read its cell
-check_read : {s : Summary} {cell : Cell} {told : List Entry} {bytes : List ℕ} (read : Option ℕ) (last : Bool)
-    → CheckRead s cell told bytes read last → GotFollows s (Some (Check cell)) told bytes
+check_read : {s : Summary} {cell : Cell} {told : List Entry} {bytes : List ℕ} (payload : Option (List ℕ)) (last : Bool)
+    → CheckRead s cell told bytes payload last → GotFollows s (Some (Check cell)) told bytes
 check_read = search rules
 
 -- where neither is there, the first isn't
@@ -224,39 +225,39 @@ mode_is_known : (setup : Setup) (output : ℕ) (told : List Entry) (byte : ℕ) 
     → is_none (learn_end setup output told) ≡ true → ModeIsKnown setup output told byte
 mode_is_known = search rules
 
--- what came back for a read of VOUT_MODE: its byte, and whether this was the last try
-record ModeRead (s : Summary) (output : ℕ) (told : List Entry) (bytes : List ℕ) (read : Option ℕ) (last : Bool) : Type 0 where
-  is : good_mode s.setup.addr output bytes ≡ read
+-- what came back for a read of VOUT_MODE: its payload, and whether this was the last try
+record ModeRead (s : Summary) (output : ℕ) (told : List Entry) (bytes : List ℕ) (payload : Option (List ℕ)) (last : Bool) : Type 0 where
+  is : good_payload s.setup.addr (mode_read output) bytes ≡ payload
   last_is : eqb (suc (length told)) s.setup.passes ≡ last
   some : 1 ≤ s.setup.passes
   none : mode_told s.setup output told ≡ None
   open' : is_none (learn_end s.setup output told) ≡ true
 
 -- a learn read VOUT_MODE
-mode_read_follows : {s : Summary} {output : ℕ} {told : List Entry} {bytes : List ℕ} (read : Option ℕ) (last : Bool)
-    → ModeRead s output told bytes read last → GotFollows s (Some (Learn output)) told bytes
+mode_read_follows : {s : Summary} {output : ℕ} {told : List Entry} {bytes : List ℕ} (payload : Option (List ℕ)) (last : Bool)
+    → ModeRead s output told bytes payload last → GotFollows s (Some (Learn output)) told bytes
 mode_read_follows {told = told} None true facts =
     rw (facts.open', facts.none, facts.is, add-one (length told), facts.last_is) refl
 mode_read_follows {told = told} None false facts =
     rw (facts.open', facts.none, facts.is, add-one (length told), facts.last_is) (rw (facts.none, facts.is) refl)
-mode_read_follows {s = s} {output = output} {told = told} {bytes = bytes} (Some byte) last facts = by_mode (mode_of byte) refl where
-  by_mode : (mode : Result VoutMode TableFault) → mode_of byte ≡ mode → GotFollows s (Some (Learn output)) told bytes
+mode_read_follows {s = s} {output = output} {told = told} {bytes = bytes} (Some payload) last facts = by_mode (mode_of (word_in payload)) refl where
+  by_mode : (mode : Result VoutMode TableFault) → mode_of (word_in payload) ≡ mode → GotFollows s (Some (Learn output)) told bytes
   by_mode (Err fault) mode = rw (facts.open', facts.none, facts.is, mode) refl
   by_mode (Ok (Linear exponent)) mode = rw (facts.open', facts.none, facts.is, mode) refl
   by_mode (Ok Direct) mode =
       let no_more = no_coefficients s.setup output told facts.none in
       rw (facts.open', facts.none, facts.is, mode, no_more, none_of s.setup.passes facts.some) (rw (facts.none, facts.is) refl)
 
--- what came back for a read of COEFFICIENTS: they, and whether this was the last try
-record CoefficientsRead (s : Summary) (output byte : ℕ) (told : List Entry) (bytes : List ℕ) (read : Option Coefficients) (last : Bool) :
+-- what came back for a read of COEFFICIENTS: its payload, and whether this was the last try
+record CoefficientsRead (s : Summary) (output byte : ℕ) (told : List Entry) (bytes : List ℕ) (payload : Option (List ℕ)) (last : Bool) :
     Type 0 where
-  is : good_coefficients s.setup.addr bytes ≡ read
+  is : good_payload s.setup.addr coefficients_read bytes ≡ payload
   last_is : eqb (suc (coefficients_tries s.setup output told)) s.setup.passes ≡ last
   known : ModeIsKnown s.setup output told byte
 
 -- a learn read COEFFICIENTS
-coefficients_read_follows : {s : Summary} {output byte : ℕ} {told : List Entry} {bytes : List ℕ} (read : Option Coefficients) (last : Bool)
-    → CoefficientsRead s output byte told bytes read last → GotFollows s (Some (Learn output)) told bytes
+coefficients_read_follows : {s : Summary} {output byte : ℕ} {told : List Entry} {bytes : List ℕ} (payload : Option (List ℕ)) (last : Bool)
+    → CoefficientsRead s output byte told bytes payload last → GotFollows s (Some (Learn output)) told bytes
 coefficients_read_follows = search rules
 
 -- a learn read what it asked for
@@ -264,10 +265,10 @@ learn_follows : (s : Summary) (output : ℕ) (told : List Entry) (bytes : List �
     → mode_told s.setup output told ≡ mode → 1 ≤ s.setup.passes → is_none (learn_end s.setup output told) ≡ true
     → GotFollows s (Some (Learn output)) told bytes
 learn_follows s output told bytes None mode some open' =
-    mode_read_follows {s = s} (good_mode s.setup.addr output bytes) (eqb (suc (length told)) s.setup.passes)
+    mode_read_follows {s = s} (good_payload s.setup.addr (mode_read output) bytes) (eqb (suc (length told)) s.setup.passes)
     (record { is = refl; last_is = refl; some = some; none = mode; open' = open' })
 learn_follows s output told bytes (Some byte) mode some open' =
-    coefficients_read_follows {s = s} (good_coefficients s.setup.addr bytes)
+    coefficients_read_follows {s = s} (good_payload s.setup.addr coefficients_read bytes)
     (eqb (suc (coefficients_tries s.setup output told)) s.setup.passes)
     (record { is = refl; last_is = refl; known = mode_is_known s.setup output told byte mode open' })
 
@@ -280,7 +281,7 @@ got_follows s (Some (Order cell word)) told bytes some reads =
     order_read {s = s} read (option_map_or (λ found. eqb found word) read false) (eqb (suc (length told)) (2 * s.setup.passes))
     (record { is = refl; done_is = refl; last_is = refl; reads = reads })
 got_follows s (Some (Check cell)) told bytes some reads =
-    check_read {s = s} (good_word s.setup.addr cell bytes) (eqb (suc (length told)) s.setup.passes)
+    check_read {s = s} (good_payload s.setup.addr (cell_read cell) bytes) (eqb (suc (length told)) s.setup.passes)
     (record { is = refl; last_is = refl; reads = reads })
 got_follows s (Some (Learn output)) told bytes some reads =
     learn_follows s output told bytes (mode_told s.setup output told) refl some reads

@@ -2,15 +2,15 @@
 use Rattle.std.proofs.Common.{rules, ℕ, ◌<◌, ◌≤◌, Bool, List, [], ◌∷◌, Option, Some, None}
 use Rattle.std.proofs.Common.{subst}
 use Rattle.pm_table.specs.declared.cell.Cell.{Cell}
-use Rattle.pm_table.specs.declared.coefficients.Coefficients.{Coefficients}
 use Rattle.pm_table.specs.Laws.{CellsHavePlaces}
+use Rattle.pm_host.specs.declared.question.Question.{Question}
 use Rattle.pm_host.specs.declared.stage.Stage.{Stage}
-use Rattle.pm_host.specs.declared.stage.Stage.TheVariants.{Writes, Reads, Checks, AsksMode, AsksCoefficients, Sends}
-use Rattle.pm_host.specs.Answers.{good_word, good_mode, good_coefficients}
+use Rattle.pm_host.specs.declared.stage.Stage.TheVariants.{Writes, Reads, Asks, Sends}
+use Rattle.pm_host.specs.Answers.{good_payload, good_word}
 use Rattle.pm_host.specs.Now.{now, stage_of, AreTold}
 use Rattle.pm_host.specs.Refusals.{IsSetup}
-use Rattle.pm_host.specs.Summary.{Summary, Change, change, idle, read_back, checked}
-use Rattle.pm_host.specs.Summary.{mode_answered, coefficients_answered, finished, answered}
+use Rattle.pm_host.specs.Question.{question_message}
+use Rattle.pm_host.specs.Summary.{Summary, Change, change, idle, read_back, asked, finished, answered}
 use Rattle.pm_host.specs.Transcript.{Setup, Job, Entry, Accepted, Finished, Got, Restarted, end_of, open_job}
 use Rattle.pm_host.proofs.Follows.{change-now, IsJob-told}
 
@@ -19,9 +19,7 @@ abbrev pub IsLeft : ℕ → Option Stage → Type 0
 IsLeft passes None = Unit {0}
 IsLeft passes (Some (Writes cell word pass)) = pass < passes
 IsLeft passes (Some (Reads cell word pass)) = pass < passes
-IsLeft passes (Some (Checks cell tries)) = tries < passes
-IsLeft passes (Some (AsksMode output tries)) = tries < passes
-IsLeft passes (Some (AsksCoefficients output tries)) = tries < passes
+IsLeft passes (Some (Asks question tries)) = tries < passes
 IsLeft passes (Some (Sends sent tries)) = tries < passes
 
 -- a pass is left after the read of an order, where it goes on
@@ -29,20 +27,10 @@ read-left : (s : Summary) (cell : Cell) (word pass : ℕ) (read : Option ℕ) �
     → IsLeft s.setup.passes (read_back s cell word pass read).after.stage
 read-left = search rules
 
--- of a check
-check-left : (s : Summary) (cell : Cell) (tries : ℕ) (read : Option ℕ) → tries < s.setup.passes
-    → IsLeft s.setup.passes (checked s cell tries read).after.stage
-check-left = search rules
-
--- of a learn that read VOUT_MODE
-mode-left : (s : Summary) (output tries : ℕ) (read : Option ℕ) → tries < s.setup.passes
-    → IsLeft s.setup.passes (mode_answered s output tries read).after.stage
-mode-left = search rules
-
--- and COEFFICIENTS
-coefficients-left : (s : Summary) (output tries : ℕ) (read : Option Coefficients) → tries < s.setup.passes
-    → IsLeft s.setup.passes (coefficients_answered s output tries read).after.stage
-coefficients-left = search rules
+-- after a question
+asked-left : (s : Summary) (question : Question) (tries : ℕ) (payload : Option (List ℕ)) → tries < s.setup.passes
+    → IsLeft s.setup.passes (asked s question tries payload).after.stage
+asked-left = search rules
 
 -- after each answer
 answered-left : (s : Summary) (stage : Option Stage) (bytes : List ℕ) → IsLeft s.setup.passes stage
@@ -50,10 +38,8 @@ answered-left : (s : Summary) (stage : Option Stage) (bytes : List ℕ) → IsLe
 answered-left s None bytes left = tt
 answered-left s (Some (Writes cell word pass)) bytes left = left
 answered-left s (Some (Reads cell word pass)) bytes left = read-left s cell word pass (good_word s.setup.addr cell bytes) left
-answered-left s (Some (Checks cell tries)) bytes left = check-left s cell tries (good_word s.setup.addr cell bytes) left
-answered-left s (Some (AsksMode output tries)) bytes left = mode-left s output tries (good_mode s.setup.addr output bytes) left
-answered-left s (Some (AsksCoefficients output tries)) bytes left =
-    coefficients-left s output tries (good_coefficients s.setup.addr bytes) left
+answered-left s (Some (Asks question tries)) bytes left =
+    asked-left s question tries (good_payload s.setup.addr (question_message question) bytes) left
 answered-left s (Some (Sends sent tries)) bytes left = left
 
 -- after each end of a write

@@ -13,7 +13,8 @@ use Rattle.pm_frame.specs.declared.message.Message.{Message}
 use Rattle.pm_host.specs.declared.command.Command.TheVariants.{RestoreUserAll}
 use Rattle.pm_host.specs.declared.possible.Possible.{Possible}
 use Rattle.pm_host.specs.declared.possible.Possible.TheVariants.{Any, Words}
-use Rattle.pm_host.specs.declared.stage.Stage.TheVariants.{Writes, Reads, AsksMode, AsksCoefficients}
+use Rattle.pm_host.specs.declared.question.Question.TheVariants.{Mode, Coefficients}
+use Rattle.pm_host.specs.declared.stage.Stage.TheVariants.{Writes, Reads, Asks}
 use Rattle.pm_host.specs.declared.standing.Standing.TheVariants as standing
 use Rattle.pm_host.specs.Frames.{CanSend, writes_output, writes_protect, reads_output, reads_protect, reads_mode, reads_coefficients}
 use Rattle.pm_host.specs.Frames.{sends_command}
@@ -209,8 +210,8 @@ order_sound = search rules
 
 -- the stage of an open learn is sound
 learning : (setup : Setup) (entries : List Entry) (output m n : ℕ) (known : Bool) → output < setup.outputs
-    → IsLeft setup.passes (Some (cond known (AsksCoefficients output m) (AsksMode output n)))
-    → IsStage (now setup entries) (Some (cond known (AsksCoefficients output m) (AsksMode output n)))
+    → IsLeft setup.passes (Some (cond known (Asks (Coefficients output) m) (Asks (Mode output) n)))
+    → IsStage (now setup entries) (Some (cond known (Asks (Coefficients output) m) (Asks (Mode output) n)))
 unfolding now
 learning = search rules
 

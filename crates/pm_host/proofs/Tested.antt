@@ -1,7 +1,7 @@
 -- What holds of each host passes the test of an image.
 use Rattle.std.proofs.Common.{rules, ◌≡◌, true, Option, Some, None, refl}
 use Rattle.pm_host.specs.declared.stage.Stage.{Stage}
-use Rattle.pm_host.specs.declared.stage.Stage.TheVariants.{Writes, Reads, Checks, AsksMode, AsksCoefficients, Sends}
+use Rattle.pm_host.specs.declared.stage.Stage.TheVariants.{Writes, Reads, Asks, Sends}
 use Rattle.pm_host.specs.Image.{is_setup, is_stage, is_sound}
 use Rattle.pm_host.specs.Refusals.{IsSetup}
 use Rattle.pm_host.specs.Sound.{IsStage, IsSound}
@@ -17,9 +17,7 @@ stage-tested : (s : Summary) (stage : Option Stage) → IsStage s stage → is_s
 stage-tested s None is = refl
 stage-tested s (Some (Writes cell word pass)) is = search rules
 stage-tested s (Some (Reads cell word pass)) is = search rules
-stage-tested s (Some (Checks cell tries)) is = search rules
-stage-tested s (Some (AsksMode output tries)) is = search rules
-stage-tested s (Some (AsksCoefficients output tries)) is = search rules
+stage-tested s (Some (Asks question tries)) is = search rules
 stage-tested s (Some (Sends command tries)) is = search rules
 
 -- both together

@@ -9,9 +9,10 @@ use Rattle.pm_frame.specs.declared.message.Message.{Message}
 use Rattle.pm_frame.specs.declared.message.Message.TheVariants.{WriteByte, PagePlusWrite, ReadCommand, PagePlusRead}
 use Rattle.pm_host.specs.declared.command.Command.{Command}
 use Rattle.pm_host.specs.declared.stage.Stage.{Stage}
-use Rattle.pm_host.specs.declared.stage.Stage.TheVariants.{Writes, Reads, Checks, AsksMode, AsksCoefficients, Sends}
+use Rattle.pm_host.specs.declared.stage.Stage.TheVariants.{Writes, Reads, Asks, Sends}
 use Rattle.pm_host.specs.Cells.{is_command}
 use Rattle.pm_host.specs.Messages.{register_payload, coefficients_read, command_message}
+use Rattle.pm_host.specs.Question.{frames_after}
 use Rattle.pm_host.specs.Summary.{Summary}
 use Rattle.pm_host.specs.Transcript.{Setup, Entry, open_job, told_since}
 
@@ -47,9 +48,7 @@ frames_of setup entries =
 abbrev pub frames_from : ℕ → Stage → ℕ
 frames_from passes (Writes cell word pass) = 2 * (passes - pass)
 frames_from passes (Reads cell word pass) = 2 * (passes - pass) - 1
-frames_from passes (Checks cell tries) = passes - tries
-frames_from passes (AsksMode output tries) = (passes - tries) + passes
-frames_from passes (AsksCoefficients output tries) = passes - tries
+frames_from passes (Asks question tries) = (passes - tries) + frames_after passes question
 frames_from passes (Sends sent tries) = passes - tries
 
 -- how many frames the open job sends at most from now on, with the one that is being sent; 0 where no

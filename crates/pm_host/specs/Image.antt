@@ -14,8 +14,9 @@ use Rattle.pm_host.specs.declared.image.Image.{Image}
 use Rattle.pm_host.specs.declared.knowledge.Knowledge.{Knowledge}
 use Rattle.pm_host.specs.declared.possible.Possible.{Possible}
 use Rattle.pm_host.specs.declared.possible.Possible.TheVariants.{Any, Words}
+use Rattle.pm_host.specs.declared.question.Question.TheVariants.{Word, Mode, Coefficients}
 use Rattle.pm_host.specs.declared.stage.Stage.{Stage}
-use Rattle.pm_host.specs.declared.stage.Stage.TheVariants.{Writes, Reads, Checks, AsksMode, AsksCoefficients, Sends}
+use Rattle.pm_host.specs.declared.stage.Stage.TheVariants.{Writes, Reads, Asks, Sends}
 use Rattle.pm_host.specs.declared.stage_image.StageImage.{StageImage}
 use Rattle.pm_host.specs.declared.standing.Standing.{Standing}
 use Rattle.pm_host.specs.declared.standing.Standing.TheVariants.{Confirmed, Unknown}
@@ -26,6 +27,7 @@ use Rattle.pm_host.specs.Cells.{is_command}
 use Rattle.pm_host.specs.Command.{command_of}
 use Rattle.pm_host.specs.Known.{Known}
 use Rattle.pm_host.specs.Possible.{is_possible}
+use Rattle.pm_host.specs.Question.{is_question}
 use Rattle.pm_host.specs.Refusals.{is_within}
 use Rattle.pm_host.specs.Summary.{Summary, summary, possible_at, standing_at}
 use Rattle.pm_host.specs.Transcript.{Setup}
@@ -67,7 +69,7 @@ formats_held formats = map format_held formats
 -- A kind or a command code that means nothing is read as this, a stage that no host stands at, so that
 -- it is refused.
 abbrev pub nowhere : Stage
-nowhere = AsksMode 255 255
+nowhere = Asks (Mode 255) 255
 
 -- a stage of the cell that the image names
 abbrev pub at_cell : StageImage → (Cell → Stage) → Stage
@@ -82,9 +84,9 @@ abbrev pub stage_in : StageImage → Stage
 stage_in i =
     if i.kind == 1 then at_cell i (λ cell. Writes cell i.word i.count)
     else (if i.kind == 2 then at_cell i (λ cell. Reads cell i.word i.count)
-    else (if i.kind == 3 then at_cell i (λ cell. Checks cell i.count)
-    else (if i.kind == 4 then AsksMode i.output i.count
-    else (if i.kind == 5 then AsksCoefficients i.output i.count
+    else (if i.kind == 3 then at_cell i (λ cell. Asks (Word cell) i.count)
+    else (if i.kind == 4 then Asks (Mode i.output) i.count
+    else (if i.kind == 5 then Asks (Coefficients i.output) i.count
     else (if i.kind == 6 then at_command i (Some i.output)
     else (if i.kind == 7 then at_command i None
     else nowhere))))))
@@ -120,12 +122,8 @@ is_stage s (Some (Writes cell word pass)) =
     may_order s cell word && nat_lt pass s.setup.passes
 is_stage s (Some (Reads cell word pass)) =
     may_order s cell word && nat_lt pass s.setup.passes
-is_stage s (Some (Checks cell tries)) =
-    is_cell s.setup.outputs cell && nat_lt tries s.setup.passes
-is_stage s (Some (AsksMode output tries)) =
-    nat_lt output s.setup.outputs && nat_lt tries s.setup.passes
-is_stage s (Some (AsksCoefficients output tries)) =
-    nat_lt output s.setup.outputs && nat_lt tries s.setup.passes
+is_stage s (Some (Asks question tries)) =
+    is_question s.setup.outputs question && nat_lt tries s.setup.passes
 is_stage s (Some (Sends command tries)) =
     is_command s.setup.outputs command && nat_lt tries s.setup.passes
 

@@ -11,6 +11,7 @@ pub mod Marks
 pub mod Messages
 pub mod Now
 pub mod Possible
+pub mod Question
 pub mod Refusals
 pub mod Standing
 pub mod Summary

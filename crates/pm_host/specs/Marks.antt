@@ -5,7 +5,7 @@ use Rattle.pm_table.specs.declared.cell.Cell.{Cell}
 use Rattle.pm_host.specs.declared.command.Command.{Command}
 use Rattle.pm_host.specs.declared.command.Command.TheVariants.{RestoreUserAll}
 use Rattle.pm_host.specs.Answers.{good_word}
-use Rattle.pm_host.specs.Transcript.{Setup, Job, Order, Check, Learn, Send, Entry, Accepted, Finished, Got, Restarted, open_job, told_since, is_write_turn}
+use Rattle.pm_host.specs.Transcript.{Setup, Job, Order, Check, Send, Entry, Accepted, Finished, Got, Restarted, open_job, told_since, is_write_turn}
 
 pub data Mark : Type 0 where
   -- a write of the cell began to be sent
@@ -24,18 +24,14 @@ send_marks _ = []
 
 -- the write of a cell, or the restore, that an open job sends, and the cell that it reads
 abbrev pub put_by : Option Job → List Entry → List Mark
-put_by None told = []
 put_by (Some (Order cell word)) told = if is_write_turn told then Put cell word ∷ [] else []
-put_by (Some (Check cell)) told = []
-put_by (Some (Learn output)) told = []
 put_by (Some (Send command)) told = send_marks command
+put_by job told = []
 
 abbrev pub read_by : Option Job → List Entry → Option Cell
-read_by None told = None
 read_by (Some (Order cell word)) told = if is_write_turn told then None else Some cell
 read_by (Some (Check cell)) told = Some cell
-read_by (Some (Learn output)) told = None
-read_by (Some (Send command)) told = None
+read_by job told = None
 
 -- the write of a cell, or the restore, that begins to be sent with the newest entry
 unfoldable pub puts : Setup → List Entry → List Mark

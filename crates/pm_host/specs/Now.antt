@@ -1,8 +1,9 @@
 -- What the definitions say of a whole transcript, as one summary.
 use Rattle.std.specs.Prelude.{◌≡◌, ◌/◌, true, is_some, if◌then◌else◌, List, [], ◌∷◌, length, map, Option, option_map}
 use Rattle.std.specs.List.{range_with_len}
+use Rattle.pm_host.specs.declared.question.Question.TheVariants.{Word, Mode, Coefficients}
 use Rattle.pm_host.specs.declared.stage.Stage.{Stage}
-use Rattle.pm_host.specs.declared.stage.Stage.TheVariants.{Writes, Reads, Checks, AsksMode, AsksCoefficients, Sends}
+use Rattle.pm_host.specs.declared.stage.Stage.TheVariants.{Writes, Reads, Asks, Sends}
 use Rattle.pm_host.specs.Known.{known_now}
 use Rattle.pm_host.specs.Marks.{marks}
 use Rattle.pm_host.specs.Refusals.{may_come}
@@ -14,11 +15,11 @@ abbrev pub job_stage : Setup → Job → List Entry → Stage
 job_stage setup (Order cell word) told =
     if is_write_turn told then Writes cell word (length told / 2)
     else Reads cell word (length told / 2)
-job_stage setup (Check cell) told = Checks cell (length told)
+job_stage setup (Check cell) told = Asks (Word cell) (length told)
 job_stage setup (Learn output) told =
     if is_some (mode_told setup output told)
-    then AsksCoefficients output (coefficients_tries setup output told)
-    else AsksMode output (length told)
+    then Asks (Coefficients output) (coefficients_tries setup output told)
+    else Asks (Mode output) (length told)
 job_stage setup (Send command) told = Sends command (length told)
 
 unfoldable pub stage_of : Setup → List Entry → Option Stage

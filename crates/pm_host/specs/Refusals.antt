@@ -13,8 +13,10 @@ use Rattle.pm_frame.specs.Layout.{is_read_message}
 use Rattle.pm_host.specs.declared.command.Command.{Command}
 use Rattle.pm_host.specs.declared.fault.HostFault.{HostFault}
 use Rattle.pm_host.specs.declared.fault.HostFault.TheVariants.{OutputCount, Passes, Busy, UnknownOutput, BadWord, TooUncertain, FormatUnknown, Num}
+use Rattle.pm_host.specs.declared.question.Question.{Question}
 use Rattle.pm_host.specs.Cells.{is_command}
 use Rattle.pm_host.specs.Possible.{has_room}
+use Rattle.pm_host.specs.Question.{is_question}
 use Rattle.pm_host.specs.Summary.{Summary, possible_at, format_at, sending_in}
 use Rattle.pm_host.specs.Transcript.{Setup, Job, Order, Check, Learn, Send, Entry, Accepted, Finished, Got, Restarted}
 
@@ -48,12 +50,15 @@ asking_fault s there = first (
     rule (not there) UnknownOutput ∷
     [])
 
--- the same for an output, for a cell, and for a command that names an output
+-- the same for an output, for a cell, for a question, and for a command that names an output
 abbrev pub output_fault : Summary → ℕ → Option HostFault
 output_fault s output = asking_fault s (nat_lt output s.setup.outputs)
 
 abbrev pub cell_fault : Summary → Cell → Option HostFault
 cell_fault s cell = asking_fault s (is_cell s.setup.outputs cell)
+
+abbrev pub question_fault : Summary → Question → Option HostFault
+question_fault s question = asking_fault s (is_question s.setup.outputs question)
 
 abbrev pub command_fault : Summary → Command → Option HostFault
 command_fault s command = asking_fault s (is_command s.setup.outputs command)

@@ -3,22 +3,20 @@ use Rattle.std.specs.Prelude.{◌≡◌, ℕ, ◌<◌, true, length, Option, Som
 use Rattle.pm_table.specs.declared.cell.Cell.{Cell}
 use Rattle.pm_table.specs.Cell.{cell_accepts, IsCell}
 use Rattle.pm_host.specs.declared.command.Command.{Command}
+use Rattle.pm_host.specs.declared.question.Question.{Question}
 use Rattle.pm_host.specs.declared.stage.Stage.{Stage}
-use Rattle.pm_host.specs.declared.stage.Stage.TheVariants.{Writes, Reads, Checks, AsksMode, AsksCoefficients, Sends}
+use Rattle.pm_host.specs.declared.stage.Stage.TheVariants.{Writes, Reads, Asks, Sends}
 use Rattle.pm_host.specs.declared.standing.Standing.TheVariants.{Unknown}
 use Rattle.pm_host.specs.Cells.{is_command}
 use Rattle.pm_host.specs.Possible.{is_possible}
+use Rattle.pm_host.specs.Question.{IsQuestion}
 use Rattle.pm_host.specs.Refusals.{IsSetup}
 use Rattle.pm_host.specs.Summary.{Summary, possible_at, standing_at}
 
 -- the cell of a write accepts its word
 abbrev pub HasWord : Stage → Type 0
 HasWord (Writes cell word pass) = cell_accepts cell word ≡ true
-HasWord (Reads cell word pass) = Unit {0}
-HasWord (Checks cell tries) = Unit {0}
-HasWord (AsksMode output tries) = Unit {0}
-HasWord (AsksCoefficients output tries) = Unit {0}
-HasWord (Sends command tries) = Unit {0}
+HasWord stage = Unit {0}
 
 -- an order is open: its cell is there and accepts its word, which is one that the cell may hold; no
 -- word of the cell is confirmed, and a pass is left
@@ -29,14 +27,9 @@ pub record IsOrdering (s : Summary) (cell : Cell) (word pass : ℕ) : Type 0 whe
   pub unknown : standing_at s cell ≡ Unknown
   pub left : pass < s.setup.passes
 
--- a check is open
-pub record IsChecking (s : Summary) (cell : Cell) (tries : ℕ) : Type 0 where
-  pub there : IsCell s.setup.outputs cell
-  pub left : tries < s.setup.passes
-
--- a learn is open
-pub record IsAsking (s : Summary) (output tries : ℕ) : Type 0 where
-  pub there : output < s.setup.outputs
+-- a question is open
+pub record IsAsking (s : Summary) (question : Question) (tries : ℕ) : Type 0 where
+  pub there : IsQuestion s.setup.outputs question
   pub left : tries < s.setup.passes
 
 -- a command is being sent
@@ -48,9 +41,7 @@ abbrev pub IsStage : Summary → Option Stage → Type 0
 IsStage s None = Unit {0}
 IsStage s (Some (Writes cell word pass)) = IsOrdering s cell word pass
 IsStage s (Some (Reads cell word pass)) = IsOrdering s cell word pass
-IsStage s (Some (Checks cell tries)) = IsChecking s cell tries
-IsStage s (Some (AsksMode output tries)) = IsAsking s output tries
-IsStage s (Some (AsksCoefficients output tries)) = IsAsking s output tries
+IsStage s (Some (Asks question tries)) = IsAsking s question tries
 IsStage s (Some (Sends command tries)) = IsSending s command tries
 
 pub record IsSound (s : Summary) : Type 0 where

@@ -4,7 +4,7 @@ use Rattle.std.specs.Prelude.{ℕ, ◌+◌, Bool, if◌then◌else◌, ◌==◌,
 use Rattle.std.specs.Result.{result_ok}
 use Rattle.pm_num.specs.AnyFormat.{Shape, InUlinear16}
 use Rattle.pm_table.specs.declared.cell.Cell.{Cell}
-use Rattle.pm_table.specs.declared.coefficients.Coefficients.{Coefficients}
+use Rattle.pm_table.specs.Coefficients.{coefficients_of}
 use Rattle.pm_table.specs.declared.fault.TableFault.{TableFault}
 use Rattle.pm_table.specs.declared.vout_mode.VoutMode.{VoutMode}
 use Rattle.pm_table.specs.declared.vout_mode.VoutMode.TheVariants.{Linear, Direct}
@@ -14,16 +14,19 @@ use Rattle.pm_frame.specs.declared.message.Message.{Message}
 use Rattle.pm_host.specs.declared.command.Command.{Command}
 use Rattle.pm_host.specs.declared.possible.Possible.{Possible}
 use Rattle.pm_host.specs.declared.standing.Standing.{Standing}
+use Rattle.pm_host.specs.declared.question.Question.{Question}
+use Rattle.pm_host.specs.declared.question.Question.TheVariants.{Word, Mode, Coefficients}
 use Rattle.pm_host.specs.declared.stage.Stage.{Stage}
-use Rattle.pm_host.specs.declared.stage.Stage.TheVariants.{Writes, Reads, Checks, AsksMode, AsksCoefficients, Sends}
+use Rattle.pm_host.specs.declared.stage.Stage.TheVariants.{Writes, Reads, Asks, Sends}
 use Rattle.pm_host.specs.declared.job_end.JobEnd.{JobEnd}
 use Rattle.pm_host.specs.declared.job_end.JobEnd.TheVariants.{Done, Differs, Unknown, Learned}
 use Rattle.pm_host.specs.declared.step.Step.{Step}
 use Rattle.pm_host.specs.declared.step.Step.TheVariants.{Next, Ended}
-use Rattle.pm_host.specs.Answers.{good_word, good_mode, good_coefficients}
+use Rattle.pm_host.specs.Answers.{good_payload, good_word, word_in}
 use Rattle.pm_host.specs.Known.{Known, known_possible, known_standing, known_after, known_more, nothing_known}
 use Rattle.pm_host.specs.Marks.{Mark, Put, Good, send_marks}
-use Rattle.pm_host.specs.Messages.{cell_write, cell_read, mode_read, coefficients_read, command_message}
+use Rattle.pm_host.specs.Messages.{cell_write, cell_read, command_message}
+use Rattle.pm_host.specs.Question.{question_message}
 use Rattle.pm_host.specs.Transcript.{Setup, Job, Order, Check, Learn, Send, Entry, Accepted, Finished, Got, Restarted}
 
 pub record Summary : Type 0 where
@@ -59,9 +62,7 @@ format_at s output = slice_index_or s.formats output None
 abbrev pub stage_message : Stage → Message
 stage_message (Writes cell word pass) = cell_write cell word
 stage_message (Reads cell word pass) = cell_read cell
-stage_message (Checks cell tries) = cell_read cell
-stage_message (AsksMode output tries) = mode_read output
-stage_message (AsksCoefficients output tries) = coefficients_read
+stage_message (Asks question tries) = question_message question
 stage_message (Sends command tries) = command_message command
 
 -- the message whose frame is being sent; None where no job is open
@@ -110,15 +111,16 @@ abbrev pub sends : Summary → Command → ℕ → Change
 sends s command tries =
     goes_on (record s { known = known_more s.known (send_marks command) }) (Sends command tries)
 
--- the stage, which is one more try, where one is left after these
-abbrev pub another : Summary → ℕ → Stage → Change
-another s tries stage = if tries + 1 == s.setup.passes then ends s Unknown else goes_on s stage
+-- a question is asked again after these tries, where one is left
+abbrev pub another : Summary → Question → ℕ → Change
+another s question tries =
+    if tries + 1 == s.setup.passes then ends s Unknown else goes_on s (Asks question (tries + 1))
 
 -- a job is accepted
 abbrev pub begins : Summary → Job → Change
 begins s (Order cell word) = writes s cell word 0
-begins s (Check cell) = goes_on s (Checks cell 0)
-begins s (Learn output) = goes_on s (AsksMode output 0)
+begins s (Check cell) = goes_on s (Asks (Word cell) 0)
+begins s (Learn output) = goes_on s (Asks (Mode output) 0)
 begins s (Send command) = sends s command 0
 
 -- an order read its cell back, in this pass
@@ -134,11 +136,6 @@ read_back s cell word pass None =
 read_back s cell word pass (Some read) =
     read_another (marked s (Good cell read)) cell word pass read
 
--- a check read its cell
-abbrev pub checked : Summary → Cell → ℕ → Option ℕ → Change
-checked s cell tries None = another s tries (Checks cell (tries + 1))
-checked s cell tries (Some read) = ends (marked s (Good cell read)) Done
-
 -- a learn ends with a format, or with none
 abbrev pub learned : Summary → ℕ → Option Shape → Change
 learned s output None = ends s Unknown
@@ -149,17 +146,19 @@ learned s output (Some shape) =
 abbrev pub mode_taken : Summary → ℕ → Result VoutMode TableFault → Change
 mode_taken s output (Err fault) = learned s output None
 mode_taken s output (Ok (Linear exponent)) = learned s output (Some (InUlinear16 exponent))
-mode_taken s output (Ok Direct) = goes_on s (AsksCoefficients output 0)
+mode_taken s output (Ok Direct) = goes_on s (Asks (Coefficients output) 0)
 
-abbrev pub mode_answered : Summary → ℕ → ℕ → Option ℕ → Change
-mode_answered s output tries None = another s tries (AsksMode output (tries + 1))
-mode_answered s output tries (Some byte) = mode_taken s output (mode_of byte)
+-- a good answer to a question has this payload
+abbrev pub answer_taken : Summary → Question → List ℕ → Change
+answer_taken s (Word cell) payload = ends (marked s (Good cell (word_in payload))) Done
+answer_taken s (Mode output) payload = mode_taken s output (mode_of (word_in payload))
+answer_taken s (Coefficients output) payload =
+    learned s output (result_ok (shape_in Direct (coefficients_of payload)))
 
--- a learn read COEFFICIENTS
-abbrev pub coefficients_answered : Summary → ℕ → ℕ → Option Coefficients → Change
-coefficients_answered s output tries None = another s tries (AsksCoefficients output (tries + 1))
-coefficients_answered s output tries (Some coefficients) =
-    learned s output (result_ok (shape_in Direct coefficients))
+-- a question got a good answer, or is asked again
+abbrev pub asked : Summary → Question → ℕ → Option (List ℕ) → Change
+asked s question tries None = another s question tries
+asked s question tries (Some payload) = answer_taken s question payload
 
 -- the frame of a write was sent, and acknowledged or not
 abbrev pub finished : Summary → Option Stage → Bool → Change
@@ -173,12 +172,8 @@ finished s stage acked = stays s stage
 abbrev pub answered : Summary → Option Stage → List ℕ → Change
 answered s (Some (Reads cell word pass)) bytes =
     read_back s cell word pass (good_word s.setup.addr cell bytes)
-answered s (Some (Checks cell tries)) bytes =
-    checked s cell tries (good_word s.setup.addr cell bytes)
-answered s (Some (AsksMode output tries)) bytes =
-    mode_answered s output tries (good_mode s.setup.addr output bytes)
-answered s (Some (AsksCoefficients output tries)) bytes =
-    coefficients_answered s output tries (good_coefficients s.setup.addr bytes)
+answered s (Some (Asks question tries)) bytes =
+    asked s question tries (good_payload s.setup.addr (question_message question) bytes)
 answered s stage bytes = stays s stage
 
 abbrev pub change : Summary → Entry → Change

@@ -1,59 +1,65 @@
 //! What came back for a host's own request.
 
-ghost use Rattle.std.specs.Prelude.{◌≡◌, true, option_map};
+ghost use Rattle.std.specs.Prelude.{◌≡◌, true, length, option_map, IfSome};
 ghost use Rattle.pm_table.specs.Address.{IsAddress};
 ghost use Rattle.pm_table.specs.Coefficients.{coefficients_of};
 ghost use Rattle.pm_frame.specs.Layout.{answer_length, fits_layout, is_read_message};
-ghost use Rattle.pm_host.specs.Answers.{word_in, good_payload};
-ghost use Rattle.pm_host.specs.Messages as messages;
+ghost use Rattle.pm_host.specs.Answers.{word_in as spec_word_in, good_payload};
 
-use crate::messages::coefficients_read;
 use pm_frame::{Message, read_answer};
 use pm_table::Coefficients;
 
-/// The word of a good answer of one byte or two, low byte first; `None` for every other answer.
+/// The payload of a good answer; `None` for every other answer.
 #[tactic(auto, unfolding(crate::specs::Answers::good_payload))]
+pub(crate) fn good_answer<'a>(addr: u8, request: &Message, got: &'a [u8]) -> Option<&'a [u8]>
+    requires address { IsAddress addr }
+    requires read { is_read_message request.now ≡ true }
+    requires fits { fits_layout request.now ≡ true }
+    ensures good { option_map (λ payload. payload.now) result ≡ good_payload addr request.now got.entry.now }
+    ensures whole { IfSome result (λ payload. length payload.now ≡ answer_length request.now) }
+{
+    match read_answer(addr, request, got) {
+        Ok(payload) => Some(payload),
+        Err(_) => None,
+    }
+}
+
+/// The word of a good answer of one byte or two, low byte first; `None` for every other answer.
 pub(crate) fn good_word(addr: u8, request: &Message, got: &[u8]) -> Option<u16>
     requires address { IsAddress addr }
     requires read { is_read_message request.now ≡ true }
     requires fits { fits_layout request.now ≡ true }
-    ensures { result ≡ option_map word_in (good_payload addr request.now got.now) }
+    ensures { result ≡ option_map spec_word_in (good_payload addr request.now got.now) }
 {
-    match read_answer(addr, request, got) {
-        Ok(payload) => Some(match payload {
-            [] => 0,
-            [byte] => u16::from(*byte),
-            [low, high, ..] => u16::from_le_bytes([*low, *high]),
-        }),
-        Err(_) => None,
+    match good_answer(addr, request, got) {
+        Some(payload) => Some(word_in(payload)),
+        None => None,
     }
 }
 
-/// The byte of a good answer of one byte; `None` for every other answer.
-#[tactic(auto, unfolding(crate::specs::Answers::good_payload))]
-pub(crate) fn good_byte(addr: u8, request: &Message, got: &[u8]) -> Option<u8>
-    requires address { IsAddress addr }
-    requires read { is_read_message request.now ≡ true }
-    requires fits { fits_layout request.now ≡ true }
-    requires single { answer_length request.now ≡ 1 }
-    ensures { result ≡ option_map word_in (good_payload addr request.now got.now) }
+/// The word of a payload of one byte or two, low byte first.
+pub(crate) fn word_in(payload: &[u8]) -> u16
+    ensures { result ≡ spec_word_in payload.now }
 {
-    match read_answer(addr, request, got) {
-        Ok(payload) => Some(payload[0]),
-        Err(_) => None,
+    match payload {
+        [] => 0,
+        [byte] => u16::from(*byte),
+        [low, high, ..] => u16::from_le_bytes([*low, *high]),
     }
 }
 
-/// The coefficients of a good answer; `None` for every other answer.
-#[tactic(auto, unfolding(crate::specs::Answers::good_payload))]
-pub(crate) fn good_coefficients(addr: u8, got: &[u8]) -> Option<Coefficients>
-    requires { IsAddress addr }
-    ensures { result ≡ option_map coefficients_of (good_payload addr messages.coefficients_read got.now) }
+/// The byte of a payload of one byte.
+pub(crate) fn byte_in(payload: &[u8]) -> u8
+    requires { length payload.now ≡ 1 }
+    ensures { result ≡ spec_word_in payload.now }
 {
-    match read_answer(addr, &coefficients_read(), got) {
-        Ok(payload) => Some(Coefficients::read([
-            payload[0], payload[1], payload[2], payload[3], payload[4],
-        ])),
-        Err(_) => None,
-    }
+    payload[0]
+}
+
+/// The coefficients of a payload of five bytes.
+pub(crate) fn coefficients_in(payload: &[u8]) -> Coefficients
+    requires { length payload.now ≡ 5 }
+    ensures { result ≡ coefficients_of payload.now }
+{
+    Coefficients::read([payload[0], payload[1], payload[2], payload[3], payload[4]])
 }

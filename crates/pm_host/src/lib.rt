@@ -46,6 +46,7 @@ mod knowledge;
 mod laws;
 mod messages;
 mod possible;
+mod question;
 mod sending;
 mod stage;
 mod stage_image;
@@ -70,6 +71,7 @@ pub use laws::{
     possible_words_are_followed, transcripts_are_followed,
 };
 pub use possible::Possible;
+pub use question::Question;
 pub use stage::Stage;
 pub use stage_image::StageImage;
 pub use standing::Standing;

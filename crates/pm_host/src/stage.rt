@@ -3,7 +3,8 @@ ghost use Rattle.pm_frame.specs.Layout.{fits_layout};
 ghost use Rattle.pm_host.specs.Summary.{stage_message};
 
 use crate::command::Command;
-use crate::messages::{cell_read, cell_write, coefficients_read, command_message, mode_read};
+use crate::messages::{cell_read, cell_write, command_message};
+use crate::question::Question;
 use pm_frame::Message;
 use pm_table::Cell;
 
@@ -14,12 +15,8 @@ pub enum Stage {
     Writes { cell: Cell, word: u16, pass: u8 },
     /// An order reads its cell back, in this pass.
     Reads { cell: Cell, word: u16, pass: u8 },
-    /// A check reads its cell, after this many tries.
-    Checks { cell: Cell, tries: u8 },
-    /// A learn reads VOUT_MODE, after this many tries.
-    AsksMode { output: u8, tries: u8 },
-    /// A learn reads COEFFICIENTS, after this many tries.
-    AsksCoefficients { output: u8, tries: u8 },
+    /// A check or a learn asks this, after this many tries.
+    Asks { question: Question, tries: u8 },
     /// A command is sent, after this many tries.
     Sends { command: Command, tries: u8 },
 }
@@ -35,9 +32,8 @@ impl Stage {
     {
         match *self {
             Stage::Writes { cell, word, .. } => cell_write(cell, word),
-            Stage::Reads { cell, .. } | Stage::Checks { cell, .. } => cell_read(cell),
-            Stage::AsksMode { output, .. } => mode_read(output),
-            Stage::AsksCoefficients { .. } => coefficients_read(),
+            Stage::Reads { cell, .. } => cell_read(cell),
+            Stage::Asks { question, .. } => question.message(),
             Stage::Sends { command, .. } => command_message(command),
         }
     }

@@ -1,9 +1,10 @@
 ghost use Rattle.std.specs.Prelude.{◌≡◌, Some, None, is_some};
 ghost use Rattle.pm_table.specs.Cell.{cell_at};
 ghost use Rattle.pm_host.specs.Image.{at_command, stage_held, stage_in};
-ghost use Rattle.pm_host.specs.declared.stage.Stage.TheVariants.{Sends};
+ghost use Rattle.pm_host.specs.declared.stage.Stage.TheVariants.{Asks, Sends};
 
 use crate::command::Command;
+use crate::question::Question;
 use crate::stage::Stage;
 use pm_table::{Cell, Code, cell_of};
 
@@ -11,8 +12,8 @@ use pm_table::{Cell, Code, cell_of};
 #[repr(C)]
 #[derive(Clone, Copy)]
 pub struct StageImage {
-    /// 0 where no job is open; 1 and 2 for an order that writes or reads, 3 for a check, 4 and 5 for a
-    /// learn that asks VOUT_MODE or COEFFICIENTS, 6 for a command that is sent to an output, 7 for one
+    /// 0 where no job is open; 1 and 2 for an order that writes or reads; 3, 4 and 5 for a question, of a
+    /// cell's word, of VOUT_MODE or of COEFFICIENTS; 6 for a command that is sent to an output, 7 for one
     /// that is sent to the device. No host has another number.
     pub kind: u8,
     /// The command code: of the cell for 1 to 3, of the command for 6 and 7; otherwise 0.
@@ -26,8 +27,8 @@ pub struct StageImage {
 }
 
 // What stands for a kind or a code that means nothing: no host stands there.
-const NOWHERE: Stage = Stage::AsksMode {
-    output: 255,
+const NOWHERE: Stage = Stage::Asks {
+    question: Question::Mode(255),
     tries: 255,
 };
 
@@ -56,9 +57,7 @@ impl StageImage {
         match stage {
             Stage::Writes { cell, word, pass } => StageImage::at_cell(1, cell, word, pass),
             Stage::Reads { cell, word, pass } => StageImage::at_cell(2, cell, word, pass),
-            Stage::Checks { cell, tries } => StageImage::at_cell(3, cell, 0, tries),
-            Stage::AsksMode { output, tries } => StageImage::at_output(4, output, tries),
-            Stage::AsksCoefficients { output, tries } => StageImage::at_output(5, output, tries),
+            Stage::Asks { question, tries } => StageImage::at_question(question, tries),
             Stage::Sends { command, tries } => StageImage::at_command(command, tries),
         }
     }
@@ -79,6 +78,18 @@ impl StageImage {
             },
             count,
             word,
+        }
+    }
+
+    // A stage of a question.
+    #[tactic(auto, unfolding(crate::specs::Image::stage_held))]
+    fn at_question(question: Question, count: u8) -> StageImage
+        ensures { stage_held result ≡ Some (Asks question count) }
+    {
+        match question {
+            Question::Word(cell) => StageImage::at_cell(3, cell, 0, count),
+            Question::Mode(output) => StageImage::at_output(4, output, count),
+            Question::Coefficients(output) => StageImage::at_output(5, output, count),
         }
     }
 
@@ -122,17 +133,27 @@ impl StageImage {
         }
         let cell = cell_of(Code(self.code), self.output);
         let (word, output) = (self.word, self.output);
-        let (pass, tries) = (self.count, self.count);
+        let pass = self.count;
         Some(match (self.kind, cell) {
             (1, Some(cell)) => Stage::Writes { cell, word, pass },
             (2, Some(cell)) => Stage::Reads { cell, word, pass },
-            (3, Some(cell)) => Stage::Checks { cell, tries },
-            (4, _) => Stage::AsksMode { output, tries },
-            (5, _) => Stage::AsksCoefficients { output, tries },
+            (3, Some(cell)) => self.asks(Question::Word(cell)),
+            (4, _) => self.asks(Question::Mode(output)),
+            (5, _) => self.asks(Question::Coefficients(output)),
             (6, _) => self.sends(Some(output)),
             (7, _) => self.sends(None),
             _ => NOWHERE,
         })
+    }
+
+    // The stage that asks this.
+    fn asks(&self, question: Question) -> Stage
+        ensures { result ≡ Asks question self.now.count }
+    {
+        Stage::Asks {
+            question,
+            tries: self.count,
+        }
     }
 
     // The stage that sends the command of its code, at this output or at the device.

@@ -18,11 +18,11 @@ ghost use Rattle.pm_host.specs.Summary.{start, next, step_of, possible_at, stand
 ghost use Rattle.pm_host.specs.Told.{entry_told, OnEnded};
 ghost use Rattle.pm_host.specs.Transcript.{Setup, Restarted};
 
-use crate::answers::{good_byte, good_coefficients, good_word};
+use crate::answers::good_word;
 use crate::fault::HostFault;
 use crate::format_image::FormatImage;
 use crate::knowledge::Knowledge;
-use crate::messages::{cell_read, mode_read};
+use crate::messages::cell_read;
 use crate::sending::Sending;
 use crate::stage::Stage;
 use crate::stage_image::StageImage;
@@ -156,17 +156,8 @@ impl State {
                 let read = good_word(self.address, &cell_read(cell), bytes);
                 self.read_back(cell, word, pass, read)
             }
-            (Some(Stage::Checks { cell, tries }), Told::Got(bytes)) => {
-                let read = good_word(self.address, &cell_read(cell), bytes);
-                self.checked(cell, tries, read)
-            }
-            (Some(Stage::AsksMode { output, tries }), Told::Got(bytes)) => {
-                let byte = good_byte(self.address, &mode_read(output), bytes);
-                self.mode_told(output, tries, byte)
-            }
-            (Some(Stage::AsksCoefficients { output, tries }), Told::Got(bytes)) => {
-                let told = good_coefficients(self.address, bytes);
-                self.coefficients_told(output, tries, told)
+            (Some(Stage::Asks { question, tries }), Told::Got(bytes)) => {
+                self.answered(question, tries, bytes)
             }
             // What is told is of the kind of the frame that is being sent.
             _ => unreachable!(),

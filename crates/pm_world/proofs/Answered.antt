@@ -23,8 +23,9 @@ use Rattle.pm_device.specs.Laws.{AnswersWith}
 use Rattle.pm_device.specs.Reply.{payload_for, register_bytes, reply_of}
 use Rattle.pm_device.specs.Start.{has_direct}
 use Rattle.pm_host.specs.declared.command.Command.TheVariants.{RestoreUserAll}
+use Rattle.pm_host.specs.declared.question.Question.TheVariants.{Word, Mode, Coefficients}
 use Rattle.pm_host.specs.declared.stage.Stage.{Stage}
-use Rattle.pm_host.specs.declared.stage.Stage.TheVariants.{Writes, Reads, Checks, AsksMode, AsksCoefficients, Sends}
+use Rattle.pm_host.specs.declared.stage.Stage.TheVariants.{Writes, Reads, Asks, Sends}
 use Rattle.pm_host.specs.Answers.{good_payload}
 use Rattle.pm_host.specs.Marks.{read_by}
 use Rattle.pm_host.specs.Messages.{cell_read, mode_read, coefficients_read}
@@ -42,7 +43,7 @@ use Rattle.pm_world.proofs.Starts.{IsKin}
 -- the cell that an open job reads
 abbrev pub stage_cell : Option Stage → Option Cell
 stage_cell (Some (Reads cell word pass)) = Some cell
-stage_cell (Some (Checks cell tries)) = Some cell
+stage_cell (Some (Asks (Word cell) tries)) = Some cell
 stage_cell stage = None
 
 -- is the one that the marks go by
@@ -55,7 +56,7 @@ stage_cell-is setup entries = go (host.open_job setup entries) where
   by_turn true cell word n = refl
   by_turn false cell word n = refl
 
-  by_mode : (b : Bool) (output m n : ℕ) → stage_cell (Some (cond b (AsksCoefficients output m) (AsksMode output n))) ≡ None
+  by_mode : (b : Bool) (output m n : ℕ) → stage_cell (Some (cond b (Asks (Coefficients output) m) (Asks (Mode output) n))) ≡ None
   by_mode true output m n = refl
   by_mode false output m n = refl
 
@@ -149,11 +150,11 @@ pub stage-answers : Below → {h : Summary} (s t : Held) (stage : Stage) → IsK
 stage-answers laws s t (Writes cell word pass) kin asks same = absurd (true≢false (sym asks.reads ∙ write-kind cell word))
 stage-answers laws s t (Reads cell word pass) kin asks same =
     cell-answers laws s t cell kin (subst (λ n. IsCell n cell) asks.outputs asks.is.there) asks.fits (same cell refl)
-stage-answers laws s t (Checks cell tries) kin asks same =
+stage-answers laws s t (Asks (Word cell) tries) kin asks same =
     cell-answers laws s t cell kin (subst (λ n. IsCell n cell) asks.outputs asks.is.there) asks.fits (same cell refl)
-stage-answers laws s t (AsksMode output tries) kin asks same =
+stage-answers laws s t (Asks (Mode output) tries) kin asks same =
     mode-answers laws s t output kin (subst (λ n. output < n) asks.outputs asks.is.there) asks.fits
-stage-answers laws s t (AsksCoefficients output tries) kin asks same = coefficients-answers laws s t kin asks.fits
+stage-answers laws s t (Asks (Coefficients output) tries) kin asks same = coefficients-answers laws s t kin asks.fits
 stage-answers laws s t (Sends RestoreUserAll tries) kin asks same = absurd (true≢false (sym asks.reads))
 stage-answers laws s t (Sends sent tries) kin asks same = absurd (true≢false (sym asks.reads))
 

@@ -15,8 +15,9 @@ use Rattle.pm_device.specs.declared.config.Config.{Config}
 use Rattle.pm_device.specs.declared.ending.Ending.TheVariants.{Restart}
 use Rattle.pm_device.specs.Held.{Held}
 use Rattle.pm_device.specs.Reply.{reply_of}
+use Rattle.pm_host.specs.declared.question.Question.TheVariants.{Word}
 use Rattle.pm_host.specs.declared.stage.Stage.{Stage}
-use Rattle.pm_host.specs.declared.stage.Stage.TheVariants.{Reads, Checks}
+use Rattle.pm_host.specs.declared.stage.Stage.TheVariants.{Reads, Asks}
 use Rattle.pm_host.specs.Answers.{good_payload, good_word, word_in}
 use Rattle.pm_host.specs.Marks.{read_by, marks}
 use Rattle.pm_host.specs.Messages.{cell_read}
@@ -113,7 +114,7 @@ record Meets (s : State) (setup : host.Setup) (entries : List host.Entry) : Type
 -- the read of a cell is what its stage sends
 cell-message : (stage : Stage) (read : Cell) → stage_cell (Some stage) ≡ Some read → stage_message stage ≡ cell_read read
 cell-message (Reads cell word pass) read e = ap cell_read (same_Some cell read e)
-cell-message (Checks cell tries) read e = ap cell_read (same_Some cell read e)
+cell-message (Asks (Word cell) tries) read e = ap cell_read (same_Some cell read e)
 cell-message stage read e = absurd (none-some read e)
 
 -- an exchange is of a read

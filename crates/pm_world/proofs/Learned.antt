@@ -8,7 +8,6 @@ use Rattle.std.proofs.lemmas.Bool.{and_parts, or_cases, or_left, or_right, ltb-t
 use Rattle.std.proofs.lemmas.Option.{none-some, same_Some}
 use Rattle.std.proofs.lemmas.Slice.Eq.{bytes_eq-Decides}
 use Rattle.pm_num.specs.AnyFormat.{Shape}
-use Rattle.pm_table.specs.declared.coefficients.Coefficients.{Coefficients}
 use Rattle.pm_table.specs.declared.vout_mode.VoutMode.TheVariants.{Direct}
 use Rattle.pm_table.specs.Coefficients.{coefficients_of}
 use Rattle.pm_table.specs.Codes as command
@@ -27,11 +26,14 @@ use Rattle.pm_device.specs.declared.ending.Ending.TheVariants.{Stop, Restart}
 use Rattle.pm_device.specs.Held.{Held, mode_for, shape_for}
 use Rattle.pm_device.specs.Reply.{register_bytes, reply_of}
 use Rattle.pm_device.specs.Start.{is_direct}
+use Rattle.pm_host.specs.declared.question.Question.{Question}
+use Rattle.pm_host.specs.declared.question.Question.TheVariants.{Mode, Coefficients}
 use Rattle.pm_host.specs.declared.stage.Stage.{Stage}
-use Rattle.pm_host.specs.declared.stage.Stage.TheVariants.{AsksMode, AsksCoefficients}
-use Rattle.pm_host.specs.Answers.{good_payload, good_mode, good_coefficients, word_in}
+use Rattle.pm_host.specs.declared.stage.Stage.TheVariants.{Asks}
+use Rattle.pm_host.specs.Answers.{good_payload, word_in}
 use Rattle.pm_host.specs.Frames.{reads_coefficients}
 use Rattle.pm_host.specs.Messages.{mode_read, coefficients_read}
+use Rattle.pm_host.specs.Question.{question_message}
 use Rattle.pm_host.specs.Summary.{Summary}
 use Rattle.pm_host.specs.Transcript as host
 use Rattle.pm_world.specs.Below.{Below}
@@ -136,17 +138,29 @@ direct-found (s ∷ starts) (suc count) zero below h = or_left (is_direct (mode_
 direct-found (s ∷ starts) (suc count) (suc output) below h =
     or_right (is_direct (mode_of s.mode)) _ (direct-found starts count output (omega arith) h)
 
+-- what a payload says of a format is true of the converter
+abbrev pub SaysTrue : Config → Question → List ℕ → Type 0
+SaysTrue config (Mode output) payload = word_in payload ≡ mode_for config output
+SaysTrue config (Coefficients output) payload = coefficients_of payload ≡ config.coefficients
+SaysTrue config question payload = Unit {0}
+
+-- that of a good answer is
+abbrev pub GoodTrue : Config → Question → Option (List ℕ) → Type 0
+GoodTrue config question good = (payload : List ℕ) → good ≡ Some payload → SaysTrue config question payload
+
 -- what a learn is told is true of the converter
 abbrev pub ToldTrue : Config → ℕ → Option Stage → List ℕ → Type 0
-ToldTrue config addr (Some (AsksMode output tries)) bytes = (byte : ℕ) → good_mode addr output bytes ≡ Some byte →
-    byte ≡ mode_for config output
-ToldTrue config addr (Some (AsksCoefficients output tries)) bytes = (found : Coefficients) → good_coefficients addr bytes ≡ Some found →
-    found ≡ config.coefficients
+ToldTrue config addr (Some (Asks question tries)) bytes = GoodTrue config question (good_payload addr (question_message question) bytes)
 ToldTrue config addr stage bytes = Unit {0}
 
 -- coefficients are asked for where VOUT_MODE is DIRECT
+abbrev pub AsksFor : Config → Question → Type 0
+AsksFor config (Coefficients output) = mode_of (mode_for config output) ≡ Ok Direct
+AsksFor config question = Unit {0}
+
+-- at each stage
 abbrev pub AsksSo : Config → Option Stage → Type 0
-AsksSo config (Some (AsksCoefficients output tries)) = mode_of (mode_for config output) ≡ Ok Direct
+AsksSo config (Some (Asks question tries)) = AsksFor config question
 AsksSo config stage = Unit {0}
 
 -- the known formats are the converter's
@@ -168,31 +182,28 @@ unfolding line_of
 mode_word n below = omega arith
 
 -- a good answer to the read of VOUT_MODE is the converter's byte
-pub mode-true : Below → (held : Held) (output : ℕ) {bytes : List ℕ} {byte : ℕ} → IsSpelled held.config →
+pub mode-true : Below → (held : Held) (output : ℕ) {bytes payload : List ℕ} → IsSpelled held.config →
     (output < 8) × (output < held.config.count) → fits_layout (mode_read output) ≡ true →
-    (good_mode held.config.addr output bytes ≡ Some byte →
+    (good_payload held.config.addr (mode_read output) bytes ≡ Some payload →
     bytes ≡ answer_in (reply_of held (frame_of held.config.addr (mode_read output)) Restart)) →
-    good_mode held.config.addr output bytes ≡ Some byte → byte ≡ mode_for held.config output
-mode-true laws held output {bytes = bytes} {byte = byte} spelled (eight, below) fits same good =
+    good_payload held.config.addr (mode_read output) bytes ≡ Some payload → word_in payload ≡ mode_for held.config output
+mode-true laws held output spelled (eight, below) fits same good =
     let addr = held.config.addr in
     let request = is_request addr (mode_read output) refl fits in
     let found = laws.reads_are_answered.mode held output (frame_of addr (mode_read output)) request below in
-    let payload = from_some word_in (good_payload addr (mode_read output) bytes) byte good in
-    let is = is-answer laws held (same good ∙ ap answer_in found.1) found.2 payload.1 in
-    sym payload.2 ∙ (ap word_in is ∙ mode_word (mode_for held.config output) (spelled.modes output eight))
+    let is = is-answer laws held (same good ∙ ap answer_in found.1) found.2 good in
+    ap word_in is ∙ mode_word (mode_for held.config output) (spelled.modes output eight)
 
 -- a good answer to the read of COEFFICIENTS is the converter's
-pub coefficients-true : Below → (held : Held) (setup : host.Setup) (output : ℕ) {bytes : List ℕ} {k : Coefficients} →
+pub coefficients-true : Below → (held : Held) (setup : host.Setup) (output : ℕ) {bytes payload : List ℕ} →
     IsSpelled held.config → (output < held.config.count) × (mode_of (mode_for held.config output) ≡ Ok Direct) →
-    (good_coefficients held.config.addr bytes ≡ Some k →
+    (good_payload held.config.addr coefficients_read bytes ≡ Some payload →
     bytes ≡ answer_in (reply_of held (frame_of held.config.addr coefficients_read) Restart)) →
-    good_coefficients held.config.addr bytes ≡ Some k → k ≡ held.config.coefficients
-coefficients-true laws held setup output {bytes = bytes} {k = k} spelled (below, direct) same good =
+    good_payload held.config.addr coefficients_read bytes ≡ Some payload → coefficients_of payload ≡ held.config.coefficients
+coefficients-true laws held setup output spelled (below, direct) same good =
     let addr = held.config.addr in
     let request = is_request addr coefficients_read refl (laws.frames_are_named.fits setup coefficients_read reads_coefficients) in
     let found = laws.reads_are_answered.coefficients held (frame_of addr coefficients_read) request
     (direct-found held.config.starts held.config.count output below direct) in
-    let payload = from_some coefficients_of (good_payload addr coefficients_read bytes) k good in
-    let is = is-answer laws held
-    (same good ∙ ap answer_in found.1) found.2 payload.1 in
-    sym payload.2 ∙ (ap coefficients_of is ∙ spelled.coefficients)
+    let is = is-answer laws held (same good ∙ ap answer_in found.1) found.2 good in
+    ap coefficients_of is ∙ spelled.coefficients

@@ -5,7 +5,7 @@ use Rattle.std.specs.Option.{option_and_then, option_map}
 use Rattle.std.specs.Result.{result_ok}
 use Rattle.pm_num.specs.AnyFormat.{Shape}
 use Rattle.pm_table.specs.declared.cell.Cell.{Cell}
-use Rattle.pm_table.specs.declared.coefficients.Coefficients.{Coefficients}
+use Rattle.pm_table.specs.Coefficients.{coefficients_of}
 use Rattle.pm_table.specs.declared.fault.TableFault.{TableFault}
 use Rattle.pm_table.specs.declared.vout_mode.VoutMode.{VoutMode}
 use Rattle.pm_table.specs.declared.vout_mode.VoutMode.TheVariants.{Linear, Direct}
@@ -14,14 +14,17 @@ use Rattle.pm_table.specs.Format.{shape_in}
 use Rattle.pm_model.specs.declared.pending_job.PendingJob.{PendingJob}
 use Rattle.pm_model.specs.declared.pending_job.PendingJob.TheVariants as pending
 use Rattle.pm_device.specs.declared.config.Config.{Config}
+use Rattle.pm_host.specs.declared.question.Question.{Question}
+use Rattle.pm_host.specs.declared.question.Question.TheVariants.{Word, Mode, Coefficients}
 use Rattle.pm_host.specs.declared.stage.Stage.{Stage}
-use Rattle.pm_host.specs.declared.stage.Stage.TheVariants.{Writes, Reads, Checks, AsksMode, AsksCoefficients, Sends}
-use Rattle.pm_host.specs.Answers.{good_word, good_mode, good_coefficients}
+use Rattle.pm_host.specs.declared.stage.Stage.TheVariants.{Writes, Reads, Asks, Sends}
+use Rattle.pm_host.specs.Answers.{good_payload, good_word, word_in}
 use Rattle.pm_host.specs.declared.job_end.JobEnd.{JobEnd}
 use Rattle.pm_host.specs.declared.job_end.JobEnd.TheVariants.{Done, Differs, Unknown}
 use Rattle.pm_host.specs.Marks.{Good}
 use Rattle.pm_host.specs.Now.{now as host_now, stage_of, job_stage}
-use Rattle.pm_host.specs.Summary.{Summary, another, learned, read_back, checked, mode_taken, mode_answered, coefficients_answered, finished}
+use Rattle.pm_host.specs.Question.{question_message}
+use Rattle.pm_host.specs.Summary.{Summary, another, learned, read_back, mode_taken, answer_taken, asked, finished}
 use Rattle.pm_host.specs.Summary.{answered, marked, writes, ends, goes_on, sends}
 use Rattle.pm_host.specs.Transcript as host
 use Rattle.pm_world.specs.declared.event.Event.{Event}
@@ -46,7 +49,7 @@ pending-of_stage setup entries = go (host.open_job setup entries) where
   by_turn true cell word n = refl
   by_turn false cell word n = refl
 
-  by_mode : (b : Bool) (output m n : ℕ) → stage_pending (Some (cond b (AsksCoefficients output m) (AsksMode output n))) ≡ None
+  by_mode : (b : Bool) (output m n : ℕ) → stage_pending (Some (cond b (Asks (Coefficients output) m) (Asks (Mode output) n))) ≡ None
   by_mode true output m n = refl
   by_mode false output m n = refl
 
@@ -77,13 +80,25 @@ finished-order s (Some (Sends sent tries)) false = go (eqb (tries + 1) s.setup.p
   go false = inl refl
 finished-order s stage acked = inl refl
 
--- another try of a job that is no order
-another-order : (s : Summary) (tries : ℕ) (stage : Stage) → stage_pending (Some stage) ≡ None →
-    stage_pending (another s tries stage).after.stage ≡ None
-another-order s tries stage none = go (eqb (tries + 1) s.setup.passes) where
-  go : (b : Bool) → stage_pending (cond b (ends s Unknown) (goes_on s stage)).after.stage ≡ None
+-- a question that is asked again is no order
+another-order : (s : Summary) (question : Question) (tries : ℕ) → stage_pending (another s question tries).after.stage ≡ None
+another-order s question tries = go (eqb (tries + 1) s.setup.passes) where
+  go : (b : Bool) → stage_pending (cond b (ends s Unknown) (goes_on s (Asks question (tries + 1)))).after.stage ≡ None
   go true = refl
-  go false = none
+  go false = refl
+
+-- nor is what follows a good answer
+taken-order : (s : Summary) (question : Question) (payload : List ℕ) → stage_pending (answer_taken s question payload).after.stage ≡ None
+taken-order s (Word cell) payload = refl
+taken-order s (Mode output) payload = go (mode_of (word_in payload)) where
+  go : (mode : Result VoutMode TableFault) → stage_pending (mode_taken s output mode).after.stage ≡ None
+  go (Err fault) = refl
+  go (Ok (Linear exponent)) = refl
+  go (Ok Direct) = refl
+taken-order s (Coefficients output) payload = go (result_ok (shape_in Direct (coefficients_of payload))) where
+  go : (shape : Option Shape) → stage_pending (learned s output shape).after.stage ≡ None
+  go None = refl
+  go (Some shape) = refl
 
 -- what came back leaves an order open, or ends it
 pub answered-order : (s : Summary) (stage : Option Stage) (bytes : List ℕ) →
@@ -103,25 +118,8 @@ answered-order s (Some (Reads cell word pass)) bytes = go (good_word s.setup.add
   go : (read : Option ℕ) → Goes (Some (pending.Order cell word)) (stage_pending (read_back s cell word pass read).after.stage)
   go None = last (eqb (pass + 1) s.setup.passes) s Unknown
   go (Some read) = same (eqb read word) (eqb (pass + 1) s.setup.passes) (marked s (Good cell read)) (Differs read)
-answered-order s (Some (Checks cell tries)) bytes = go (good_word s.setup.addr cell bytes) where
-  go : (read : Option ℕ) → Goes None (stage_pending (checked s cell tries read).after.stage)
-  go None = inr (another-order s tries (Checks cell (tries + 1)) refl)
-  go (Some read) = inr refl
-answered-order s (Some (AsksMode output tries)) bytes = go (good_mode s.setup.addr output bytes) where
-  taken : (mode : Result VoutMode TableFault) → Goes None (stage_pending (mode_taken s output mode).after.stage)
-  taken (Err fault) = inr refl
-  taken (Ok (Linear exponent)) = inr refl
-  taken (Ok Direct) = inr refl
-
-  go : (byte : Option ℕ) → Goes None (stage_pending (mode_answered s output tries byte).after.stage)
-  go None = inr (another-order s tries (AsksMode output (tries + 1)) refl)
-  go (Some byte) = taken (mode_of byte)
-answered-order s (Some (AsksCoefficients output tries)) bytes = go (good_coefficients s.setup.addr bytes) where
-  found : (shape : Option Shape) → Goes None (stage_pending (learned s output shape).after.stage)
-  found None = inr refl
-  found (Some shape) = inr refl
-
-  go : (coefficients : Option Coefficients) → Goes None (stage_pending (coefficients_answered s output tries coefficients).after.stage)
-  go None = inr (another-order s tries (AsksCoefficients output (tries + 1)) refl)
-  go (Some coefficients) = found (result_ok (shape_in Direct coefficients))
+answered-order s (Some (Asks question tries)) bytes = go (good_payload s.setup.addr (question_message question) bytes) where
+  go : (good : Option (List ℕ)) → Goes None (stage_pending (asked s question tries good).after.stage)
+  go None = inr (another-order s question tries)
+  go (Some payload) = inr (taken-order s question payload)
 answered-order s stage bytes = inl refl

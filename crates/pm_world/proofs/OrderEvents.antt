@@ -24,9 +24,12 @@ use Rattle.pm_device.specs.History.{next as device_next}
 use Rattle.pm_host.specs.declared.fault.HostFault.{HostFault}
 use Rattle.pm_host.specs.declared.command.Command.{Command}
 use Rattle.pm_host.specs.declared.command.Command.TheVariants.{ClearFaults, StoreUserAll, RestoreUserAll}
+use Rattle.pm_host.specs.declared.question.Question.{Question}
+use Rattle.pm_host.specs.declared.question.Question.TheVariants.{Word}
 use Rattle.pm_host.specs.declared.stage.Stage.{Stage}
-use Rattle.pm_host.specs.declared.stage.Stage.TheVariants.{Writes, Reads, Checks, AsksMode, AsksCoefficients, Sends}
-use Rattle.pm_host.specs.Messages.{cell_read, cell_write, mode_read, coefficients_read, command_message}
+use Rattle.pm_host.specs.declared.stage.Stage.TheVariants.{Writes, Reads, Asks, Sends}
+use Rattle.pm_host.specs.Messages.{cell_read, cell_write, command_message}
+use Rattle.pm_host.specs.Question.{question_message}
 use Rattle.pm_host.specs.Refusals.{is_busy, asking_fault, cell_fault, order_fault, job_fault, rule as host_rule}
 use Rattle.pm_host.specs.Summary.{Summary, next as host_next, sending_in, stage_message, idle}
 use Rattle.pm_host.specs.Transcript as host
@@ -95,6 +98,11 @@ sent-whole laws held StoreUserAll bytes h =
 sent-whole laws held RestoreUserAll bytes h =
     restored held _ _ (laws.writes_reach_one_cell.restores held (SendByte command.restore_user_all) bytes h refl)
 
+-- each question is a read
+question-reads : (question : Question) → is_read_message (question_message question) ≡ true
+question-reads (Word (Out output register)) = refl
+question-reads _ = refl
+
 -- a whole write that is being sent leaves all, or the open job took
 written : Below → (held : Held) (stage : Option Stage) (message : Message) (bytes : List ℕ) →
     option_map stage_message stage ≡ Some message → is_read_message message ≡ false →
@@ -111,9 +119,8 @@ written laws held (Some (Sends sent tries)) message bytes e writes h =
     sent-whole laws held sent bytes
     (subst (λ m. IsWrite held.config.addr m bytes) (sym (some-is (command_message sent) message e)) h)
 written laws held (Some (Reads cell word pass)) message bytes e writes h = absurd (reads-cell cell message e writes)
-written laws held (Some (Checks cell tries)) message bytes e writes h = absurd (reads-cell cell message e writes)
-written laws held (Some (AsksMode output tries)) message bytes e writes h = absurd (reads (mode_read output) message refl e writes)
-written laws held (Some (AsksCoefficients output tries)) message bytes e writes h = absurd (reads coefficients_read message refl e writes)
+written laws held (Some (Asks question tries)) message bytes e writes h =
+    absurd (reads (question_message question) message (question-reads question) e writes)
 
 -- the words of the cells, and those in the store, stay
 pub record Stays (old new : Held) : Type 0 where

@@ -7,7 +7,7 @@ use Rattle.std.proofs.lemmas.List.{get_or-set_same, get_or-set_other, get_or-rep
 use Rattle.std.proofs.lemmas.Option.{none-some, same_Some}
 use Rattle.pm_num.specs.AnyFormat.{Shape, InUlinear16}
 use Rattle.pm_table.specs.declared.cell.Cell.{Cell}
-use Rattle.pm_table.specs.declared.coefficients.Coefficients.{Coefficients}
+use Rattle.pm_table.specs.declared.coefficients.Coefficients.{Coefficients as AnyCoefficients}
 use Rattle.pm_table.specs.declared.fault.TableFault.{TableFault}
 use Rattle.pm_table.specs.declared.vout_mode.VoutMode.{VoutMode}
 use Rattle.pm_table.specs.declared.vout_mode.VoutMode.TheVariants.{Linear, Direct}
@@ -22,16 +22,19 @@ use Rattle.pm_device.specs.Reply.{reply_of}
 use Rattle.pm_device.specs.Start.{IsSound}
 use Rattle.pm_host.specs.declared.command.Command.{Command}
 use Rattle.pm_host.specs.declared.command.Command.TheVariants.{RestoreUserAll}
+use Rattle.pm_host.specs.declared.question.Question.{Question}
+use Rattle.pm_host.specs.declared.question.Question.TheVariants.{Word, Mode, Coefficients}
 use Rattle.pm_host.specs.declared.stage.Stage.{Stage}
-use Rattle.pm_host.specs.declared.stage.Stage.TheVariants.{Reads, Checks, AsksMode, AsksCoefficients, Sends}
+use Rattle.pm_host.specs.declared.stage.Stage.TheVariants.{Reads, Asks, Sends}
 use Rattle.pm_host.specs.declared.job_end.JobEnd.TheVariants as job_end
-use Rattle.pm_host.specs.Answers.{good_payload, good_word, good_mode, good_coefficients, word_in}
+use Rattle.pm_host.specs.Answers.{good_payload, good_word, word_in}
 use Rattle.pm_table.specs.Coefficients.{coefficients_of}
 use Rattle.pm_host.specs.Frames.{reads_mode}
 use Rattle.pm_host.specs.Messages.{mode_read, coefficients_read}
 use Rattle.pm_host.specs.Sound.{IsStage, IsSound as IsSoundHost}
-use Rattle.pm_host.specs.Summary.{Summary, Change, next as host_next, begins, finished, answered, read_back, checked, learned, mode_taken}
-use Rattle.pm_host.specs.Summary.{mode_answered, coefficients_answered, another, sends, ends, goes_on, writes, idle, marked, no_formats}
+use Rattle.pm_host.specs.Question.{question_message, IsQuestion}
+use Rattle.pm_host.specs.Summary.{Summary, Change, next as host_next, begins, finished, answered, answer_taken, read_back, learned, mode_taken}
+use Rattle.pm_host.specs.Summary.{asked as asks_again, another, sends, ends, goes_on, writes, idle, marked, no_formats}
 use Rattle.pm_host.specs.Summary.{sending_in, stage_message}
 use Rattle.pm_host.specs.Marks.{Good}
 use Rattle.pm_host.specs.Transcript as host
@@ -43,7 +46,7 @@ use Rattle.pm_world.specs.declared.back.Back.{Back}
 use Rattle.pm_world.specs.Honest.{IsSpelled}
 use Rattle.pm_world.specs.Legal.{frame_of, heard_bytes, heard_ending, answer_in, back_bytes}
 use Rattle.pm_world.specs.State.{State, asked, share_beside, exchanged, host_after, next, event_cause, exchange_cause, answer_to}
-use Rattle.pm_world.proofs.Learned.{ToldTrue, AsksSo, Agree, IsTrueHost, from_some, good-faultless, legal-good, exchange-legal, mode-true}
+use Rattle.pm_world.proofs.Learned.{SaysTrue, GoodTrue, ToldTrue, AsksFor, AsksSo, Agree, IsTrueHost, good-faultless, legal-good, exchange-legal, mode-true}
 use Rattle.pm_world.proofs.Learned.{coefficients-true}
 use Rattle.pm_world.proofs.Causes.{asked-next, beside-next}
 use Rattle.pm_world.proofs.Sending.{told-nothing}
@@ -76,11 +79,11 @@ either config true t u p q = p
 either config false t u p q = q
 
 -- another try
-another-true : (config : Config) (s : Summary) (tries : ℕ) (stage : Stage) → Agree config s.formats → AsksSo config (Some stage) →
-    IsTrueHost config (another s tries stage).after
-another-true config s tries stage agree asks =
-    either config (eqb (tries + 1) s.setup.passes) (ends s job_end.Unknown) (goes_on s stage) (record { formats = agree; asks = tt })
-    (record { formats = agree; asks = asks })
+another-true : (config : Config) (s : Summary) (question : Question) (tries : ℕ) → Agree config s.formats → AsksFor config question →
+    IsTrueHost config (another s question tries).after
+another-true config s question tries agree asks =
+    either config (eqb (tries + 1) s.setup.passes) (ends s job_end.Unknown) (goes_on s (Asks question (tries + 1)))
+    (record { formats = agree; asks = tt }) (record { formats = agree; asks = asks })
 
 -- an order that read its cell back
 read_back-true : (config : Config) (s : Summary) (cell : Cell) (word pass : ℕ) (read : Option ℕ) → Agree config s.formats →
@@ -95,12 +98,6 @@ read_back-true config s cell word pass (Some read) agree =
     (record { formats = agree; asks = tt })
     (either config (eqb (pass + 1) s.setup.passes) (ends after (job_end.Differs read)) (writes after cell word (pass + 1))
     (record { formats = agree; asks = tt }) (record { formats = agree; asks = tt }))
-
--- a check that read its cell
-checked-true : (config : Config) (s : Summary) (cell : Cell) (tries : ℕ) (read : Option ℕ) → Agree config s.formats →
-    IsTrueHost config (checked s cell tries read).after
-checked-true config s cell tries None agree = another-true config s tries (Checks cell (tries + 1)) agree tt
-checked-true config s cell tries (Some read) agree = record { formats = agree; asks = tt }
 
 -- a learn that ends
 learned-true : (config : Config) (s : Summary) (output : ℕ) (shape : Option Shape) → Agree config s.formats → output < length s.formats →
@@ -129,37 +126,34 @@ mode_taken-true config s output (Ok (Linear exponent)) agree inside made is =
     (λ found h. mode-shape config output (Linear exponent) found made is h)
 mode_taken-true config s output (Ok Direct) agree inside made is = record { formats = agree; asks = is }
 
+-- a good answer
+answer-true : (config : Config) (s : Summary) (question : Question) (payload : List ℕ) → IsSound config × (length s.formats ≡ 8) →
+    Agree config s.formats → AsksFor config question × IsQuestion config.count question → SaysTrue config question payload →
+    IsTrueHost config (answer_taken s question payload).after
+answer-true config s (Word cell) payload sized agree asks says = record { formats = agree; asks = tt }
+answer-true config s (Mode output) payload (sound, long) agree (asks, inside) says =
+    mode_taken-true config s output (mode_of (word_in payload)) agree (let few = sound.few in omega arith) (sound.formats output inside)
+    (ap mode_of (sym says))
+answer-true config s (Coefficients output) payload (sound, long) agree (direct, inside) says =
+    learned-true config s output (result_ok (shape_in Direct (coefficients_of payload))) agree (let few = sound.few in omega arith)
+    (λ found h. mode-shape config output Direct found (sound.formats output inside) direct
+    (ap (λ (c : AnyCoefficients). result_ok (shape_in Direct c)) (sym says) ∙ h))
+
 -- well or not
-mode_answered-true : (config : Config) (s : Summary) (output tries : ℕ) (byte : Option ℕ) → Agree config s.formats →
-    (output < length s.formats) × (shape_made config output ≡ Some (shape_for config output))
-    → ((b : ℕ) → byte ≡ Some b → b ≡ mode_for config output) →
-    IsTrueHost config (mode_answered s output tries byte).after
-mode_answered-true config s output tries None agree there is = another-true config s tries (AsksMode output (tries + 1)) agree tt
-mode_answered-true config s output tries (Some byte) agree (inside, made) is =
-    mode_taken-true config s output (mode_of byte) agree inside made (ap mode_of (sym (is byte refl)))
+asked-true : (config : Config) (s : Summary) (question : Question) (tries : ℕ) (good : Option (List ℕ)) →
+    IsSound config × (length s.formats ≡ 8) → Agree config s.formats → AsksFor config question × IsQuestion config.count question →
+    GoodTrue config question good → IsTrueHost config (asks_again s question tries good).after
+asked-true config s question tries None sized agree (asks, inside) told = another-true config s question tries agree asks
+asked-true config s question tries (Some payload) sized agree asks told = answer-true config s question payload sized agree asks (told payload refl)
 
--- a learn that read COEFFICIENTS
-coefficients_answered-true : (config : Config) (s : Summary) (output tries : ℕ) (k : Option Coefficients) → Agree config s.formats →
-    (output < length s.formats) × (shape_made config output ≡ Some (shape_for config output)) →
-    (mode_of (mode_for config output) ≡ Ok Direct) × ((c : Coefficients) → k ≡ Some c → c ≡ config.coefficients) →
-    IsTrueHost config (coefficients_answered s output tries k).after
-coefficients_answered-true config s output tries None agree there (direct, is) =
-    another-true config s tries (AsksCoefficients output (tries + 1)) agree direct
-coefficients_answered-true config s output tries (Some k) agree (inside, made) (direct, is) =
-    learned-true config s output (result_ok (shape_in Direct k)) agree inside
-    (λ found h. mode-shape config output Direct found made direct
-    (ap (λ (c : Coefficients). result_ok (shape_in Direct c)) (sym (is k refl)) ∙ h))
-
--- a learn asks for an output that exists
+-- what is asked for is there
 abbrev Inside : ℕ → Option Stage → Type 0
-Inside count (Some (AsksMode output tries)) = output < count
-Inside count (Some (AsksCoefficients output tries)) = output < count
+Inside count (Some (Asks question tries)) = IsQuestion count question
 Inside count stage = Unit {0}
 
 -- by the stage of a sound host
 stage-inside : (s : Summary) (stage : Option Stage) → IsStage s stage → Inside s.setup.outputs stage
-stage-inside s (Some (AsksMode output tries)) is = is.there
-stage-inside s (Some (AsksCoefficients output tries)) is = is.there
+stage-inside s (Some (Asks question tries)) is = is.there
 stage-inside s stage is = tt
 
 -- an entry
@@ -168,14 +162,8 @@ answered-true : (config : Config) (s : Summary) (stage : Option Stage) (bytes : 
     ToldTrue config s.setup.addr stage bytes → IsTrueHost config (answered s stage bytes).after
 answered-true config s (Some (Reads cell word pass)) bytes sized agree asks told =
     read_back-true config s cell word pass (good_word s.setup.addr cell bytes) agree
-answered-true config s (Some (Checks cell tries)) bytes sized agree asks told =
-    checked-true config s cell tries (good_word s.setup.addr cell bytes) agree
-answered-true config s (Some (AsksMode output tries)) bytes (sound, long) agree (asks, inside) told =
-    mode_answered-true config s output tries (good_mode s.setup.addr output bytes) agree
-    (let few = sound.few in omega arith, sound.formats output inside) told
-answered-true config s (Some (AsksCoefficients output tries)) bytes (sound, long) agree (asks, inside) told =
-    coefficients_answered-true config s output tries (good_coefficients s.setup.addr bytes) agree
-    (let few = sound.few in omega arith, sound.formats output inside) (asks, told)
+answered-true config s (Some (Asks question tries)) bytes sized agree asks told =
+    asked-true config s question tries (good_payload s.setup.addr (question_message question) bytes) sized agree asks told
 answered-true config s stage bytes sized agree asks told = record { formats = agree; asks = tt }
 
 -- a command that begins to be sent
@@ -187,7 +175,7 @@ sends-true config s sent tries agree = record { formats = agree; asks = tt }
 -- the end of a write
 finished-true : (config : Config) (s : Summary) (stage : Option Stage) (acked : Bool) → Agree config s.formats → AsksSo config stage →
     IsTrueHost config (finished s stage acked).after
-finished-true config s (Some (AsksCoefficients output tries)) acked agree asks = record { formats = agree; asks = asks }
+finished-true config s (Some (Asks question tries)) acked agree asks = record { formats = agree; asks = asks }
 finished-true config s (Some (Sends sent tries)) acked agree asks =
     let last = eqb (tries + 1) s.setup.passes in
     either config acked (ends s job_end.Done) (cond last (ends s job_end.Unknown) (sends s sent (tries + 1)))
@@ -231,21 +219,28 @@ good-same laws s arrival back request bytes {payload = payload} came good =
     (subst (λ b. good_payload a request b ≡ Some payload) came.is (ap (λ x. good_payload x request bytes) came.addr ∙ good)))
     ∙ ap (λ x. answer_in (reply_of s.device (frame_of x request) Restart)) came.addr)
 
+-- what a good answer to a question says is true
+question-true : Below → {s : State} (arrival : Arrival) (back : Back) (question : Question) → Stands s →
+    AsksFor s.device.config question → IsQuestion s.device.config.count question →
+    exchange_cause s arrival back (Some (question_message question)) ≡ None →
+    GoodTrue s.device.config question (good_payload s.device.config.addr (question_message question)
+    (back_bytes (answer_to s.device s.host.setup.addr (question_message question) arrival) back))
+question-true laws arrival back (Word cell) stands asks inside free = λ payload good. tt
+question-true laws {s = s} arrival back (Mode output) stands asks inside free = λ payload good.
+    mode-true laws s.device output stands.spelled (let few = stands.sound.few in omega arith, inside)
+    (laws.frames_are_named.fits s.host.setup (mode_read output) (reads_mode output (subst (λ n. output < n) (sym stands.outputs) inside)))
+    (good-same laws s arrival back (mode_read output) _ (record { addr = stands.addr; reads = refl; free = free; is = refl })) good
+question-true laws {s = s} arrival back (Coefficients output) stands asks inside free = λ payload good.
+    coefficients-true laws s.device s.host.setup output stands.spelled (inside, asks)
+    (good-same laws s arrival back coefficients_read _ (record { addr = stands.addr; reads = refl; free = free; is = refl })) good
+
 -- what a stage is told is true
 told-true : Below → {s : State} (arrival : Arrival) (back : Back) (stage : Stage) → Stands s → AsksSo s.device.config (Some stage) →
     Inside s.device.config.count (Some stage) →
     exchange_cause s arrival back (Some (stage_message stage)) ≡ None →
     ToldTrue s.device.config s.device.config.addr (Some stage)
     (back_bytes (answer_to s.device s.host.setup.addr (stage_message stage) arrival) back)
-told-true laws {s = s} arrival back (AsksMode output tries) stands asks inside free = λ byte good.
-    mode-true laws s.device output stands.spelled (let few = stands.sound.few in omega arith, inside)
-    (laws.frames_are_named.fits s.host.setup (mode_read output) (reads_mode output (subst (λ n. output < n) (sym stands.outputs) inside)))
-    (λ g. good-same laws s arrival back (mode_read output) _ (record { addr = stands.addr; reads = refl; free = free; is = refl })
-    (from_some word_in (good_payload s.device.config.addr (mode_read output) _) byte g).1) good
-told-true laws {s = s} arrival back (AsksCoefficients output tries) stands asks inside free = λ k good.
-    coefficients-true laws s.device s.host.setup output stands.spelled (inside, asks)
-    (λ g. good-same laws s arrival back coefficients_read _ (record { addr = stands.addr; reads = refl; free = free; is = refl })
-    (from_some coefficients_of (good_payload s.device.config.addr coefficients_read _) k g).1) good
+told-true laws arrival back (Asks question tries) stands asks inside free = question-true laws arrival back question stands asks inside free
 told-true laws arrival back stage stands asks inside free = tt
 
 -- an exchange

@@ -5,11 +5,13 @@ ghost use Rattle.std.specs.Result.{result_err};
 ghost use Rattle.pm_table.specs.Cell.{IsCell};
 ghost use Rattle.pm_host.specs.Image.{held};
 ghost use Rattle.pm_host.specs.Jobs.{Begins};
-ghost use Rattle.pm_host.specs.Refusals.{asking_fault, cell_fault};
+ghost use Rattle.pm_host.specs.Refusals.{asking_fault, cell_fault, question_fault};
 ghost use Rattle.pm_host.specs.Sound.{IsSound};
+ghost use Rattle.pm_host.specs.Summary.{goes_on};
 
 use crate::fault::HostFault;
 use crate::job::Job;
+use crate::question::Question;
 use crate::stage::Stage;
 use crate::state::{State, nearest_word};
 use pm_table::Cell;
@@ -26,16 +28,8 @@ impl State {
         match job {
             Job::Order(cell, word) => self.begin_order(cell, word),
             Job::OrderMicro(cell, x) => self.begin_micro(cell, x),
-            Job::Check(cell) => {
-                self.refuse_cell(cell)?;
-                self.go_on(Stage::Checks { cell, tries: 0 });
-                Ok(())
-            }
-            Job::Learn(output) => {
-                self.refuse_unless(output < self.outputs)?;
-                self.go_on(Stage::AsksMode { output, tries: 0 });
-                Ok(())
-            }
+            Job::Check(cell) => self.begin_asking(Question::Word(cell)),
+            Job::Learn(output) => self.begin_asking(Question::Mode(output)),
             Job::Send(command) => {
                 self.refuse_unless(command.is_there(self.outputs))?;
                 self.begin_send(command, 0);
@@ -73,6 +67,20 @@ impl State {
         let format = self.voltage_format(cell)?;
         let word = nearest_word(&format, x)?;
         self.begin_order(cell, word)
+    }
+
+    // Begins a job that asks this first.
+    fn begin_asking(&mut self, question: Question) -> Result<(), HostFault>
+        requires sound { IsSound (held self.old) }
+        ensures sound { IsSound (held self.new) }
+        ensures fault { result_err result ≡ question_fault (held self.old) question }
+        ensures ok { OnOk result (held self.new ≡ (goes_on (held self.old) (Stage.Asks question 0)).after) }
+        ensures err { OnErr result (self.new ≡ self.old) }
+        ensures some { 1 ≤ (held self.old).setup.passes }
+    {
+        self.refuse_unless(question.is_there(self.outputs))?;
+        self.go_on(Stage::Asks { question, tries: 0 });
+        Ok(())
     }
 
     // Refuses where a job is open, or what is asked for isn't there.

@@ -39,9 +39,8 @@ impl State {
                     && self.known.standing(cell).standing() == Standing::Unknown
                     && pass < passes
             }
-            Some(Stage::Checks { cell, tries }) => cell.is_there(self.outputs) && tries < passes,
-            Some(Stage::AsksMode { output, tries } | Stage::AsksCoefficients { output, tries }) => {
-                output < self.outputs && tries < passes
+            Some(Stage::Asks { question, tries }) => {
+                question.is_there(self.outputs) && tries < passes
             }
             Some(Stage::Sends { command, tries }) => {
                 command.is_there(self.outputs) && tries < passes

@@ -1,25 +1,29 @@
 //! What becomes of an open job once its frame was sent.
 
-ghost use Rattle.std.specs.Prelude.{◌≡◌, ◌≢◌, ◌+◌, ◌-◌, ◌*◌, ◌<◌, ◌≤◌, true, slice_set, Some, None};
+ghost use Rattle.std.specs.Prelude.{◌≡◌, ◌≢◌, ◌+◌, ◌-◌, ◌*◌, ◌<◌, ◌≤◌, true, length, slice_set, Some, None};
 ghost use Rattle.std.specs.Result.{ForOk};
 ghost use Rattle.pm_table.specs.Cell.{cell_accepts, IsCell};
 ghost use Rattle.pm_table.specs.VoutMode.{IsMode};
+ghost use Rattle.pm_frame.specs.Layout.{answer_length};
 ghost use Rattle.pm_host.specs.Frames.{frames_from, frames_left};
 ghost use Rattle.pm_host.specs.Image.{held, format_held, formats_held};
 ghost use Rattle.pm_host.specs.Marks.{Good};
 ghost use Rattle.pm_host.specs.Possible.{has_room, only};
-ghost use Rattle.pm_host.specs.Sound.{IsOrdering, IsChecking, IsAsking, IsSending, IsStage, IsSound};
+ghost use Rattle.pm_host.specs.Question.{question_message, frames_after, IsQuestion};
+ghost use Rattle.pm_host.specs.Sound.{IsOrdering, IsAsking, IsSending, IsStage, IsSound};
 ghost use Rattle.pm_host.specs.Told.{OnEnded};
-ghost use Rattle.pm_host.specs.Summary.{possible_at, goes_on, ends, another as spec_another, marked, writes, sends, read_back as spec_read_back, checked as spec_checked, learned as spec_learned, mode_taken, mode_answered, coefficients_answered, finished};
+ghost use Rattle.pm_host.specs.Summary.{possible_at, goes_on, ends, another as spec_another, marked, writes, sends, read_back as spec_read_back, answered as spec_answered, answer_taken, learned as spec_learned, mode_taken, finished};
 
+use crate::answers::{byte_in, coefficients_in, good_answer, word_in};
 use crate::command::Command;
 use crate::format_image::{FormatImage, NO_COEFFICIENTS};
 use crate::job_end::JobEnd;
+use crate::question::Question;
 use crate::stage::Stage;
 use crate::stage_image::StageImage;
 use crate::state::{OUTPUTS, State};
 use crate::step::Step;
-use pm_table::{Cell, Coefficients, TableFault, VoutMode};
+use pm_table::{Cell, TableFault, VoutMode};
 
 impl State {
     /// The job goes on at this stage, whose frame is sent next.
@@ -43,24 +47,6 @@ impl State {
     {
         self.stage = StageImage::idle();
         Step::Ended(end)
-    }
-
-    /// The job goes on at the stage after these tries, where one is left.
-    pub(super) fn another(&mut self, tries: u8, stage: Stage) -> Step
-        requires sound { IsSound (held self.old) }
-        requires few { (held self.old).setup.passes ≤ 15 }
-        requires stage { tries + 1 ≢ (held self.old).setup.passes → IsStage (held self.old) (Some stage) }
-        requires left { tries < (held self.old).setup.passes }
-        ensures sound { IsSound (held self.new) }
-        ensures after { held self.new ≡ (spec_another (held self.old) tries stage).after }
-        ensures step { result ≡ (spec_another (held self.old) tries stage).step }
-        ensures left { frames_left (held self.new) ≤ frames_from (held self.old).setup.passes stage }
-        ensures over { OnEnded result (frames_left (held self.new) ≡ 0) }
-    {
-        if tries + 1 == self.passes {
-            return self.end(JobEnd::Unknown);
-        }
-        self.go_on(stage)
     }
 
     /// The write of an order begins to be sent.
@@ -133,55 +119,70 @@ impl State {
         self.begin_write(cell, word, pass + 1)
     }
 
-    /// A check read its cell.
-    pub(super) fn checked(&mut self, cell: Cell, tries: u8, read: Option<u16>) -> Step
+    /// A request came back: a good answer, or another try.
+    #[tactic(auto, unfolding(crate::specs::Answers::good_payload))]
+    pub(super) fn answered(&mut self, question: Question, tries: u8, bytes: &[u8]) -> Step
         requires sound { IsSound (held self.old) }
         requires few { (held self.old).setup.passes ≤ 15 }
         requires idle { (held self.old).stage ≡ None }
-        requires checking { IsChecking (held self.old) cell tries }
+        requires asking { IsAsking (held self.old) question tries }
         ensures sound { IsSound (held self.new) }
-        ensures after { held self.new ≡ (spec_checked (held self.old) cell tries read).after }
-        ensures step { result ≡ (spec_checked (held self.old) cell tries read).step }
-        ensures left { frames_left (held self.new) ≤ (held self.old).setup.passes - (tries + 1) }
+        ensures after { held self.new ≡ (spec_answered (held self.old) (Some (Stage.Asks question tries)) bytes.now).after }
+        ensures step { result ≡ (spec_answered (held self.old) (Some (Stage.Asks question tries)) bytes.now).step }
+        ensures kept { (held self.new).setup ≡ (held self.old).setup }
+        ensures left { frames_left (held self.new) < frames_from (held self.old).setup.passes (Stage.Asks question tries) }
         ensures over { OnEnded result (frames_left (held self.new) ≡ 0) }
     {
-        match read {
-            Some(read) => {
-                self.note(cell, read);
-                self.end(JobEnd::Done)
-            }
-            None => self.another(
-                tries,
-                Stage::Checks {
-                    cell,
-                    tries: tries + 1,
-                },
-            ),
+        match good_answer(self.address, &question.message(), bytes) {
+            Some(payload) => self.take_answer(question, payload),
+            None => self.another(question, tries),
         }
     }
 
-    /// A learn read VOUT_MODE.
-    pub(super) fn mode_told(&mut self, output: u8, tries: u8, byte: Option<u8>) -> Step
+    // The question is asked again after these tries, where one is left.
+    fn another(&mut self, question: Question, tries: u8) -> Step
         requires sound { IsSound (held self.old) }
         requires few { (held self.old).setup.passes ≤ 15 }
-        requires idle { (held self.old).stage ≡ None }
-        requires asking { IsAsking (held self.old) output tries }
+        requires asking { IsAsking (held self.old) question tries }
         ensures sound { IsSound (held self.new) }
-        ensures after { held self.new ≡ (mode_answered (held self.old) output tries byte).after }
-        ensures step { result ≡ (mode_answered (held self.old) output tries byte).step }
-        ensures left { frames_left (held self.new)
-            ≤ ((held self.old).setup.passes - (tries + 1)) + (held self.old).setup.passes }
+        ensures after { held self.new ≡ (spec_another (held self.old) question tries).after }
+        ensures step { result ≡ (spec_another (held self.old) question tries).step }
+        ensures kept { (held self.new).setup ≡ (held self.old).setup }
+        ensures left { frames_left (held self.new) < frames_from (held self.old).setup.passes (Stage.Asks question tries) }
         ensures over { OnEnded result (frames_left (held self.new) ≡ 0) }
     {
-        match byte {
-            Some(byte) => self.mode_known(output, VoutMode::read(byte)),
-            None => self.another(
-                tries,
-                Stage::AsksMode {
-                    output,
-                    tries: tries + 1,
-                },
-            ),
+        let tries = tries + 1;
+        if tries == self.passes {
+            return self.end(JobEnd::Unknown);
+        }
+        self.go_on(Stage::Asks { question, tries })
+    }
+
+    // What a good answer to a question says.
+    #[tactic(auto, unfolding(pm_table::specs::Commands::line_of))]
+    fn take_answer(&mut self, question: Question, payload: &[u8]) -> Step
+        requires sound { IsSound (held self.old) }
+        requires idle { (held self.old).stage ≡ None }
+        requires there { IsQuestion (held self.old).setup.outputs question }
+        requires some { 1 ≤ (held self.old).setup.passes }
+        requires whole { length payload.now ≡ answer_length (question_message question) }
+        ensures sound { IsSound (held self.new) }
+        ensures after { held self.new ≡ (answer_taken (held self.old) question payload.now).after }
+        ensures step { result ≡ (answer_taken (held self.old) question payload.now).step }
+        ensures kept { (held self.new).setup ≡ (held self.old).setup }
+        ensures left { frames_left (held self.new) ≤ frames_after (held self.old).setup.passes question }
+        ensures over { OnEnded result (frames_left (held self.new) ≡ 0) }
+    {
+        match question {
+            Question::Word(cell) => {
+                self.note(cell, word_in(payload));
+                self.end(JobEnd::Done)
+            }
+            Question::Mode(output) => self.mode_known(output, VoutMode::read(byte_in(payload))),
+            Question::Coefficients(output) => {
+                let coefficients = coefficients_in(payload);
+                self.learned(output, FormatImage::of(VoutMode::Direct, coefficients))
+            }
         }
     }
 
@@ -199,38 +200,12 @@ impl State {
         ensures over { OnEnded result (frames_left (held self.new) ≡ 0) }
     {
         match mode {
-            Ok(VoutMode::Direct) => self.go_on(Stage::AsksCoefficients { output, tries: 0 }),
+            Ok(VoutMode::Direct) => self.go_on(Stage::Asks {
+                question: Question::Coefficients(output),
+                tries: 0,
+            }),
             Ok(mode) => self.learned(output, FormatImage::of(mode, NO_COEFFICIENTS)),
             Err(_) => self.end(JobEnd::Unknown),
-        }
-    }
-
-    /// A learn read COEFFICIENTS.
-    pub(super) fn coefficients_told(
-        &mut self,
-        output: u8,
-        tries: u8,
-        told: Option<Coefficients>,
-    ) -> Step
-        requires sound { IsSound (held self.old) }
-        requires few { (held self.old).setup.passes ≤ 15 }
-        requires idle { (held self.old).stage ≡ None }
-        requires asking { IsAsking (held self.old) output tries }
-        ensures sound { IsSound (held self.new) }
-        ensures after { held self.new ≡ (coefficients_answered (held self.old) output tries told).after }
-        ensures step { result ≡ (coefficients_answered (held self.old) output tries told).step }
-        ensures left { frames_left (held self.new) ≤ (held self.old).setup.passes - (tries + 1) }
-        ensures over { OnEnded result (frames_left (held self.new) ≡ 0) }
-    {
-        match told {
-            Some(told) => self.learned(output, FormatImage::of(VoutMode::Direct, told)),
-            None => self.another(
-                tries,
-                Stage::AsksCoefficients {
-                    output,
-                    tries: tries + 1,
-                },
-            ),
         }
     }
 
