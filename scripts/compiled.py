@@ -21,7 +21,7 @@ pub fn probe() -> u8
 }
 """
 # How many edits are joined: where one of them doesn't compile, halves are tried.
-MOST = 16
+MOST = 24
 
 
 def uncompiled(lines):
@@ -67,40 +67,41 @@ def fault_of(copy, edits, texts):
     kept_root = read(os.path.join(copy.home, root))
     if root in texts:
         with_probe(copy, root, texts[root])
-    lines, _ = copy.check("--only", "compile_probe::probe")
+    lines, _ = copy.check("--only", "" if is_code_alone(texts) else "compile_probe::probe")
     copy.write(kept)
     write(os.path.join(copy.home, root), kept_root)
     said = next((line for line in lines if ERROR.search(line)), None)
-    if said or any(line.startswith("only=1 ") for line in lines):
+    if said or any(line.startswith("only=") for line in lines):
         return uncompiled(lines) or said
     return lines[-1]
 
 
-def lines_in(edit, originals):
-    """The lines that an edit changes; None where it changes a text that it made itself."""
-    found = set()
-    for name, at, old, _ in edit.pieces:
-        text = originals(name)
-        if text.count(old) != 1:
-            return None
-        number = text.count("\n", 0, at)
-        found |= {(name, number + it) for it in range(-1, old.count("\n") + 2)}
-    return found
+def places_of(edit, originals):
+    """What an edit changes: functions, and files where it changes none; None where it changes a text of its own."""
+    if any(originals(name).count(old) != 1 for name, _, old, _ in edit.pieces):
+        return None
+    functions = {it for it in edit.functions if it}
+    return functions | {name for name, *_ in edit.pieces if not any(name == it for it, _ in functions)}
 
 
 def bundles(edits, originals):
-    """The edits in groups that change lines apart from one another."""
+    """The edits in groups that change different functions and files: what compiles alone then does so joined, and two
+    groups that change code alone, or definitions too, are kept apart, since code alone is checked in half the time."""
     groups = []
     for edit in edits:
-        lines = lines_in(edit, originals)
-        for taken, group in groups:
-            if lines is not None and taken is not None and not taken & lines and len(group) < MOST:
-                taken |= lines
+        places, is_code = places_of(edit, originals), is_code_alone(edit.texts)
+        for taken, group, is_like in groups:
+            if None not in (places, taken) and is_like == is_code and not taken & places and len(group) < MOST:
+                taken |= places
                 group.append(edit)
                 break
         else:
-            groups.append((lines, [edit]))
-    return [group for _, group in groups]
+            groups.append((places, [edit], is_code))
+    return [group for _, group, _ in groups]
+
+
+def is_code_alone(texts):
+    return all(name.startswith("src/") for name in texts)
 
 
 def compile_faults(copy, edits, joined):
