@@ -1,5 +1,5 @@
 //! Tests over the public calls of `pm_session`: each form of line, each refusal, streams and ports that fail,
-//! and in which order a port is used. There is nothing here to use.
+//! in which order a port is used, and the whole program. There is nothing here to use.
 #![tactic(auto)]
 
 #[cfg(test)]
@@ -12,5 +12,7 @@ mod faults;
 mod lines;
 #[cfg(test)]
 mod ports;
+#[cfg(test)]
+mod program;
 #[cfg(test)]
 mod runs;

@@ -3,7 +3,7 @@ use crate::checks::{equal, is_true};
 use crate::fakes::{Drops, Log, Slip};
 use pm_host::Host;
 use pm_lines::{Sink, Source, TextFault};
-use pm_session::{Happening, Streams, converse};
+use pm_session::{Happening, Port, Streams, converse, run};
 use std::alloc::Global;
 use std::process::Abort;
 
@@ -48,6 +48,28 @@ fn an_answer_is_flushed_before_another_byte_is_read(rt: HostRuntime) {
     let wanted = "cccccwwwwwwwwfccccccce".chars().chain("wwwwwf".chars());
     equal(&rt, &port.kept.len(), &28, &3);
     for ((at, happening), letter) in port.kept.iter().enumerate().zip(wanted) {
+        expect_letter(&rt, *happening, letter, at);
+    }
+}
+
+// A text of the parser's goes whole and is flushed, and no byte is read.
+#[test]
+fn the_version_is_flushed_and_nothing_is_read(rt: HostRuntime) {
+    let mut port = Log {
+        rest: LINES,
+        kept: Vec::new(rt.alloc()),
+        whole: true,
+    };
+    let mut errors = Sink::new(Slip {
+        taken: Vec::new(rt.alloc()),
+        fails_at: 0,
+        calls: 0,
+    });
+    let words = ["pmbhost", "--version"];
+    let status = run(rt.alloc(), Ok(&words), &mut port, &mut errors);
+    equal(&rt, &status, &0, &1);
+    equal(&rt, &port.kept.len(), &15, &2);
+    for ((at, happening), letter) in port.kept.iter().enumerate().zip("wwwwwwwwwwwwwwf".chars()) {
         expect_letter(&rt, *happening, letter, at);
     }
 }
@@ -105,4 +127,28 @@ fn a_failed_stream_ends_the_talk_at_once(rt: HostRuntime) {
     for &(fails_at, written) in &FAILED_WRITES {
         expect_talk(&rt, (0, fails_at), Err(TextFault::Write), written);
     }
+}
+
+// A stream that failed is used no more, and answers its fault again.
+#[test]
+fn a_failed_stream_stays_failed(rt: HostRuntime) {
+    let mut streams = Streams {
+        source: Source::new(Drops {
+            rest: LINES,
+            fails_at: 1,
+            calls: 0,
+        }),
+        sink: Sink::new(Slip {
+            taken: Vec::new(rt.alloc()),
+            fails_at: 1,
+            calls: 0,
+        }),
+    };
+    for at in 0..2 {
+        equal(&rt, &streams.next_byte(), &Err(TextFault::Read), &at);
+        equal(&rt, &streams.flush(), &Err(TextFault::Write), &at);
+        equal(&rt, &streams.put(b"seen"), &Err(TextFault::Write), &at);
+    }
+    equal(&rt, &streams.source.into_inner().calls, &1, &2);
+    equal(&rt, &streams.sink.into_inner().calls, &1, &3);
 }
