@@ -240,13 +240,14 @@ mode_read_follows {told = told} None true facts =
     rw (facts.open', facts.none, facts.is, add-one (length told), facts.last_is) refl
 mode_read_follows {told = told} None false facts =
     rw (facts.open', facts.none, facts.is, add-one (length told), facts.last_is) (rw (facts.none, facts.is) refl)
-mode_read_follows {s = s} {output = output} {told = told} {bytes = bytes} (Some payload) last facts = by_mode (mode_of (word_in payload)) refl where
-  by_mode : (mode : Result VoutMode TableFault) → mode_of (word_in payload) ≡ mode → GotFollows s (Some (Learn output)) told bytes
-  by_mode (Err fault) mode = rw (facts.open', facts.none, facts.is, mode) refl
-  by_mode (Ok (Linear exponent)) mode = rw (facts.open', facts.none, facts.is, mode) refl
-  by_mode (Ok Direct) mode =
-      let no_more = no_coefficients s.setup output told facts.none in
-      rw (facts.open', facts.none, facts.is, mode, no_more, none_of s.setup.passes facts.some) (rw (facts.none, facts.is) refl)
+mode_read_follows {s = s} {output = output} {told = told} {bytes = bytes} (Some payload) last facts =
+    by_mode (mode_of (word_in payload)) refl where
+      by_mode : (mode : Result VoutMode TableFault) → mode_of (word_in payload) ≡ mode → GotFollows s (Some (Learn output)) told bytes
+      by_mode (Err fault) mode = rw (facts.open', facts.none, facts.is, mode) refl
+      by_mode (Ok (Linear exponent)) mode = rw (facts.open', facts.none, facts.is, mode) refl
+      by_mode (Ok Direct) mode =
+          let no_more = no_coefficients s.setup output told facts.none in
+          rw (facts.open', facts.none, facts.is, mode, no_more, none_of s.setup.passes facts.some) (rw (facts.none, facts.is) refl)
 
 -- what came back for a read of COEFFICIENTS: its payload, and whether this was the last try
 record CoefficientsRead (s : Summary) (output byte : ℕ) (told : List Entry) (bytes : List ℕ) (payload : Option (List ℕ)) (last : Bool) :

@@ -33,7 +33,8 @@ use Rattle.pm_host.specs.Frames.{reads_mode}
 use Rattle.pm_host.specs.Messages.{mode_read, coefficients_read}
 use Rattle.pm_host.specs.Sound.{IsStage, IsSound as IsSoundHost}
 use Rattle.pm_host.specs.Question.{question_message, IsQuestion}
-use Rattle.pm_host.specs.Summary.{Summary, Change, next as host_next, begins, finished, answered, answer_taken, read_back, learned, mode_taken}
+use Rattle.pm_host.specs.Summary.{Summary, Change, next as host_next, begins, finished, answered, answer_taken, read_back, learned}
+use Rattle.pm_host.specs.Summary.{mode_taken}
 use Rattle.pm_host.specs.Summary.{asked as asks_again, another, sends, ends, goes_on, writes, idle, marked, no_formats}
 use Rattle.pm_host.specs.Summary.{sending_in, stage_message}
 use Rattle.pm_host.specs.Marks.{Good}
@@ -46,7 +47,8 @@ use Rattle.pm_world.specs.declared.back.Back.{Back}
 use Rattle.pm_world.specs.Honest.{IsSpelled}
 use Rattle.pm_world.specs.Legal.{frame_of, heard_bytes, heard_ending, answer_in, back_bytes}
 use Rattle.pm_world.specs.State.{State, asked, share_beside, exchanged, host_after, next, event_cause, exchange_cause, answer_to}
-use Rattle.pm_world.proofs.Learned.{SaysTrue, GoodTrue, ToldTrue, AsksFor, AsksSo, Agree, IsTrueHost, good-faultless, legal-good, exchange-legal, mode-true}
+use Rattle.pm_world.proofs.Learned.{SaysTrue, GoodTrue, ToldTrue, AsksFor, AsksSo, Agree, IsTrueHost, good-faultless, legal-good}
+use Rattle.pm_world.proofs.Learned.{exchange-legal, mode-true}
 use Rattle.pm_world.proofs.Learned.{coefficients-true}
 use Rattle.pm_world.proofs.Causes.{asked-next, beside-next}
 use Rattle.pm_world.proofs.Sending.{told-nothing}
@@ -141,10 +143,11 @@ answer-true config s (Coefficients output) payload (sound, long) agree (direct, 
 
 -- well or not
 asked-true : (config : Config) (s : Summary) (question : Question) (tries : ℕ) (good : Option (List ℕ)) →
-    IsSound config × (length s.formats ≡ 8) → Agree config s.formats → AsksFor config question × IsQuestion config.count question →
+    (IsSound config × (length s.formats ≡ 8)) × Agree config s.formats → AsksFor config question × IsQuestion config.count question →
     GoodTrue config question good → IsTrueHost config (asks_again s question tries good).after
-asked-true config s question tries None sized agree (asks, inside) told = another-true config s question tries agree asks
-asked-true config s question tries (Some payload) sized agree asks told = answer-true config s question payload sized agree asks (told payload refl)
+asked-true config s question tries None (sized, agree) (asks, inside) told = another-true config s question tries agree asks
+asked-true config s question tries (Some payload) (sized, agree) asks told =
+    answer-true config s question payload sized agree asks (told payload refl)
 
 -- what is asked for is there
 abbrev Inside : ℕ → Option Stage → Type 0
@@ -163,7 +166,7 @@ answered-true : (config : Config) (s : Summary) (stage : Option Stage) (bytes : 
 answered-true config s (Some (Reads cell word pass)) bytes sized agree asks told =
     read_back-true config s cell word pass (good_word s.setup.addr cell bytes) agree
 answered-true config s (Some (Asks question tries)) bytes sized agree asks told =
-    asked-true config s question tries (good_payload s.setup.addr (question_message question) bytes) sized agree asks told
+    asked-true config s question tries (good_payload s.setup.addr (question_message question) bytes) (sized, agree) asks told
 answered-true config s stage bytes sized agree asks told = record { formats = agree; asks = tt }
 
 -- a command that begins to be sent
