@@ -190,7 +190,7 @@ module _ {W E : Type 0} (w : Writers W E) where
           × (AppendsFront (w.out w.output.inner) (w.out w.output'.inner) (told_lines (said_of front))
           ⊎ (IsWholeText (r.remaining r.old.inner) (r.remaining r.new.inner) front
           × AppendsFront (w.out w.output.inner) (w.out w.output'.inner) (trace_text front)))
-      pub memory : fault ≡ Memory → (front : List ℕ) × (text : List ℕ) × (rest : List ℕ)
+      pub memory : fault ≡ Memory → (front : List ℕ) × (text : List ℕ) × (rest : List ℕ) × (0 < length front)
           × Consumes (r.remaining r.old.inner) (r.remaining r.new.inner) front
           × (told_lines (said_of front) ≡ text ++ rest) × Appends (w.out w.output.inner) (w.out w.output'.inner) text
       pub of : IsOfDecode fault
@@ -232,8 +232,8 @@ module _ {W E : Type 0} (w : Writers W E) where
           | inr whole ↦ (CutShort (trace_text front), (sound, (front, given, inr (whole.0, refl))), cut _ (is.write.0 refl) whole.1 said)
         ]
     decode_broke Memory is said =
-        let (front, text, rest, given, split, written) = is.memory refl in
-        broken Memory is (λ e. cc) text (front, rest, given, split) written said
+        let (front, text, rest, some, given, split, written) = is.memory refl in
+        broken Memory is (λ e. cc) text (front, rest, some, given, split) written said
     decode_broke (Syntax line) is said = absurd is.of
     decode_broke (BadHex line) is said = absurd is.of
     decode_broke (Setup reason) is said = absurd is.of

@@ -198,13 +198,13 @@ GaveTrace old new text end = (input : List ℕ) × IsWholeText old new input
     × (text ≡ trace_text input) × (end ≡ end_of (counts_of (trace_of input)))
 
 -- why `decode` breaks off, and what it has told until then: more bytes than a trace may have, or a
--- failed read, and the lines that ended before; want of memory, and a prefix of these
+-- failed read, and the lines that ended before; want of memory, where a byte was read, and a prefix of these
 abbrev pub DecodeBreaks : Option (List ℕ) → Option (List ℕ) → List ℕ → TextFault → Type 0
 DecodeBreaks old new text TooLong = (front : List ℕ) × (more : List ℕ) × (length front ≡ max_text)
     × (0 < length more) × Consumes old new (front ++ more) × (text ≡ told_lines (said front))
 DecodeBreaks old new text Read = (front : List ℕ) × (length front ≤ max_text)
     × Consumes old new front × (text ≡ told_lines (said front))
-DecodeBreaks old new text Memory = (front : List ℕ) × (rest : List ℕ)
+DecodeBreaks old new text Memory = (front : List ℕ) × (rest : List ℕ) × (0 < length front)
     × Consumes old new front × (told_lines (said front) ≡ text ++ rest)
 DecodeBreaks old new text (Syntax line) = ⊥
 DecodeBreaks old new text (BadHex line) = ⊥

@@ -1,23 +1,25 @@
 -- How the text of the lines grows with the bytes that are taken.
-use Rattle.std.proofs.Common.{◌≡◌, ℕ, ◌+◌, ◌-◌, ◌<◌, ◌≤◌, leb, Bool, true, false, cond, ◌&&◌, List, [], ◌∷◌, ◌++◌, length, take, drop}
+use Rattle.std.proofs.Common.{◌≡◌, ℕ, ◌+◌, ◌-◌, ◌<◌, ◌≤◌, ◌≢◌, leb, codes, Bool, true, false, cond, ◌&&◌, List, [], ◌∷◌, ◌++◌, length, take, drop}
 use Rattle.std.proofs.Common.{Option, Some, None, refl, sym, ap, subst, ◌∙◌, arith, append_assoc, append-nil, length-append}
 use Rattle.std.proofs.Common.{take-append-drop}
+use Rattle.std.specs.Fmt.{digits}
 use Rattle.std.proofs.lemmas.Bool.Decides.{nat_tests}
 use Rattle.std.proofs.lemmas.Grind.{flat_map-append}
 use Rattle.std.proofs.lemmas.List.{length-take}
 use Rattle.std.proofs.lemmas.List.Sums.{fold-append}
 use Rattle.pm_trace.specs.declared.decode_end.DecodeEnd.{DecodeEnd}
+use Rattle.pm_trace.specs.declared.decode_end.DecodeEnd.TheVariants.{Clean}
 use Rattle.pm_trace.specs.declared.fed.Fed.{Fed}
 use Rattle.pm_lines.specs.declared.fault.TextFault.TheVariants.{TooLong}
 use Rattle.pm_trace.specs.declared.decoder.intake.Intake.TheVariants.{Open}
 use Rattle.pm_lines.specs.Streams.{max_text}
 use Rattle.pm_lines.specs.Lines.{is_line_feed, has_bytes}
 use Rattle.pm_trace.specs.Trace.{trace_of}
-use Rattle.pm_trace.specs.TraceText.{told_line, told_lines, counts_text, trace_text, end_of}
+use Rattle.pm_trace.specs.TraceText.{told_line, told_lines, counts_text, totals_line, trace_text, end_of}
 use Rattle.pm_trace.specs.Counts.{counts_of}
 use Rattle.pm_trace.specs.Decoding.{Kept, told_at_end, kept_at_end, Holding, IsFresh, Feeds, now, said, next, told, some_told, kept_takes}
 use Rattle.pm_trace.specs.Decoding.{line_ended, first_line, taken_of, taken_by, refusal_of, refusal_by}
-use Rattle.pm_trace.specs.OpenLines.{line_takes}
+use Rattle.pm_trace.specs.OpenLines.{line_of, line_takes, plain_line}
 use Rattle.pm_lines.specs.Streams.{AppendsFront, IsWholeText}
 use Rattle.pm_trace.specs.Written.{Pushes, PushesFront, Written}
 use Rattle.pm_trace.proofs.RunLemmas.{told-append}
@@ -209,13 +211,13 @@ module _ (r0 r1 r2 w0 w1 w2 : Option (List ℕ)) (bytes piece text : List ℕ) (
   )
 
   -- memory was refused before the piece's lines were written
-  pub put_memory : (front : List ℕ) × (text' : List ℕ) × (rest : List ℕ) × Consumes r0 r2 front × (told_lines (said front)
-      ≡ text' ++ rest) × Appends w0 w1 text'
-  put_memory = (
+  pub put_memory : 0 < length piece → (front : List ℕ) × (text' : List ℕ) × (rest : List ℕ) × (0 < length front)
+      × Consumes r0 r2 front × (told_lines (said front) ≡ text' ++ rest) × Appends w0 w1 text'
+  put_memory some = (
     bytes ++ piece,
     told_lines (said bytes),
-    told_lines (told
-        (now bytes) piece),
+    told_lines (told (now bytes) piece),
+    omega (arith, some, length-append bytes piece),
     consumed,
     lines-append bytes piece,
     written.text,
@@ -303,6 +305,21 @@ trace_text-end text =
     ∙ append_assoc (told_lines (said text)) (told_lines (some_told (told_at_end (now text)))) (counts_text (counts_of (trace_of text)))
     ∙ ap (λ k. told_lines (said text) ++ (told_lines (some_told (told_at_end (now text))) ++ counts_text k)) (sym (counts-end text))
 
+-- a list without a byte
+no_bytes : (bytes : List ℕ) → length bytes ≡ 0 → bytes ≡ []
+no_bytes [] none = refl
+no_bytes (x ∷ xs) none = absurd (omega (arith, none))
+
+-- what is said at the end of no bytes
+nothing_text : codes "lines 0 accepted 0 faults 0 bad 0\n"
+    ≡ told_lines (some_told (told_at_end (now []))) ++ counts_text (kept_at_end (now [])).counts
+unfolding now said counts_of line_of plain_line totals_line digits
+nothing_text = refl
+
+nothing_end : Clean ≡ end_of (kept_at_end (now [])).counts
+unfolding now said counts_of line_of plain_line
+nothing_end = refl
+
 module _ (r0 r1 w0 w1 w2 : Option (List ℕ)) (input : List ℕ) (old : Holding) (written : Written r0 r1 w0 w1 input old) where
   pub whole_input : IsAtEnd r1 → IsWholeText r0 r1 input
   whole_input at_end = record { given = written.given; ended = at_end; short = written.short }
@@ -335,7 +352,31 @@ module _ (r0 r1 w0 w1 w2 : Option (List ℕ)) (input : List ℕ) (old : Holding)
   end_counts new end kept is =
       is ∙ ap (λ k. end_of k.counts) (kept ∙ ap kept_at_end written.kept) ∙ ap end_of (counts-end input)
 
-  -- memory was refused at the end
-  pub end_memory : (front : List ℕ) × (text : List ℕ) × (rest : List ℕ) × Consumes r0 r1 front × (told_lines (said front) ≡ text ++ rest)
-      × Appends w0 w1 text
-  end_memory = (input, told_lines (said input), [], written.given, sym (append-nil (told_lines (said input))), written.text)
+  -- memory was refused at the end of a trace that has bytes
+  pub end_memory : old.kept.taken ≢ 0 → (front : List ℕ) × (text : List ℕ) × (rest : List ℕ) × (0 < length front)
+      × Consumes r0 r1 front × (told_lines (said front) ≡ text ++ rest) × Appends w0 w1 text
+  end_memory some =
+      let count : old.kept.taken ≡ length input = ap (λ k. k.taken) written.kept ∙ length_now input in (
+        input,
+        told_lines (said input),
+        [],
+        omega (arith, some, count),
+        written.given,
+        sym (append-nil (told_lines (said input))),
+        written.text,
+      )
+
+  -- what is kept where no byte was taken
+  kept_none : old.kept.taken ≡ 0 → old.kept ≡ now []
+  kept_none none = written.kept ∙ ap now (no_bytes input (sym (length_now input) ∙ sym (ap (λ k. k.taken) written.kept) ∙ none))
+
+  -- the text of such a trace
+  pub none_text : old.kept.taken ≡ 0
+      → codes "lines 0 accepted 0 faults 0 bad 0\n" ≡ told_lines (some_told (told_at_end old.kept)) ++ counts_text (kept_at_end old.kept).counts
+  none_text none =
+      nothing_text ∙ ap (λ k. told_lines (some_told (told_at_end k)) ++ counts_text (kept_at_end k).counts) (sym (kept_none none))
+
+  -- and its end
+  pub none_end : old.kept.taken ≡ 0 → Clean ≡ end_of (counts_of (trace_of input))
+  none_end none =
+      nothing_end ∙ ap (λ k. end_of (kept_at_end k).counts) (sym (kept_none none) ∙ written.kept) ∙ ap end_of (counts-end input)

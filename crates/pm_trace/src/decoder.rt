@@ -304,6 +304,13 @@ impl Decoder {
         self.tally.lines()
     }
 
+    /// How many bytes were taken.
+    pub(crate) fn taken(&self) -> usize
+        ensures { result ≡ self.now.kept.taken }
+    {
+        self.taken
+    }
+
     /// The counts, with those of the codes.
     pub(crate) fn tally(&self) -> &Tally
         ensures tally { result.now ≡ self.now.kept.counts }

@@ -36,7 +36,7 @@ const PIECE: usize = 512;
 ///
 /// X3 where the trace has more than 1,048,576 bytes, and X4 where the reader failed: the lines that
 /// ended before were written, and no counts. X5 where the writer failed, and X6 where memory was
-/// refused: a prefix of the text was written.
+/// refused, which is wanted only where a byte was read: a prefix of the text was written.
 pub fn decode<R: Read, W: Write>(
     alloc: Global,
     reader: &mut Source<R>,
@@ -67,6 +67,7 @@ pub fn decode<R: Read, W: Write>(
         ⊎ (IsWholeText (R.remaining reader.old.inner) (R.remaining reader.new.inner) front
         × AppendsFront (W.contents writer.old.inner) (W.contents writer.new.inner) (trace_text front))) }
     ensures memory { IsErrOf result TextFault.Memory → (front : List ℕ) × (text : List ℕ) × (rest : List ℕ)
+        × (0 < length front)
         × Consumes (R.remaining reader.old.inner) (R.remaining reader.new.inner) front
         × (told_lines (said front) ≡ text ++ rest)
         × Appends (W.contents writer.old.inner) (W.contents writer.new.inner) text }
@@ -82,6 +83,11 @@ pub fn decode<R: Read, W: Write>(
 {
     let mut decoder = Decoder::new(alloc);
     decode_pieces(alloc, reader, writer, &mut decoder)?;
+    if decoder.taken() == 0 {
+        // the text of the counts takes memory, which is wanted only for what was read
+        writer.put(b"lines 0 accepted 0 faults 0 bad 0\n")?;
+        return Ok(DecodeEnd::Clean);
+    }
     let text = text_at_end(alloc, &mut decoder)?;
     writer.put(text.as_str().as_bytes())?;
     Ok(end_in(&decoder))
@@ -112,6 +118,7 @@ fn decode_pieces<R: Read, W: Write>(
         × Consumes (R.remaining reader.old.inner) (R.remaining reader.new.inner) front
         × AppendsFront (W.contents writer.old.inner) (W.contents writer.new.inner) (told_lines (said front)) }
     ensures memory { IsErrOf result TextFault.Memory → (front : List ℕ) × (text : List ℕ) × (rest : List ℕ)
+        × (0 < length front)
         × Consumes (R.remaining reader.old.inner) (R.remaining reader.new.inner) front
         × (told_lines (said front) ≡ text ++ rest)
         × Appends (W.contents writer.old.inner) (W.contents writer.new.inner) text }

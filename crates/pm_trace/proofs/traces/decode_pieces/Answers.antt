@@ -21,7 +21,7 @@ returns-in_err-is_whole-clause-memory g c = λ is.
     let (front, written) = c.reads.invariant.written in
     put_memory _ _ _ _ _ (g.W.Write.contents c.reads.writer.inner) front
     (take c.in_ok-count.count c.read.new.buf) [] c.reads.decoder c.push_lines.new.decoder written
-    c.in_ok-count.ensures.bytes.0
+    c.in_ok-count.ensures.bytes.0 (omega (arith, length-take c.in_ok-count.count c.read.new.buf, c.in_ok-count.ensures.bound.1))
 
 pub returns-in_err-put-clause-write : goal.returns-in_err-put-clause-write
 returns-in_err-put-clause-write g c = λ is.
