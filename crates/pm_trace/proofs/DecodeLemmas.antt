@@ -1,5 +1,6 @@
 -- How the text of the lines grows with the bytes that are taken.
-use Rattle.std.proofs.Common.{◌≡◌, ℕ, ◌+◌, ◌-◌, ◌<◌, ◌≤◌, ◌≢◌, leb, codes, Bool, true, false, cond, ◌&&◌, List, [], ◌∷◌, ◌++◌, length, take, drop}
+use Rattle.std.proofs.Common.{◌≡◌, ℕ, ◌+◌, ◌-◌, ◌<◌, ◌≤◌, ◌≢◌, leb, codes, Bool, true, false, cond, ◌&&◌}
+use Rattle.std.proofs.Common.{List, [], ◌∷◌, ◌++◌, length, take, drop}
 use Rattle.std.proofs.Common.{Option, Some, None, refl, sym, ap, subst, ◌∙◌, arith, append_assoc, append-nil, length-append}
 use Rattle.std.proofs.Common.{take-append-drop}
 use Rattle.std.specs.Fmt.{digits}
@@ -372,7 +373,8 @@ module _ (r0 r1 w0 w1 w2 : Option (List ℕ)) (input : List ℕ) (old : Holding)
 
   -- the text of such a trace
   pub none_text : old.kept.taken ≡ 0
-      → codes "lines 0 accepted 0 faults 0 bad 0\n" ≡ told_lines (some_told (told_at_end old.kept)) ++ counts_text (kept_at_end old.kept).counts
+      → codes "lines 0 accepted 0 faults 0 bad 0\n"
+      ≡ told_lines (some_told (told_at_end old.kept)) ++ counts_text (kept_at_end old.kept).counts
   none_text none =
       nothing_text ∙ ap (λ k. told_lines (some_told (told_at_end k)) ++ counts_text (kept_at_end k).counts) (sym (kept_none none))
 

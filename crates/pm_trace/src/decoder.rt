@@ -52,7 +52,8 @@ impl Decoder {
     ghost use Rattle.std.specs.Prelude.{[], ◌⊎◌, ◌+◌, ◌≤◌, ◌<◌, ◌^◌, ◌++◌, length, take, flat_map, None, Some, IfOk, IfErr, OnOk, OnErr, option_map};
     ghost use Rattle.std.specs.Result.{result_err};
     ghost use Rattle.pm_trace.specs.Counts.{lines_in};
-    ghost use Rattle.pm_trace.specs.Decoding.{IsFresh, Feeds, Finishes, Fails, CarriesNew, refusal_of, taken_of, first_line, told, told_by, some_told, line_told, line_ended};
+    ghost use Rattle.pm_trace.specs.Decoding.{IsFresh, Feeds, Finishes, Fails, CarriesNew, refusal_of, taken_of};
+    ghost use Rattle.pm_trace.specs.Decoding.{first_line, told, told_by, some_told, line_told, line_ended};
     ghost use Rattle.pm_trace.specs.Holdings.{IsBounded, Takes, lines_at_end};
     ghost use Rattle.pm_trace.specs.OpenLines.{is_begun as spec_is_begun};
     ghost use Rattle.pm_trace.specs.ShownLines.{told_in};

@@ -12,7 +12,8 @@ returns-in-Err-TooLong-clause-pushed c =
     let some : 0 < length c.pieces.rest.now = grind (arith, nat_tests) in
     let h = c.in-Err-TooLong.ensures.refused in
     let i = c.in-Err-TooLong.field-0-is in
-    let due : (refusal_of c.pieces.decoder c.pieces.rest.now ≡ Some TooLong) × (string_bytes c.take.new.printer ≡ string_bytes c.pieces.text) =
+    let due : (refusal_of c.pieces.decoder c.pieces.rest.now ≡ Some TooLong)
+    × (string_bytes c.take.new.printer ≡ string_bytes c.pieces.text) =
     elim h [ inl refused ↦ (refused.0 ∙ ap Some i, refused.1) | inr memory ↦ let wanted = memory.1 in absurd (cc) ] in
     pushed_front front c.pieces.rest.now split some pushes due.0 due.1
 

@@ -10,27 +10,32 @@ returns-in_err-end_line-clause-refused g c =
     rw (p.1, p.2) (inr (
       sym c.in_ok-room.ensures.refused,
       refl,
-      ends_new c.args.self.now (record { begun_is = c.begin.ensures.begun; taken = c.in_ok-room.ensures.taken }) c.take_bytes-fed.ensures c.if-fed.true
+      ends_new c.args.self.now (record { begun_is = c.begin.ensures.begun; taken = c.in_ok-room.ensures.taken })
+          c.take_bytes-fed.ensures c.if-fed.true
           c.in_err-end_line.ensures.memory,
     ))
 
 pub returns-in_ok-end_line-clause-fed : goal.returns-in_ok-end_line-clause-fed
 returns-in_ok-end_line-clause-fed g c =
-    feeds_ended c.args.self.now (record { begun_is = c.begin.ensures.begun; taken = c.in_ok-room.ensures.taken }) c.take_bytes-fed.ensures c.if-fed.true _
+    feeds_ended c.args.self.now (record { begun_is = c.begin.ensures.begun; taken = c.in_ok-room.ensures.taken })
+    c.take_bytes-fed.ensures c.if-fed.true _
     c.in_ok-end_line.ensures.ended
 
 pub returns-in_ok-end_line-clause-printed : goal.returns-in_ok-end_line-clause-printed
 returns-in_ok-end_line-clause-printed g c =
     c.in_ok-end_line.ensures.printed
     ∙ ap (λ l. g.P.Printer.text c.args.printer.now ++ flat_map g.P.Printer.line l)
-    (sym (ends_told c.args.self.now (record { begun_is = c.begin.ensures.begun; taken = c.in_ok-room.ensures.taken }) c.take_bytes-fed.ensures c.if-fed.true))
+    (sym (ends_told c.args.self.now (record { begun_is = c.begin.ensures.begun; taken = c.in_ok-room.ensures.taken })
+    c.take_bytes-fed.ensures c.if-fed.true))
 
 pub returns-else-fed-clause-fed : goal.returns-else-fed-clause-fed
 returns-else-fed-clause-fed g c =
-    feeds_open c.args.self.now (record { begun_is = c.begin.ensures.begun; taken = c.in_ok-room.ensures.taken }) c.take_bytes-fed.ensures c.if-fed.false
+    feeds_open c.args.self.now (record { begun_is = c.begin.ensures.begun; taken = c.in_ok-room.ensures.taken })
+    c.take_bytes-fed.ensures c.if-fed.false
 
 pub returns-else-fed-clause-printed : goal.returns-else-fed-clause-printed
 returns-else-fed-clause-printed g c =
     sym (ap (λ l. g.P.Printer.text c.args.printer.now ++ flat_map g.P.Printer.line l)
-    (opens_told c.args.self.now (record { begun_is = c.begin.ensures.begun; taken = c.in_ok-room.ensures.taken }) c.take_bytes-fed.ensures c.if-fed.false)
+    (opens_told c.args.self.now (record { begun_is = c.begin.ensures.begun; taken = c.in_ok-room.ensures.taken })
+    c.take_bytes-fed.ensures c.if-fed.false)
     ∙ append-nil (g.P.Printer.text c.args.printer.now))
