@@ -1,5 +1,5 @@
 -- The lines of a text and the words of a line. The forms are this project's own choice.
-use Rattle.std.specs.Prelude.{ℕ, ◌-◌, Bool, true, false, ◌&&◌, ◌||◌, not, List, [], ◌∷◌, length, map, take, filter, if◌then◌else◌, ◌==◌, nat_eq, bytes_eq, codes}
+use Rattle.std.specs.Prelude.{◌≡◌, ◌++◌, ℕ, ◌-◌, Bool, true, false, ◌&&◌, ◌||◌, not, List, [], ◌∷◌, length, map, take, filter, if◌then◌else◌, ◌==◌, nat_eq, bytes_eq, codes}
 use Rattle.std.specs.List.{slice_split, starts_with, ends_with, list_all, enumerate_from}
 
 -- the bytes that end a line, that part words, and that a line's end may have besides
@@ -11,6 +11,10 @@ is_space byte = byte == 32
 
 abbrev pub carriage_return : List ℕ
 carriage_return = 13 ∷ []
+
+-- a text has at least one byte, and ends in a line feed
+abbrev pub EndsLine : List ℕ → Type 0
+EndsLine text = (front : List ℕ) × (text ≡ front ++ 10 ∷ [])
 
 -- there is a byte
 abbrev pub has_bytes : List ℕ → Bool

@@ -13,6 +13,7 @@ mod digits;
 mod fault;
 mod hex_digit;
 mod line;
+mod line_end;
 mod lines;
 mod number_text;
 mod sink;
@@ -26,6 +27,7 @@ pub use digits::{read_byte, read_i8, read_i16, read_i64, read_u8, read_word};
 pub use fault::TextFault;
 pub use hex_digit::{byte_of, is_digit, pair_of, spaced_pair};
 pub use line::Line;
+pub use line_end::with_line_end;
 pub use lines::{Lines, is_blank, without_carriage_return};
 pub use number_text::{
     hex_digits, push_decimal, push_hex, push_hex_number, push_hex_word, push_signed,

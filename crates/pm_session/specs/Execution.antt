@@ -11,6 +11,7 @@ use Rattle.clap.specs.Words.{IsAmong, Text, fault_of, matches_of}
 use Rattle.clap.specs.declared.error.kind.ErrorKind.{ErrorKind}
 use Rattle.pm_host.specs.Summary.{Summary}
 use Rattle.pm_lines.specs.Faults.{fault_words}
+use Rattle.pm_lines.specs.Lines.{EndsLine}
 use Rattle.pm_lines.specs.Streams.{AppendsFront, Held}
 use Rattle.pm_lines.specs.declared.fault.TextFault.{TextFault}
 use Rattle.pm_lines.specs.declared.fault.TextFault.TheVariants.{Memory, Write}
@@ -31,10 +32,6 @@ pub record Run (P E : Type 0) : Type 0 where
 -- the line that says a refusal: `pmbhost: H1 OutputCount`
 abbrev pub refusal_line : List ℕ → List ℕ
 refusal_line words = codes "pmbhost: " ++ (words ++ codes "\n")
-
--- a text has at least one byte, and ends with its line
-abbrev pub EndsLine : List ℕ → Type 0
-EndsLine text = (front : List ℕ) × (text ≡ front ++ 10 ∷ [])
 
 -- standard error got the line, or a strict front of it where it failed
 abbrev pub Says : {E : Type 0} → (E → Option (List ℕ)) → Held E → Held E → List ℕ → Type 0

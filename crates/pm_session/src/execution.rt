@@ -6,7 +6,8 @@ ghost use Rattle.std.specs.Vec.Iter.{into_iter_items};
 ghost use Rattle.clap.specs.Words.{kind_of};
 ghost use Rattle.pm_lines.specs.Faults.{fault_words};
 ghost use Rattle.pm_lines.specs.declared.fault.TextFault.TheVariants.{Memory};
-ghost use Rattle.pm_session.specs.Execution.{EndsLine, Run, RunEnds, Says, ServeEnds, UsageEnds};
+ghost use Rattle.pm_lines.specs.Lines.{EndsLine};
+ghost use Rattle.pm_session.specs.Execution.{Run, RunEnds, Says, ServeEnds, UsageEnds};
 ghost use Rattle.pm_session.specs.Execution.{arguments_of, no_words, no_words_status, refusal_line};
 ghost use Rattle.pm_session.specs.Options.{start_of};
 
@@ -14,7 +15,7 @@ use crate::options::Options;
 use crate::port::Port;
 use crate::talk::{converse, hand_on};
 use clap::error::ErrorKind;
-use pm_lines::{Sink, TextFault};
+use pm_lines::{Sink, TextFault, with_line_end};
 use std::alloc::{AllocError, Global};
 use std::env::Args;
 use std::io::{self, Write};
@@ -187,23 +188,11 @@ fn show_usage<P: Port, E: Write>(
     }
 }
 
-// The parser's text.
+// The parser's text, which ends its line.
 fn usage_text(alloc: Global, error: &clap::Error) -> Result<String, AllocError>
     ensures { IfOk result (λ text. EndsLine (string_bytes text)) }
 {
-    ended(format!(in alloc; "{error}")?)
-}
-
-// A text with a line feed at its end, which those of the parser have.
-fn ended(text: String) -> Result<String, AllocError>
-    ensures { IfOk result (λ whole. EndsLine (string_bytes whole)) }
-{
-    if text.as_bytes().ends_with(b"\n") {
-        return Ok(text);
-    }
-    let mut whole = text;
-    whole.push('\n')?;
-    Ok(whole)
+    with_line_end(format!(in alloc; "{error}")?)
 }
 
 // Says that the arguments couldn't be had as texts, for want of memory or since they are none.

@@ -11,6 +11,7 @@ use Rattle.clap.specs.Walk.{texts}
 use Rattle.clap.specs.Words.{Text, fault_of, subcommand_of}
 use Rattle.clap.specs.declared.error.kind.ErrorKind.{ErrorKind}
 use Rattle.pm_lines.specs.Faults.{fault_line, fault_setup, fault_words}
+use Rattle.pm_lines.specs.Lines.{EndsLine}
 use Rattle.pm_lines.specs.Streams.{AppendsFront, Held, IsWholeText, max_text}
 use Rattle.pm_lines.specs.declared.fault.TextFault.{TextFault}
 use Rattle.pm_lines.specs.declared.fault.TextFault.TheVariants.{Syntax, BadHex, TooLong, Read, Write, Memory, Setup}
@@ -257,13 +258,13 @@ ChoiceEnds remaining old new (NumberChosen format word micro) end = (new ≡ old
     × NumberEnds (asked_by format word micro) end
 
 -- how a command line ends of which the parser finds a fault of this kind: help or the version that was
--- asked for is printed, and what is said of any other fault is the parser's own text
+-- asked for is printed, and what is said of any other fault is the parser's own text; each ends its line
 abbrev pub UsageEnds : ErrorKind → End → Type 0
-UsageEnds kind (Printed status text) = (status ≡ 0) × (status_by kind ≡ 0)
-UsageEnds kind (CutShort text) = status_by kind ≡ 0
+UsageEnds kind (Printed status text) = (status ≡ 0) × (status_by kind ≡ 0) × EndsLine text
+UsageEnds kind (CutShort text) = (status_by kind ≡ 0) × EndsLine text
 UsageEnds kind (Refused status words) = ⊥
 UsageEnds kind (Broken text words) = ⊥
-UsageEnds kind (Misused text) = status_by kind ≡ 2
+UsageEnds kind (Misused text) = (status_by kind ≡ 2) × EndsLine text
 
 -- memory for the command line itself was refused
 abbrev pub wants_memory : End

@@ -1,4 +1,5 @@
-ghost use Rattle.std.specs.Prelude.{◌≡◌, ◌⊎◌, ◌≤◌, IsFalse, Some, codes};
+ghost use Rattle.std.specs.Prelude.{◌≡◌, ◌⊎◌, ◌≤◌, IfOk, IsFalse, Some, codes, string_bytes};
+ghost use Rattle.pm_lines.specs.Lines.{EndsLine};
 ghost use Rattle.std.specs.Io.KnownBytes.{Keeps};
 ghost use Rattle.std.specs.Process.{exit_status};
 ghost use Rattle.clap.specs.Words.{kind_of};
@@ -12,8 +13,9 @@ use crate::numbers::number;
 use crate::refusal::{say, say_fault};
 use crate::script::hear;
 use clap::error::ErrorKind;
+use pm_lines::with_line_end;
 use pm_text::{DecodeEnd, ReplayEnd, Sink, Source, TextFault, decode, replay};
-use std::alloc::Global;
+use std::alloc::{AllocError, Global};
 use std::env::{self, Env};
 use std::io::{self, Read, Write};
 use std::process::ExitCode;
@@ -239,7 +241,7 @@ fn show_usage<W: Write, E: Write>(
     ensures { (end : End) × (UsageEnds (kind_of error.now) end ⊎ (end ≡ wants_memory))
         × IsEnd W.contents E.contents output.old output.new errors.old errors.new result end }
 {
-    let Ok(text) = format!(in alloc; "{error}") else {
+    let Ok(text) = usage_text(alloc, error) else {
         return refuse_memory(errors);
     };
     match error.kind() {
@@ -254,6 +256,13 @@ fn show_usage<W: Write, E: Write>(
             2
         }
     }
+}
+
+// The parser's text, which ends its line.
+fn usage_text(alloc: Global, error: &clap::Error) -> Result<String, AllocError>
+    ensures { IfOk result (λ text. EndsLine (string_bytes text)) }
+{
+    with_line_end(format!(in alloc; "{error}")?)
 }
 
 // Prints a whole text.
