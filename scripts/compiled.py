@@ -70,10 +70,9 @@ def fault_of(copy, edits, texts):
     lines, _ = copy.check("--only", "" if is_code_alone(texts) else "compile_probe::probe")
     copy.write(kept)
     write(os.path.join(copy.home, root), kept_root)
-    said = next((line for line in lines if ERROR.search(line)), None)
-    if said or any(line.startswith("only=") for line in lines):
-        return uncompiled(lines) or said
-    return lines[-1]
+    if any(line.startswith("only=") for line in lines):
+        return uncompiled(lines)
+    return next((line for line in lines if ERROR.search(line)), lines[-1])
 
 
 def places_of(edit, originals):
