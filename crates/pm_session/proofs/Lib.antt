@@ -1,5 +1,6 @@
 mod FailureLemmas
 mod GotLemmas
+pub mod JobLemmas
 pub mod Joins
 mod SendLemmas
 mod TalkLemmas

@@ -1,13 +1,11 @@
 -- The lines that are said to a host, each with its words in their order. A job is asked for as in a
 -- scenario, by the same readers. This project's own choice.
-use Rattle.std.specs.Prelude.{ℕ, nat_le, nat_lt, if◌then◌else◌, List, [], ◌∷◌, length, map, Option, Some, None, option_map, option_and_then, Result, Ok, Err, codes}
-use Rattle.pm_world.specs.declared.event.Event.{Event}
-use Rattle.pm_world.specs.declared.event.Event.TheVariants.{Finish}
+use Rattle.std.specs.Prelude.{ℕ, nat_le, nat_lt, if◌then◌else◌, List, [], ◌∷◌, length, Option, Some, None, option_map, option_and_then, Result, Ok, Err, codes}
 use Rattle.pm_lines.specs.Bytes.{bytes_before}
 use Rattle.pm_lines.specs.Lines.{without_return}
 use Rattle.pm_text.specs.EventLines.{cell, finish_rest, job_lines}
 use Rattle.pm_text.specs.Kinds.{frame_bytes}
-use Rattle.pm_text.specs.Readers.{◌>>=◌, Field, gives, line_as, one_of, or_fault}
+use Rattle.pm_text.specs.Readers.{◌>>=◌, Field, gives, line_as, lines_into, made_into, one_of, or_fault}
 use Rattle.pm_text.specs.declared.form.Form.TheVariants.{Second}
 use Rattle.pm_text.specs.declared.scenario.fault.ScenarioFault.{ScenarioFault}
 use Rattle.pm_text.specs.declared.scenario.fault.ScenarioFault.TheVariants as fault
@@ -16,28 +14,13 @@ use Rattle.pm_session.specs.declared.ask.Ask.TheVariants.{Job, Finished, Got, Se
 use Rattle.pm_session.specs.declared.refusal.Refusal.{Refusal}
 use Rattle.pm_session.specs.declared.refusal.Refusal.TheVariants.{Syntax, BadHex, TooLong}
 
--- what follows the first word of a line that asks for a job
-abbrev pub asking : Field Event → Field Ask
-asking read = do
-  event ← read
-  gives (Job event)
-
 -- the lines of a scenario that ask for a job
-abbrev pub asking_line : List ℕ × Field Event → List ℕ × Field Ask
-asking_line line = (line.0, asking line.1)
-
 abbrev pub jobs : List (List ℕ × Field Ask)
-jobs = map asking_line (job_lines Second)
+jobs = lines_into Job (job_lines Second)
 
--- what the end of a write is told as; X1 for every other event, which `finish` never gives
-abbrev pub finished_as : Event → Field Ask
-finished_as (Finish acked) left = gives (Finished acked) left
-finished_as _ left = Err (fault.Syntax left.line)
-
+-- `ack` or `nack`
 unfoldable pub finished_rest : Field Ask
-finished_rest = do
-  event ← finish_rest
-  finished_as event
+finished_rest = made_into Finished finish_rest
 
 -- the bytes that came back, at most 16 of them
 abbrev pub as_answer : List ℕ → Option (List ℕ)

@@ -6,15 +6,15 @@ use Rattle.pm_frame.specs.declared.message.Message.{Message}
 use Rattle.pm_frame.specs.Fault.{whole_answer}
 use Rattle.pm_frame.specs.Layout.{is_read_message}
 use Rattle.pm_table.specs.Cell.{is_cell}
+use Rattle.pm_host.specs.Jobs.{accepted_job, begin_fault}
 use Rattle.pm_host.specs.Refusals.{may_come}
 use Rattle.pm_host.specs.Summary.{Summary, next, possible_at, sending_in, standing_at, step_of}
 use Rattle.pm_host.specs.Transcript as host
 use Rattle.pm_host.specs.declared.fault.HostFault.{HostFault}
 use Rattle.pm_host.specs.declared.fault.HostFault.TheVariants.{UnknownOutput}
+use Rattle.pm_host.specs.declared.job.Job.{Job}
 use Rattle.pm_host.specs.declared.step.Step.{Step}
 use Rattle.pm_host.specs.declared.step.Step.TheVariants as step
-use Rattle.pm_world.specs.declared.event.Event.{Event}
-use Rattle.pm_world.specs.Job.{refusal_of, with_job}
 use Rattle.pm_world.specs.Legal.{frame_of}
 use Rattle.pm_session.specs.AskLines.{ask_of}
 use Rattle.pm_session.specs.declared.ask.Ask.{Ask}
@@ -46,10 +46,14 @@ send_of addr message = if is_read_message message
 unfoldable pub sending_reply : Summary → Reply
 sending_reply s = option_map_or (send_of s.setup.addr) (sending_in s) Idle
 
--- the job of an event is refused, or begins with its first frame
-abbrev pub begins : Summary → Event → Option HostFault → Answered
-begins s event (Some fault) = refuses s (Host fault)
-begins s event None = record { reply = sending_reply (with_job s event); after = with_job s event }
+-- the host once it has begun a job that it doesn't refuse
+abbrev pub begun : Summary → Job → Summary
+begun s job = option_map_or (λ accepted. next s (host.Accepted accepted)) (accepted_job s job) s
+
+-- a job is refused, or begins with its first frame
+abbrev pub begins : Summary → Job → Option HostFault → Answered
+begins s job (Some fault) = refuses s (Host fault)
+begins s job None = record { reply = sending_reply (begun s job); after = begun s job }
 
 -- how a job goes on or ends
 abbrev pub step_reply : Summary → Step → Reply
@@ -73,7 +77,7 @@ knows s cell = if is_cell s.setup.outputs cell
     else refuses s (Host UnknownOutput)
 
 abbrev pub answers : Summary → Ask → Answered
-answers s (ask.Job event) = begins s event (refusal_of s event)
+answers s (ask.Job job) = begins s job (begin_fault s job)
 answers s (ask.Finished acked) = tells s (host.Finished acked)
 answers s (ask.Got frame) = tells s (host.Got frame.items)
 answers s ask.Sending = stays s (sending_reply s)

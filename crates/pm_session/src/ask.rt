@@ -1,13 +1,12 @@
 use pm_frame::Frame;
+use pm_host::Job;
 use pm_table::Cell;
-use pm_world::Event;
 
 /// What a line asks of the host.
 #[derive(Debug, Drop)]
 pub enum Ask {
-    /// `order O NAME HEX`, and each other line of a scenario that asks the host for a job: that of this event.
-    /// No line gives an event that asks for none; it would be answered as `sending`.
-    Job(Event),
+    /// `order O NAME HEX`, and each other line of a scenario that asks the host for a job.
+    Job(Job),
     /// `finished ack` or `finished nack`: the write was sent, and acknowledged or not.
     Finished(bool),
     /// `got B1 02 CD 34 B9`: the request was sent, and these bytes came back, the read address first;

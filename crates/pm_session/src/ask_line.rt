@@ -8,13 +8,9 @@ use crate::refusal::Refusal;
 use pm_frame::Frame;
 use pm_lines::{Line, without_carriage_return};
 use pm_text::{Fields, Form, ScenarioFault, frame_of, read_cell, read_finish, read_job};
-use pm_world::Event;
 
 // The most bytes that a line may have before its line feed.
 const MAX_LINE: usize = 256;
-
-// What stands where a reader leaves an event.
-const NO_EVENT: Event = Event::RestartHost;
 
 /// What a line asks. `line` is without its line feed; a carriage return at its end is no part of it.
 ///
@@ -73,9 +69,8 @@ fn read_words(fields: &mut Fields<'_>) -> Result<Ask, ScenarioFault>
 fn job(fields: &mut Fields<'_>) -> Result<Ask, ScenarioFault>
     ensures { Reads result fields.new (one_of jobs fields.old) }
 {
-    let mut event = NO_EVENT;
-    read_job(Form::Second, fields, &mut event)?;
-    Ok(Ask::Job(event))
+    let job = read_job(Form::Second, fields)?;
+    Ok(Ask::Job(job))
 }
 
 // `finished ack` or `finished nack`.
@@ -83,12 +78,8 @@ fn job(fields: &mut Fields<'_>) -> Result<Ask, ScenarioFault>
 fn finished(fields: &mut Fields<'_>) -> Result<Ask, ScenarioFault>
     ensures { Reads result fields.new (finished_rest fields.old) }
 {
-    let mut event = NO_EVENT;
-    read_finish(fields, &mut event)?;
-    match event {
-        Event::Finish(acked) => Ok(Ask::Finished(acked)),
-        _ => Err(fields.syntax()),
-    }
+    let acked = read_finish(fields)?;
+    Ok(Ask::Finished(acked))
 }
 
 // `state O NAME`, or `state - WRITE_PROTECT`.

@@ -9,9 +9,8 @@ use crate::ask_line::read_ask;
 use crate::refusal::Refusal;
 use crate::reply::Reply;
 use pm_frame::Frame;
-use pm_host::{Host, HostFault, Step, Told, Turn};
+use pm_host::{Host, HostFault, Job, Step, Told, Turn};
 use pm_table::Cell;
-use pm_world::{Event, ask as ask_host};
 
 /// Answers a line, which is without its line feed. The answer and the host after it are those that the
 /// host's own model has for the line; a refused line changes nothing. It takes no memory.
@@ -31,7 +30,7 @@ fn answer(host: &mut Host, ask: Ask) -> Reply
     ensures after { host.new ≡ (answers host.old ask).after }
 {
     match ask {
-        Ask::Job(event) => job(host, &event),
+        Ask::Job(job) => begin(host, job),
         Ask::Finished(acked) => finished(host, acked),
         Ask::Got(frame) => got(host, frame.as_slice()),
         Ask::Sending => sending(host),
@@ -45,12 +44,13 @@ fn answer(host: &mut Host, ask: Ask) -> Reply
 }
 
 // A job begins with its first frame, or is refused.
-fn job(host: &mut Host, event: &Event) -> Reply
-    ensures reply { result ≡ (answers host.old (ask.Job event.now)).reply }
-    ensures after { host.new ≡ (answers host.old (ask.Job event.now)).after }
+#[tactic(auto, using(crate::proofs::JobLemmas::begun_with))]
+fn begin(host: &mut Host, job: Job) -> Reply
+    ensures reply { result ≡ (answers host.old (ask.Job job)).reply }
+    ensures after { host.new ≡ (answers host.old (ask.Job job)).after }
 {
-    match ask_host(host, event) {
-        Ok(_) => sending(host),
+    match host.begin(job) {
+        Ok(()) => sending(host),
         Err(fault) => Reply::Refused(Refusal::Host(fault)),
     }
 }

@@ -1,19 +1,23 @@
 -- The event lines of a scenario, each with its words in their order. The forms are this project's own
 -- choice.
-use Rattle.std.specs.Prelude.{ℕ, true, false, List, [], ◌∷◌, Option, Some, None, codes}
+use Rattle.std.specs.Prelude.{ℕ, Bool, true, false, List, [], ◌∷◌, Option, Some, None, codes}
 use Rattle.pm_table.specs.declared.cell.Cell.{Cell}
 use Rattle.pm_table.specs.declared.cell.Cell.TheVariants.{Out}
 use Rattle.pm_device.specs.declared.ending.Ending.{Ending}
 use Rattle.pm_device.specs.declared.ending.Ending.TheVariants.{Stop, Restart}
+use Rattle.pm_host.specs.declared.command.Command.TheVariants.{ClearFaults, StoreUserAll, RestoreUserAll}
+use Rattle.pm_host.specs.declared.job.Job.{Job}
+use Rattle.pm_host.specs.declared.job.Job.TheVariants.{Order, OrderMicro, Check, Learn, Send}
+use Rattle.pm_world.specs.Job.{event_of}
 use Rattle.pm_world.specs.declared.arrival.Arrival.{Arrival}
 use Rattle.pm_world.specs.declared.arrival.Arrival.TheVariants as arrives
 use Rattle.pm_world.specs.declared.back.Back.{Back}
 use Rattle.pm_world.specs.declared.back.Back.TheVariants as returns
 use Rattle.pm_world.specs.declared.event.Event.{Event}
-use Rattle.pm_world.specs.declared.event.Event.TheVariants.{Order, OrderMicro, Check, Learn, Clear, Store, Restore, Deliver, Finish, Exchange, RestartDevice, RestartHost, Reading as Measure}
+use Rattle.pm_world.specs.declared.event.Event.TheVariants.{Deliver, Finish, Exchange, RestartDevice, RestartHost, Reading as Measure}
 use Rattle.pm_lines.specs.Digits.{hex_of, signed_of, small_of}
 use Rattle.pm_text.specs.Kinds.{output_or_device, register_named, device_cell_named, output_reading_named, device_reading_named, cell_word, frame_bytes}
-use Rattle.pm_text.specs.Readers.{◌>>=◌, Field, field, gives, named, one_of}
+use Rattle.pm_text.specs.Readers.{◌>>=◌, Field, field, gives, lines_into, made_into, named, one_of}
 use Rattle.pm_text.specs.declared.form.Form.{Form}
 use Rattle.pm_text.specs.declared.form.Form.TheVariants.{First, Second}
 use Rattle.pm_text.specs.declared.scenario.fault.ScenarioFault.TheVariants.{Syntax, BadHex}
@@ -31,34 +35,34 @@ cell form = do
   cell_at form output
 
 -- `O NAME HEX`, or `- WRITE_PROTECT HH`
-unfoldable pub order_rest : Form → Field Event
+unfoldable pub order_rest : Form → Field Job
 order_rest form = do
   ordered ← cell form
   word ← field BadHex (cell_word ordered)
   gives (Order ordered word)
 
 -- `O NAME K`, K in microvolts
-unfoldable pub volts_rest : Form → Field Event
+unfoldable pub volts_rest : Form → Field Job
 volts_rest form = do
   output ← field Syntax small_of
   register ← field Syntax (register_named form)
   microvolts ← field Syntax (signed_of 64)
   gives (OrderMicro (Out output register) microvolts)
 
-unfoldable pub check_rest : Form → Field Event
+unfoldable pub check_rest : Form → Field Job
 check_rest form = do
   checked ← cell form
   gives (Check checked)
 
-unfoldable pub learn_rest : Field Event
+unfoldable pub learn_rest : Field Job
 learn_rest = do
   output ← field Syntax small_of
   gives (Learn output)
 
-unfoldable pub clear_rest : Field Event
+unfoldable pub clear_rest : Field Job
 clear_rest = do
   output ← field Syntax small_of
-  gives (Clear output)
+  gives (Send (ClearFaults output))
 
 -- how bytes that arrive in a frame's place are ended
 abbrev pub ending_named : List ℕ → Option Ending
@@ -100,10 +104,9 @@ deliver_rest = do
   arrived ← arrival
   gives (Deliver arrived)
 
-unfoldable pub finish_rest : Field Event
-finish_rest = do
-  acked ← field Syntax (named ((codes "ack", true) ∷ (codes "nack", false) ∷ []))
-  gives (Finish acked)
+-- `ack` or `nack`: whether the write was acknowledged
+unfoldable pub finish_rest : Field Bool
+finish_rest = field Syntax (named ((codes "ack", true) ∷ (codes "nack", false) ∷ []))
 
 unfoldable pub exchange_rest : Field Event
 exchange_rest = do
@@ -132,12 +135,12 @@ reading_rest = do
   reading_at output
 
 -- the lines of jobs that the second form alone has: `store` and `restore`, with no more words
-abbrev pub store_lines : Form → List (List ℕ × Field Event)
+abbrev pub store_lines : Form → List (List ℕ × Field Job)
 store_lines First = []
-store_lines Second = (codes "store", gives Store) ∷ (codes "restore", gives Restore) ∷ []
+store_lines Second = (codes "store", gives (Send StoreUserAll)) ∷ (codes "restore", gives (Send RestoreUserAll)) ∷ []
 
--- the event lines that ask for a job: the first word of each, and the words that follow it
-abbrev pub job_lines : Form → List (List ℕ × Field Event)
+-- the lines that ask for a job: the first word of each, and the words that follow it
+abbrev pub job_lines : Form → List (List ℕ × Field Job)
 job_lines form =
     (codes "order", order_rest form) ∷
     (codes "volts", volts_rest form) ∷
@@ -145,14 +148,14 @@ job_lines form =
     (codes "learn", learn_rest) ∷
     (codes "clear", clear_rest) ∷ store_lines form
 
-unfoldable pub job_line : Form → Field Event
+unfoldable pub job_line : Form → Field Job
 job_line form = one_of (job_lines form)
 
--- an event line: one of these, or one that asks for a job
+-- an event line: one of these, or one that asks for a job, which is the event of this job
 unfoldable pub event_line : Form → Field Event
 event_line form = one_of (
     (codes "deliver", deliver_rest) ∷
-    (codes "finish", finish_rest) ∷
+    (codes "finish", made_into Finish finish_rest) ∷
     (codes "exchange", exchange_rest) ∷
     (codes "restart", restart_rest) ∷
-    (codes "reading", reading_rest) ∷ job_lines form)
+    (codes "reading", reading_rest) ∷ lines_into event_of (job_lines form))

@@ -1,7 +1,7 @@
 -- Readers of a scenario's words and lines. A reader takes from what is left, and gives what it read
 -- and what is left then, or the first fault. Words are taken in their order, and each is judged as
 -- what stands at its place. This project's own choice.
-use Rattle.std.specs.Prelude.{◌≡◌, ℕ, ◌+◌, false, List, [], ◌∷◌, Option, Some, None, Result, Ok, Err, IfOk, bytes_eq, if◌then◌else◌}
+use Rattle.std.specs.Prelude.{◌≡◌, ℕ, ◌+◌, false, List, [], ◌∷◌, map, Option, Some, None, Result, Ok, Err, IfOk, bytes_eq, if◌then◌else◌}
 use Rattle.pm_lines.specs.Lines.{Numbered, WordsLeft, words_of}
 use Rattle.pm_text.specs.declared.scenario.fault.ScenarioFault.{ScenarioFault}
 use Rattle.pm_text.specs.declared.scenario.fault.ScenarioFault.TheVariants.{Syntax}
@@ -81,6 +81,16 @@ abbrev pub one_of : {A : Type 0} → List (List ℕ × Field A) → Field A
 one_of readers = do
   read ← field Syntax (named readers)
   read
+
+-- what a reader reads, made into something else
+abbrev pub made_into : {A B : Type 0} → (A → B) → Field A → Field B
+made_into make read = do
+  x ← read
+  gives (make x)
+
+-- the same of readers by their names
+abbrev pub lines_into : {A B : Type 0} → (A → B) → List (List ℕ × Field A) → List (List ℕ × Field B)
+lines_into make readers = map (λ line. (line.0, made_into make line.1)) readers
 
 -- a line is read whole: a word too many is X1
 abbrev pub whole : {A : Type 0} → Result (A × WordsLeft) ScenarioFault → Result A ScenarioFault

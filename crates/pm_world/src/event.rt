@@ -1,5 +1,5 @@
-ghost use Rattle.std.specs.Prelude.{◌≡◌};
-ghost use Rattle.pm_world.specs.Job.{asked_by};
+ghost use Rattle.std.specs.Prelude.{◌≡◌, Some};
+ghost use Rattle.pm_world.specs.Job.{asked_by, event_of};
 
 use crate::arrival::Arrival;
 use crate::back::Back;
@@ -39,6 +39,22 @@ pub enum Event {
 }
 
 impl Event {
+    /// The event that asks the host for a job.
+    pub fn of(job: Job) -> Event
+        ensures event { result ≡ event_of job }
+        ensures asked { asked_by result ≡ Some job }
+    {
+        match job {
+            Job::Order(cell, word) => Event::Order(cell, word),
+            Job::OrderMicro(cell, microvolts) => Event::OrderMicro(cell, microvolts),
+            Job::Check(cell) => Event::Check(cell),
+            Job::Learn(output) => Event::Learn(output),
+            Job::Send(Command::ClearFaults { output }) => Event::Clear(output),
+            Job::Send(Command::StoreUserAll) => Event::Store,
+            Job::Send(Command::RestoreUserAll) => Event::Restore,
+        }
+    }
+
     /// The job that it asks the host for; `None` where it is something that happens on the bus, or to an end.
     pub fn job(&self) -> Option<Job>
         ensures { result ≡ asked_by self.now }

@@ -30,7 +30,6 @@ mod arrival;
 mod back;
 mod cause;
 mod event;
-mod job;
 mod laws;
 mod legal;
 mod setup_fault;
@@ -41,7 +40,6 @@ pub use arrival::Arrival;
 pub use back::Back;
 pub use cause::Cause;
 pub use event::Event;
-pub use job::ask;
 pub use laws::{
     betrayed_damage_is_legal, betrayed_damage_is_taken, confirmed_settings_are_held,
     frames_are_few, honest_orders_go_through, learned_formats_are_true, lives_are_followed,

@@ -1,9 +1,11 @@
 //! The event lines of a scenario. Each reader makes the event where it stays: handed up as a result
 //! through the readers, an event would be copied at each of them.
 ghost use Rattle.std.specs.Prelude.{◌≡◌, Ok, Err, MatchResult};
+ghost use Rattle.pm_world.specs.Job.{event_of};
 ghost use Rattle.pm_text.specs.EventLines as spec;
+ghost use Rattle.pm_text.specs.EventLines.{job_lines};
 ghost use Rattle.pm_text.specs.Kinds.{device_reading_named, output_reading_named};
-ghost use Rattle.pm_text.specs.Readers.{ReadsTo, IsRead, field, line_as};
+ghost use Rattle.pm_text.specs.Readers.{Reads, ReadsTo, IsRead, field, line_as, lines_into, one_of};
 ghost use Rattle.pm_text.specs.declared.scenario.fault.ScenarioFault.TheVariants.{Syntax};
 
 use crate::form::Form;
@@ -26,14 +28,16 @@ pub(crate) fn event_line(form: Form, line: Line<'_>, event: &mut Event) -> Resul
 }
 
 // The words of an event line, of which the first decides.
-#[tactic(auto, unfolding(crate::specs::EventLines::event_line, crate::specs::EventLines::job_line))]
+#[tactic(auto, unfolding(crate::specs::EventLines::event_line))]
 fn read_event(form: Form, fields: &mut Fields<'_>, event: &mut Event) -> Result<(), ScenarioFault>
     ensures { ReadsTo result event.new fields.new (spec.event_line form fields.old) }
 {
     if fields.takes("deliver") {
         deliver(fields, event)
     } else if fields.takes("finish") {
-        finish(fields, event)
+        let acked = finish(fields)?;
+        *event = Event::Finish(acked);
+        Ok(())
     } else if fields.takes("exchange") {
         exchange(fields, event)
     } else if fields.takes("restart") {
@@ -41,8 +45,19 @@ fn read_event(form: Form, fields: &mut Fields<'_>, event: &mut Event) -> Result<
     } else if fields.takes("reading") {
         reading(fields, event)
     } else {
-        job_line(form, fields, event)
+        asked(form, fields, event)
     }
+}
+
+// A line that asks the host for a job.
+#[tactic(auto, unfolding(crate::specs::EventLines::job_line), using(crate::proofs::LineLemmas::made_of_one))]
+fn asked(form: Form, fields: &mut Fields<'_>, event: &mut Event) -> Result<(), ScenarioFault>
+    ensures { ReadsTo result event.new fields.new
+        (one_of (lines_into event_of (job_lines form)) fields.old) }
+{
+    let job = job_line(form, fields)?;
+    *event = Event::of(job);
+    Ok(())
 }
 
 // `deliver A`, A an arrival.
@@ -55,17 +70,15 @@ fn deliver(fields: &mut Fields<'_>, event: &mut Event) -> Result<(), ScenarioFau
     Ok(())
 }
 
-/// What follows the first word of `finish ack` or `finish nack`.
+/// What follows the first word of `finish ack` or `finish nack`: whether the write was acknowledged.
 #[tactic(auto, unfolding(crate::specs::EventLines::finish_rest))]
-pub fn finish(fields: &mut Fields<'_>, event: &mut Event) -> Result<(), ScenarioFault>
-    ensures { ReadsTo result event.new fields.new (spec.finish_rest fields.old) }
+pub fn finish(fields: &mut Fields<'_>) -> Result<bool, ScenarioFault>
+    ensures { Reads result fields.new (spec.finish_rest fields.old) }
 {
     if fields.takes("ack") {
-        *event = Event::Finish(true);
-        Ok(())
+        Ok(true)
     } else if fields.takes("nack") {
-        *event = Event::Finish(false);
-        Ok(())
+        Ok(false)
     } else {
         fields.word()?;
         Err(fields.syntax())
