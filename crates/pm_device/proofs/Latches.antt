@@ -53,7 +53,7 @@ measured-alone held output code word = refl
 -- ---- the act of a code
 
 -- the code that asks for an act which clears something, and the output that such an act names
-HasCode : ℕ → ℕ → Act → Type 0
+pub HasCode : ℕ → ℕ → Act → Type 0
 HasCode code output (ClearFaults named) = (code ≡ command.clear_faults) × (named ≡ output)
 HasCode code output (ClearVout named byte) = (code ≡ command.status_vout) × (named ≡ output)
 HasCode code output (ClearCml byte) = code ≡ command.status_cml
@@ -63,7 +63,8 @@ HasCode code output _ = Unit {0}
 has-code : (code output word : ℕ) (act : Act) → act_in code output word ≡ Some act → HasCode code output act
 unfolding HasCode
 has-code code output word act e =
-    first (eqb code command.page) (eqb code command.clear_faults) (eqb code command.status_vout) (eqb code command.status_cml) refl refl refl e
+    first (eqb code command.page) (eqb code command.clear_faults) (eqb code command.status_vout) (eqb code command.status_cml)
+    refl refl refl e
   where
     put : (found : Option Cell) → option_map (λ cell. Put cell word) found ≡ Some act → HasCode code output act
     put None h = cc
@@ -136,6 +137,7 @@ faults-same code output (ClearVout named byte) faults has other second = refl
 faults-same code output Store faults has other second = refl
 faults-same code output Restore faults has other second = refl
 
+-- so does a write
 pub cml-stays : WritesAreExact → (held : Held) (message : Message) (bytes : List ℕ) →
     IsWrite held.config.addr message bytes → reply_of held bytes Stop ≡ Taken →
     message_code message ≢ command.clear_faults → message_code message ≢ command.status_cml →
@@ -162,7 +164,8 @@ cml-cleared exact held message bytes is taken code =
 -- ---- STATUS_VOUT
 
 -- a latch that is set, after another is written
-set-other : (cut : List Bool) (place output : ℕ) (bit : Bool) → output ≢ place → cut_at cut output ≡ true → cut_at (set cut place bit) output ≡ true
+set-other : (cut : List Bool) (place output : ℕ) (bit : Bool) → output ≢ place → cut_at cut output ≡ true →
+    cut_at (set cut place bit) output ≡ true
 set-other cut place output bit ne is = get_or-set_other cut place output bit false ne ∙ is
 
 -- and after more is latched
@@ -185,7 +188,7 @@ set-more cut place output bit is = elim (cases_eq output place) [
   none e beyond = let no : false ≡ true = sym (ap (cut_at cut) e ∙ get_or-eq_default cut false beyond) ∙ is in cc
 
 -- what an act may clear: CLEAR_FAULTS and a write of STATUS_VOUT the output that they name
-LeavesVout : ℕ → Act → Type 0
+pub LeavesVout : ℕ → Act → Type 0
 LeavesVout output (ClearFaults named) = output ≢ named
 LeavesVout output (ClearVout named byte) = output ≢ named
 LeavesVout output _ = Unit {0}
@@ -210,9 +213,9 @@ cut-same config words cut output Restore leaves there is =
     cut_at-each_output (λ place. cut_at cut place || is_output_cut config words place) output there
     ∙ ap (λ b. b || is_output_cut config words output) is
 
--- the acts of other codes, and those on another output
-leaves-code : (code named output : ℕ) (act : Act) → HasCode code named act → code ≢ command.clear_faults → code ≢ command.status_vout →
-    LeavesVout output act
+-- the acts of other codes leave it
+pub leaves-code : (code named output : ℕ) (act : Act) → HasCode code named act →
+    code ≢ command.clear_faults → code ≢ command.status_vout → LeavesVout output act
 unfolding HasCode LeavesVout
 leaves-code code named output (ClearFaults place) has other second = absurd (other has.0)
 leaves-code code named output (ClearVout place byte) has other second = absurd (second has.0)
@@ -222,7 +225,8 @@ leaves-code code named output (ClearCml byte) has other second = tt
 leaves-code code named output Store has other second = tt
 leaves-code code named output Restore has other second = tt
 
-leaves-output : (code named output : ℕ) (act : Act) → HasCode code named act → output ≢ named → LeavesVout output act
+-- and those on another output
+pub leaves-output : (code named output : ℕ) (act : Act) → HasCode code named act → output ≢ named → LeavesVout output act
 unfolding HasCode LeavesVout
 leaves-output code named output (ClearFaults place) has ne = λ e. ne (e ∙ has.1)
 leaves-output code named output (ClearVout place byte) has ne = λ e. ne (e ∙ has.1)
@@ -232,30 +236,14 @@ leaves-output code named output (ClearCml byte) has ne = tt
 leaves-output code named output Store has ne = tt
 leaves-output code named output Restore has ne = tt
 
--- so a latch stays over such a write
-cut-left : (held : Held) (message : Message) (bytes : List ℕ) (output : ℕ) (was : WasWritten held message bytes) →
-    LeavesVout output was.act → output < 8 → cut_at held.cut output ≡ true →
-    cut_at (next held (Hearing bytes Stop)).cut output ≡ true
+-- so a latch stays over a write that leaves it
+pub cut-stays : WritesAreExact → (held : Held) (message : Message) (bytes : List ℕ) (output : ℕ) →
+    IsWrite held.config.addr message bytes × (reply_of held bytes Stop ≡ Taken) →
+    ((act : Act) → HasCode (message_code message) (output_in held.page message) act → LeavesVout output act) →
+    (output < 8) × (cut_at held.cut output ≡ true) → cut_at (next held (Hearing bytes Stop)).cut output ≡ true
 unfolding after
-cut-left held message bytes output was leaves there is =
+cut-stays exact held message bytes output (is, taken) leaves (there, set) =
+    let was = was-written exact held message bytes is taken in
     ap (λ h. cut_at h.cut output) was.left
-    ∙ cut-same held.config (kept_by (kept_in held) (Heard (Takes was.act))).words held.cut output was.act leaves there is
-
-pub others-stay : WritesAreExact → (held : Held) (message : Message) (bytes : List ℕ) (output : ℕ) →
-    IsWrite held.config.addr message bytes → reply_of held bytes Stop ≡ Taken →
-    output ≢ output_in held.page message → output < 8 → cut_at held.cut output ≡ true →
-    cut_at (next held (Hearing bytes Stop)).cut output ≡ true
-others-stay exact held message bytes output is taken ne there set =
-    let was = was-written exact held message bytes is taken in
-    cut-left held message bytes output was
-    (leaves-output (message_code message) (output_in held.page message) output was.act was.code ne) there set
-
-pub vout-stays : WritesAreExact → (held : Held) (message : Message) (bytes : List ℕ) (output : ℕ) →
-    IsWrite held.config.addr message bytes → reply_of held bytes Stop ≡ Taken →
-    message_code message ≢ command.clear_faults → message_code message ≢ command.status_vout →
-    output < 8 → cut_at held.cut output ≡ true →
-    cut_at (next held (Hearing bytes Stop)).cut output ≡ true
-vout-stays exact held message bytes output is taken other second there set =
-    let was = was-written exact held message bytes is taken in
-    cut-left held message bytes output was
-    (leaves-code (message_code message) (output_in held.page message) output was.act was.code other second) there set
+    ∙ cut-same held.config (kept_by (kept_in held) (Heard (Takes was.act))).words held.cut output was.act
+    (leaves was.act was.code) there set

@@ -20,11 +20,12 @@ within (pos n) most den positive h =
     let small : n ≤ most = le_of_mul-le-mul_right below positive in
     omega (arith, ints)
 
--- the floor of a value that isn't beyond 10^15 microvolts isn't either
+-- within 10^15 microvolts in size
 record IsNear (x : ℤ) : Type 0 where
   above : neg_ℤ (pos (10 ^ 15)) ≤ℤ x
   below : x ≤ℤ pos (10 ^ 15)
 
+-- so is the floor of a value that isn't beyond them
 near : (value : Ratio) (x : ℤ) → 0 < value.den → is_far value ≡ false → IsFloor value x → IsNear x
 near value x positive is floor =
     let parts = or_parts _ _ is in
