@@ -1,5 +1,6 @@
 -- How a run over streams ended is seen of them: a talk has no failure, and its end tells the end of input.
-use Rattle.std.proofs.Common.{◌≡◌, ◌≢◌, ◌∙◌, ◌↔◌, ◌||◌, ◌++◌, ℕ, Bool, true, false, List, [], ◌∷◌, Option, IfSome, IsFalse, IsTrue, ap, ap₂, refl, subst, sym}
+use Rattle.std.proofs.Common.{◌≡◌, ◌≢◌, ◌∙◌, ◌↔◌, ◌||◌, ◌++◌, ℕ, Bool, true, false, List, [], ◌∷◌, Option, IfSome, IsFalse, IsTrue}
+use Rattle.std.proofs.Common.{ap, ap₂, refl, subst, sym}
 use Rattle.std.proofs.Common.{inl, inr, ◌⊎◌}
 use Rattle.std.specs.Io.KnownBytes.{IsAtEnd}
 use Rattle.std.specs.List.{list_any}
@@ -11,7 +12,8 @@ use Rattle.pm_session.specs.Execution.{IsBroken, IsWhole, Run}
 use Rattle.pm_session.specs.Lemmas.Ports.{none_went}
 use Rattle.pm_session.specs.Ports.{Passes, is_end, is_failed_read, is_failed_write}
 use Rattle.pm_session.specs.Session.{answer_to}
-use Rattle.pm_session.specs.Talk.{after_lines, answer_text, answered, came, handed_on, heard, last_turn, line_end, talk, turn, went, IsCut, IsOver}
+use Rattle.pm_session.specs.Talk.{after_lines, answer_text, answered, came, handed_on, heard, last_turn, line_end, talk, turn}
+use Rattle.pm_session.specs.Talk.{went, IsCut, IsOver}
 use Rattle.pm_session.specs.declared.happening.Happening.{Happening}
 use Rattle.pm_session.specs.declared.happening.Happening.TheVariants.{Came, Ended, ReadFailed, Went, Flushed, WriteFailed}
 use Rattle.pm_session.specs.declared.streams.Streams.{Streams}
@@ -24,7 +26,8 @@ record IsOfFailures (is : Happening → Bool) : Type 0 where
   flushed : is Flushed ≡ false
 
 -- it holds of neither of two stretches
-neither : (is : Happening → Bool) (xs ys : List Happening) → list_any is xs ≡ false → list_any is ys ≡ false → list_any is (xs ++ ys) ≡ false
+neither : (is : Happening → Bool) (xs ys : List Happening) → list_any is xs ≡ false → list_any is ys ≡ false
+    → list_any is (xs ++ ys) ≡ false
 neither is xs ys first later = list_any-append is xs ys ∙ ap₂ (λ a b. a || b) first later
 
 -- it holds of no single thing that it doesn't hold of
@@ -97,8 +100,8 @@ record Cuts (fault : TextFault) (things : List Happening) : Type 0 where
   reads : (b : Bool) → b ≡ list_any is_failed_read things → IsTrue b ↔ (fault ≡ text.Read)
   writes : (b : Bool) → b ≡ list_any is_failed_write things → IsTrue b ↔ (fault ≡ text.Write)
 
-neither_failed : (fault : TextFault) (things : List Happening) → fault ≢ text.Read → fault ≢ text.Write → list_any is_failed_read things ≡ false
-    → list_any is_failed_write things ≡ false → Cuts fault things
+neither_failed : (fault : TextFault) (things : List Happening) → fault ≢ text.Read → fault ≢ text.Write
+    → list_any is_failed_read things ≡ false → list_any is_failed_write things ≡ false → Cuts fault things
 neither_failed fault things no_read no_write reads writes = record {
   reads = λ b is. it_is_not b fault text.Read (is ∙ reads) no_read;
   writes = λ b is. it_is_not b fault text.Write (is ∙ writes) no_write;
@@ -127,7 +130,8 @@ cut_fails s after (text.BadHex line) cut is = absurd is
 cut_fails s after text.Memory cut is = absurd is
 cut_fails s after (text.Setup fault) cut is = absurd is
 
-over_fails : (s after : Summary) (fault : TextFault) (lines : List (List ℕ)) (cut : List Happening) → IsOver s after fault lines cut → Cuts fault cut
+over_fails : (s after : Summary) (fault : TextFault) (lines : List (List ℕ)) (cut : List Happening)
+    → IsOver s after fault lines cut → Cuts fault cut
 over_fails s after fault lines cut (too_long, many, none, same) =
     subst (λ f. Cuts f cut) (sym too_long) (subst (Cuts text.TooLong) (sym none)
     (neither_failed text.TooLong [] (λ e. absurd (cc)) (λ e. absurd (cc)) refl refl))
@@ -154,8 +158,10 @@ pub fail_as_told : {R W E : Type 0} (remaining : R → Option (List ℕ)) (conte
 fail_as_told remaining contents run s sound_source sound_sink = (
   λ (lines, last, all, line, (reads, writes)).
       let end = last_turn (after_lines s lines) last in (
-        behind is_failed_read of_reads _ _ s lines end sound_source reads.failed ∙ none_last is_failed_read of_reads (after_lines s lines) last,
-        behind is_failed_write of_writes _ _ s lines end sound_sink writes.failed ∙ none_last is_failed_write of_writes (after_lines s lines) last,
+        behind is_failed_read of_reads _ _ s lines end sound_source reads.failed
+            ∙ none_last is_failed_read of_reads (after_lines s lines) last,
+        behind is_failed_write of_writes _ _ s lines end sound_sink writes.failed
+            ∙ none_last is_failed_write of_writes (after_lines s lines) last,
         reads.ended (later is_end (talk s lines) end (told_end (after_lines s lines) last)),
       ),
   λ fault (after, lines, cut, all, which, (reads, writes)).

@@ -10,7 +10,8 @@ use Rattle.pm_lines.specs.declared.fault.TextFault.TheVariants as text
 use Rattle.pm_session.specs.AskLines.{ask_of}
 use Rattle.pm_session.specs.ReplyText.{reply_text}
 use Rattle.pm_session.specs.Session.{Answered, answer_to, answers_asked}
-use Rattle.pm_session.specs.Talk.{after_lines, answer_text, answered, came, handed_on, heard, is_line, last_turn, talk, turn, went, IsCut, IsCutShort, IsTurn}
+use Rattle.pm_session.specs.Talk.{after_lines, answer_text, answered, came, handed_on, heard, is_line, last_turn, talk, turn, went}
+use Rattle.pm_session.specs.Talk.{IsCut, IsCutShort, IsTurn}
 use Rattle.pm_session.specs.declared.happening.Happening.{Happening}
 use Rattle.pm_session.specs.declared.happening.Happening.TheVariants.{Came, Ended, WriteFailed}
 use Rattle.pm_session.specs.declared.refusal.Refusal.TheVariants.{TooLong}

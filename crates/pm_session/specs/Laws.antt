@@ -11,7 +11,8 @@ use Rattle.pm_session.specs.declared.streams.Streams.{Streams}
 -- Of a run over a reader and a writer that hadn't failed: where it answered all lines, neither has failed, and
 -- no byte is left; where it broke off, it did so with X4 exactly if the reader failed, and with X5 exactly if
 -- the writer did.
-abbrev pub StreamsFailAsTold : {R W E : Type 0} → (R → Option (List ℕ)) → (W → Option (List ℕ)) → (E → Option (List ℕ)) → Type 0
+abbrev pub StreamsFailAsTold : {R W E : Type 0} → (R → Option (List ℕ)) → (W → Option (List ℕ))
+    → (E → Option (List ℕ)) → Type 0
 StreamsFailAsTold {R} {W} {E} remaining contents told =
     (run : Run (Streams R W) E) (s : Summary) → IsFalse run.port.source.failed → IsFalse run.port.sink.failed
     → (IsWhole (Passes remaining contents) run s

@@ -79,6 +79,7 @@ pub record Writes {W : Type 0} (contents : W → Option (List ℕ)) (old : Held 
   pub sound : list_any is_written things ≡ true → IsFalse old.failed
 
 -- what these things, one after another, make of a reader and a writer
-abbrev pub Passes : {R W : Type 0} → (R → Option (List ℕ)) → (W → Option (List ℕ)) → Streams R W → List Happening → Streams R W → Type 0
+abbrev pub Passes : {R W : Type 0} → (R → Option (List ℕ)) → (W → Option (List ℕ))
+    → Streams R W → List Happening → Streams R W → Type 0
 Passes remaining contents old things new =
     Reads remaining old.source things new.source × Writes contents old.sink things new.sink

@@ -89,7 +89,7 @@ fn words_of(alloc: Global, given: &Vec<String>) -> Result<Vec<&str>, AllocError>
 {
     let mut words = Vec::new(alloc);
     'words: for text in given {
-        words.push(text.as_str()).map_err(AllocError::from)?;
+        words.push(text.as_str())?;
     }
     Ok(words)
 }

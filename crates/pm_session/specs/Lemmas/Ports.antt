@@ -71,7 +71,8 @@ nothing_left [] rest none = sym none
 nothing_left (y ∷ ys) rest none = absurd (cc)
 
 -- a reader that is known to be at its end stays there
-end_stays : (a b c : Option (List ℕ)) (xs ys : List ℕ) → Consumes a b xs → Consumes b c ys → IfSome a (λ _. IsAtEnd b) → IfSome a (λ _. IsAtEnd c)
+end_stays : (a b c : Option (List ℕ)) (xs ys : List ℕ) → Consumes a b xs → Consumes b c ys
+    → IfSome a (λ _. IsAtEnd b) → IfSome a (λ _. IsAtEnd c)
 end_stays None b c xs ys before after end = tt
 end_stays (Some l) None c xs ys before after end = absurd before
 end_stays (Some l) (Some m) None xs ys before after end = absurd after
