@@ -334,7 +334,7 @@ usage_ends remaining input words kind end (inl memory) (inl usage) = absurd (non
     none (CutShort text) h = let e : ◌≡◌ {A = ℕ} 1 0 = h.0 in omega arith
     none (Refused status words) h = h
     none (Broken text words) h = h
-    none (Misused text) h = let e : 1 ≡ 2 = h.0 in omega arith
+    none (Misused text) h = let e : ◌≡◌ {A = ℕ} 1 2 = h.0 in omega arith
 usage_ends remaining input words kind end of (inr memory) = inr (inr (refl, memory))
 
 -- ---- the arguments

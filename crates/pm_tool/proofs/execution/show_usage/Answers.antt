@@ -16,9 +16,12 @@ pub returns : goal.returns
 returns g c =
     let e = c.put.ensures in (
       Misused c.as_bytes-in_default-kind.result.now,
-      inl (status_other _ (λ is. c.in_default-kind.not-OutOfMemory (c.kind.ensures
-          ∙ is)) (λ is. c.in_default-kind.not-DisplayHelp (c.kind.ensures
-          ∙ is)) (λ is. c.in_default-kind.not-DisplayVersion (c.kind.ensures ∙ is))),
+      inl (
+        status_other _ (λ is. c.in_default-kind.not-OutOfMemory (c.kind.ensures
+            ∙ is)) (λ is. c.in_default-kind.not-DisplayHelp (c.kind.ensures
+            ∙ is)) (λ is. c.in_default-kind.not-DisplayVersion (c.kind.ensures ∙ is)),
+        (c.in-Ok.ensures.0, c.as_bytes-in_default-kind.ensures.value ∙ c.in-Ok.ensures.1),
+      ),
       record {
         status_is = refl;
         printed = refl;
