@@ -2,7 +2,7 @@
 """Holds README.md, docs/ and examples/README.md to the program. It runs each line that begins with `$`, those of the
 helps too, and compares what it prints, runs the commands of examples/README.md, and has `pmb` read the lines of
 docs/texts.md. The table of docs/commands.md must be the plain model's, the README's listing the test's; the files,
-calls, definitions, tests and planted bugs that pages name must be there, the manual page have no fault, and each script
+calls, definitions, tests and planted bugs that pages name must be there, the manual pages have no fault, and each script
 answer --help. What is wrong is printed, and the status is then 1.
 
     scripts/try_pages.py
@@ -30,7 +30,7 @@ FILE = re.compile(r"(?:\.\./)?(?:crates|scripts|docs|examples|bench|attacks)/[\w
 
 def pages():
     """The pages, by name from the root."""
-    for path in ["README.md", "examples/README.md", *sorted(glob.glob("docs/*.*", root_dir=program.ROOT))]:
+    for path in ["README.md", "CHANGELOG.md", "examples/README.md", *sorted(glob.glob("docs/*.*", root_dir=program.ROOT))]:
         with open(os.path.join(program.ROOT, path), encoding="utf-8") as file:
             yield path, file.read()
 
@@ -183,9 +183,9 @@ def listing_fault(found):
     return [] if plain[0] == plain[1] else ["its listing isn't that of crates/pm_host_tests/src/driver.rt"]
 
 
-def manual_faults():
-    """What mandoc and man say of the manual page, each where it is there."""
-    path = os.path.join(program.ROOT, "docs/pmb.1")
+def manual_faults(page):
+    """What mandoc and man say of a manual page, each where it is there."""
+    path = os.path.join(program.ROOT, page)
     for words in ["mandoc", "-T", "lint", "-W", "warning", path], ["man", "--warnings", "-E", "UTF-8", "-l", "-Tutf8", path]:
         if shutil.which(words[0]):
             ran = subprocess.run(words, capture_output=True, text=True)
@@ -227,8 +227,8 @@ def main():
                 told += text_faults(shell, found)
             if name == "README.md":
                 told += [*listing_fault(found), *toolchain_faults(shell, found)]
-            if name == "docs/pmb.1":
-                told += manual_faults()
+            if name.endswith(".1"):
+                told += manual_faults(name)
             count += len(list(shown(found)))
             faults += [f"{name}: {fault}" for fault in told]
     print("\n".join([*faults, f"{count} commands run, {len(faults)} faults"]))
