@@ -5,8 +5,12 @@
 //! reads it back, a check reads one, a learn reads the format of an output's voltages, a clear clears
 //! its latched faults, a store copies the outputs' settings to the device's user store, a restore brings
 //! them back. It trusts no acknowledgement: a setting is confirmed by a good answer alone, and until
-//! then the host keeps the exact list of words that the setting may hold. Once it begins to send a
-//! restore, an output's setting may hold any word, until it is read again.
+//! then the host keeps the exact list of words that the setting may hold, as far as no restart of the
+//! device went unnoticed. Once it begins to send a restore, an output's setting may hold any word, until
+//! it is read again.
+//!
+//! What a host is asked for is a [`Job`], which [`Host::begin`] begins; a call for each kind of job does
+//! the same.
 //!
 //! It has no bus, no clock and no memory of its own: the caller sends the frames, and decides how long
 //! to wait for an answer. It reads no telemetry and no status, and selects no output by PAGE.
