@@ -14,6 +14,7 @@ mod commands;
 mod fault;
 mod format;
 mod laws;
+mod names;
 mod protection;
 mod reg;
 #[cfg(test)]
@@ -29,6 +30,7 @@ pub use format::format_of;
 pub use laws::{
     cells_are_told_apart, cells_have_places, payloads_are_short, registers_are_in_the_table,
 };
+pub use names::UnknownName;
 pub use protection::is_allowed;
 pub use reg::Reg;
 pub use vout_mode::VoutMode;
