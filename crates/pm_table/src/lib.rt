@@ -9,6 +9,7 @@
 
 mod address;
 mod cell;
+mod cells;
 mod coefficients;
 mod commands;
 mod fault;
@@ -23,6 +24,7 @@ mod vout_mode;
 
 pub use address::address_ok;
 pub use cell::{Cell, cell_of};
+pub use cells::Cells;
 pub use coefficients::Coefficients;
 pub use commands::{Attributes, Code, Info, known};
 pub use fault::TableFault;
