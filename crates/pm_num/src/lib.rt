@@ -6,6 +6,17 @@
 //! memory.
 //!
 //! IEEE half precision, VID and relative VOUT_MODE are not here.
+//!
+//! The word for a number of microvolts, 3300400 say, and what it stands for:
+//!
+//! ```
+//! fn nearest(microvolts: i64) -> Result<(u16, i128), NumFault> {
+//!     let coefficients = Direct::new(1, 0, 3)?; // a word for each millivolt
+//!     let volts = micro(microvolts)?; // N5 beyond 10^15
+//!     let word = coefficients.nearest(volts)?; // N3 below the least value, N4 above the greatest
+//!     Ok((word, coefficients.value_of(word).floor_micro()))
+//! }
+//! ```
 #![tactic(auto)]
 
 mod any_format;

@@ -5,6 +5,16 @@
 //!
 //! It holds no setting and reads no frame: `pm_frame` reads frames by these tables, and the
 //! converter and the host keep the cells. It takes no memory.
+//!
+//! A command by its name, and what an output's VOUT_MODE says:
+//!
+//! ```
+//! fn told(name: &str, mode: u8) -> Option<(Code, usize, VoutMode)> {
+//!     let code: Code = name.parse().ok()?; // VOUT_COMMAND is 21h
+//!     let mode = VoutMode::read(mode).ok()?; // 14h is ULINEAR16 with the exponent -12
+//!     Some((code, code.payload_length(), mode)) // a word of two bytes
+//! }
+//! ```
 #![tactic(auto)]
 
 mod address;
