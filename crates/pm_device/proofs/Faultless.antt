@@ -63,10 +63,12 @@ no-bad_mode from (start ∷ starts) all =
 any-gives : (Q : Type 0) (test : OutputStart → Bool) (starts : List OutputStart) → list_any test starts ≡ true →
     ((output : ℕ) → output < length starts → test (get_or starts output no_start) ≡ true → Q) → Q
 any-gives Q test [] e each = cc
-any-gives Q test (start ∷ starts) e each = go (test start) refl e where
-  go : (b : Bool) → test start ≡ b → (b || list_any test starts) ≡ true → Q
-  go true is h = each 0 (omega arith) is
-  go false is h = any-gives Q test starts h (λ output here. each (suc output) (omega (arith, here)))
+any-gives Q test (start ∷ starts) e each =
+    go (test start) refl e (λ rest. any-gives Q test starts rest (λ output here. each (suc output) (omega (arith, here))))
+  where
+    go : (b : Bool) → test start ≡ b → (b || list_any test starts) ≡ true → (list_any test starts ≡ true → Q) → Q
+    go true is h later = each 0 (omega arith) is
+    go false is h later = later h
 
 -- where a mode has a format it is read, and where it is DIRECT the coefficients are a format's
 made-read : (read : Result VoutMode TableFault) (c : Coefficients) (shape : Shape) →
@@ -82,7 +84,7 @@ made-read (Ok Direct) c shape e = (refl, λ h. go (shape_in Direct c) e) where
 -- an output among those that there are
 there : (count : ℕ) (starts : List OutputStart) (output : ℕ) → output < length (take count starts) → output < count
 there zero starts output here = here
-there (suc count) [] output here = cc
+there (suc count) [] output here = let none : output < 0 = here in omega (arith, none)
 there (suc count) (start ∷ starts) zero here = omega arith
 there (suc count) (start ∷ starts) (suc output) here =
     let below = there count starts output (omega (arith, here)) in omega (arith, below)

@@ -77,13 +77,23 @@ written-message exact addr bytes are none =
 -- a frame of the past is one of a longer past
 later-ever : (config : Config) (past : List Event) (event : Event) (cell : Cell) (word : ℕ) →
     WasEverCarried config past cell word → WasEverCarried config (event ∷ past) cell word
-later-ever config past event cell word h =
-    record h { later = event ∷ h.later; heard = ap (λ p. event ∷ p) h.heard; }
+later-ever config past event cell word h = record {
+  later = event ∷ h.later;
+  before = h.before;
+  bytes = h.bytes;
+  message = h.message;
+  heard = ap (λ p. event ∷ p) h.heard;
+  carries = h.carries;
+  taken = h.taken;
+  names = h.names;
+  number = h.number;
+}
 
 -- and where the cell didn't get its word in the store since, one since then
 later-carried : (config : Config) (past : List Event) (event : Event) (cell : Cell) (word : ℕ) →
     loads cell (outcome_of config (kept config past) event) ≡ false →
     WasCarried config past cell word → WasCarried config (event ∷ past) cell word
+unfolding later-ever
 later-carried config past event cell word unbroken h = record {
   frame = later-ever config past event cell word h.frame;
   since = (subst (λ p. loads cell (outcome_of config (kept config p) event) ≡ false) h.frame.heard unbroken, h.since);
@@ -116,17 +126,17 @@ carried-now exact config past bytes ending cell word (are, e) =
     put-names (message_code message) (output_in page message) (written_word message) word cell was.act_taken.asked in
     record {
       frame = record {
-      later = [];
-      before = past;
-      bytes = bytes;
-      message = message;
-      heard = ap (λ x. Hearing bytes x ∷ past) was.stopped;
-      carries = written-message exact config.addr bytes are was.faultless;
-      taken =
-          taken-now config past bytes (Put cell word)
-          (subst (λ x. verdict_of config words page bytes x ≡ Takes (Put cell word)) was.stopped e);
-      names = names.0;
-      number = names.1;
+        later = [];
+        before = past;
+        bytes = bytes;
+        message = message;
+        heard = ap (λ x. Hearing bytes x ∷ past) was.stopped;
+        carries = written-message exact config.addr bytes are was.faultless;
+        taken =
+            taken-now config past bytes (Put cell word)
+            (subst (λ x. verdict_of config words page bytes x ≡ Takes (Put cell word)) was.stopped e);
+        names = names.0;
+        number = names.1;
       };
       since = tt;
     }
