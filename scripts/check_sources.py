@@ -13,9 +13,11 @@ It prints a line for each finding, and has status 1 if there is one. With --plac
     registers  the registers are listed outside pm_table
     laws       a record of laws in proofs, where the law has a name in the definitions of its crate
     page       a refusal of a type isn't in docs/refusals.md, or one of the page or of a help is in no type
+    example    an example of a comment stands in no test, word for word
 
 Tests are left out.
 """
+import glob
 import os
 import re
 import sys
@@ -207,6 +209,29 @@ def page(src):
                         yield path, number, "page", "no type has %s %s" % refusal
 
 
+def stripped(text):
+    """A text's lines without the space around them."""
+    return "\n".join(line.strip() for line in text.split("\n"))
+
+
+def examples(crates):
+    """The examples of comments, each with its place."""
+    for crate in crates:
+        for path in sorted(glob.glob("crates/%s/src/**/*.rt" % crate, recursive=True)):
+            comment = re.sub(r"^ *//[/!] ?", "", read(path), flags=re.M)
+            for found in re.finditer(r"^```\n(.*?)^```$", comment, re.M | re.S):
+                yield path, comment[:found.start()].count("\n") + 2, found[1]
+
+
+def unrun(crates):
+    """The examples of comments that no test has."""
+    tests = ["crates/%s/src/**/*.rt" % it for it in crates_below() if it.endswith("_tests")] + ["crates/*/src/tests/*.rt"]
+    told = [stripped(read(path)) for it in tests for path in glob.glob(it, recursive=True)]
+    for path, number, text in examples(crates):
+        if not any(stripped(text) in test for test in told):
+            yield path, number, "example", text.split("\n")[0]
+
+
 def findings(crates):
     src = list(sources(crates, ["src"]))
     specs = list(sources(crates, ["specs"]))
@@ -224,6 +249,7 @@ def findings(crates):
             yield from registers(path, lines)
     for path, lines in proofs:
         yield from laws(path, lines)
+    yield from unrun(crates)
 
 
 def main():

@@ -26,7 +26,7 @@ use Rattle.pm_device.specs.Verdict.{written_word, output_in, act_in, verdict_of}
 use Rattle.pm_device.specs.Effect.{Event, Hearing, Restarted, Reading, Outcome, Heard, Restarts, outcome_of, Kept, kept_by}
 use Rattle.pm_device.specs.Status.{kept}
 use Rattle.pm_device.specs.Reply.{reply_to, reply_of}
-use Rattle.pm_device.specs.History.{now, AreHeard, WasCarried, loads, saves, loaded_word, stored_word}
+use Rattle.pm_device.specs.History.{now, AreHeard, IsEverHad, WasCarried, WasEverCarried, loads, saves, loaded_word, stored_word}
 use Rattle.pm_device.proofs.TakenActs.{verdict-taken}
 use Rattle.pm_device.proofs.Follow.{IsCount}
 use Rattle.pm_device.proofs.KeptLemmas.{AreFull, kept-full, kept-page, outcome-can}
@@ -74,22 +74,36 @@ written-message exact addr bytes are none =
     let some = exact.faultless addr bytes are none in
     subst (λ m. IsWrite addr m bytes) (sym (exact.places addr some.0 bytes some.1)) some.1
 
--- a frame of the past is one of a longer past, where the cell didn't get its word in the store since
-later-carried : (config : Config) (past : List Event) (event : Event) (cell : Cell) (word : ℕ) →
-    loads cell (outcome_of config (kept config past) event) ≡ false →
-    WasCarried config past cell word → WasCarried config (event ∷ past) cell word
-later-carried config past event cell word unbroken h = record {
+-- a frame of the past is one of a longer past
+later-ever : (config : Config) (past : List Event) (event : Event) (cell : Cell) (word : ℕ) →
+    WasEverCarried config past cell word → WasEverCarried config (event ∷ past) cell word
+later-ever config past event cell word h = record {
   later = event ∷ h.later;
   before = h.before;
   bytes = h.bytes;
   message = h.message;
   heard = ap (λ p. event ∷ p) h.heard;
-  since = (subst (λ p. loads cell (outcome_of config (kept config p) event) ≡ false) h.heard unbroken, h.since);
   carries = h.carries;
   taken = h.taken;
   names = h.names;
   number = h.number;
 }
+
+-- and where the cell didn't get its word in the store since, one since then
+later-carried : (config : Config) (past : List Event) (event : Event) (cell : Cell) (word : ℕ) →
+    loads cell (outcome_of config (kept config past) event) ≡ false →
+    WasCarried config past cell word → WasCarried config (event ∷ past) cell word
+unfolding later-ever
+later-carried config past event cell word unbroken h = record {
+  frame = later-ever config past event cell word h.frame;
+  since = (subst (λ p. loads cell (outcome_of config (kept config p) event) ≡ false) h.frame.heard unbroken, h.since);
+}
+
+-- what was ever had is so in a longer past
+later-had : (config : Config) (past : List Event) (event : Event) (cell : Cell) (word : ℕ) →
+    IsEverHad config past cell word → IsEverHad config (event ∷ past) cell word
+later-had config past event cell word (inl e) = inl e
+later-had config past event cell word (inr h) = inr (later-ever config past event cell word h)
 
 -- a frame that is taken is answered so
 taken-now : (config : Config) (past : List Event) (bytes : List ℕ) (act : Act) →
@@ -111,18 +125,20 @@ carried-now exact config past bytes ending cell word (are, e) =
     let names =
     put-names (message_code message) (output_in page message) (written_word message) word cell was.act_taken.asked in
     record {
-      later = [];
-      before = past;
-      bytes = bytes;
-      message = message;
-      heard = ap (λ x. Hearing bytes x ∷ past) was.stopped;
+      frame = record {
+        later = [];
+        before = past;
+        bytes = bytes;
+        message = message;
+        heard = ap (λ x. Hearing bytes x ∷ past) was.stopped;
+        carries = written-message exact config.addr bytes are was.faultless;
+        taken =
+            taken-now config past bytes (Put cell word)
+            (subst (λ x. verdict_of config words page bytes x ≡ Takes (Put cell word)) was.stopped e);
+        names = names.0;
+        number = names.1;
+      };
       since = tt;
-      carries = written-message exact config.addr bytes are was.faultless;
-      taken =
-          taken-now config past bytes (Put cell word)
-          (subst (λ x. verdict_of config words page bytes x ≡ Takes (Put cell word)) was.stopped e);
-      names = names.0;
-      number = names.1;
     }
 
 -- what is put by an event is carried by it
@@ -228,6 +244,46 @@ module _ (map : SettingsAreAMap) (told : CellsAreToldApart) where
       ⊎ WasCarried config past cell (word_at (now config past).words cell)
   unfolding now HasOrigin
   now-origin exact config past cell count heard here = kept-origin exact config past cell count heard here
+
+  -- each cell's word, and the one in the store, was ever had
+  kept-ever : WritesAreExact → (config : Config) (past : List Event) (cell : Cell) →
+      IsCount config → AreHeard past → IsCell config.count cell →
+      IsEverHad config past cell (word_at (kept config past).words cell)
+      × IsEverHad config past cell (word_at (kept config past).store cell)
+  unfolding kept
+  kept-ever exact config [] cell count heard here =
+      let start : IsEverHad config [] cell (word_at (start_words config) cell) =
+      inl (start-at config cell (cell-of_eight config.count cell count.few here)) in (start, start)
+  kept-ever exact config (event ∷ past) cell count heard here =
+      let before = kept config past in
+      let outcome = outcome_of config before event in
+      let facts : AreFull before × IsCell 8 cell = (kept-full map config past, cell-of_eight config.count cell count.few here) in
+      let both = kept-ever exact config past cell count (heard-before event past heard) here in
+      let words = later-had config past event cell (word_at before.words cell) both.0 in
+      let store = later-had config past event cell (word_at before.store cell) both.1 in (
+        outcome-word before outcome cell (IsEverHad config (event ∷ past) cell) facts
+            (λ other word e.
+            let can = outcome-can config before event (Put other word) e (kept-page config past count.some) in (
+              cell-of_eight config.count other count.few can.0,
+              λ same. inr (subst (λ c. WasEverCarried config (event ∷ past) c word) same
+                  (carried-event exact config past event other word heard e).frame),
+            ))
+            (λ unbroken. words) (λ loaded. store),
+        subst (IsEverHad config (event ∷ past) cell) (sym (outcome-stored before outcome cell facts))
+            (either (saves cell outcome) (word_at before.words cell) (word_at before.store cell) words store),
+      )
+    where
+      either : (b : Bool) (one two : ℕ) → IsEverHad config (event ∷ past) cell one →
+          IsEverHad config (event ∷ past) cell two → IsEverHad config (event ∷ past) cell (cond b one two)
+      either true one two h k = h
+      either false one two h k = k
+
+  pub now-ever : WritesAreExact → (config : Config) (past : List Event) (cell : Cell) →
+      IsCount config → AreHeard past → IsCell config.count cell →
+      IsEverHad config past cell (word_at (now config past).words cell)
+      × IsEverHad config past cell (word_at (now config past).store cell)
+  unfolding now
+  now-ever exact config past cell count heard here = kept-ever exact config past cell count heard here
 
   -- and so has its word in the store
   kept-stored : (config : Config) (past : List Event) (cell : Cell) → IsCell 8 cell →

@@ -37,7 +37,7 @@ row-at start Operation = refl
 row-at start _ = refl
 
 -- a start word of an output, also where there is no start
-word-of_start : (starts : List OutputStart) (output : ℕ) (register : Reg) →
+pub word-of_start : (starts : List OutputStart) (output : ℕ) (register : Reg) →
     get_or (map (register_start register) starts) output 0 ≡ register_start register (get_or starts output no_start)
 word-of_start starts output Operation = get_or-map (register_start Operation) starts output no_start
 word-of_start starts output register = get_or-map (register_start register) starts output no_start
@@ -151,7 +151,7 @@ unwrapped None x d e = cc
 unwrapped (Some s) x d e = refl
 
 -- the mode of an output is that of its start
-mode-of_start : (config : Config) (output : ℕ) → mode_for config output ≡ (get_or config.starts output no_start).mode
+pub mode-of_start : (config : Config) (output : ℕ) → mode_for config output ≡ (get_or config.starts output no_start).mode
 mode-of_start config output = get_or-map (λ (start : OutputStart). start.mode) config.starts output no_start
 
 -- the count, the address
@@ -163,7 +163,7 @@ addressed : (addr : ℕ) → (ltb addr 0x08 || ltb 0x77 addr) ≡ false → IsAd
 addressed addr e = (grind (arith, nat_tests, e), grind (arith, nat_tests, e))
 
 -- the start of an output that there is, among those that there are
-start-there : (config : Config) (output : ℕ) → output < config.count
+pub start-there : (config : Config) (output : ℕ) → output < config.count
     → get_or (outputs config) output no_start ≡ get_or config.starts output no_start
 start-there config output here = get_or-take config.count config.starts output no_start here
 

@@ -1,6 +1,6 @@
 -- A converter's past, newest event first, and what it holds after it; and what one event makes of
 -- what it holds, where the status bits are latched.
-use Rattle.std.specs.Prelude.{◌≡◌, ℕ, ◌<◌, ◌^◌, Bool, false, ◌||◌, true, ◌&&◌, if◌then◌else◌, List, [], ◌∷◌, ◌++◌, map, slice_set, Some}
+use Rattle.std.specs.Prelude.{◌≡◌, ◌⊎◌, ℕ, ◌<◌, ◌^◌, Bool, false, ◌||◌, true, ◌&&◌, if◌then◌else◌, List, [], ◌∷◌, ◌++◌, map, slice_set, Some}
 use Rattle.std.specs.List.{range_with_len}
 use Rattle.pm_table.specs.declared.cell.Cell.{Cell}
 use Rattle.pm_table.specs.declared.cell.Cell.TheVariants.{Out}
@@ -172,16 +172,24 @@ IsUnbroken config cell (event ∷ later) before =
     (loads cell (outcome_of config (kept config (later ++ before)) event) ≡ false)
     × IsUnbroken config cell later before
 
--- a frame that was taken, since the cell last got its word in the store, carried this word for this very
--- cell; where it named no page, its output is what PAGE was then
-pub record WasCarried (config : Config) (past : List Event) (cell : Cell) (word : ℕ) : Type 0 where
+-- a frame that was taken carried this word for this very cell; where it named no page, its output is what PAGE
+-- was then
+pub record WasEverCarried (config : Config) (past : List Event) (cell : Cell) (word : ℕ) : Type 0 where
   pub later : List Event
   pub before : List Event
   pub bytes : List ℕ
   pub message : Message
   pub heard : past ≡ later ++ Hearing bytes Stop ∷ before
-  pub since : IsUnbroken config cell later (Hearing bytes Stop ∷ before)
   pub carries : IsWrite config.addr message bytes
   pub taken : reply_of (now config before) bytes Stop ≡ Taken
   pub names : cell_at (message_code message) (output_in (now config before).page message) ≡ Some cell
   pub number : written_word message ≡ word
+
+-- such a frame was taken since the cell last got its word in the store
+pub record WasCarried (config : Config) (past : List Event) (cell : Cell) (word : ℕ) : Type 0 where
+  pub frame : WasEverCarried config past cell word
+  pub since : IsUnbroken config cell frame.later (Hearing frame.bytes Stop ∷ frame.before)
+
+-- a word is the one that the converter was made with, or one that a frame carried for this very cell
+abbrev pub IsEverHad : Config → List Event → Cell → ℕ → Type 0
+IsEverHad config past cell word = (word ≡ start_word config cell) ⊎ WasEverCarried config past cell word

@@ -25,12 +25,12 @@ use Rattle.pm_device.specs.declared.ending.Ending.{Ending}
 use Rattle.pm_device.specs.declared.ending.Ending.TheVariants.{Stop, Restart}
 use Rattle.pm_device.specs.declared.heard.Heard.TheVariants.{Silent, Taken, Answer, Refused}
 use Rattle.pm_device.specs.Held.{Held, no_faults, is_device_reading, is_output_reading, mode_for, reading_at, value_for}
-use Rattle.pm_device.specs.Start.{IsSound, has_direct}
+use Rattle.pm_device.specs.Start.{IsSound, config_fault, has_direct}
 use Rattle.pm_device.specs.Verdict.{is_answered, names_no_output, output_in, payload_word, verdict_of, write_verdict, written_word}
 use Rattle.pm_device.specs.Effect.{Event, Hearing, Reading, Restarted, kept_in, kept_after}
 use Rattle.pm_device.specs.Status.{CmlBit, fault_bit, with_bit, cml_at, cml_in, cut_at, vout_in, marked, status_byte, status_cml, status_vout, status_word}
 use Rattle.pm_device.specs.Reply.{payload_for, register_bytes, register_word, reply_of}
-use Rattle.pm_device.specs.History.{AreHeard, WasCarried, loaded_word, stored_word, next, now, start_of}
+use Rattle.pm_device.specs.History.{AreHeard, IsEverHad, WasCarried, loaded_word, stored_word, next, now, start_of}
 
 -- What a converter with 1 to 8 outputs holds after any past is what one event after another makes of
 -- its start (`none`, `more`), so the status bits that are latched are those that are found by looking
@@ -54,10 +54,15 @@ pub record PastsAreFollowed : Type 0 where
   pub words : (config : Config) (past : List Event) → AreWords (now config past).words
   pub store : (config : Config) (past : List Event) → AreWords (now config past).store
 
+-- a configuration is sound exactly where it has no fault, so a converter is made of each sound one
+abbrev pub SoundConfigurationsHaveNoFault : Type 0
+SoundConfigurationsHaveNoFault = (config : Config) → IsSound config ↔ (config_fault config ≡ None)
+
 -- Over any past each cell's word is the one that it was last loaded with, at a restart or by
 -- RESTORE_USER_ALL, or at the start, or one that a frame which was taken since carried for that very cell
 -- (`origin`). Its word in the store is the one that it had at the last STORE_USER_ALL, or its start word
--- (`stored`). Both are words that the cell accepts (`accepted`, `stored_accepted`).
+-- (`stored`). Both are the cell's start word or one that a frame which was taken carried for that very cell
+-- (`ever`, `stored_ever`), and words that the cell accepts (`accepted`, `stored_accepted`).
 pub record WordsHaveAnOrigin : Type 0 where
   pub origin : (config : Config) (past : List Event) (cell : Cell) →
       1 ≤ config.count → config.count ≤ 8 → AreHeard past → IsCell config.count cell →
@@ -66,6 +71,12 @@ pub record WordsHaveAnOrigin : Type 0 where
   pub stored : (config : Config) (past : List Event) (cell : Cell) →
       1 ≤ config.count → config.count ≤ 8 → IsCell config.count cell →
       word_at (now config past).store cell ≡ stored_word config past cell
+  pub ever : (config : Config) (past : List Event) (cell : Cell) →
+      1 ≤ config.count → config.count ≤ 8 → AreHeard past → IsCell config.count cell →
+      IsEverHad config past cell (word_at (now config past).words cell)
+  pub stored_ever : (config : Config) (past : List Event) (cell : Cell) →
+      1 ≤ config.count → config.count ≤ 8 → AreHeard past → IsCell config.count cell →
+      IsEverHad config past cell (word_at (now config past).store cell)
   pub accepted : (config : Config) (past : List Event) (cell : Cell) →
       IsSound config → IsCell config.count cell →
       cell_accepts cell (word_at (now config past).words cell) ≡ true

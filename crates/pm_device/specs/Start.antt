@@ -137,12 +137,13 @@ AreFormats config formats = (output : ℕ) → output < 8 →
     shape_of (slice_index_or formats output Linear11) ≡ shape_for config output
 
 -- What a converter keeps true of what it keeps: its formats are those of its configuration, which is
--- sound, its settings and its store are those of as many outputs, PAGE names an output that exists, and
--- there is a latch for each place for an output.
-pub record IsKept (config : Config) (formats : List AnyFormat) (count stored page : ℕ) (cut : List Bool) : Type 0 where
+-- sound, its settings and its store are those of as many outputs, the store has WRITE_PROTECT's start word,
+-- PAGE names an output that exists, and there is a latch for each place for an output.
+pub record IsKept (config : Config) (formats : List AnyFormat) (count stored protect page : ℕ) (cut : List Bool) : Type 0 where
   pub sound : IsSound config
   pub shapes : AreFormats config formats
   pub counted : count ≡ config.count
   pub store : stored ≡ config.count
+  pub protection : protect ≡ config.protect
   pub selected : page < config.count
   pub latches : length cut ≡ 8

@@ -55,6 +55,8 @@ impl Model for Converter {
 
     ghost Value = { Held };
 
+    ghost use Rattle.pm_table.specs.declared.cell.Cell.TheVariants.{Protect};
+    ghost use Rattle.pm_model.specs.Settings.{word_at};
     ghost use Rattle.pm_device.specs.Start.{IsKept};
 
     ghost view = { λ c. record {
@@ -67,8 +69,8 @@ impl Model for Converter {
       faults = c.faults;
     } };
 
-    ghost invariant = { λ c. IsKept c.config c.formats.each c.settings.count c.store.count c.page
-        c.cut };
+    ghost invariant = { λ c. IsKept c.config c.formats.each c.settings.count c.store.count
+        (word_at c.store.words Protect) c.page c.cut };
 }
 
 impl Converter {
@@ -108,6 +110,7 @@ impl Converter {
     pub fn restart(&mut self)
         ensures after { self.new ≡ next self.old Restarted }
         ensures config { self.new.config ≡ self.old.config }
+        ensures protect { word_at self.new.words Cell.Protect ≡ self.old.config.protect }
     {
         self.settings = self.store.copied();
         self.page = 0;

@@ -2,7 +2,7 @@
 //! each is the contract of a function that does nothing, or calls laws of the crates below. A past
 //! is a list of events, newest first. What each says in full stands in `specs/Laws.antt`.
 
-ghost use Rattle.pm_device.specs.Laws.{DeviceCodesIgnorePages, LatchesStay, PastsAreFollowed, ReadsAreAnswered, RefusalsSetOneBit, RegistersSayWhatCallsSay, RepliesFollowEndings, UnknownCodesAreRefused, WordsHaveAnOrigin, WritesReachOneCell};
+ghost use Rattle.pm_device.specs.Laws.{DeviceCodesIgnorePages, LatchesStay, PastsAreFollowed, ReadsAreAnswered, RefusalsSetOneBit, RegistersSayWhatCallsSay, RepliesFollowEndings, SoundConfigurationsHaveNoFault, UnknownCodesAreRefused, WordsHaveAnOrigin, WritesReachOneCell};
 
 use pm_frame::{requests_are_exact, writes_are_exact};
 use pm_model::{outputs_stand_alone, settings_are_a_map};
@@ -20,10 +20,17 @@ pub fn pasts_are_followed()
     outputs_stand_alone();
 }
 
+/// A configuration is sound exactly where it has no fault, so [`Converter::new`](crate::Converter::new)
+/// makes a converter of each sound one.
+pub fn sound_configurations_have_no_fault()
+    ensures { SoundConfigurationsHaveNoFault }
+{}
+
 /// Over any list of hearings, restarts and readings, each cell's word is the one that it last got from
 /// the store, at a restart or by RESTORE_USER_ALL, or at the start, or one that a frame which was taken
 /// since carried for that very cell. Its word in the store is the one that it had at the last
-/// STORE_USER_ALL, or its start word. Both are words that the cell accepts.
+/// STORE_USER_ALL, or its start word. So both are the cell's start word or one that a frame which was
+/// taken carried for that very cell, and both are words that the cell accepts.
 pub fn words_have_an_origin()
     ensures { WordsHaveAnOrigin }
 {

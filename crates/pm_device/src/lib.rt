@@ -66,7 +66,8 @@ pub use heard::Heard;
 pub use laws::{
     device_codes_ignore_pages, latches_stay, pasts_are_followed, reads_are_answered,
     refusals_set_one_bit, registers_say_what_calls_say, replies_follow_endings,
-    unknown_codes_are_refused, words_have_an_origin, writes_reach_one_cell,
+    sound_configurations_have_no_fault, unknown_codes_are_refused, words_have_an_origin,
+    writes_reach_one_cell,
 };
 pub use output_start::OutputStart;
 pub use status_bits::{StatusByte, StatusCml, StatusVout, StatusWord};

@@ -1,6 +1,8 @@
 //! The settings as they start, by a configuration.
 
 ghost use Rattle.std.specs.Prelude.{◌≡◌, ◌<◌, ℕ, [], slice_index_or};
+ghost use Rattle.pm_table.specs.declared.cell.Cell.TheVariants.{Protect};
+ghost use Rattle.pm_model.specs.Settings.{word_at};
 ghost use Rattle.pm_device.specs.Start.{IsSound, no_start, start_row, start_words};
 
 use crate::config::Config;
@@ -13,6 +15,7 @@ pub(crate) fn start_settings(config: &Config) -> Plain
     requires { IsSound config.now }
     ensures count { result.count ≡ config.now.count }
     ensures words { result.words ≡ start_words config.now }
+    ensures protection { word_at result.words Protect ≡ config.now.protect }
 {
     // No other words give each cell its start word.
     settings_are_a_map();

@@ -11,6 +11,21 @@
 //!
 //! It keeps no state, knows no setting and takes no memory. What a write does is the converter's
 //! affair.
+//!
+//! An order of 3.3 V for output 0 of the device at 58h, written and read again:
+//!
+//! ```
+//! fn taken() -> Result<Message, FrameFault> {
+//!     let written = Message::PagePlusWrite {
+//!         page: 0,
+//!         code: 0x21,
+//!         payload: Payload::Word(0x34CD),
+//!     };
+//!     let bytes = write_part(0x58, &written); // B0 05 04 00 21 CD 34 5A
+//!     let view = read_write(0x58, bytes.as_slice())?; // F5 where one of its bits changed
+//!     Ok(view.message()) // what was written
+//! }
+//! ```
 #![tactic(auto)]
 
 mod betrayal;

@@ -7,6 +7,8 @@ mod calls;
 #[cfg(test)]
 mod checks;
 #[cfg(test)]
+mod example;
+#[cfg(test)]
 mod fault_texts;
 #[cfg(test)]
 mod faulty_reads;

@@ -1,7 +1,7 @@
 -- In a run of the order machine each cell has its start word, or one that was accepted for it; so has the
 -- store.
 use Rattle.std.proofs.Common.{◌≡◌, inl, inr, ℕ, ◌≤◌, Bool, true, false, cond, List, [], ◌∷◌, Option, Some, None, refl, sym}
-use Rattle.std.proofs.Common.{subst, arith}
+use Rattle.std.proofs.Common.{◌∙◌, subst, arith}
 use Rattle.std.specs.List.{Contains}
 use Rattle.std.proofs.lemmas.List.Elements.{Contains-append_left, Contains-append_right, Contains-push}
 use Rattle.pm_table.specs.declared.cell.Cell.{Cell}
@@ -157,3 +157,23 @@ module _ (told : CellsAreToldApart) (map : SettingsAreAMap) (start : Settings) (
   pub machine-stored : (steps : List Step) (cell : Cell) → IsRun start steps → IsCell start.count cell →
       IsOwnWord start steps cell (word_at (machine_of start steps).store cell)
   machine-stored steps cell run here = (machine-are steps run).1.each cell here
+
+  -- WRITE_PROTECT has its start word in the store: no job that takes gives it another
+  pub machine-protection : (steps : List Step) → IsRun start steps →
+      word_at (machine_of start steps).store Protect ≡ word_at start.words Protect
+  unfolding machine_of
+  machine-protection [] run = refl
+  machine-protection (Accept job ∷ steps) (may, run) = machine-protection steps run
+  machine-protection (Take ∷ steps) (may, run) =
+      took (machine_of start steps).pending (machine-are steps run).0.full (machine-protection steps run)
+    where
+      took : (pending : Option PendingJob) → AreWords (machine_of start steps).words →
+          word_at (machine_of start steps).store Protect ≡ word_at start.words Protect →
+          word_at (store_taken (machine_of start steps).words (machine_of start steps).store pending) Protect
+          ≡ word_at start.words Protect
+      took (Some Store) whole same = map.protect (machine_of start steps).store (machine_of start steps).words whole ∙ same
+      took None whole same = same
+      took (Some (Order cell word)) whole same = same
+      took (Some Restore) whole same = same
+  machine-protection (End ∷ steps) (may, run) = machine-protection steps run
+  machine-protection (Back ∷ steps) (may, run) = machine-protection steps run

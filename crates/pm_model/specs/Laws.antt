@@ -58,7 +58,8 @@ pub record CommandsAreLimited : Type 0 where
 
 -- in a run of the order machine, which starts with a word for each cell of at most eight outputs,
 -- each cell that there is has its start word or one that was accepted for that very cell, and so has the
--- store; a pending job is one that was accepted, and the start stays what it was
+-- store, where WRITE_PROTECT keeps its start word; a pending job is one that was accepted, and the start
+-- stays what it was
 pub record OrdersStayInTheirCells : Type 0 where
   pub own : (start : Settings) (steps : List Step) (cell : Cell) →
       start.count ≤ 8 → AreWords start.words → IsRun start steps → IsCell start.count cell →
@@ -66,6 +67,9 @@ pub record OrdersStayInTheirCells : Type 0 where
   pub stored : (start : Settings) (steps : List Step) (cell : Cell) →
       start.count ≤ 8 → AreWords start.words → IsRun start steps → IsCell start.count cell →
       IsOwnWord start steps cell (word_at (machine_of start steps).store cell)
+  pub protection : (start : Settings) (steps : List Step) →
+      start.count ≤ 8 → AreWords start.words → IsRun start steps →
+      word_at (machine_of start steps).store Protect ≡ word_at start.words Protect
   pub pending : (start : Settings) (steps : List Step) → IsRun start steps →
       IsAccepted start steps (machine_of start steps).pending
   pub start : (start : Settings) (steps : List Step) →

@@ -37,8 +37,8 @@ pub fn commands_are_limited()
 
 /// In each run of the order machine, which starts with a word for each cell of at most eight outputs,
 /// each cell that there is has its start word or one that was accepted for that very cell (`own`), and so
-/// has the store (`stored`); a pending job is one that was accepted (`pending`), and the start stays what
-/// it was (`start`).
+/// has the store (`stored`), where WRITE_PROTECT keeps its start word (`protection`); a pending job is one
+/// that was accepted (`pending`), and the start stays what it was (`start`).
 pub fn orders_stay_in_their_cells()
     ensures { OrdersStayInTheirCells }
 {

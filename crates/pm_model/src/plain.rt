@@ -139,11 +139,15 @@ impl Plain {
     #[tactic(auto, unfolding(crate::specs::Settings::with_outputs))]
     pub fn take_outputs(&mut self, others: &Plain)
         requires { others.now.count ≡ self.old.count }
-        ensures { self.new ≡ record {
+        ensures taken { self.new ≡ record {
           count = self.old.count;
           words = spec_with_outputs self.old.words others.now.words;
         } }
+        ensures protection { word_at self.new.words Cell.Protect ≡ word_at self.old.words Cell.Protect }
     {
+        // Hands a law to the prover, and that each cell has a word in the others.
+        settings_are_a_map();
+        let _count = others.count();
         let protect = self.get(Cell::Protect);
         self.words = others.words;
         self.put(Cell::Protect, protect);

@@ -1,16 +1,16 @@
 -- What the laws of this crate say, each by a name that a crate above takes it by. They hold of
 -- fractions, faults and formats of any size.
-use Rattle.std.specs.Prelude.{◌≡◌, ◌≢◌, ◌↔◌, ℕ, ℤ, Some}
+use Rattle.std.specs.Prelude.{◌≡◌, ◌≢◌, ◌↔◌, ◌<◌, ◌^◌, ℕ, ℤ, Some}
 use Rattle.pm_num.specs.declared.any_format.AnyFormat.TheVariants as any
 use Rattle.pm_num.specs.declared.direct.Direct.{Direct}
 use Rattle.pm_num.specs.declared.fault.NumFault.{NumFault}
 use Rattle.pm_num.specs.declared.fault.NumFault.TheVariants.{BelowLeast, AboveGreatest}
 use Rattle.pm_num.specs.declared.ulinear16.Ulinear16.{Ulinear16}
 use Rattle.pm_num.specs.AnyFormat.{InUlinear16, InDirect, shape_of}
-use Rattle.pm_num.specs.Nearest.{IsNearest, IsOutside}
+use Rattle.pm_num.specs.Nearest.{IsNearest, IsOutside, Near}
 use Rattle.pm_num.specs.NearestWord.{nearest_word}
 use Rattle.pm_num.specs.Parameters.{HasExponent, HasCoefficients}
-use Rattle.pm_num.specs.Ratio.{Ratio, LessThan}
+use Rattle.pm_num.specs.Ratio.{Ratio, AtMost, LessThan, SameValue}
 
 -- N3 is a number strictly below the least value, N4 one strictly above the greatest, and no other
 -- fault says that a number lies outside
@@ -34,3 +34,16 @@ pub record ParametersAreTheShape : Type 0 where
 abbrev pub FoundWordsAreNearest : Type 0
 FoundWordsAreNearest = (value : ℕ → Ratio) (rank : ℕ → ℕ) (x : Ratio) (w : ℕ) →
     nearest_word value rank x ≡ Some w → IsNearest value rank x w
+
+-- what the nearest words of a format are
+pub record NearestWordsHold (value : ℕ → Ratio) (rank : ℕ → ℕ) : Type 0 where
+  -- the word for a word's value has that same value
+  pub same : (u w : ℕ) → u < 2 ^ 16 → IsNearest value rank (value u) w → SameValue (value w) (value u)
+  -- no word is nearer than the one for x
+  pub none_nearer : (x : Ratio) (u w : ℕ) → u < 2 ^ 16 → IsNearest value rank x w →
+      Near x (value w) (value u)
+  -- of two words that are equally near it is the lower value
+  pub tie : (x : Ratio) (u w : ℕ) → u < 2 ^ 16 → IsNearest value rank x w → Near x (value u) (value w) →
+      AtMost (value w) (value u)
+  -- it is the one that is found among all words
+  pub found : (x : Ratio) (w : ℕ) → IsNearest value rank x w → nearest_word value rank x ≡ Some w

@@ -13,7 +13,7 @@ use crate::ulinear16::Ulinear16;
 use std::cmp::Ordering;
 
 /// One of the three numeric formats, chosen at run time.
-#[derive(Clone, Copy, Debug)]
+#[derive(Clone, Copy, Debug, PartialEq, Eq, Hash)]
 pub enum AnyFormat {
     /// LINEAR11, whose exponent stands in the word.
     Linear11,
@@ -37,8 +37,7 @@ impl AnyFormat {
 
 impl NumFormat for AnyFormat {
     ghost use Rattle.pm_num.specs.AnyFormat.{any_value, any_rank, any_lowest, any_highest};
-    ghost use Rattle.pm_num.specs.Lemmas.OneWord.{same_from_nearest, one_from_nearest};
-    ghost use Rattle.pm_num.specs.Lemmas.Found.{nearest_word-found};
+    ghost use Rattle.pm_num.specs.Lemmas.OneWord.{one_from_nearest};
     ghost use Rattle.pm_num.specs.Lemmas.Any.{any-has_den, any-within, any-least_met, any-greatest_met, any-one_word};
 
     ghost value = { any_value };
@@ -57,19 +56,8 @@ impl NumFormat for AnyFormat {
 
     ghost greatest_met = { any-greatest_met };
 
-    ghost same = { λ f u w h nearest.
-        same_from_nearest (any_value f) (any_rank f) u w (any-has_den f u h) h nearest };
-
-    ghost none_nearer = { λ f x u w h nearest. nearest.nearest u h };
-
-    ghost tie = { λ f x u w h nearest near. nearest.lowest u h near };
-
     ghost one = { λ f x u w h k.
         one_from_nearest (any_value f) (any_rank f) (any-one_word f) x u w h k };
-
-    ghost found = { λ f x w h.
-        nearest_word-found (any_value f) (any_rank f) x w
-        (one_from_nearest (any_value f) (any_rank f) (any-one_word f) x) h };
 
     fn least(&self) -> Frac {
         match self {

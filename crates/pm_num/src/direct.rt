@@ -6,8 +6,7 @@ ghost use Rattle.pm_num.specs.Nearest.{one_rank};
 ghost use Rattle.pm_num.specs.Steps.{direct_spacing};
 ghost use Rattle.pm_num.specs.Formats.{IsDecimal};
 ghost use Rattle.pm_num.specs.declared.fault.NumFault.TheVariants.{ZeroSlope, ExponentRange};
-ghost use Rattle.pm_num.specs.Lemmas.Found.{nearest_word-found};
-ghost use Rattle.pm_num.specs.Lemmas.OneWord.{same_from_nearest, one_from_nearest};
+ghost use Rattle.pm_num.specs.Lemmas.OneWord.{one_from_nearest};
 ghost use Rattle.pm_num.specs.Lemmas.Slope.{direct-has_den, direct-within, direct-one_word, direct-least_met, direct-greatest_met};
 
 use crate::fault::NumFault;
@@ -28,7 +27,7 @@ const LARGEST: u16 = 0x7FFF;
 /// where the coefficients `m`, `b` and `R` come from COEFFICIENTS.
 ///
 /// `m` is not 0 and `R` is from -12 to 12, which is this project's own choice.
-#[derive(Clone, Copy, Debug)]
+#[derive(Clone, Copy, Debug, PartialEq, Eq, Hash)]
 pub struct Direct {
     /// The slope.
     m: i16,
@@ -142,21 +141,9 @@ impl NumFormat for Direct {
 
     ghost greatest_met = { λ f. direct-greatest_met f.m f.b f.r };
 
-    ghost same = { λ f u w h nearest.
-        same_from_nearest (direct_value f.m f.b f.r) one_rank u w
-        (direct-has_den f.m f.b f.r u f.slope) h nearest };
-
-    ghost none_nearer = { λ f x u w h nearest. nearest.nearest u h };
-
-    ghost tie = { λ f x u w h nearest near. nearest.lowest u h near };
-
     ghost one = { λ f x u w h k.
         one_from_nearest (direct_value f.m f.b f.r) one_rank
         (direct-one_word f.m f.b f.r f.slope) x u w h k };
-
-    ghost found = { λ f x w h.
-        nearest_word-found (direct_value f.m f.b f.r) one_rank x w
-        (one_from_nearest (direct_value f.m f.b f.r) one_rank (direct-one_word f.m f.b f.r f.slope) x) h };
 
     fn least(&self) -> Frac {
         self.value_of(if self.m < 0 { LARGEST } else { SMALLEST })

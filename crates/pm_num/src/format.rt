@@ -6,6 +6,7 @@ ghost use Rattle.pm_num.specs.NearestWord.{nearest_word};
 
 use crate::fault::NumFault;
 use crate::frac::Frac;
+use crate::laws::nearest_words_hold;
 use crate::num_format::NumFormat;
 use std::cmp::Ordering;
 
@@ -18,6 +19,8 @@ pub fn canonical<F: NumFormat>(format: &F, word: u16) -> u16
     ensures only { let values = F.value format.now in
         (w : ℕ) → IsNearest values (F.rank format.now) (values word) w → w ≡ result }
 {
+    // Hands its law to the prover.
+    nearest_words_hold(format);
     match format.nearest(format.value_of(word)) {
         Ok(canonical) => canonical,
         Err(_) => unreachable!(),

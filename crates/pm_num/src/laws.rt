@@ -1,7 +1,9 @@
 //! Laws over the definitions alone: each is the contract of a function with an empty body, and what
 //! it says stands in the definitions, under its name.
 
-ghost use Rattle.pm_num.specs.Laws.{RefusalsTellTheSide, ParametersAreTheShape, FoundWordsAreNearest};
+ghost use Rattle.pm_num.specs.Laws.{RefusalsTellTheSide, ParametersAreTheShape, FoundWordsAreNearest, NearestWordsHold};
+
+use crate::num_format::NumFormat;
 
 /// What a refusal of `NumFormat::nearest` says: N3 that the number lies strictly below the least
 /// value, N4 strictly above the greatest, and no other fault is one.
@@ -15,7 +17,14 @@ pub fn parameters_are_the_shape()
 {}
 
 /// The word that is sought among all words for a fraction is its nearest word, whatever the words
-/// stand for. Where there is one such word, a format finds it: that is a law of `NumFormat`.
+/// stand for. Where there is one such word, a format finds it: `nearest_words_hold` says so.
 pub fn found_words_are_nearest()
     ensures { FoundWordsAreNearest }
+{}
+
+/// What the nearest words of every format are: the word for a word's value has that same value; no
+/// word is nearer than the one for a fraction, and of two that are equally near it has the lower
+/// value; and it is the one that is found among all words.
+pub fn nearest_words_hold<F: NumFormat>(format: &F)
+    ensures { NearestWordsHold (F.value format.now) (F.rank format.now) }
 {}

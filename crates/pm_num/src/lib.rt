@@ -6,6 +6,17 @@
 //! memory.
 //!
 //! IEEE half precision, VID and relative VOUT_MODE are not here.
+//!
+//! The word for a number of microvolts, 3300400 say, and what it stands for:
+//!
+//! ```
+//! fn nearest(microvolts: i64) -> Result<(u16, i128), NumFault> {
+//!     let coefficients = Direct::new(1, 0, 3)?; // a word for each millivolt
+//!     let volts = micro(microvolts)?; // N5 beyond 10^15
+//!     let word = coefficients.nearest(volts)?; // N3 below the least value, N4 above the greatest
+//!     Ok((word, coefficients.value_of(word).floor_micro()))
+//! }
+//! ```
 #![tactic(auto)]
 
 mod any_format;
@@ -28,7 +39,9 @@ pub use direct::Direct;
 pub use fault::NumFault;
 pub use format::canonical;
 pub use frac::{Frac, micro};
-pub use laws::{found_words_are_nearest, parameters_are_the_shape, refusals_tell_the_side};
+pub use laws::{
+    found_words_are_nearest, nearest_words_hold, parameters_are_the_shape, refusals_tell_the_side,
+};
 pub use linear11::Linear11;
 pub use num_format::NumFormat;
 pub use ulinear16::Ulinear16;

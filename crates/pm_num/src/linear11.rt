@@ -6,8 +6,7 @@ ghost use Rattle.pm_num.specs.Value.{upper, exponent, mantissa, linear11_value, 
 ghost use Rattle.pm_num.specs.Nearest.{linear11_rank};
 ghost use Rattle.pm_num.specs.Formats.{IsExponent};
 ghost use Rattle.pm_num.specs.Steps.{IsRounded, IsSpelling, IsFar, IsLarge, IsPreferred, IsPlaceFor};
-ghost use Rattle.pm_num.specs.Lemmas.Found.{nearest_word-found};
-ghost use Rattle.pm_num.specs.Lemmas.OneWord.{same_from_nearest, one_from_nearest};
+ghost use Rattle.pm_num.specs.Lemmas.OneWord.{one_from_nearest};
 ghost use Rattle.pm_num.specs.Lemmas.Unsigned.{lower-positive};
 ghost use Rattle.pm_num.specs.Lemmas.Spelling.{linear11-within, linear11-one_word};
 ghost use Rattle.std.proofs.Common.{refl, lit<};
@@ -21,7 +20,7 @@ use crate::whole::{product, rounded};
 
 /// LINEAR11 of PMBus 1.3 Part II: a word stands for `Y * 2^N`, with the exponent `N` in bits 15:11
 /// and the mantissa `Y` in bits 10:0, both in two's complement.
-#[derive(Clone, Copy, Debug)]
+#[derive(Clone, Copy, Debug, PartialEq, Eq, Hash)]
 pub struct Linear11;
 
 // The word of the least value, -1024 * 2^15.
@@ -57,20 +56,8 @@ impl NumFormat for Linear11 {
 
     ghost greatest_met = { λ f. (linear11_greatest, lit< tt, refl) };
 
-    ghost same = { λ f u w h nearest.
-        same_from_nearest linear11_value linear11_rank u w
-        (lower-positive (exponent u)) h nearest };
-
-    ghost none_nearer = { λ f x u w h nearest. nearest.nearest u h };
-
-    ghost tie = { λ f x u w h nearest near. nearest.lowest u h near };
-
     ghost one = { λ f x u w h k.
         one_from_nearest linear11_value linear11_rank linear11-one_word x u w h k };
-
-    ghost found = { λ f x w h.
-        nearest_word-found linear11_value linear11_rank x w
-        (one_from_nearest linear11_value linear11_rank linear11-one_word x) h };
 
     fn least(&self) -> Frac {
         self.value_of(LEAST)

@@ -1,7 +1,6 @@
-ghost use Rattle.std.specs.Prelude.{◌≡◌, ℕ, ◌^◌, ◌<◌, ◌↔◌, IsOk, IfOk, IfErr, Some};
-ghost use Rattle.pm_num.specs.Ratio.{Ratio, AtMost, SameValue, IsBetween};
-ghost use Rattle.pm_num.specs.Nearest.{IsNearest, IsOutside, IsValue, Near};
-ghost use Rattle.pm_num.specs.NearestWord.{nearest_word};
+ghost use Rattle.std.specs.Prelude.{◌≡◌, ℕ, ◌^◌, ◌<◌, ◌↔◌, IsOk, IfOk, IfErr};
+ghost use Rattle.pm_num.specs.Ratio.{Ratio, IsBetween};
+ghost use Rattle.pm_num.specs.Nearest.{IsNearest, IsOutside, IsValue};
 
 use crate::fault::NumFault;
 use crate::frac::Frac;
@@ -11,7 +10,8 @@ use crate::frac::Frac;
 ///
 /// The encoding is this project's own: the word of the nearest value; of two values that are
 /// equally near, the lower; of several words with that value, the one whose exponent is nearest to
-/// 0, and of two such the negative one.
+/// 0, and of two such the negative one. What follows for each format from these clauses is
+/// [`nearest_words_hold`](crate::nearest_words_hold).
 pub trait NumFormat {
     // What a word stands for.
     ghost value: { Self → ℕ → Ratio };
@@ -56,24 +56,7 @@ pub trait NumFormat {
 
     ghost greatest_met: { (f : Self) → IsValue (value f) (highest f) };
 
-    // The word for a word's value has that same value.
-    ghost same: { (f : Self) (u w : ℕ) → u < 2 ^ 16 →
-        IsNearest (value f) (rank f) (value f u) w → SameValue (value f w) (value f u) };
-
-    // No word is nearer than the one for x.
-    ghost none_nearer: { (f : Self) (x : Ratio) (u w : ℕ) → u < 2 ^ 16 →
-        IsNearest (value f) (rank f) x w → Near x (value f w) (value f u) };
-
-    // The tie rule: no word that is as near has a lower value.
-    ghost tie: { (f : Self) (x : Ratio) (u w : ℕ) → u < 2 ^ 16 →
-        IsNearest (value f) (rank f) x w → Near x (value f u) (value f w) →
-        AtMost (value f w) (value f u) };
-
     // There is one word for x at most.
     ghost one: { (f : Self) (x : Ratio) (u w : ℕ) →
         IsNearest (value f) (rank f) x u → IsNearest (value f) (rank f) x w → u ≡ w };
-
-    // It is the one that is found among all.
-    ghost found: { (f : Self) (x : Ratio) (w : ℕ) →
-        IsNearest (value f) (rank f) x w → nearest_word (value f) (rank f) x ≡ Some w };
 }

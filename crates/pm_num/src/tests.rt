@@ -1,5 +1,6 @@
 //! The formats at known words and numbers.
 
+mod example;
 mod search;
 
 use super::*;

@@ -5,8 +5,7 @@ ghost use Rattle.pm_num.specs.Value.{upper, lower, ulinear16_value};
 ghost use Rattle.pm_num.specs.Nearest.{one_rank};
 ghost use Rattle.pm_num.specs.Ratio.{is_above};
 ghost use Rattle.pm_num.specs.Formats.{IsExponent};
-ghost use Rattle.pm_num.specs.Lemmas.Found.{nearest_word-found};
-ghost use Rattle.pm_num.specs.Lemmas.OneWord.{same_from_nearest, one_from_nearest};
+ghost use Rattle.pm_num.specs.Lemmas.OneWord.{one_from_nearest};
 ghost use Rattle.pm_num.specs.Lemmas.Unsigned.{lower-positive, ulinear16-within, ulinear16-one_word};
 ghost use Rattle.std.proofs.Common.{refl, lit<};
 
@@ -20,7 +19,7 @@ use crate::whole::product;
 
 /// ULINEAR16 of PMBus 1.3 Part II: a word `V`, unsigned, stands for `V * 2^N`, where the exponent
 /// `N` comes from VOUT_MODE.
-#[derive(Clone, Copy, Debug)]
+#[derive(Clone, Copy, Debug, PartialEq, Eq, Hash)]
 pub struct Ulinear16 {
     /// The exponent.
     n: i8,
@@ -84,19 +83,8 @@ impl NumFormat for Ulinear16 {
 
     ghost greatest_met = { λ f. (65535, lit< tt, refl) };
 
-    ghost same = { λ f u w h nearest.
-        same_from_nearest (ulinear16_value f.n) one_rank u w (lower-positive f.n) h nearest };
-
-    ghost none_nearer = { λ f x u w h nearest. nearest.nearest u h };
-
-    ghost tie = { λ f x u w h nearest near. nearest.lowest u h near };
-
     ghost one = { λ f x u w h k.
         one_from_nearest (ulinear16_value f.n) one_rank (ulinear16-one_word f.n) x u w h k };
-
-    ghost found = { λ f x w h.
-        nearest_word-found (ulinear16_value f.n) one_rank x w
-        (one_from_nearest (ulinear16_value f.n) one_rank (ulinear16-one_word f.n) x) h };
 
     fn least(&self) -> Frac {
         self.value_of(0)

@@ -1,7 +1,8 @@
 -- The cells: the settings of a power converter that hold a word. An output has one for each of its
 -- registers, and WRITE_PROTECT is the device's. The list of registers stands here alone: every other
 -- question on them asks it, or their line of the command table.
-use Rattle.std.specs.Prelude.{ℕ, ◌+◌, ◌*◌, ◌/◌, ◌%◌, ◌<◌, nat_lt, Bool, true, false, ◌&&◌, ◌||◌, List, [], ◌∷◌, length, find, position, slice_index_or, unwrap_or, Option, Some, if◌then◌else◌, ◌==◌}
+use Rattle.std.specs.Prelude.{ℕ, ◌+◌, ◌-◌, ◌*◌, ◌/◌, ◌%◌, ◌<◌, nat_lt, map, Bool, true, false, ◌&&◌, ◌||◌, List, [], ◌∷◌, length, find, position, slice_index_or, unwrap_or, Option, Some, if◌then◌else◌, ◌==◌}
+use Rattle.std.specs.List.{range_with_len}
 use Rattle.std.specs.Option.{option_map, option_map_or}
 use Rattle.pm_table.specs.declared.reg.Reg.{Reg}
 use Rattle.pm_table.specs.declared.reg.Reg.TheVariants.{Operation, VoutCommand, VoutMax, MarginHigh, MarginLow, VoutMin}
@@ -139,3 +140,16 @@ places = protect_place + 1
 abbrev pub cell_in : ℕ → Cell
 cell_in place = if place == protect_place then Protect
     else Out (place / register_count) (register_at (place % register_count))
+
+-- the cell of this number on a device with this many outputs: output by output, and WRITE_PROTECT last
+abbrev pub nth_cell : ℕ → ℕ → Cell
+nth_cell count number = if number == count * register_count then Protect
+    else Out (number / register_count) (register_at (number % register_count))
+
+-- the cells of a device from this number on, and all of them
+abbrev pub cells_from : ℕ → ℕ → List Cell
+cells_from count number =
+    map (nth_cell count) (range_with_len number (count * register_count + 1 - number))
+
+abbrev pub device_cells : ℕ → List Cell
+device_cells count = cells_from count 0

@@ -7,6 +7,7 @@ pub mod Commands
 pub mod FaultWords
 pub mod Format
 pub mod Laws
+pub mod Names
 pub mod Protection
 pub mod VoutMode
 -- How it is kept.

@@ -7,7 +7,7 @@ use crate::reg::Reg;
 
 /// A setting of the converter that holds a word: a register of an output, or WRITE_PROTECT, which
 /// is the device's.
-#[derive(Clone, Copy, Debug, PartialEq, Eq)]
+#[derive(Clone, Copy, Debug, PartialEq, Eq, PartialOrd, Ord, Hash)]
 pub enum Cell {
     /// A register of the output with this number, from 0.
     Out(u8, Reg),

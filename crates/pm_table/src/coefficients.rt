@@ -40,6 +40,28 @@ impl Coefficients {
     }
 }
 
+/// As [`Coefficients::read`].
+impl From<[u8; 5]> for Coefficients {
+    ghost use Rattle.pm_table.specs.Coefficients.{coefficients_of};
+
+    ghost from_gives = { λ bytes c. c ≡ coefficients_of bytes };
+
+    fn from(bytes: [u8; 5]) -> Coefficients {
+        Coefficients::read(bytes)
+    }
+}
+
+/// As [`Coefficients::bytes`].
+impl From<Coefficients> for [u8; 5] {
+    ghost use Rattle.pm_table.specs.Coefficients.{coefficient_bytes};
+
+    ghost from_gives = { λ c bytes. bytes ≡ coefficient_bytes c };
+
+    fn from(coefficients: Coefficients) -> [u8; 5] {
+        coefficients.bytes()
+    }
+}
+
 #[cfg(test)]
 mod tests {
     use super::*;

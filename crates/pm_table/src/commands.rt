@@ -45,6 +45,9 @@ macro_rules! column_of {
             _ => None,
         }
     };
+    (all of $count:expr => $($row:ident is $attributes:expr,)*) => {
+        [$(Code::$row,)*]
+    };
     (name of $code:expr => $($row:ident is $attributes:expr,)*) => {
         match $code {
             $(Code::$row => stringify!($row),)*
@@ -54,7 +57,7 @@ macro_rules! column_of {
 }
 
 /// A command code of PMBus, any of the 256 bytes.
-#[derive(Clone, Copy, Debug, PartialEq, Eq)]
+#[derive(Clone, Copy, Debug, PartialEq, Eq, PartialOrd, Ord, Hash)]
 pub struct Code(pub u8);
 
 impl Code {
@@ -110,6 +113,9 @@ impl Code {
     pub const READ_TEMPERATURE_1: Code = Code(0x8D);
     /// PMBUS_REVISION.
     pub const PMBUS_REVISION: Code = Code(0x98);
+
+    /// The codes of the command table, in their order.
+    pub const ALL: [Code; 25] = command_table!(all of 25);
 
     /// What the command table says of the code beside its name; `None` where it isn't in the table.
     /// Whoever asks several things of one code asks this once.

@@ -5,15 +5,27 @@
 //!
 //! It holds no setting and reads no frame: `pm_frame` reads frames by these tables, and the
 //! converter and the host keep the cells. It takes no memory.
+//!
+//! A command by its name, and what an output's VOUT_MODE says:
+//!
+//! ```
+//! fn told(name: &str, mode: u8) -> Option<(Code, usize, VoutMode)> {
+//!     let code: Code = name.parse().ok()?; // VOUT_COMMAND is 21h
+//!     let mode = VoutMode::read(mode).ok()?; // 14h is ULINEAR16 with the exponent -12
+//!     Some((code, code.payload_length(), mode)) // a word of two bytes
+//! }
+//! ```
 #![tactic(auto)]
 
 mod address;
 mod cell;
+mod cells;
 mod coefficients;
 mod commands;
 mod fault;
 mod format;
 mod laws;
+mod names;
 mod protection;
 mod reg;
 #[cfg(test)]
@@ -22,6 +34,7 @@ mod vout_mode;
 
 pub use address::address_ok;
 pub use cell::{Cell, cell_of};
+pub use cells::Cells;
 pub use coefficients::Coefficients;
 pub use commands::{Attributes, Code, Info, known};
 pub use fault::TableFault;
@@ -29,6 +42,7 @@ pub use format::format_of;
 pub use laws::{
     cells_are_told_apart, cells_have_places, payloads_are_short, registers_are_in_the_table,
 };
+pub use names::UnknownName;
 pub use protection::is_allowed;
 pub use reg::Reg;
 pub use vout_mode::VoutMode;

@@ -4,7 +4,7 @@ ghost use Rattle.pm_table.specs.declared.cell.Cell.{Cell};
 use crate::commands::Code;
 
 /// A register of one output that holds a word.
-#[derive(Clone, Copy, Debug, PartialEq, Eq)]
+#[derive(Clone, Copy, Debug, PartialEq, Eq, PartialOrd, Ord, Hash)]
 pub enum Reg {
     /// OPERATION: on, off and margins. One byte.
     Operation,

@@ -1,5 +1,7 @@
 //! What the tests of this crate share: a row of a test's table.
 
+mod example;
+
 use std::fmt::Debug;
 use std::process::Abort;
 

@@ -32,6 +32,17 @@ impl VoutMode {
     }
 }
 
+/// As [`VoutMode::read`].
+impl TryFrom<u8> for VoutMode {
+    type Error = TableFault;
+
+    ghost try_from_gives = { λ byte r. r ≡ mode_of byte };
+
+    fn try_from(byte: u8) -> Result<VoutMode, TableFault> {
+        VoutMode::read(byte)
+    }
+}
+
 // Five bits as a two's complement number.
 fn exponent(bits: u8) -> i8
     requires { bits < 32 }

@@ -15,7 +15,7 @@ ghost use Rattle.pm_host.specs.Summary.{format_at};
 use crate::fault::HostFault;
 use crate::format_image::FormatImage;
 use crate::state::State;
-use pm_num::{AnyFormat, Frac, NumFault, NumFormat, micro};
+use pm_num::{AnyFormat, Frac, NumFault, NumFormat, micro, nearest_words_hold};
 use pm_table::Cell;
 
 impl State {
@@ -73,6 +73,8 @@ fn word_in<F: NumFormat>(format: &F, x: Frac) -> Result<u16, NumFault>
     ensures found { IfOk result
         (λ word. spec_nearest_word (F.value format.now) (F.rank format.now) x ≡ Some word) }
 {
+    // Hands its law to the prover.
+    nearest_words_hold(format);
     match format.nearest(x) {
         Ok(word) => Ok(word),
         Err(fault) => Err(fault),

@@ -26,7 +26,7 @@ pub returns-clause-nearest : goal.returns-clause-nearest
 returns-clause-nearest g c = found g c
 
 pub returns-clause-same : goal.returns-clause-same
-returns-clause-same g c = g.met.F.NumFormat.same c.args.format.now c.args.word c.in-Ok.canonical (omega arith) (found g c)
+returns-clause-same g c = c.nearest_words_hold.ensures.same c.args.word c.in-Ok.canonical (omega arith) (found g c)
 
 pub returns-clause-only : goal.returns-clause-only
 returns-clause-only g c = λ w h.

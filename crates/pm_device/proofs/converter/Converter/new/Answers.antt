@@ -1,5 +1,6 @@
 use Rattle.std.proofs.Common.{refl, sym, ◌∙◌, ap, arith}
-use Rattle.pm_model.specs.Settings.{Settings}
+use Rattle.pm_table.specs.declared.cell.Cell.TheVariants.{Protect}
+use Rattle.pm_model.specs.Settings.{Settings, word_at}
 use Rattle.pm_device.proofs.StartLemmas.{sound}
 use Rattle.pm_device.proofs.converter.Converter.new.Goals as goal
 
@@ -12,6 +13,7 @@ invariant_of-made c = record {
   shapes = c.formats_of-formats.ensures;
   counted = c.start_settings-settings.ensures.count;
   store = ap (λ (s : Settings). s.count) c.copied.ensures ∙ c.start_settings-settings.ensures.count;
+  protection = ap (λ (s : Settings). word_at s.words Protect) c.copied.ensures ∙ c.start_settings-settings.ensures.protection;
   selected = omega (arith, (sound c.args.c (sym c.config_fault.ensures ∙ c.in_default.is)).some);
   latches = refl;
 }

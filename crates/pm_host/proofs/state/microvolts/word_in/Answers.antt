@@ -4,7 +4,7 @@ use Rattle.pm_host.proofs.RangeLemmas.{outside_fault-some}
 use Rattle.pm_host.proofs.state.microvolts.word_in.Goals as goal
 
 pub returns-in-Ok-clause-found : goal.returns-in-Ok-clause-found
-returns-in-Ok-clause-found g c = g.met.F.NumFormat.found c.args.format.now c.args.x c.in-Ok.word c.in-Ok.ensures.word
+returns-in-Ok-clause-found g c = c.nearest_words_hold.ensures.found c.args.x c.in-Ok.word c.in-Ok.ensures.word
 
 pub returns-in-Err-clause-fault : goal.returns-in-Err-clause-fault
 returns-in-Err-clause-fault g c =

@@ -1,0 +1,6 @@
+use Rattle.pm_device.proofs.Faultless.{faultless}
+use Rattle.pm_device.proofs.StartLemmas.{sound}
+use Rattle.pm_device.proofs.laws.sound_configurations_have_no_fault.Goals as goal
+
+pub returns : goal.returns
+returns c = λ config. (faultless config, sound config)
