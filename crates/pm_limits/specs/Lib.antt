@@ -1,0 +1,8 @@
+-- What the crate promises.
+pub mod Band
+pub mod Bounds
+pub mod Ends
+pub mod FaultWords
+pub mod Guard
+pub mod Registers
+pub mod Lemmas

@@ -1,0 +1,35 @@
+//! Limits of each output's voltage, and the band of voltage that is known.
+//!
+//! A [`Guard`] is a host that refuses orders beyond an output's [`Limits`]: a voltage whose word stands for
+//! a value outside them, and a byte of OPERATION that leaves the output on while what it would command isn't
+//! known to lie within. [`band_of`] says between which voltages an output may be by what a host knows, as
+//! exact fractions; no narrower band is true.
+//!
+//! A guard knows what was ordered through it and what was read. What a device or its user store held before
+//! it can't know: check the registers first, and ask [`Guard::within`].
+//!
+//! A 3.3 V rail that takes 3.20 V to 3.47 V:
+//!
+//! ```
+//! fn guarded() -> Result<Guard, LimitFault> {
+//!     let limits = Limits::new(3_200_000, 3_470_000)?;
+//!     Guard::new(0x58, 1, 2, Guard::limits_of_first(limits))
+//! }
+//! ```
+#![tactic(auto)]
+
+mod band;
+mod ends;
+mod fault;
+mod guard;
+mod limits;
+mod registers;
+mod side;
+mod within;
+
+pub use band::{Band, band_of};
+pub use fault::LimitFault;
+pub use guard::Guard;
+pub use limits::Limits;
+pub use side::Side;
+pub use within::Within;
