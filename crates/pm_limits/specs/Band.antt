@@ -1,5 +1,5 @@
 -- Between which voltages an output may be, by what a host knows: the band. This project's own choice.
-use Rattle.std.specs.Prelude.{◌≡◌, ℕ, Bool, true, false, not, ◌||◌, if◌then◌else◌, List, [], ◌∷◌, Option, Some, None, option_map}
+use Rattle.std.specs.Prelude.{◌≡◌, ◌<◌, ℕ, Bool, true, false, not, ◌||◌, if◌then◌else◌, List, [], ◌∷◌, Option, Some, None, option_map}
 use Rattle.std.specs.List.{list_any}
 use Rattle.pm_num.specs.AnyFormat.{Shape, shape_value}
 use Rattle.pm_num.specs.Ratio.{Ratio, IsBetween, is_above, micros}
@@ -18,6 +18,10 @@ use Rattle.pm_limits.specs.declared.within.Within.{Within}
 use Rattle.pm_limits.specs.declared.within.Within.TheVariants.{Yes, No, NotKnown}
 use Rattle.pm_limits.specs.Bounds.{Bounds}
 use Rattle.pm_limits.specs.Ends.{end_of, farthest_of}
+
+-- the values of all words have positive denominators, as in each format that a device has or a host learns
+abbrev pub HasDens : Shape → Type 0
+HasDens shape = (word : ℕ) → 0 < (shape_value shape word).den
 
 -- what each register of an output may hold
 abbrev pub Known : Type 0

@@ -4,5 +4,6 @@ pub mod Bounds
 pub mod Ends
 pub mod FaultWords
 pub mod Guard
+pub mod Laws
 pub mod Registers
 pub mod Lemmas

@@ -1,7 +1,7 @@
 mod calls;
 mod judgement;
 
-ghost use Rattle.std.specs.Prelude.{◌≡◌, ◌<◌, IfOk, OnOk, OnErr};
+ghost use Rattle.std.specs.Prelude.{◌≡◌, ◌<◌, Some, IfOk, OnOk, OnErr, slice_set};
 ghost use Rattle.std.specs.Result.{result_err};
 ghost use Rattle.pm_table.specs.Address.{IsAddress};
 ghost use Rattle.pm_host.specs.Refusals.{IsSetup, setup_fault};
@@ -112,7 +112,7 @@ impl Guard {
         if self.widens(output, &limits) {
             return Err(LimitFault::LimitsWidened);
         }
-        self.set(output, limits);
+        put(&mut self.limits, output, limits);
         Ok(())
     }
 
@@ -123,15 +123,6 @@ impl Guard {
         match self.limits(output) {
             Some(old) => limits.is_wider(&old),
             None => false,
-        }
-    }
-
-    // Gives an output limits.
-    fn set(&mut self, output: u8, limits: Limits)
-        ensures { self.new ≡ narrowed self.old output limits.least limits.most }
-    {
-        if let Some(place) = self.limits.get_mut(usize::from(output)) {
-            *place = Some(limits);
         }
     }
 
@@ -155,5 +146,16 @@ impl Guard {
         ensures { result ≡ within_of (limits_at self.now output) (band_at self.now.host output) }
     {
         self.within_band(output, self.band(output))
+    }
+}
+
+// Gives an output limits.
+#[tactic(auto, using(std::proofs::lemmas::List::set_past))]
+fn put(all: &mut [Option<Limits>], output: u8, limits: Limits)
+    ensures { all.new ≡ slice_set all.old output (Some limits) }
+{
+    let place = usize::from(output);
+    if place < all.len() {
+        all[place] = Some(limits);
     }
 }
