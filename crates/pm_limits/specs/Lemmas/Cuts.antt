@@ -20,7 +20,7 @@ abbrev pub cut_value : Cut → Ratio
 cut_value c = limited c.selected c.least c.greatest
 
 -- the cut value is at most the greatest,
-cut-greatest : (c : Cut) → AtMost (cut_value c) c.greatest
+pub cut-greatest : (c : Cut) → AtMost (cut_value c) c.greatest
 cut-greatest c = go (is_above c.selected c.greatest) (is_above c.least c.selected) (is_above c.least c.greatest) refl refl where
   go : (over under crossed : Bool) → is_above c.selected c.greatest ≡ over → is_above c.least c.greatest ≡ crossed →
       AtMost (cond (over || under && crossed) c.greatest (cond under c.least c.selected)) c.greatest
@@ -28,6 +28,16 @@ cut-greatest c = go (is_above c.selected c.greatest) (is_above c.least c.selecte
   go false true true o x = same c.greatest
   go false true false o x = at-most c.least c.greatest x
   go false false crossed o x = at-most c.selected c.greatest o
+
+-- at least the least, where that isn't above the greatest,
+pub cut-least : (c : Cut) → AtMost c.least c.greatest → AtMost c.least (cut_value c)
+cut-least c apart = go (is_above c.selected c.greatest) (is_above c.least c.selected) (is_above c.least c.greatest) refl where
+  go : (over under crossed : Bool) → is_above c.least c.selected ≡ under →
+      AtMost c.least (cond (over || under && crossed) c.greatest (cond under c.least c.selected))
+  go true under crossed u = apart
+  go false true true u = apart
+  go false true false u = same c.least
+  go false false crossed u = at-most c.least c.selected u
 
 -- and at most what the selected value and the least one are at most
 cut-most : (c : Cut) (z : Ratio) → AtMost c.selected z → AtMost c.least z → AtMost (cut_value c) z
