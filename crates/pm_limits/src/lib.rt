@@ -8,12 +8,13 @@
 //! A guard knows what was ordered through it and what was read. What a device or its user store held before
 //! it can't know: check the registers first, and ask [`Guard::within`].
 //!
-//! A 3.3 V rail that takes 3.20 V to 3.47 V:
+//! A 3.3 V rail that takes 3.200 V to 3.465 V:
 //!
 //! ```
 //! fn guarded() -> Result<Guard, LimitFault> {
-//!     let limits = Limits::new(3_200_000, 3_470_000)?;
-//!     Guard::new(0x58, 1, 2, Guard::limits_of_first(limits))
+//!     let mut guard = Guard::new(0x58, 1, 2, [None; 8]).map_err(LimitFault::Host)?;
+//!     guard.narrow(0, 3_200_000, 3_465_000)?;
+//!     Ok(guard)
 //! }
 //! ```
 #![tactic(auto)]
