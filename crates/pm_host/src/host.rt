@@ -1,12 +1,14 @@
 ghost use Rattle.std.specs.Prelude.{◌≡◌, ◌<◌, true, None, IfOk, MatchOption, IsNone, IsSomeAnd};
+ghost use Rattle.std.specs.Option.{option_map};
 ghost use Rattle.std.specs.Result.{result_err};
+ghost use Rattle.pm_num.specs.AnyFormat.{shape_of};
 ghost use Rattle.pm_table.specs.Address.{IsAddress};
 ghost use Rattle.pm_table.specs.Cell.{IsCell};
 ghost use Rattle.pm_host.specs.Frames.{frames_left};
 ghost use Rattle.pm_host.specs.Jobs.{Begins};
 ghost use Rattle.pm_host.specs.Messages.{IsFrameOf};
 ghost use Rattle.pm_host.specs.Refusals.{IsSetup, setup_fault, may_come, sends_read};
-ghost use Rattle.pm_host.specs.Summary.{start, next, step_of, possible_at, standing_at, sending_in};
+ghost use Rattle.pm_host.specs.Summary.{start, next, step_of, possible_at, standing_at, format_at, sending_in};
 ghost use Rattle.pm_host.specs.Told.{entry_told, OnEnded};
 ghost use Rattle.pm_host.specs.Transcript.{Setup, Restarted};
 ghost use Rattle.pm_host.specs.Turn.{Shows};
@@ -23,6 +25,7 @@ use crate::step::Step;
 use crate::told::Told;
 use crate::turn::Turn;
 use pm_frame::Frame;
+use pm_num::AnyFormat;
 use pm_table::Cell;
 use std::marker::Model;
 
@@ -277,6 +280,15 @@ impl Host {
         ensures { result ≡ possible_at self.now cell }
     {
         self.state.known.possible(cell).possible()
+    }
+
+    /// The format of an output's voltages, which the last learn of it found; `None` where none did since
+    /// the host started. The output is there.
+    pub fn format(&self, output: u8) -> Option<AnyFormat>
+        requires { output < self.now.setup.outputs }
+        ensures { option_map shape_of result ≡ format_at self.now output }
+    {
+        self.state.format(output).format()
     }
 
     /// Whether a restart of the device was seen since the host started: a good answer came whose word

@@ -1,4 +1,5 @@
 mod Answered
+mod BandLives
 mod CameBack
 mod Causes
 mod DamagedFrames
@@ -14,6 +15,7 @@ mod HeldWords
 mod Learned
 mod LearnedLives
 mod LeftWords
+mod LimitedLives
 mod Lives
 mod OpenOrders
 mod OrderEvents

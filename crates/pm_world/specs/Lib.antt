@@ -11,6 +11,9 @@ pub mod Uncertainty
 pub mod Honest
 pub mod Damage
 pub mod Laws
+pub mod Limited
+pub mod Bands
+pub mod LimitLaws
 pub mod FaultWords
 -- How it is kept.
 pub mod Below

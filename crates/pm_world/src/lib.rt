@@ -41,9 +41,10 @@ pub use back::Back;
 pub use cause::Cause;
 pub use event::Event;
 pub use laws::{
-    betrayed_damage_is_legal, betrayed_damage_is_taken, confirmed_settings_are_held,
-    frames_are_few, honest_orders_go_through, learned_formats_are_true, lives_are_followed,
-    lives_are_orders, possible_words_are_exact, possible_words_are_held,
+    bands_are_exact, bands_are_held, betrayed_damage_is_legal, betrayed_damage_is_taken,
+    confirmed_settings_are_held, frames_are_few, honest_orders_go_through,
+    learned_formats_are_true, lives_are_followed, lives_are_orders, lives_stay_limited,
+    possible_words_are_exact, possible_words_are_held,
 };
 pub use setup_fault::SetupFault;
 pub use stop::Stop;

@@ -8,6 +8,7 @@ ghost use Rattle.pm_world.specs.Possible.{PossibleIsHeld, SeenIsTrue};
 ghost use Rattle.pm_world.specs.Setup.{setup_of, start, setup_fault};
 ghost use Rattle.pm_world.specs.Life.{now, taken_events, after_all, AreTaken, AreTakenFrom, StopsAt, StopsFrom};
 ghost use Rattle.pm_world.specs.Job.{asked_by};
+ghost use Rattle.pm_world.specs.Limited.{StaysLimited};
 ghost use Rattle.pm_world.specs.State.{Steps, Acts, shared, tells, hears};
 ghost use Rattle.pm_host.specs.Told.{entry_told};
 ghost use Rattle.pm_host.specs.Transcript as told;
@@ -26,7 +27,8 @@ use crate::cause::Cause;
 use crate::event::Event;
 use crate::laws::{
     confirmed_settings_are_held, frames_are_few, honest_orders_go_through,
-    learned_formats_are_true, lives_are_followed, lives_are_orders, possible_words_are_held, spell,
+    learned_formats_are_true, lives_are_followed, lives_are_orders, lives_stay_limited,
+    possible_words_are_held, spell,
 };
 use crate::legal::{
     answer_in, back_bytes, hear_replied, heard_bytes, heard_ending, is_heard_whole,
@@ -118,6 +120,9 @@ impl World {
     /// - `seen`: a good answer that the host didn't think possible comes only where the converter
     ///   restarted since the one before it for the same cell. So where the host saw a restart, there
     ///   was one since the host started.
+    /// - `limited`: at each moment of the taken events an output commands a voltage within limits that all of its
+    ///   own words lie within, and no more than the most of all words of its VOUT_MAX; words that a guard let be
+    ///   ordered lie within its limits.
     /// - `few`: no job sends more than twice as many frames as it has passes.
     /// - `through`: an undisturbed order that WRITE_PROTECT allows ends done, confirmed and held.
     /// - `formats`, `nearest`: a format that the host learned is the converter's, and an order in
@@ -146,6 +151,8 @@ impl World {
         ensures commanded { IfOk result (λ run. (output : ℕ) → output < c.count →
             CommandsOwn c passes (taken_events events.now run.1) output
             (commanded (value_for run.0.device.config output) run.0.device.words output)) }
+        ensures limited { IfOk result (λ run.
+            StaysLimited c passes (taken_events events.now run.1)) }
         ensures stop { IfOk result (λ run. StopsAt c passes events.now run.1) }
         ensures few { IfOk result (λ run. AreFewFrames c passes (taken_events events.now run.1)) }
         ensures through { IfOk result (λ run.
@@ -164,6 +171,7 @@ impl World {
     {
         // These calls hand their laws to the prover, and do nothing else.
         lives_are_orders();
+        lives_stay_limited();
         frames_are_few();
         honest_orders_go_through();
         learned_formats_are_true();

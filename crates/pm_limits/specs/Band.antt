@@ -1,0 +1,114 @@
+-- Between which voltages an output may be, by what a host knows: the band. This project's own choice.
+use Rattle.std.specs.Prelude.{◌≡◌, ◌<◌, ℕ, Bool, true, false, not, ◌||◌, if◌then◌else◌, List, [], ◌∷◌, Option, Some, None, option_map}
+use Rattle.std.specs.List.{list_any}
+use Rattle.pm_num.specs.AnyFormat.{Shape, shape_value}
+use Rattle.pm_num.specs.Ratio.{Ratio, IsBetween, is_above, micros}
+use Rattle.pm_table.specs.declared.reg.Reg.{Reg}
+use Rattle.pm_table.specs.declared.reg.Reg.TheVariants.{Operation, VoutCommand, VoutMax, MarginHigh, MarginLow, VoutMin}
+use Rattle.pm_table.specs.declared.cell.Cell.TheVariants.{Out}
+use Rattle.pm_table.specs.Cell.{same_register}
+use Rattle.pm_model.specs.Commanded.{selected_register, limited}
+use Rattle.pm_host.specs.declared.possible.Possible.{Possible}
+use Rattle.pm_host.specs.declared.possible.Possible.TheVariants.{Any, Words}
+use Rattle.pm_host.specs.Summary.{Summary, possible_at, format_at}
+use Rattle.pm_limits.specs.declared.band.Band.{Band}
+use Rattle.pm_limits.specs.declared.side.Side.{Side}
+use Rattle.pm_limits.specs.declared.side.Side.TheVariants.{Lowest, Highest}
+use Rattle.pm_limits.specs.declared.within.Within.{Within}
+use Rattle.pm_limits.specs.declared.within.Within.TheVariants.{Yes, No, NotKnown}
+use Rattle.pm_limits.specs.Bounds.{Bounds}
+use Rattle.pm_limits.specs.Ends.{end_of, farthest_of}
+
+-- the values of all words have positive denominators, as in each format that a device has or a host learns
+abbrev pub HasDens : Shape → Type 0
+HasDens shape = (word : ℕ) → 0 < (shape_value shape word).den
+
+-- what each register of an output may hold
+abbrev pub Known : Type 0
+Known = Reg → Possible
+
+abbrev pub known_of : Summary → ℕ → Known
+known_of s output = λ register. possible_at s (Out output register)
+
+-- the word of a voltage, of those that it may hold, whose value lies farthest out
+abbrev pub word_end : Side → Shape → Known → Reg → ℕ
+word_end side shape known register = end_of side shape (shape_value shape) (known register)
+
+-- the bytes that OPERATION may be, as far as it matters: where it may be any, one for each register that a byte
+-- selects
+abbrev pub operations : Possible → List ℕ
+operations Any = 0x80 ∷ 0xA8 ∷ 0x98 ∷ []
+operations (Words words) = words.items
+
+-- how far out a byte of OPERATION reaches: to the end of the register that it selects
+abbrev pub reach : Side → Shape → Known → ℕ → Ratio
+reach side shape known byte = shape_value shape (word_end side shape known (selected_register byte))
+
+-- the byte of several that reaches farthest
+abbrev pub operation_end : Side → Shape → Known → List ℕ → ℕ
+operation_end side shape known bytes = farthest_of side (reach side shape known) bytes
+
+-- how far out the output may command with one of these bytes in OPERATION: as far as the farthest of them reaches,
+-- cut to the ends of VOUT_MIN and VOUT_MAX
+unfoldable pub end_with : Side → Shape → Known → List ℕ → Ratio
+end_with side shape known bytes =
+    limited (reach side shape known (operation_end side shape known bytes))
+    (shape_value shape (word_end side shape known VoutMin))
+    (shape_value shape (word_end side shape known VoutMax))
+
+abbrev pub band_with : Shape → Known → List ℕ → Band
+band_with shape known bytes = record {
+  least = end_with Lowest shape known bytes;
+  greatest = end_with Highest shape known bytes;
+}
+
+-- the band of an output, and what it would be with one byte in OPERATION; None where the format isn't known
+abbrev pub band_at : Summary → ℕ → Option Band
+band_at s output = option_map
+    (λ shape. band_with shape (known_of s output) (operations (possible_at s (Out output Operation))))
+    (format_at s output)
+
+abbrev pub band_on : Summary → ℕ → ℕ → Option Band
+band_on s output byte =
+    option_map (λ shape. band_with shape (known_of s output) (byte ∷ [])) (format_at s output)
+
+-- a value lies in a band, whose ends count as in it
+abbrev pub InBand : Band → Ratio → Type 0
+InBand band value = IsBetween band.least band.greatest value
+
+-- the end of a band on one side
+abbrev pub side_end : Side → Band → Ratio
+side_end Lowest band = band.least
+side_end Highest band = band.greatest
+
+-- a band lies within limits: wholly, or not at all; where it does neither, nothing is known
+abbrev pub band_within : Bounds → Band → Within
+band_within bounds band =
+    if not (is_above (micros bounds.least) band.least || is_above band.greatest (micros bounds.most)) then Yes
+    else (if is_above (micros bounds.least) band.greatest || is_above band.least (micros bounds.most) then No
+    else NotKnown)
+
+-- everything is within no limits, and of an unknown band nothing is known
+abbrev pub within_of : Option Bounds → Option Band → Within
+within_of None band = Yes
+within_of (Some bounds) None = NotKnown
+within_of (Some bounds) (Some band) = band_within bounds band
+
+abbrev pub is_yes : Within → Bool
+is_yes Yes = true
+is_yes _ = false
+
+-- the registers that a band rests on: OPERATION, both limits, and those that a byte of OPERATION may select
+abbrev pub is_selected : List ℕ → Reg → Bool
+is_selected bytes register = list_any (λ byte. same_register (selected_register byte) register) bytes
+
+abbrev pub decides : Known → Reg → Bool
+decides known Operation = true
+decides known VoutMax = true
+decides known VoutMin = true
+decides known register = is_selected (operations (known Operation)) register
+
+-- the word with which each register lets the output command an end of its band
+abbrev pub end_choice : Side → Shape → Known → Reg → ℕ
+end_choice side shape known Operation = operation_end side shape known (operations (known Operation))
+end_choice side shape known register = word_end side shape known register

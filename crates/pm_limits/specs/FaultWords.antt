@@ -1,0 +1,16 @@
+-- The letters and the names of a guard's refusals, as programs print them: `L3 BelowLimit`. This project's own
+-- choice.
+use Rattle.std.specs.Prelude.{ℕ, List, codes}
+use Rattle.pm_host.specs.FaultWords.{host_fault_words}
+use Rattle.pm_limits.specs.declared.fault.LimitFault.{LimitFault}
+use Rattle.pm_limits.specs.declared.fault.LimitFault.TheVariants.{Host, LimitsInverted, FormatUnknown, BelowLimit, AboveLimit, NotKnownWithin, LimitsWidened}
+
+-- a refusal of the host is told as that
+abbrev pub limit_fault_words : LimitFault → List ℕ
+limit_fault_words LimitsInverted = codes "L1 LimitsInverted"
+limit_fault_words FormatUnknown = codes "L2 FormatUnknown"
+limit_fault_words BelowLimit = codes "L3 BelowLimit"
+limit_fault_words AboveLimit = codes "L4 AboveLimit"
+limit_fault_words NotKnownWithin = codes "L5 NotKnownWithin"
+limit_fault_words LimitsWidened = codes "L6 LimitsWidened"
+limit_fault_words (Host fault) = host_fault_words fault

@@ -1,0 +1,128 @@
+-- What a guard holds and when it refuses: this project's own choice.
+use Rattle.std.specs.Prelude.{◌≡◌, ◌*◌, ◌≤◌, ℕ, ℤ, Bool, true, false, not, ◌&&◌, nat_le, nat_lt, if◌then◌else◌, List, [], ◌∷◌, slice_index_or, slice_set, Option, Some, None, option_map, option_and_then, is_none, IsSomeAnd, Result, OnOk, OnErr}
+use Rattle.std.specs.Option.{option_or}
+use Rattle.std.specs.Result.{result_err}
+use Rattle.pm_num.specs.AnyFormat.{Shape, shape_value}
+use Rattle.pm_table.specs.declared.cell.Cell.{Cell}
+use Rattle.pm_table.specs.declared.cell.Cell.TheVariants.{Out, Protect}
+use Rattle.pm_table.specs.declared.reg.Reg.TheVariants.{Operation}
+use Rattle.pm_table.specs.Cell.{is_operation, is_voltage_cell, output_of}
+use Rattle.pm_host.specs.declared.fault.HostFault.{HostFault}
+use Rattle.pm_host.specs.declared.fault.HostFault.TheVariants.{UnknownOutput, BadWord}
+use Rattle.pm_host.specs.declared.fault.HostFault.TheVariants as host
+use Rattle.pm_host.specs.declared.job.Job.{Job}
+use Rattle.pm_host.specs.declared.job.Job.TheVariants.{Order, OrderMicro}
+use Rattle.pm_host.specs.Frames.{frames_left}
+use Rattle.pm_host.specs.Jobs.{HasNearestWord, accepted_job, begin_fault}
+use Rattle.pm_host.specs.Refusals.{cell_fault, micro_word, order_fault, range_fault}
+use Rattle.pm_host.specs.Summary.{Summary, format_at, next}
+use Rattle.pm_host.specs.Transcript as accepted
+use Rattle.pm_limits.specs.declared.fault.LimitFault.{LimitFault}
+use Rattle.pm_limits.specs.declared.fault.LimitFault.TheVariants.{Host, FormatUnknown, NotKnownWithin, LimitsWidened}
+use Rattle.pm_limits.specs.Band.{band_on, is_yes, within_of}
+use Rattle.pm_limits.specs.Bounds.{Bounds, bounds_fault, is_wider, outside_fault}
+
+-- the host, and the limits of each output, where it has any
+pub record Guarded : Type 0 where
+  pub host : Summary
+  pub limits : List (Option Bounds)
+
+abbrev pub limits_at : Guarded → ℕ → Option Bounds
+limits_at g output = slice_index_or g.limits output None
+
+-- a rule names its fault where it applies, and the first of several counts
+abbrev pub rule : Bool → LimitFault → Option LimitFault
+rule applies fault = if applies then Some fault else None
+
+abbrev pub first : List (Option LimitFault) → Option LimitFault
+first [] = None
+first (fault ∷ faults) = option_or fault (first faults)
+
+-- a refusal of the host's own
+abbrev pub of_host : Option HostFault → Option LimitFault
+of_host fault = option_map (λ f. Host f) fault
+
+-- L2 where an output has limits and its format isn't known, otherwise L3 or L4 by the value of the word
+abbrev pub voltage_limit : Option Bounds → Option Shape → ℕ → Option LimitFault
+voltage_limit None shape word = None
+voltage_limit (Some bounds) None word = Some FormatUnknown
+voltage_limit (Some bounds) (Some shape) word = outside_fault bounds (shape_value shape word)
+
+-- a byte of OPERATION that leaves the output on (PMBus 1.3 Part II: bit 7)
+abbrev pub leaves_on : ℕ → Bool
+leaves_on byte = is_operation byte && nat_le 0x80 byte
+
+-- L5 for a byte that leaves the output on, unless the band with this byte lies within the limits
+abbrev pub operation_limit : Guarded → ℕ → ℕ → Option LimitFault
+operation_limit g output byte =
+    rule (leaves_on byte && not (is_yes (within_of (limits_at g output) (band_on g.host output byte)))) NotKnownWithin
+
+-- what the limits say of a word for a cell
+abbrev pub judged : Guarded → Cell → ℕ → Option LimitFault
+judged g (Out output Operation) byte = operation_limit g output byte
+judged g (Out output register) word = voltage_limit (limits_at g output) (format_at g.host output) word
+judged g Protect word = None
+
+-- Why an order is refused: H3, H4, then what the limits say, then H5 and H6. L5 is said of accepted bytes alone,
+-- so after H5.
+abbrev pub guarded_order : Guarded → Cell → ℕ → Option LimitFault
+guarded_order g cell word = first (
+    of_host (cell_fault g.host cell) ∷
+    judged g cell word ∷
+    of_host (order_fault g.host cell word) ∷
+    [])
+
+-- why a cell that is there has no word for a number of microvolts: H5 where it is no voltage, H7, N5, N3, N4
+abbrev pub word_fault : Guarded → Cell → ℤ → Option LimitFault
+word_fault g cell x = first (
+    rule (not (is_voltage_cell cell)) (Host BadWord) ∷
+    rule (is_none (format_at g.host (output_of cell))) (Host (host.FormatUnknown)) ∷
+    of_host (option_and_then (λ shape. range_fault shape x) (format_at g.host (output_of cell))) ∷
+    [])
+
+-- In microvolts: H3, H4, H5, H7, then N5, N3, N4, then what an order of the nearest word is refused for, L3, L4
+-- and H6.
+abbrev pub guarded_micro : Guarded → Cell → ℤ → Option LimitFault
+guarded_micro g cell x = first (
+    of_host (cell_fault g.host cell) ∷
+    word_fault g cell x ∷
+    option_and_then (λ word. guarded_order g cell word) (micro_word g.host cell x) ∷
+    [])
+
+-- every other job is refused as the host refuses it
+abbrev pub guard_fault : Guarded → Job → Option LimitFault
+guard_fault g (Order cell word) = guarded_order g cell word
+guard_fault g (OrderMicro cell x) = guarded_micro g cell x
+guard_fault g job = of_host (begin_fault g.host job)
+
+-- how a job begins that is refused exactly for this
+pub record BeginsUnless (refusal : Option LimitFault) (old : Guarded) (job : Job) (result : Result (Unit {0}) LimitFault) (new : Guarded) : Type 0 where
+  pub fault : result_err result ≡ refusal
+  -- otherwise the host accepts it
+  pub ok : OnOk result (IsSomeAnd (accepted_job old.host job) (λ begun. new.host ≡ next old.host (accepted.Accepted begun)))
+  pub nearest : OnOk result (HasNearestWord old.host job)
+  -- a refused job changes nothing
+  pub err : OnErr result (new ≡ old)
+  -- the limits stay
+  pub limits : new.limits ≡ old.limits
+  -- the host stays that of its device
+  pub kept : new.host.setup ≡ old.host.setup
+  -- it sends at most twice as many frames as it has passes
+  pub left : OnOk result (frames_left new.host ≤ 2 * new.host.setup.passes)
+
+-- how a guard begins a job that it is asked for
+abbrev pub LetsBegin : Guarded → Job → Result (Unit {0}) LimitFault → Guarded → Type 0
+LetsBegin old job result new = BeginsUnless (guard_fault old job) old job result new
+
+-- why limits can't be narrowed: H4, N5, L1, then L6 where the new ones let through what the old ones don't
+abbrev pub narrow_fault : Guarded → ℕ → ℤ → ℤ → Option LimitFault
+narrow_fault g output least most = first (
+    rule (not (nat_lt output g.host.setup.outputs)) (Host UnknownOutput) ∷
+    bounds_fault least most ∷
+    rule (is_wider (limits_at g output) (record { least = least; most = most })) LimitsWidened ∷
+    [])
+
+-- the guard with other limits for an output
+abbrev pub narrowed : Guarded → ℕ → ℤ → ℤ → Guarded
+narrowed g output least most =
+    record g { limits = slice_set g.limits output (Some (record { least = least; most = most })) }

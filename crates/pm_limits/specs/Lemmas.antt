@@ -1,0 +1,6 @@
+pub mod Bands
+pub mod Cuts
+pub mod Farthest
+pub mod Guarded
+pub mod Order
+pub mod Selected

@@ -1,0 +1,157 @@
+-- What a guard lets through.
+use Rattle.std.specs.Prelude.{◌≡◌, ℕ, ℤ, Bool, true, false, cond, not, ◌&&◌, Option, Some, None, IsSomeAnd, refl, option_map, option_and_then, is_none}
+use Rattle.std.specs.Option.{option_or}
+use Rattle.std.proofs.Common.{◌∙◌, ap, sym, subst}
+use Rattle.pm_num.specs.AnyFormat.{Shape, shape_value}
+use Rattle.pm_num.specs.Ratio.{Ratio, is_above, micros}
+use Rattle.pm_table.specs.declared.cell.Cell.{Cell}
+use Rattle.pm_table.specs.declared.cell.Cell.TheVariants.{Out}
+use Rattle.pm_table.specs.declared.reg.Reg.{Reg}
+use Rattle.pm_table.specs.declared.reg.Reg.TheVariants.{Operation, VoutCommand, VoutMax, MarginHigh, MarginLow, VoutMin}
+use Rattle.pm_table.specs.Cell.{is_voltage}
+use Rattle.pm_host.specs.declared.fault.HostFault.{HostFault}
+use Rattle.pm_host.specs.declared.job.Job.{Job}
+use Rattle.pm_host.specs.declared.job.Job.TheVariants as job
+use Rattle.pm_host.specs.Jobs.{accepted_job, begin_fault}
+use Rattle.pm_host.specs.Refusals.{cell_fault, micro_word, order_fault}
+use Rattle.pm_host.specs.Summary.{format_at}
+use Rattle.pm_host.specs.Transcript.{Order, Send, Check, Learn}
+use Rattle.pm_host.specs.Transcript as accepted
+use Rattle.pm_limits.specs.declared.fault.LimitFault.{LimitFault}
+use Rattle.pm_limits.specs.declared.fault.LimitFault.TheVariants.{BelowLimit, AboveLimit, NotKnownWithin}
+use Rattle.pm_limits.specs.declared.within.Within.{Within}
+use Rattle.pm_limits.specs.declared.within.Within.TheVariants.{Yes, No, NotKnown}
+use Rattle.pm_limits.specs.Band.{band_on, is_yes, within_of}
+use Rattle.pm_limits.specs.Bounds.{Bounds, IsWithin, outside_fault}
+use Rattle.pm_limits.specs.Guard.{Guarded, first, guard_fault, guarded_order, judged, leaves_on, limits_at, of_host, operation_limit, voltage_limit, word_fault}
+use Rattle.pm_limits.specs.Lemmas.Order.{at-most}
+
+-- the second of two faults is none where neither comes
+second : {A : Type 0} (p q : Option A) → option_or p q ≡ None → q ≡ None
+second None q h = h
+second (Some a) q h = cc
+
+head : {A : Type 0} (p q : Option A) → option_or p q ≡ None → p ≡ None
+head None q h = refl
+head (Some a) q h = cc
+
+-- a value that isn't refused lies within the limits
+inside : (bounds : Bounds) (value : Ratio) → outside_fault bounds value ≡ None → IsWithin bounds value
+inside bounds value h = go (is_above (micros bounds.least) value) (is_above value (micros bounds.most)) refl refl h where
+  go : (below above : Bool) → is_above (micros bounds.least) value ≡ below → is_above value (micros bounds.most) ≡ above →
+      cond below (Some BelowLimit) (cond above (Some AboveLimit) None) ≡ None → IsWithin bounds value
+  go true above b a free = cc
+  go false true b a free = cc
+  go false false b a free =
+      record { from_least = at-most (micros bounds.least) value b; to_greatest = at-most value (micros bounds.most) a }
+
+-- a word that the limits let through
+let-through : (limits : Option Bounds) (shape : Option Shape) (word : ℕ) (bounds : Bounds) → limits ≡ Some bounds →
+    voltage_limit limits shape word ≡ None → IsSomeAnd shape (λ s. IsWithin bounds (shape_value s word))
+let-through None shape word bounds is free = cc
+let-through (Some own) None word bounds is free = cc
+let-through (Some own) (Some shape) word bounds is free =
+    let same : own ≡ bounds = cc in
+    subst (λ (b : Bounds). IsWithin b (shape_value shape word)) same (inside own (shape_value shape word) free)
+
+-- what is judged of a voltage
+judged-voltage : (g : Guarded) (output : ℕ) (register : Reg) (word : ℕ) → is_voltage register ≡ true →
+    judged g (Out output register) word ≡ voltage_limit (limits_at g output) (format_at g.host output) word
+judged-voltage g output Operation word h = cc
+judged-voltage g output VoutCommand word h = refl
+judged-voltage g output VoutMax word h = refl
+judged-voltage g output MarginHigh word h = refl
+judged-voltage g output MarginLow word h = refl
+judged-voltage g output VoutMin word h = refl
+
+-- an order that is let through
+order-within : (g : Guarded) (cell : Cell) (output : ℕ) (register : Reg) (word : ℕ) (bounds : Bounds) →
+    guarded_order g cell word ≡ None → cell ≡ Out output register → is_voltage register ≡ true →
+    limits_at g output ≡ Some bounds →
+    IsSomeAnd (format_at g.host output) (λ shape. IsWithin bounds (shape_value shape word))
+order-within g cell output register word bounds free is voltage limits =
+    let judge = head (judged g cell word) _ (second (of_host (cell_fault g.host cell)) _ free) in
+    let none = sym (judged-voltage g output register word voltage) ∙ ap (λ (c : Cell). judged g c word) (sym is) ∙ judge in
+    let-through (limits_at g output) (format_at g.host output) word bounds limits none
+
+-- as a word or in microvolts
+pub guarded-voltage : (g : Guarded) (asked : Job) (output : ℕ) (register : Reg) (word : ℕ) (bounds : Bounds) →
+    guard_fault g asked ≡ None → accepted_job g.host asked ≡ Some (Order (Out output register) word) →
+    is_voltage register ≡ true → limits_at g output ≡ Some bounds →
+    IsSomeAnd (format_at g.host output) (λ shape. IsWithin bounds (shape_value shape word))
+guarded-voltage g (job.Order cell w) output register word bounds free is voltage limits =
+    let same_cell : cell ≡ Out output register = cc in
+    let same_word : w ≡ word = cc in
+    subst (λ n. IsSomeAnd (format_at g.host output) (λ shape. IsWithin bounds (shape_value shape n))) same_word
+    (order-within g cell output register w bounds free same_cell voltage limits)
+guarded-voltage g (job.OrderMicro cell x) output register word bounds free is voltage limits =
+    let third = second (word_fault g cell x) _ (second (of_host (cell_fault g.host cell)) _ free) in
+    go (micro_word g.host cell x) (head (option_and_then (λ n. guarded_order g cell n) (micro_word g.host cell x)) None third) is
+  where
+    go : (found : Option ℕ) → option_and_then (λ n. guarded_order g cell n) found ≡ None →
+        option_map (λ n. Order cell n) found ≡ Some (Order (Out output register) word) →
+        IsSomeAnd (format_at g.host output) (λ shape. IsWithin bounds (shape_value shape word))
+    go None none is' = cc
+    go (Some w) none is' =
+        let same_cell : cell ≡ Out output register = cc in
+        let same_word : w ≡ word = cc in
+        subst (λ n. IsSomeAnd (format_at g.host output) (λ shape. IsWithin bounds (shape_value shape n))) same_word
+        (order-within g cell output register w bounds none same_cell voltage limits)
+guarded-voltage g (job.Check cell) output register word bounds free is voltage limits = cc
+guarded-voltage g (job.Learn o) output register word bounds free is voltage limits = cc
+guarded-voltage g (job.Send command) output register word bounds free is voltage limits = cc
+
+-- a byte that leaves the output on
+pub guarded-on : (g : Guarded) (output byte : ℕ) → guard_fault g (job.Order (Out output Operation) byte) ≡ None →
+    leaves_on byte ≡ true → within_of (limits_at g output) (band_on g.host output byte) ≡ Yes
+guarded-on g output byte free on =
+    go (leaves_on byte) (within_of (limits_at g output) (band_on g.host output byte)) on
+    (head (operation_limit g output byte) _ (second (of_host (cell_fault g.host (Out output Operation))) _ free))
+  where
+    go : (b : Bool) (w : Within) → b ≡ true → cond (b && not (is_yes w)) (Some NotKnownWithin) None ≡ None → w ≡ Yes
+    go false w on' none = cc
+    go true Yes on' none = refl
+    go true No on' none = cc
+    go true NotKnown on' none = cc
+
+-- where the limits say nothing, the host alone refuses
+alone : (g : Guarded) (cell : Cell) (word : ℕ) → judged g cell word ≡ None →
+    guarded_order g cell word ≡ of_host (order_fault g.host cell word)
+alone g cell word none =
+    ap (λ (j : Option LimitFault). option_or (of_host (cell_fault g.host cell)) (option_or j (option_or (of_host (order_fault g.host cell word)) None)))
+    none
+    ∙ merge (cell_fault g.host cell) _
+  where
+    merge : (here later : Option HostFault) →
+        option_or (of_host here) (option_or None (option_or (of_host (option_or here later)) None)) ≡ of_host (option_or here later)
+    merge (Some f) later = refl
+    merge None (Some f) = refl
+    merge None None = refl
+
+pub guarded-off : (g : Guarded) (output byte : ℕ) → leaves_on byte ≡ false →
+    guard_fault g (job.Order (Out output Operation) byte)
+    ≡ of_host (begin_fault g.host (job.Order (Out output Operation) byte))
+guarded-off g output byte off = alone g (Out output Operation) byte
+    (ap (λ (b : Bool). cond (b && not (is_yes (within_of (limits_at g output) (band_on g.host output byte)))) (Some NotKnownWithin) None) off)
+
+-- where an output has no limits, they say nothing
+judged-free : (g : Guarded) (output : ℕ) (register : Reg) (word : ℕ) → limits_at g output ≡ None →
+    judged g (Out output register) word ≡ None
+judged-free g output Operation word none =
+    ap (λ (l : Option Bounds). cond (leaves_on word && not (is_yes (within_of l (band_on g.host output word)))) (Some NotKnownWithin) None) none
+    ∙ go (leaves_on word)
+  where
+    go : (b : Bool) → cond (b && false) (Some NotKnownWithin) None ≡ None
+    go true = refl
+    go false = refl
+judged-free g output VoutCommand word none = ap (λ (l : Option Bounds). voltage_limit l (format_at g.host output) word) none
+judged-free g output VoutMax word none = ap (λ (l : Option Bounds). voltage_limit l (format_at g.host output) word) none
+judged-free g output MarginHigh word none = ap (λ (l : Option Bounds). voltage_limit l (format_at g.host output) word) none
+judged-free g output MarginLow word none = ap (λ (l : Option Bounds). voltage_limit l (format_at g.host output) word) none
+judged-free g output VoutMin word none = ap (λ (l : Option Bounds). voltage_limit l (format_at g.host output) word) none
+
+pub guarded-free : (g : Guarded) (output : ℕ) (register : Reg) (word : ℕ) → limits_at g output ≡ None →
+    guard_fault g (job.Order (Out output register) word)
+    ≡ of_host (begin_fault g.host (job.Order (Out output register) word))
+guarded-free g output register word none =
+    alone g (Out output register) word (judged-free g output register word none)

@@ -1,0 +1,9 @@
+-- What the crate promises.
+pub mod Band
+pub mod Bounds
+pub mod Ends
+pub mod FaultWords
+pub mod Guard
+pub mod Laws
+pub mod Registers
+pub mod Lemmas

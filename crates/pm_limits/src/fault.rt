@@ -1,0 +1,51 @@
+ghost use Rattle.std.specs.Prelude.{◌≡◌};
+
+use pm_host::HostFault;
+use thiserror::Error;
+
+/// Why a guard refuses a call. A refused call changes nothing.
+#[derive(Clone, Copy, Debug, PartialEq, Eq, Error)]
+pub enum LimitFault {
+    /// L1: the least voltage of limits is above the most.
+    #[error("limits whose least is above their most")]
+    LimitsInverted,
+    /// L2: the output has limits, and the format of its voltages wasn't learned since the host started.
+    #[error("limits without a known format")]
+    FormatUnknown,
+    /// L3: the word's value lies below the output's limits.
+    #[error("a voltage below the output's limits")]
+    BelowLimit,
+    /// L4: the word's value lies above the output's limits.
+    #[error("a voltage above the output's limits")]
+    AboveLimit,
+    /// L5: the byte of OPERATION leaves the output on, and what it would command isn't known to lie within
+    /// its limits.
+    #[error("an output turned on that isn't known to be within its limits")]
+    NotKnownWithin,
+    /// L6: the new limits let through what the old ones don't.
+    #[error("limits wider than before")]
+    LimitsWidened,
+    /// H1 to H7 or N3 to N5: the host's own refusal, or N5 where a limit is beyond 10^15.
+    #[error("{0}")]
+    Host(HostFault),
+}
+
+impl LimitFault {
+    ghost use Rattle.pm_limits.specs.FaultWords.{limit_fault_words};
+
+    /// The letter and the name of the fault, as programs print them: `L3 BelowLimit`. A refusal of the host
+    /// is told as that: `H6 TooUncertain`.
+    pub fn words(self) -> &'static str
+        ensures { result.now ≡ limit_fault_words self }
+    {
+        match self {
+            LimitFault::LimitsInverted => "L1 LimitsInverted",
+            LimitFault::FormatUnknown => "L2 FormatUnknown",
+            LimitFault::BelowLimit => "L3 BelowLimit",
+            LimitFault::AboveLimit => "L4 AboveLimit",
+            LimitFault::NotKnownWithin => "L5 NotKnownWithin",
+            LimitFault::LimitsWidened => "L6 LimitsWidened",
+            LimitFault::Host(fault) => fault.words(),
+        }
+    }
+}

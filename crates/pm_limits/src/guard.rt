@@ -1,0 +1,161 @@
+mod calls;
+mod judgement;
+
+ghost use Rattle.std.specs.Prelude.{◌≡◌, ◌<◌, Some, IfOk, OnOk, OnErr, slice_set};
+ghost use Rattle.std.specs.Result.{result_err};
+ghost use Rattle.pm_table.specs.Address.{IsAddress};
+ghost use Rattle.pm_host.specs.Refusals.{IsSetup, setup_fault};
+ghost use Rattle.pm_host.specs.Summary.{start};
+ghost use Rattle.pm_host.specs.Transcript.{Setup};
+ghost use Rattle.pm_limits.specs.Band.{band_at, within_of};
+ghost use Rattle.pm_limits.specs.Bounds.{is_wider};
+ghost use Rattle.pm_limits.specs.Guard.{LetsBegin, limits_at, narrow_fault, narrowed};
+
+use crate::band::{Band, band_of};
+use crate::fault::LimitFault;
+use crate::limits::Limits;
+use crate::within::Within;
+use pm_host::{Host, HostFault, Job};
+use std::marker::Model;
+
+// How many outputs a device has at most.
+const OUTPUTS: usize = 8;
+
+/// A host that refuses orders beyond the limits of their output.
+///
+/// It has the host's calls, which do what they do there. For an output with limits it also refuses an order
+/// of a voltage, VOUT_COMMAND, VOUT_MAX, VOUT_MIN or a margin, whose word stands for a value outside them, in
+/// the exact fraction of the word that would be sent; and an order of OPERATION that leaves the output on,
+/// unless the band with that byte lies within the limits. Turning an output off is never refused by a limit,
+/// and an output without limits is as at a host.
+///
+/// Limits can be narrowed, never widened. Words that were ordered before limits were narrowed stay
+/// possible: [`Guard::within`] says what holds of the output now.
+#[derive(Drop)]
+pub struct Guard {
+    host: Host,
+    limits: [Option<Limits>; OUTPUTS],
+}
+
+impl Model for Guard {
+    ghost use Rattle.pm_limits.specs.Guard.{Guarded};
+
+    ghost Value = { Guarded };
+
+    ghost use Rattle.std.specs.Prelude.{◌≡◌, length};
+
+    ghost view = { λ g. record { host = g.host; limits = g.limits } };
+}
+
+impl Guard {
+    /// A guard whose host is as [`Host::new`] makes it, with the limits of each output; those of outputs that
+    /// aren't there mean nothing. H1 and H2 as there.
+    pub fn new(
+        addr: u8,
+        outputs: u8,
+        passes: u8,
+        limits: [Option<Limits>; 8],
+    ) -> Result<Guard, HostFault>
+        requires { IsAddress addr }
+        ensures made { let setup : Setup = record { addr = addr; outputs = outputs; passes = passes } in
+            IfOk result (λ guard. guard ≡ record { host = start setup; limits = limits }) }
+        ensures setup { IfOk result (λ guard. IsSetup guard.host.setup) }
+        ensures fault { result_err result ≡ setup_fault outputs passes }
+    {
+        match Host::new(addr, outputs, passes) {
+            Ok(host) => Ok(Guard { host, limits }),
+            Err(fault) => Err(fault),
+        }
+    }
+
+    /// Begins a job, as [`Host::begin`], or refuses it. A refusal changes nothing.
+    ///
+    /// An order of a word is refused, in this order, with H3, H4, then by the limits, L2 where the format isn't
+    /// known, L3 below them and L4 above them, then H5, L5 for OPERATION, and H6. An order in microvolts with
+    /// H3, H4, H5, H7, N5, N3, N4, then L3 and L4, by the value of the nearest word, and H6. Every other job
+    /// is refused as the host refuses it.
+    pub fn begin(&mut self, job: Job) -> Result<(), LimitFault>
+        ensures { LetsBegin self.old job result self.new }
+    {
+        match job {
+            Job::Order(cell, word) => self.begin_order(cell, word),
+            Job::OrderMicro(cell, x) => self.begin_micro(cell, x),
+            _ => self.pass_on(job),
+        }
+    }
+
+    /// The limits of an output, where it has any.
+    pub fn limits(&self, output: u8) -> Option<Limits>
+        ensures { result ≡ limits_at self.now output }
+    {
+        match self.limits.get(usize::from(output)) {
+            Some(limits) => *limits,
+            None => None,
+        }
+    }
+
+    /// Gives an output narrower limits of these microvolts; an output without limits takes any. H4 where the output
+    /// isn't there, N5 where a limit is beyond 10^15 in size, L1 where the least is above the most, L6 where the
+    /// output has limits and these let through what those don't; then nothing changes.
+    ///
+    /// A word that was ordered before stays possible, and one that the device holds stays there: ask
+    /// [`Guard::within`].
+    pub fn narrow(&mut self, output: u8, least: i64, most: i64) -> Result<(), LimitFault>
+        ensures fault { result_err result ≡ narrow_fault self.old output least most }
+        ensures ok { OnOk result (self.new ≡ narrowed self.old output least most) }
+        ensures err { OnErr result (self.new ≡ self.old) }
+    {
+        if output >= self.host.outputs() {
+            return Err(LimitFault::Host(HostFault::UnknownOutput));
+        }
+        let limits = Limits::new(least, most)?;
+        if self.widens(output, &limits) {
+            return Err(LimitFault::LimitsWidened);
+        }
+        put(&mut self.limits, output, limits);
+        Ok(())
+    }
+
+    // Whether limits let through what those of an output don't.
+    fn widens(&self, output: u8, limits: &Limits) -> bool
+        ensures { result ≡ is_wider (limits_at self.now output) limits.now }
+    {
+        match self.limits(output) {
+            Some(old) => limits.is_wider(&old),
+            None => false,
+        }
+    }
+
+    /// Between which voltages an output may be, as [`band_of`] says. The output is there.
+    pub fn band(&self, output: u8) -> Option<Band>
+        requires { output < self.now.host.setup.outputs }
+        ensures { result ≡ band_at self.now.host output }
+    {
+        band_of(&self.host, output)
+    }
+
+    /// Whether an output's voltage lies within its limits, by the words that its registers may hold: `Yes` where its
+    /// whole band does or it has no limits, `No` where the whole band lies below the limits or above them,
+    /// otherwise `NotKnown`. The output is there.
+    ///
+    /// The limits hold for good where each word that the registers of the output, and the device's user store, had
+    /// before the guard lies within them. Check the registers, and see that this answers `Yes`. What the store
+    /// holds no host can read: a restore or a restart of the device may bring it out.
+    pub fn within(&self, output: u8) -> Within
+        requires { output < self.now.host.setup.outputs }
+        ensures { result ≡ within_of (limits_at self.now output) (band_at self.now.host output) }
+    {
+        self.within_band(output, self.band(output))
+    }
+}
+
+// Gives an output limits.
+#[tactic(auto, using(std::proofs::lemmas::List::set_past))]
+fn put(all: &mut [Option<Limits>], output: u8, limits: Limits)
+    ensures { all.new ≡ slice_set all.old output (Some limits) }
+{
+    let place = usize::from(output);
+    if place < all.len() {
+        all[place] = Some(limits);
+    }
+}

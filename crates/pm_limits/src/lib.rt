@@ -1,0 +1,38 @@
+//! Limits of each output's voltage, and the band of voltage that is known.
+//!
+//! A [`Guard`] is a host that refuses orders beyond an output's [`Limits`]: a voltage whose word stands for
+//! a value outside them, and a byte of OPERATION that leaves the output on while what it would command isn't
+//! known to lie within. [`band_of`] says between which voltages an output may be by what a host knows, as
+//! exact fractions; no narrower band is true.
+//!
+//! A guard knows what was ordered through it and what was read. What a device or its user store held before
+//! it can't know: check the registers first, and ask [`Guard::within`].
+//!
+//! A 3.3 V rail that takes 3.200 V to 3.465 V:
+//!
+//! ```
+//! fn guarded() -> Result<Guard, LimitFault> {
+//!     let mut guard = Guard::new(0x58, 1, 2, [None; 8]).map_err(LimitFault::Host)?;
+//!     guard.narrow(0, 3_200_000, 3_465_000)?;
+//!     Ok(guard)
+//! }
+//! ```
+#![tactic(auto)]
+
+mod band;
+mod ends;
+mod fault;
+mod guard;
+mod laws;
+mod limits;
+mod registers;
+mod side;
+mod within;
+
+pub use band::{Band, band_of};
+pub use fault::LimitFault;
+pub use guard::Guard;
+pub use laws::{bands_are_ends, guarded_orders_are_within};
+pub use limits::Limits;
+pub use side::Side;
+pub use within::Within;

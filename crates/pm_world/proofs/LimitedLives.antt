@@ -1,0 +1,274 @@
+-- An output commands a voltage within limits where each of its own words lies within them.
+use Rattle.std.proofs.Common.{◌≡◌, ◌≢◌, inl, inr, ℕ, ◌<◌, ℤ, pos, Bool, true, false, cond, ◌&&◌, ◌||◌, List, [], ◌∷◌, ◌++◌, Option, Some, None, Result, Ok, Err, refl, sym, ◌∙◌, ap, subst, append_assoc}
+use Rattle.std.proofs.Common.{is_some, is_none, option_map, option_and_then}
+use Rattle.std.specs.Prelude.{slice_index_or, IsSomeAnd}
+use Rattle.std.specs.Option.{option_map_or}
+use Rattle.std.specs.Ordering.{int_eq}
+use Rattle.std.specs.Result.{result_ok}
+use Rattle.pm_num.specs.AnyFormat.{Shape, InUlinear16, InDirect, shape_value}
+use Rattle.pm_num.specs.declared.fault.NumFault.TheVariants.{ZeroSlope, ExponentRange}
+use Rattle.pm_num.specs.Lemmas.Slope.{direct-has_den}
+use Rattle.pm_num.specs.Lemmas.Unsigned.{lower-positive}
+use Rattle.pm_num.specs.Ratio.{Ratio, AtMost, is_above, micros}
+use Rattle.pm_table.specs.declared.cell.Cell.{Cell}
+use Rattle.pm_table.specs.declared.cell.Cell.TheVariants.{Out}
+use Rattle.pm_table.specs.declared.coefficients.Coefficients.{Coefficients}
+use Rattle.pm_table.specs.declared.reg.Reg.{Reg}
+use Rattle.pm_table.specs.declared.reg.Reg.TheVariants.{VoutMax, VoutMin}
+use Rattle.pm_table.specs.declared.vout_mode.VoutMode.{VoutMode}
+use Rattle.pm_table.specs.declared.vout_mode.VoutMode.TheVariants.{Linear, Direct}
+use Rattle.pm_table.specs.declared.fault.TableFault.{TableFault}
+use Rattle.pm_table.specs.Cell.{is_voltage}
+use Rattle.pm_table.specs.Format.{is_decimal, shape_in}
+use Rattle.pm_table.specs.VoutMode.{mode_of}
+use Rattle.pm_model.specs.Commanded.{commanded, limited, selected_register}
+use Rattle.pm_model.specs.declared.pending_job.PendingJob.TheVariants as pending
+use Rattle.pm_model.specs.OrderMachine.{Step, Accept, End, Back}
+use Rattle.pm_device.specs.declared.config.Config.{Config}
+use Rattle.pm_device.specs.Held.{mode_for, shape_for, shape_made, value_for}
+use Rattle.pm_device.specs.Start.{IsSound, start_word}
+use Rattle.pm_host.specs.declared.command.Command.TheVariants.{StoreUserAll, RestoreUserAll}
+use Rattle.pm_host.specs.declared.job.Job.{Job}
+use Rattle.pm_host.specs.Jobs.{accepted_job}
+use Rattle.pm_host.specs.Refusals.{IsSetup}
+use Rattle.pm_host.specs.Summary.{Summary, format_at}
+use Rattle.pm_host.specs.Transcript as host
+use Rattle.pm_limits.specs.Band.{HasDens}
+use Rattle.pm_limits.specs.Bounds.{Bounds, IsWithin}
+use Rattle.pm_limits.specs.Guard.{Guarded, guard_fault}
+use Rattle.pm_limits.specs.Lemmas.Cuts.{Cut, cut-greatest, cut-least}
+use Rattle.pm_limits.specs.Lemmas.Guarded.{guarded-voltage}
+use Rattle.pm_limits.specs.Lemmas.Order.{through}
+use Rattle.pm_limits.specs.Lemmas.Selected.{each-selected}
+use Rattle.pm_world.specs.Below.{Below}
+use Rattle.pm_world.specs.declared.event.Event.{Event}
+use Rattle.pm_world.specs.declared.event.Event.TheVariants.{Exchange, Finish, RestartHost, RestartDevice}
+use Rattle.pm_world.specs.Honest.{IsSpelled}
+use Rattle.pm_world.specs.Job.{asked_by}
+use Rattle.pm_world.specs.Life.{now}
+use Rattle.pm_world.specs.Limited.{AreGuarded, MaxAtMost, MinAtLeast, OwnWithin, StartsWithin, StaysLimited, commands}
+use Rattle.pm_world.specs.Retelling.{CommandsOwn, IsOwnWord, WasOrdered, accepts, open_pending, pending_of, told, told_beside}
+use Rattle.pm_world.specs.State.{asked}
+use Rattle.pm_world.proofs.LearnedLives.{formats-agree}
+use Rattle.pm_world.proofs.Lives.{IsLived, lived-before, now-config}
+use Rattle.pm_world.proofs.OwnWords.{life-commands}
+
+-- the values of a format that is made have positive denominators
+slope : (m : ℤ) → int_eq m (pos 0) ≡ false → m ≢ pos 0
+slope m h e = let bad : int_eq (pos 0) (pos 0) ≡ false = subst (λ (z : ℤ). int_eq z (pos 0) ≡ false) e h in cc
+
+shape-dens : (mode : VoutMode) (c : Coefficients) (shape : Shape) → result_ok (shape_in mode c) ≡ Some shape → HasDens shape
+shape-dens (Linear n) c shape is =
+    let same : InUlinear16 n ≡ shape = cc in
+    subst (λ (s : Shape). HasDens s) same (λ word. lower-positive n)
+shape-dens Direct c shape is = go (int_eq c.m (pos 0)) (is_decimal c) refl is where
+  go : (flat decimal : Bool) → int_eq c.m (pos 0) ≡ flat →
+      result_ok (cond flat (Err ZeroSlope) (cond decimal (Ok (InDirect c.m c.b c.r)) (Err ExponentRange))) ≡ Some shape → HasDens shape
+  go true decimal e is' = cc
+  go false false e is' = cc
+  go false true e is' =
+      let same : InDirect c.m c.b c.r ≡ shape = cc in
+      subst (λ (s : Shape). HasDens s) same (λ word. direct-has_den c.m c.b c.r word (slope c.m e))
+
+pub sound-dens : (config : Config) (output : ℕ) → IsSound config → output < config.count → HasDens (shape_for config output)
+sound-dens config output sound here = go (result_ok (mode_of (mode_for config output))) (sound.formats output here) where
+  go : (mode : Option VoutMode) →
+      option_and_then (λ m. result_ok (shape_in m config.coefficients)) mode ≡ Some (shape_for config output) →
+      HasDens (shape_for config output)
+  go None is = cc
+  go (Some mode) is = shape-dens mode config.coefficients (shape_for config output) is
+
+-- a word that was a cell's own stays so
+own-later : {config : Config} {passes : ℕ} {before : List Event} {cell : Cell} {word : ℕ} (later : List Event) →
+    IsOwnWord config passes before cell word → IsOwnWord config passes (later ++ before) cell word
+own-later later (inl start) = inl start
+own-later later (inr was) = inr (record {
+  later = later ++ was.later;
+  event = was.event;
+  before = was.before;
+  is = ap (λ (l : List Event). later ++ l) was.is ∙ sym (append_assoc later was.later (was.event ∷ was.before));
+  orders = was.orders;
+})
+
+-- what an output commanded before, by its own words until now
+commands-own : Below → {config : Config} {passes : ℕ} {events : List Event} (output : ℕ) (later before : List Event) →
+    IsLived config passes events → output < config.count → events ≡ later ++ before →
+    CommandsOwn config passes events output (commands config passes before output)
+commands-own laws {config = config} {passes = passes} {events = events} output later before lived here is =
+    let past = lived-before config passes later before (subst (IsLived config passes) is lived) in
+    let own = life-commands laws config passes before output past here in
+    let keep = λ (cell : Cell) (word : ℕ) (o : IsOwnWord config passes before cell word).
+    subst (λ (es : List Event). IsOwnWord config passes es cell word) (sym is) (own-later later o) in
+    record {
+      operation = own.operation;
+      selected = own.selected;
+      least = own.least;
+      most = own.most;
+      own_operation = keep _ own.operation own.own_operation;
+      own_selected = keep _ own.selected own.own_selected;
+      own_least = keep _ own.least own.own_least;
+      own_most = keep _ own.most own.own_most;
+      cut = ap (λ (k : Config). commanded (value_for k output) (now config passes before).device.words output)
+          (sym (now-config config passes before)) ∙ own.cut;
+    }
+
+-- a value that is cut is one of the three
+one-of : (P : Ratio → Type 0) (s l g : Ratio) → P s → P l → P g → P (limited s l g)
+one-of P s l g ps pl pg = go (is_above s g) (is_above l s) (is_above l g) where
+  go : (over under crossed : Bool) → P (cond (over || under && crossed) g (cond under l s))
+  go true under crossed = pg
+  go false true true = pg
+  go false true false = pl
+  go false false crossed = ps
+
+-- a voltage's register
+selected-voltage : (byte : ℕ) → is_voltage (selected_register byte) ≡ true
+selected-voltage byte = each-selected (λ r. is_voltage r ≡ true) refl refl refl byte
+
+stays-limited : Below → {config : Config} {passes : ℕ} {events : List Event} → IsLived config passes events →
+    (output : ℕ) (bounds : Bounds) (later before : List Event) → output < config.count →
+    events ≡ later ++ before → OwnWithin config passes events output bounds →
+    IsWithin bounds (commands config passes before output)
+stays-limited laws {config = config} lived output bounds later before here is within =
+    let own = commands-own laws output later before lived here is in
+    let value = value_for config output in
+    subst (λ (v : Ratio). IsWithin bounds v) (sym own.cut)
+    (one-of (λ v. IsWithin bounds v) (value own.selected) (value own.least) (value own.most)
+    (within (selected_register own.operation) own.selected (selected-voltage own.operation) own.own_selected)
+    (within VoutMin own.least refl own.own_least)
+    (within VoutMax own.most refl own.own_most))
+
+-- the value and the limits of what an output commands
+cut-of : (config : Config) (output : ℕ) → IsSound config → output < config.count → (selected least most : ℕ) → Cut
+cut-of config output sound here selected least most =
+    let value = value_for config output in
+    let dens = sound-dens config output sound here in
+    record {
+      selected = value selected;
+      least = value least;
+      greatest = value most;
+      selected_den = dens selected;
+      least_den = dens least;
+      greatest_den = dens most;
+    }
+
+stays-below : Below → {config : Config} {passes : ℕ} {events : List Event} → IsLived config passes events →
+    (output : ℕ) (most : Ratio) (later before : List Event) → output < config.count →
+    events ≡ later ++ before → MaxAtMost config passes events output most →
+    AtMost (commands config passes before output) most
+unfolding cut-of
+stays-below laws {config = config} lived output most later before here is all =
+    let own = commands-own laws output later before lived here is in
+    let value = value_for config output in
+    let cut = cut-of config output lived.sound here own.selected own.least own.most in
+    subst (λ (v : Ratio). AtMost v most) (sym own.cut)
+    (through (limited (value own.selected) (value own.least) (value own.most)) (value own.most) most
+    (sound-dens config output lived.sound here own.most) (cut-greatest cut) (all own.most own.own_most))
+
+stays-above : Below → {config : Config} {passes : ℕ} {events : List Event} → IsLived config passes events →
+    (output : ℕ) (least : Ratio) (later before : List Event) → output < config.count →
+    events ≡ later ++ before → MinAtLeast config passes events output least →
+    AtMost least (commands config passes before output)
+unfolding cut-of
+stays-above laws {config = config} lived output least later before here is all =
+    let own = commands-own laws output later before lived here is in
+    let value = value_for config output in
+    let cut = cut-of config output lived.sound here own.selected own.least own.most in
+    subst (λ (v : Ratio). AtMost least v) (sym own.cut)
+    (through least (value own.least) (limited (value own.selected) (value own.least) (value own.most))
+    (sound-dens config output lived.sound here own.least) (all.above own.least own.own_least)
+    (cut-least cut (all.below own.least own.most own.own_least own.own_most)))
+
+-- an event that asks for no job is told as no order
+not-beside : (config : Config) (passes : ℕ) (before : List Event) (cell : Cell) (word : ℕ) (event : Event) →
+    told_beside config passes before event ≡ Accept (pending.Order cell word) ∷ [] → ⊥
+unfolding told_beside
+not-beside config passes before cell word (Exchange arrival back) h =
+    ends (is_some (open_pending config passes before) && is_none (open_pending config passes (Exchange arrival back ∷ before))) h
+  where
+    ends : (b : Bool) → cond b (End ∷ []) [] ≡ Accept (pending.Order cell word) ∷ [] → ⊥
+    ends true e = cc
+    ends false e = cc
+not-beside config passes before cell word (Finish acked) h =
+    ends (is_some (open_pending config passes before) && is_none (open_pending config passes (Finish acked ∷ before))) h
+  where
+    ends : (b : Bool) → cond b (End ∷ []) [] ≡ Accept (pending.Order cell word) ∷ [] → ⊥
+    ends true e = cc
+    ends false e = cc
+not-beside config passes before cell word RestartHost h = cc
+not-beside config passes before cell word RestartDevice h = cc
+not-beside config passes before cell word event h = cc
+
+-- only an order is told as that
+accepts-order : (cell : Cell) (word : ℕ) (job : host.Job) → accepts (pending_of job) ≡ Accept (pending.Order cell word) ∷ [] →
+    job ≡ host.Order cell word
+accepts-order cell word (host.Order c w) h =
+    let same_cell : c ≡ cell = cc in
+    let same_word : w ≡ word = cc in cc
+accepts-order cell word (host.Send StoreUserAll) h = cc
+accepts-order cell word (host.Send RestoreUserAll) h = cc
+accepts-order cell word job h = cc
+
+-- so an event that is told as an order asked for it
+told-asked : (config : Config) (passes : ℕ) (before : List Event) (event : Event) (cell : Cell) (word : ℕ) →
+    told config passes before event ≡ Accept (pending.Order cell word) ∷ [] →
+    asked (now config passes before) event ≡ Some (host.Order cell word)
+unfolding told
+told-asked config passes before event cell word is = go (asked (now config passes before) event) is where
+  go : (o : Option host.Job) →
+      option_map_or (λ job. accepts (pending_of job)) o (told_beside config passes before event) ≡ Accept (pending.Order cell word) ∷ [] →
+      o ≡ Some (host.Order cell word)
+  go (Some job) h = ap (λ (j : host.Job). Some j) (accepts-order cell word job h)
+  go None h = absurd (not-beside config passes before cell word event h)
+
+-- and was let through
+guarded-at : (config : Config) (passes : ℕ) (limits : List (Option Bounds)) (later : List Event) (event : Event) (before : List Event) →
+    AreGuarded config passes limits (later ++ event ∷ before) →
+    option_and_then (guard_fault (record { host = (now config passes before).host; limits = limits })) (asked_by event) ≡ None
+guarded-at config passes limits [] event before all = all.0
+guarded-at config passes limits (newer ∷ later) event before all = guarded-at config passes limits later event before all.1
+
+-- So each word that a guard let be ordered lies within, in the converter's format.
+ordered-within : (g : Guarded) (asked : Option Job) (output : ℕ) (register : Reg) (word : ℕ) (bounds : Bounds) →
+    option_and_then (guard_fault g) asked ≡ None →
+    option_and_then (accepted_job g.host) asked ≡ Some (host.Order (Out output register) word) →
+    is_voltage register ≡ true → slice_index_or g.limits output None ≡ Some bounds →
+    IsSomeAnd (format_at g.host output) (λ shape. IsWithin bounds (shape_value shape word))
+ordered-within g None output register word bounds free is voltage limits = cc
+ordered-within g (Some job) output register word bounds free is voltage limits =
+    guarded-voltage g job output register word bounds free is voltage limits
+
+in-format : (known : Option Shape) (own : Shape) (word : ℕ) (bounds : Bounds) →
+    ((shape : Shape) → known ≡ Some shape → shape ≡ own) →
+    IsSomeAnd known (λ shape. IsWithin bounds (shape_value shape word)) → IsWithin bounds (shape_value own word)
+in-format None own word bounds agree within = absurd within
+in-format (Some shape) own word bounds agree within =
+    subst (λ (s : Shape). IsWithin bounds (shape_value s word)) (agree shape refl) within
+
+stays-guarded : Below → {config : Config} {passes : ℕ} {events : List Event} → IsLived config passes events → IsSpelled config →
+    (output : ℕ) (bounds : Bounds) (limits : List (Option Bounds)) → output < config.count →
+    slice_index_or limits output None ≡ Some bounds → AreGuarded config passes limits events →
+    StartsWithin config output bounds → OwnWithin config passes events output bounds
+stays-guarded laws {config = config} lived spelled output bounds limits here are all starts register word voltage (inl start) =
+    subst (λ (w : ℕ). IsWithin bounds (value_for config output w)) (sym start) (starts register voltage)
+stays-guarded laws {config = config} {passes = passes} {events = events} lived spelled output bounds limits here are all starts register word voltage (inr was) =
+    let s = (now config passes was.before).host in
+    let past = subst (AreGuarded config passes limits) was.is all in
+    let whole = subst (IsLived config passes) was.is lived in
+    let newest = lived-before config passes was.later (was.event ∷ was.before) whole in
+    let before = lived-before config passes (was.event ∷ []) was.before newest in
+    let agree = formats-agree laws config passes was.before before spelled in
+    in-format (format_at s output) (shape_for config output) word bounds (agree.held output)
+    (ordered-within (record { host = s; limits = limits }) (asked_by was.event) output register word bounds
+    (guarded-at config passes limits was.later was.event was.before past)
+    (told-asked config passes was.before was.event (Out output register) word was.orders) voltage are)
+
+-- Limits over a life.
+pub stays : Below → (config : Config) (passes : ℕ) (events : List Event) → IsLived config passes events → IsSpelled config →
+    StaysLimited config passes events
+stays laws config passes events lived spelled = record {
+  limited = stays-limited laws lived;
+  most = stays-below laws lived;
+  least = stays-above laws lived;
+  guarded = stays-guarded laws lived spelled;
+}

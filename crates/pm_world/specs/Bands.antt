@@ -1,0 +1,31 @@
+-- What the band of an output is worth over a life: this project's own choice. Lists are newest first.
+use Rattle.std.specs.Prelude.{◌≡◌, ◌≢◌, ◌<◌, ◌^◌, ℕ, true, false, List}
+use Rattle.pm_table.specs.declared.cell.Cell.{Cell}
+use Rattle.pm_table.specs.declared.cell.Cell.TheVariants.{Out, Protect}
+use Rattle.pm_table.specs.declared.reg.Reg.{Reg}
+use Rattle.pm_model.specs.Settings.{Words, word_at}
+use Rattle.pm_device.specs.declared.config.Config.{Config}
+use Rattle.pm_device.specs.Held.{shape_for}
+use Rattle.pm_host.specs.declared.possible.Possible.TheVariants.{Any}
+use Rattle.pm_host.specs.Summary.{Summary, possible_at}
+use Rattle.pm_limits.specs.declared.side.Side.{Side}
+use Rattle.pm_limits.specs.Band.{decides, end_choice, known_of}
+use Rattle.pm_world.specs.declared.event.Event.{Event}
+use Rattle.pm_world.specs.Confirmed.{restarted_since}
+use Rattle.pm_world.specs.Uncertainty.{Choice}
+
+-- the words of an output's registers have 16 bits, as each word of a program has
+abbrev pub AreShort : Words → ℕ → Type 0
+AreShort words output = (register : Reg) → word_at words (Out output register) < 2 ^ 16
+
+-- the converter didn't restart since the good answers that the band of an output rests on
+abbrev pub BandStands : Config → ℕ → List Event → Summary → ℕ → Type 0
+BandStands config passes events host output = (register : Reg) →
+    decides (known_of host output) register ≡ true → possible_at host (Out output register) ≢ Any →
+    restarted_since config passes (Out output register) events ≡ false
+
+-- the words with which each output commands an end of its band, at a side of its own choice; 00h for WRITE_PROTECT
+abbrev pub end_choices : Config → Summary → (ℕ → Side) → Choice
+end_choices config host sides (Out output register) =
+    end_choice (sides output) (shape_for config output) (known_of host output) register
+end_choices config host sides Protect = 0x00

@@ -1,0 +1,72 @@
+-- What limits of an output are worth over a life: this project's own choice. Lists are newest first.
+use Rattle.std.specs.Prelude.{◌≡◌, ◌<◌, ℕ, true, None, Some, List, [], ◌∷◌, ◌++◌, Option, option_and_then, slice_index_or}
+use Rattle.pm_num.specs.Ratio.{Ratio, AtMost}
+use Rattle.pm_table.specs.declared.reg.Reg.{Reg}
+use Rattle.pm_table.specs.declared.reg.Reg.TheVariants.{VoutMax, VoutMin}
+use Rattle.pm_table.specs.declared.cell.Cell.TheVariants.{Out}
+use Rattle.pm_table.specs.Cell.{is_voltage}
+use Rattle.pm_model.specs.Commanded.{commanded}
+use Rattle.pm_device.specs.declared.config.Config.{Config}
+use Rattle.pm_device.specs.Held.{value_for}
+use Rattle.pm_device.specs.Start.{start_word}
+use Rattle.pm_limits.specs.Bounds.{Bounds, IsWithin}
+use Rattle.pm_limits.specs.Guard.{guard_fault}
+use Rattle.pm_world.specs.declared.event.Event.{Event}
+use Rattle.pm_world.specs.Job.{asked_by}
+use Rattle.pm_world.specs.Life.{now}
+use Rattle.pm_world.specs.Retelling.{IsOwnWord}
+
+-- the voltage that an output commands after some events
+abbrev pub commands : Config → ℕ → List Event → ℕ → Ratio
+commands config passes events output =
+    commanded (value_for config output) (now config passes events).device.words output
+
+-- each start word of an output's voltages, and each that was ordered for one, has a value within these limits
+abbrev pub OwnWithin : Config → ℕ → List Event → ℕ → Bounds → Type 0
+OwnWithin config passes events output bounds = (register : Reg) (word : ℕ) → is_voltage register ≡ true →
+    IsOwnWord config passes events (Out output register) word → IsWithin bounds (value_for config output word)
+
+-- the start words alone
+abbrev pub StartsWithin : Config → ℕ → Bounds → Type 0
+StartsWithin config output bounds = (register : Reg) → is_voltage register ≡ true →
+    IsWithin bounds (value_for config output (start_word config (Out output register)))
+
+-- each word of VOUT_MAX has a value of at most this
+abbrev pub MaxAtMost : Config → ℕ → List Event → ℕ → Ratio → Type 0
+MaxAtMost config passes events output most = (word : ℕ) →
+    IsOwnWord config passes events (Out output VoutMax) word → AtMost (value_for config output word) most
+
+-- each word of VOUT_MIN has a value of at least this, and of at most that of each word of VOUT_MAX
+pub record MinAtLeast (config : Config) (passes : ℕ) (events : List Event) (output : ℕ) (least : Ratio) : Type 0 where
+  pub above : (word : ℕ) →
+      IsOwnWord config passes events (Out output VoutMin) word → AtMost least (value_for config output word)
+  pub below : (word most : ℕ) →
+      IsOwnWord config passes events (Out output VoutMin) word →
+      IsOwnWord config passes events (Out output VoutMax) most →
+      AtMost (value_for config output word) (value_for config output most)
+
+-- each job that was asked for is one that a guard with these limits lets through
+abbrev pub AreGuarded : Config → ℕ → List (Option Bounds) → List Event → Type 0
+AreGuarded config passes limits [] = Unit {0}
+AreGuarded config passes limits (event ∷ before) =
+    (option_and_then (guard_fault (record { host = (now config passes before).host; limits = limits }))
+    (asked_by event) ≡ None)
+    × AreGuarded config passes limits before
+
+-- At each moment of the events, whatever was lost, cut, damaged or repeated, and whichever end restarted: an output
+-- whose own words are all within limits commands a voltage within them (`limited`); it commands no more than the
+-- most of all words of its VOUT_MAX, whatever else was ordered (`most`), and no less than the least of VOUT_MIN's
+-- (`least`). Where each job went through a guard and the start words are within its limits, so are all (`guarded`).
+pub record StaysLimited (config : Config) (passes : ℕ) (events : List Event) : Type 0 where
+  pub limited : (output : ℕ) (bounds : Bounds) (later before : List Event) → output < config.count →
+      events ≡ later ++ before → OwnWithin config passes events output bounds →
+      IsWithin bounds (commands config passes before output)
+  pub most : (output : ℕ) (most : Ratio) (later before : List Event) → output < config.count →
+      events ≡ later ++ before → MaxAtMost config passes events output most →
+      AtMost (commands config passes before output) most
+  pub least : (output : ℕ) (least : Ratio) (later before : List Event) → output < config.count →
+      events ≡ later ++ before → MinAtLeast config passes events output least →
+      AtMost least (commands config passes before output)
+  pub guarded : (output : ℕ) (bounds : Bounds) (limits : List (Option Bounds)) → output < config.count →
+      slice_index_or limits output None ≡ Some bounds → AreGuarded config passes limits events →
+      StartsWithin config output bounds → OwnWithin config passes events output bounds
