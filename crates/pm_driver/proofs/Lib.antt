@@ -1,0 +1,6 @@
+mod Composed
+mod EndedJobs
+mod Grown
+mod OpenJobs
+mod ReadBack
+mod SentFrames
