@@ -8,7 +8,7 @@ use Rattle.pm_world.specs.declared.event.Event.TheVariants.{Exchange, Finish}
 use Rattle.pm_driver.specs.Acts.{Act, AreCalls, AreDone, Began, Call, Called, MayDo, Renewed, asked_in, host_by, told_by}
 use Rattle.pm_driver.specs.Laws.{LeadsCompose}
 use Rattle.pm_driver.specs.Lives.{Driven, EndsTold, Leads, newest_tells}
-use Rattle.pm_driver.proofs.Grown.{goes-on}
+use Rattle.pm_driver.proofs.Grown.{goes-on, stays}
 
 -- the host after acts and more of them
 host-append : (s : Summary) (second first : List Act) → host_by s (second ++ first) ≡ host_by (host_by s first) second
@@ -39,7 +39,7 @@ asked-append (Began job ∷ second) first = ap (λ l. Began job ∷ l) (asked-ap
 asked-append (Renewed ∷ second) first = ap (λ l. Renewed ∷ l) (asked-append second first)
 
 -- the newest event stays the newest
-tells-append : (second first : List Event) → newest_tells second ≡ true → newest_tells (second ++ first) ≡ true
+pub tells-append : (second first : List Event) → newest_tells second ≡ true → newest_tells (second ++ first) ≡ true
 tells-append (Finish acked ∷ second) first is = refl
 tells-append (Exchange arrival back ∷ second) first is = refl
 tells-append [] first is = cc
@@ -62,4 +62,17 @@ leads-compose gives held first second middle end a b c one two = record {
   lives = λ config passes before life.
       let here = one.lives config passes before life in
       goes-on here (two.lives config passes (one.events ++ before) here.is_life);
+}
+
+-- nothing done leads nowhere
+pub leads-nothing : {B : Type 0} (gives : B → Call → B → Type 0) (held : B → Held) (d : Driven B) → Leads gives held [] None d d
+leads-nothing gives held d = record {
+  acts = [];
+  events = [];
+  asks = refl;
+  calls = refl;
+  may = tt;
+  host = refl;
+  newest = tt;
+  lives = λ config passes before life. stays life;
 }

@@ -1,8 +1,9 @@
 -- What the end of a job is worth, in every life.
-use Rattle.std.proofs.Common.{◌≡◌, ℕ, Bool, true, false, not, cond, ◌||◌, List, [], ◌∷◌, ◌++◌, Option, Some, None, is_none, is_some, option_map, refl, sym, ◌∙◌, ap, ap₂, subst}
+use Rattle.std.proofs.Common.{◌≡◌, ◌<◌, inl, inr, ℕ, Bool, true, false, not, cond, eqb, ◌||◌, List, [], ◌∷◌, ◌++◌, Option, Some, None, is_none, is_some, option_map, refl, sym, ◌∙◌, ap, ap₂, subst}
 use Rattle.std.specs.Prelude.{IsSomeAnd, option_to_list}
 use Rattle.std.specs.List.{list_any}
 use Rattle.std.specs.Option.{option_and_then, option_or}
+use Rattle.std.proofs.lemmas.Bool.{eq-eqb}
 use Rattle.pm_num.specs.AnyFormat.{Shape}
 use Rattle.pm_table.specs.declared.cell.Cell.{Cell}
 use Rattle.pm_table.specs.Cell.{IsCell, same_cell}
@@ -10,6 +11,8 @@ use Rattle.pm_table.specs.Laws.{CellsAreToldApart}
 use Rattle.pm_frame.specs.declared.message.Message.{Message}
 use Rattle.pm_model.specs.Settings.{word_at}
 use Rattle.pm_device.specs.declared.config.Config.{Config}
+use Rattle.pm_device.specs.Held.{shape_for}
+use Rattle.pm_device.specs.History.{now as device_now}
 use Rattle.pm_host.specs.declared.job_end.JobEnd.{JobEnd}
 use Rattle.pm_host.specs.declared.job_end.JobEnd.TheVariants.{Done, Differs, Unknown, Learned}
 use Rattle.pm_host.specs.declared.standing.Standing.{Standing}
@@ -20,21 +23,22 @@ use Rattle.pm_host.specs.Marks.{Good, Mark, goods, marks, put_by, puts}
 use Rattle.pm_host.specs.Now.{AreTold}
 use Rattle.pm_host.specs.Standing.{standing_of}
 use Rattle.pm_host.specs.Summary.{format_at, standing_at, sending_in}
-use Rattle.pm_host.specs.Transcript.{Check, Entry, Finished, Got, Job, Learn, Order, Setup, end_of, found, format_of_output, last_job, learn_end, open_job, told_since}
+use Rattle.pm_host.specs.Transcript.{Accepted, Check, Entry, Finished, Got, Job, Learn, Order, Restarted, Send, Setup, end_of, found, found_for, format_of_output, job_end, last_job, learn_end, open_job, told_since}
 use Rattle.pm_world.specs.declared.arrival.Arrival.{Arrival}
 use Rattle.pm_world.specs.declared.back.Back.{Back}
 use Rattle.pm_world.specs.declared.event.Event.{Event}
 use Rattle.pm_world.specs.declared.event.Event.TheVariants.{Exchange, Finish}
 use Rattle.pm_world.specs.Confirmed.{is_good_for, reads, reads_cell, restarted_since, restarts_converter}
+use Rattle.pm_world.specs.Honest.{IsSpelled}
 use Rattle.pm_world.specs.Laws.{LegalLivesAreFollowed}
-use Rattle.pm_world.specs.Life.{life, now}
+use Rattle.pm_world.specs.Life.{life, now, state_of}
 use Rattle.pm_world.specs.Setup.{setup_of}
 use Rattle.pm_world.specs.State.{State, event_cause, exchange_cause, exchanged, share_of}
 use Rattle.pm_driver.specs.Ends.{EndSays, Stands}
 use Rattle.pm_driver.specs.Laws.{EndsAreTrue}
 use Rattle.pm_driver.specs.Lives.{IsLife, newest_tells}
 use Rattle.pm_driver.proofs.Grown.{entries-more}
-use Rattle.pm_driver.proofs.ReadBack.{WasRead, check-read, check-wrote, order-read, order-wrote, word_in_end}
+use Rattle.pm_driver.proofs.ReadBack.{WasRead, check-read, check-wrote, learn-there, order-read, order-wrote, word_in_end}
 
 -- what the newest event told the host
 data Told (s : State) (event : Event) : Type 0 where
@@ -167,7 +171,103 @@ learned-so None h = cc
 learned-so (Some None) h = cc
 learned-so (Some (Some shape)) h = (shape, refl)
 
+-- a format that the last job found is the output's
+format-in : (setup : Setup) (before told : List Entry) (output : ℕ) (shape : Shape) (last : Option Job) → last ≡ Some (Learn output) →
+    found setup output told ≡ Some (Some shape) →
+    option_or (option_and_then (λ job. found_for setup output job told) last) (format_of_output setup before output) ≡ Some shape
+format-in setup before told output shape last is so =
+    ap (λ o. option_or (option_and_then (λ job. found_for setup output job told) o) (format_of_output setup before output)) is
+    ∙ (ap (λ b. option_or (cond b (option_and_then (λ s. s) (found setup output told)) None) (format_of_output setup before output))
+    (eq-eqb output output refl)
+    ∙ ap (λ o. option_or (option_and_then (λ s. s) o) (format_of_output setup before output)) so)
+
+-- before the first frame nothing was found
+nothing-found : (b : Bool) (shape : Shape) → cond b (Some None) None ≡ Some (Some shape) → ⊥
+nothing-found true shape h = cc
+nothing-found false shape h = cc
+
 -- so the output has it
-learned-format : (setup : Setup) (entries : List Entry) (output : ℕ) → last_job entries ≡ Some (Learn output) →
-    end_of setup entries ≡ Some Learned → (shape : Shape) × (format_of_output setup entries output ≡ Some shape)
-learned-format setup entries output last ended = ?
+learned-format : (setup : Setup) (entries : List Entry) (output : ℕ) (shape : Shape) → last_job entries ≡ Some (Learn output) →
+    found setup output (told_since entries) ≡ Some (Some shape) → format_of_output setup entries output ≡ Some shape
+learned-format setup [] output shape last so = cc
+learned-format setup (Restarted ∷ before) output shape last so = cc
+learned-format setup (Accepted job ∷ before) output shape last so = absurd (nothing-found (eqb 0 setup.passes) shape so)
+learned-format setup (Finished acked ∷ before) output shape last so =
+    format-in setup before (Finished acked ∷ told_since before) output shape (last_job before) last so
+learned-format setup (Got bytes ∷ before) output shape last so =
+    format-in setup before (Got bytes ∷ told_since before) output shape (last_job before) last so
+
+-- and the host holds the converter's
+learn-says : TranscriptsAreFollowed → LegalLivesAreFollowed →
+    (config : Config) (passes : ℕ) (before : List Event) (event : Event) (output : ℕ) →
+    (is : IsLife config passes (event ∷ before) (now config passes (event ∷ before)).host (now config passes (event ∷ before)).device) →
+    IsSpelled config → newest_tells (event ∷ before) ≡ true →
+    last_job (life config passes (event ∷ before)).entries ≡ Some (Learn output) →
+    end_of (setup_of config passes) (life config passes (event ∷ before)).entries ≡ Some Learned →
+    IsSomeAnd (format_at (now config passes (event ∷ before)).host output) (λ shape. shape ≡ shape_for config output)
+unfolding end_of
+learn-says host laws config passes before event output is spelled tells last ended =
+    let entries = (life config passes (event ∷ before)).entries in
+    let setup = setup_of config passes in
+    let agree = laws.agree config passes (event ∷ before) is.sound spelled is.made is.legal in
+    let so : learn_end setup output (told_since entries) ≡ Some Learned =
+    ap (option_and_then (λ job. job_end setup job (told_since entries))) (sym last) ∙ ended in
+    let shape = learned-so (found setup output (told_since entries)) so in
+    let told = laws.told config passes (event ∷ before) is.sound is.made is.legal in
+    let has = agree.learned output shape.0 (there told (told-by (now config passes before) event before tells is.legal.0.free))
+    (learned-format setup entries output shape.0 last shape.1) in
+    subst (λ o. IsSomeAnd o (λ s. s ≡ shape_for config output)) (sym has) (agree.held output shape.0 has) where
+  all : (entry : Entry) → (share_of (now config passes before) event).told ≡ Some entry →
+      (life config passes (event ∷ before)).entries ≡ entry ∷ (life config passes before).entries
+  all entry told = entries-more config passes before event ∙ ap (λ o. option_to_list o ++ (life config passes before).entries) told
+
+  there : AreTold (setup_of config passes) (life config passes (event ∷ before)).entries → Told (now config passes before) event →
+      output < config.count
+  there told (wrote acked said) =
+      learn-there host (setup_of config passes) (life config passes before).entries (Finished acked) output is.made
+      (subst (AreTold (setup_of config passes)) (all (Finished acked) said) told)
+      (subst (λ e. last_job e ≡ Some (Learn output)) (all (Finished acked) said) last) (inl (acked, refl))
+  there told (came bytes said) =
+      learn-there host (setup_of config passes) (life config passes before).entries (Got bytes) output is.made
+      (subst (AreTold (setup_of config passes)) (all (Got bytes) said) told)
+      (subst (λ e. last_job e ≡ Some (Learn output)) (all (Got bytes) said) last) (inr (bytes, refl))
+
+-- the end of the last job is that of the transcript
+now-end : (config : Config) (passes : ℕ) (events : List Event) →
+    (now config passes events).end ≡ end_of (setup_of config passes) (life config passes events).entries
+unfolding now state_of
+now-end config passes events = refl
+
+-- the converter stays that of its configuration
+now-config : (config : Config) (passes : ℕ) (events : List Event) → (now config passes events).device.config ≡ config
+unfolding now state_of device_now
+now-config config passes events = refl
+
+-- what the end of a job is worth
+pub ends-are-true : CellsAreToldApart → TranscriptsAreFollowed → LegalLivesAreFollowed → EndsAreTrue
+ends-are-true apart host laws config passes [] job end sound spelled made legal tells last ended = cc
+ends-are-true apart host laws config passes (event ∷ before) job end sound spelled made legal tells last ended =
+    go job end last (sym (now-end config passes (event ∷ before)) ∙ ended) where
+  is : IsLife config passes (event ∷ before) (now config passes (event ∷ before)).host (now config passes (event ∷ before)).device
+  is = record { sound = sound; made = made; legal = legal; host_is = refl; held_is = refl }
+
+  go : (j : Job) (e : JobEnd) → last_job (life config passes (event ∷ before)).entries ≡ Some j →
+      end_of (setup_of config passes) (life config passes (event ∷ before)).entries ≡ Some e →
+      EndSays j (now config passes (event ∷ before)).host (now config passes (event ∷ before)).device e
+  go (Order cell word) Done l so = order-says apart host laws config passes before event cell word Done word is tells l so refl
+  go (Order cell word) (Differs read) l so =
+      order-says apart host laws config passes before event cell word (Differs read) read is tells l so refl
+  go (Order cell word) Unknown l so = tt
+  go (Order cell word) Learned l so = tt
+  go (Check cell) Done l so = check-says apart host laws config passes before event cell is tells l so
+  go (Check cell) (Differs read) l so = tt
+  go (Check cell) Unknown l so = tt
+  go (Check cell) Learned l so = tt
+  go (Learn output) Learned l so =
+      subst (λ c. IsSomeAnd (format_at (now config passes (event ∷ before)).host output) (λ shape. shape ≡ shape_for c output))
+      (sym (now-config config passes (event ∷ before)))
+      (learn-says host laws config passes before event output is spelled tells l so)
+  go (Learn output) Done l so = tt
+  go (Learn output) (Differs read) l so = tt
+  go (Learn output) Unknown l so = tt
+  go (Send command) e l so = tt

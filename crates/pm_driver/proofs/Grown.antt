@@ -58,6 +58,11 @@ grown laws {config = config} {passes = passes} {before = before} event share is 
       ∙ ap (λ h. end_after h s.end share.told) is.host_is);
     }
 
+-- what holds of the host that a life led to holds of the life's
+pub of-life : {config : Config} {passes : ℕ} {events : List Event} {host : Summary} {held : Held} →
+    (P : Summary → Type 0) → (is : IsLife config passes events host held) → P host → P (now config passes events).host
+of-life P is here = subst P (sym is.host_is) here
+
 -- no event
 pub stays : {config : Config} {passes : ℕ} {before : List Event} {host : Summary} {held : Held} →
     IsLife config passes before host held → Goes config passes before [] [] None host held

@@ -1,3 +1,4 @@
+mod BegunJobs
 mod Composed
 mod EndedJobs
 mod Grown

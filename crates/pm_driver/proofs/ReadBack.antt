@@ -1,12 +1,12 @@
 -- The good answer with which an order or a check ended, by the transcript.
-use Rattle.std.proofs.Common.{◌≡◌, ℕ, suc, Bool, true, false, not, cond, eqb, arith, ◌*◌, ◌/◌, ◌%◌, List, [], ◌∷◌, length, Option, Some, None, is_none, is_some, option_map, refl, sym, ◌∙◌, ap, subst}
+use Rattle.std.proofs.Common.{◌≡◌, ◌<◌, ◌⊎◌, inl, inr, ℕ, suc, Bool, true, false, not, cond, eqb, arith, ◌*◌, ◌/◌, ◌%◌, List, [], ◌∷◌, length, Option, Some, None, is_none, is_some, option_map, refl, sym, ◌∙◌, ap, subst}
 use Rattle.std.specs.Option.{option_map_or, option_and_then}
 use Rattle.std.proofs.lemmas.Bool.{eqb-true}
 use Rattle.pm_table.specs.declared.cell.Cell.{Cell}
 use Rattle.pm_table.specs.Cell.{IsCell}
 use Rattle.pm_host.specs.declared.job_end.JobEnd.{JobEnd}
 use Rattle.pm_host.specs.declared.job_end.JobEnd.TheVariants.{Done, Differs, Unknown, Learned}
-use Rattle.pm_host.specs.declared.question.Question.TheVariants.{Word}
+use Rattle.pm_host.specs.declared.question.Question.TheVariants.{Coefficients, Mode, Word}
 use Rattle.pm_host.specs.declared.stage.Stage.{Stage}
 use Rattle.pm_host.specs.declared.stage.Stage.TheVariants.{Asks, Reads, Writes}
 use Rattle.pm_host.specs.Answers.{good_word}
@@ -16,7 +16,8 @@ use Rattle.pm_host.specs.Now.{AreTold, job_stage, now as host_now, stage_of}
 use Rattle.pm_host.specs.Refusals.{IsSetup, sends_read}
 use Rattle.pm_host.specs.Sound.{IsStage}
 use Rattle.pm_host.specs.Summary.{Summary, sending_in}
-use Rattle.pm_host.specs.Transcript.{Setup, Job, Order, Check, Entry, Finished, Got, check_end, end_of, is_write_turn, job_end, job_message, last_end, last_job, newest_word, open_job, order_end, sending_of, told_since}
+use Rattle.pm_host.specs.Transcript.{Setup, Job, Order, Check, Entry, Finished, Got, Learn, check_end, coefficients_tries, mode_told, end_of, is_write_turn, job_end, job_message, last_end, last_job, newest_word, open_job, order_end, sending_of, told_since}
+use Rattle.pm_frame.specs.declared.message.Message.{Message}
 use Rattle.pm_frame.specs.Layout.{is_read_message}
 
 -- a host reads a cell, and got a good answer with this word
@@ -66,16 +67,21 @@ opened setup entries job is = go (is_none (end_of setup entries)) is where
   go true e = e
   go false e = cc
 
-open-job : TranscriptsAreFollowed → (setup : Setup) (entries : List Entry) (job : Job) → sends_read (host_now setup entries) ≡ true →
+open-sending : TranscriptsAreFollowed → (setup : Setup) (entries : List Entry) (job : Job) (test : Message → Bool) →
+    option_map_or test (sending_in (host_now setup entries)) false ≡ true →
     last_job entries ≡ Some job → open_job setup entries ≡ Some job
 unfolding sending_of
-open-job laws setup entries job reads last = go (open_job setup entries) refl where
+open-sending laws setup entries job test sends last = go (open_job setup entries) refl where
   go : (o : Option Job) → open_job setup entries ≡ o → o ≡ Some job
   go None e =
-      let sends : sending_in (host_now setup entries) ≡ None = laws.sending setup entries
+      let nothing : sending_in (host_now setup entries) ≡ None = laws.sending setup entries
       ∙ ap (option_map (λ j. job_message setup j (told_since entries))) e in
-      let none : false ≡ true = ap (λ o. option_map_or is_read_message o false) (sym sends) ∙ reads in cc
+      let none : false ≡ true = ap (λ o. option_map_or test o false) (sym nothing) ∙ sends in cc
   go (Some other) e = sym (opened setup entries other e) ∙ last
+
+open-job : TranscriptsAreFollowed → (setup : Setup) (entries : List Entry) (job : Job) → sends_read (host_now setup entries) ≡ true →
+    last_job entries ≡ Some job → open_job setup entries ≡ Some job
+open-job laws setup entries job reads last = open-sending laws setup entries job is_read_message reads last
 
 -- the stage of an open job
 stage-is : (setup : Setup) (entries : List Entry) (job : Job) → open_job setup entries ≡ Some job →
@@ -103,6 +109,30 @@ check-there : TranscriptsAreFollowed → (setup : Setup) (entries : List Entry) 
     open_job setup entries ≡ Some (Check cell) → IsCell setup.outputs cell
 unfolding host_now
 check-there laws setup entries cell made told is = (stage-sound laws setup entries (Check cell) made told is).there
+
+-- so is the output of a learn
+learn-open : TranscriptsAreFollowed → (setup : Setup) (entries : List Entry) (output : ℕ) → IsSetup setup → AreTold setup entries →
+    open_job setup entries ≡ Some (Learn output) → output < setup.outputs
+unfolding host_now
+learn-open laws setup entries output made told is =
+    let T = told_since entries in
+    go (is_some (mode_told setup output T)) (stage-sound laws setup entries (Learn output) made told is) where
+  go : (b : Bool) → IsStage (host_now setup entries) (Some (cond b (Asks (Coefficients output) (coefficients_tries setup output (told_since entries)))
+      (Asks (Mode output) (length (told_since entries))))) → output < setup.outputs
+  go true stage = stage.there
+  go false stage = stage.there
+
+-- and the output of a learn that is told the end of a write, or bytes
+pub learn-there : TranscriptsAreFollowed → (setup : Setup) (before : List Entry) (entry : Entry) (output : ℕ) → IsSetup setup →
+    AreTold setup (entry ∷ before) → last_job (entry ∷ before) ≡ Some (Learn output) →
+    ((acked : Bool) × (entry ≡ Finished acked)) ⊎ ((bytes : List ℕ) × (entry ≡ Got bytes)) → output < setup.outputs
+unfolding host_now
+learn-there laws setup before (Finished acked) output made told last kind =
+    learn-open laws setup before output made told.1 (open-sending laws setup before (Learn output) (λ m. not (is_read_message m)) told.0 last)
+learn-there laws setup before (Got bytes) output made told last kind =
+    learn-open laws setup before output made told.1 (open-sending laws setup before (Learn output) is_read_message told.0 last)
+learn-there laws setup before entry output made told last (inl is) = cc
+learn-there laws setup before entry output made told last (inr is) = cc
 
 -- an order that says which word was read read it
 pub order-read : TranscriptsAreFollowed → (setup : Setup) (before : List Entry) (bytes : List ℕ) (cell : Cell) (word : ℕ) (end : JobEnd) (read : ℕ) →

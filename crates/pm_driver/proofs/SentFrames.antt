@@ -11,6 +11,9 @@ use Rattle.pm_device.specs.Held.{Held}
 use Rattle.pm_device.specs.History.{next as device_next}
 use Rattle.pm_device.specs.Reply.{reply_of}
 use Rattle.pm_host.specs.declared.job_end.JobEnd.{JobEnd}
+use Rattle.pm_host.specs.declared.step.Step.{Step}
+use Rattle.pm_host.specs.declared.step.Step.TheVariants.{Next, Ended}
+use Rattle.pm_host.specs.Refusals.{is_busy}
 use Rattle.pm_host.specs.Summary.{Summary, sending_in, next as host_next, step_of}
 use Rattle.pm_host.specs.Transcript.{Finished, Got}
 use Rattle.pm_device.specs.declared.config.Config.{Config}
@@ -26,8 +29,9 @@ use Rattle.pm_world.specs.State.{State, Share, delivered, delivery_cause, end_by
 use Rattle.pm_driver.specs.Acts.{Act, Call, Called, MayDo, Read, Wrote, told_of}
 use Rattle.pm_driver.specs.Bus.{IsAsked, IsSent, answer_of, held_after, held_by, is_beside, may_hear}
 use Rattle.pm_driver.specs.Lives.{Driven, EndsSo, EndsTold, Goes, IsLife, Leads, newest_tells}
-use Rattle.pm_driver.specs.Steps.{FramesLead, IsCalled}
-use Rattle.pm_driver.proofs.Grown.{IsGrown, beside-one, goes-on, grown, heard-one, quiet}
+use Rattle.pm_driver.specs.Steps.{FramesLead, IsCalled, StaysOpen}
+use Rattle.pm_driver.proofs.Grown.{IsGrown, beside-one, goes-on, grown, heard-one, of-life, quiet}
+use Rattle.pm_driver.proofs.OpenJobs.{stays-open}
 
 -- a message that the host is sending, with its frame
 record SendsWrite (host : Summary) (frame : List ℕ) : Type 0 where
@@ -87,11 +91,6 @@ deliver-tells s frame arrival sends =
     ap (delivered s arrival) sends.sending
     ∙ ap₂ (λ b f. hears (device.Hearing (heard_bytes f arrival) (ending_of (cond b Restart Stop) arrival))) sends.is.writes
     (write-frame sends.is)
-
--- what the host shows, the host of a life shows
-of-life : {config : Config} {passes : ℕ} {events : List Event} {host : Summary} {held : Held} →
-    (P : Summary → Type 0) → (is : IsLife config passes events host held) → P host → P (now config passes events).host
-of-life P is here = subst P (sym is.host_is) here
 
 -- while a write is being sent
 hear-one : LegalLivesAreFollowed → {config : Config} {passes : ℕ} {host : Summary} (frame : List ℕ) → SendsWrite host frame →
@@ -238,3 +237,20 @@ frames-lead laws gives held call host old new may is so =
       newest = ends-told (end_by (step_of host (told_of call))) e.events e.newest;
       lives = e.goes;
     }
+
+-- what `told` leaves and answers after a call leads on
+pub told-leads : {B : Type 0} (gives : B → Call → B → Type 0) (held : B → Held) → FramesLead gives held →
+    (call : Call) (host after : Summary) (step : Step) (old new : B) → MayDo host (Called call) → IsCalled call (held old) (held new) →
+    gives old call new → after ≡ host_next host (told_of call) → step ≡ step_of host (told_of call) →
+    Leads gives held [] (end_by step) (record { host = host; bus = old }) (record { host = after; bus = new })
+told-leads gives held lead call host after step old new may is so next_is step_is =
+    subst (λ s. Leads gives held [] (end_by s) (record { host = host; bus = old }) (record { host = after; bus = new })) (sym step_is)
+    (subst (λ h. Leads gives held [] (end_by (step_of host (told_of call))) (record { host = host; bus = old })
+    (record { host = h; bus = new })) (sym next_is) (lead call host old new may is so))
+
+-- and it leaves the job open where it didn't end
+pub told-open : (call : Call) (host after : Summary) (step : Step) → is_busy host ≡ true → after ≡ host_next host (told_of call) →
+    step ≡ step_of host (told_of call) → StaysOpen (Some step) after
+told-open call host after Next busy next_is step_is =
+    subst (λ h. is_busy h ≡ true) (sym next_is) (stays-open host call busy (sym step_is))
+told-open call host after (Ended end) busy next_is step_is = tt
