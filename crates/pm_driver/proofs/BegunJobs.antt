@@ -215,6 +215,32 @@ begun-free s (job.OrderMicro cell x) begun is h =
     micro-order s cell (micro_word s cell x) begun is (or-none (option_and_then (λ w. order_fault s cell w) (micro_word s cell x)) None past_range).0
 begun-free s asked begun is h = subst (λ o. option_and_then (job_fault s) o ≡ None) is h
 
+-- where a driver leads that carries a job out which its host began
+job-leads : {B : Type 0} (gives : B → Call → B → Type 0) (held : B → Held) → JobsLead gives held → LeadsCompose gives held →
+    (asked : Job) (end : JobEnd) (old new : Driven B) (middle : Summary) → Begins old.host asked (Ok tt) middle →
+    Leads gives held [] (Some end) (record { host = middle; bus = old.bus }) new →
+    IsSomeAnd (accepted_job old.host asked) (λ begun. Leads gives held (Began begun ∷ []) (Some end) old new)
+job-leads gives held jobs compose asked end old new middle begins leads = go (accepted_job old.host asked) refl begins.ok where
+  go : (o : Option host.Job) → accepted_job old.host asked ≡ o → IsSomeAnd o (λ begun. middle ≡ host_next old.host (host.Accepted begun)) →
+      IsSomeAnd o (λ begun. Leads gives held (Began begun ∷ []) (Some end) old new)
+  go None is ok = absurd ok
+  go (Some begun) is ok =
+      let first = jobs old.host old.bus begun (begun-free old.host asked begun is (sym begins.fault)) in
+      let second = subst (λ h. Leads gives held [] (Some end) (record { host = h; bus = old.bus }) new) ok leads in
+      compose (Began begun ∷ []) [] None (Some end) old (record { host = host_next old.host (host.Accepted begun); bus = old.bus }) new
+      first second
+
+-- so there is a life
+pub job-lived : {B : Type 0} (gives : B → Call → B → Type 0) (held : B → Held) → JobsLead gives held → LeadsCompose gives held →
+    (asked : Job) (end : JobEnd) (old new : Driven B) (middle : Summary) → HasLife old.host (held old.bus) →
+    Begins old.host asked (Ok tt) middle →
+    Leads gives held [] (Some end) (record { host = middle; bus = old.bus }) new → HasLife new.host (held new.bus)
+job-lived gives held jobs compose asked end old new middle has begins leads =
+    go (accepted_job old.host asked) (job-leads gives held jobs compose asked end old new middle begins leads) where
+      go : (o : Option host.Job) → IsSomeAnd o (λ begun. Leads gives held (Began begun ∷ []) (Some end) old new) → HasLife new.host (held new.bus)
+      go None is = absurd is
+      go (Some begun) is = leads-lived gives held (Began begun ∷ []) (Some end) old new has is
+
 -- what a driver does for a job that its host began
 pub runs-so : EndsAreTrue → {B : Type 0} (gives : B → Call → B → Type 0) (held : B → Held) → JobsLead gives held → LeadsCompose gives held →
     (asked : Job) (end : JobEnd) (old new : Driven B) (middle : Summary) → HasLife old.host (held old.bus) →
@@ -222,25 +248,19 @@ pub runs-so : EndsAreTrue → {B : Type 0} (gives : B → Call → B → Type 0)
     Leads gives held [] (Some end) (record { host = middle; bus = old.bus }) new → frames_left new.host ≡ 0 → new.host.setup ≡ middle.setup →
     Runs gives held asked old (Ok end) new
 runs-so law gives held jobs compose asked end old new middle has begins leads over kept =
-    let done = go (accepted_job old.host asked) refl begins.ok in
+    let led = job-leads gives held jobs compose asked end old new middle begins leads in
     record {
       fault = begins.fault;
-      leads = done.0;
-      says = done.1;
+      leads = led;
+      says = go (accepted_job old.host asked) led;
       over = over;
       err = tt;
       kept = kept ∙ begins.kept;
     } where
-  go : (o : Option host.Job) → accepted_job old.host asked ≡ o → IsSomeAnd o (λ begun. middle ≡ host_next old.host (host.Accepted begun)) →
-      IsSomeAnd o (λ begun. Leads gives held (Began begun ∷ []) (Some end) old new)
-      × IsSomeAnd o (λ begun. EndSays begun new.host (held new.bus) end)
-  go None is ok = absurd ok
-  go (Some begun) is ok =
-      let first = jobs old.host old.bus begun (begun-free old.host asked begun is (sym begins.fault)) in
-      let second = subst (λ h. Leads gives held [] (Some end) (record { host = h; bus = old.bus }) new) ok leads in
-      let whole = compose (Began begun ∷ []) [] None (Some end) old (record { host = host_next old.host (host.Accepted begun); bus = old.bus }) new
-      first second in
-      (whole, leads-say law gives held begun end old new has whole)
+      go : (o : Option host.Job) → IsSomeAnd o (λ begun. Leads gives held (Began begun ∷ []) (Some end) old new) →
+          IsSomeAnd o (λ begun. EndSays begun new.host (held new.bus) end)
+      go None is = absurd is
+      go (Some begun) is = leads-say law gives held begun end old new has is
 
 -- a job that began is open
 pub begun-busy : (s after : Summary) (asked : Job) → Begins s asked (Ok tt) after → is_busy after ≡ true

@@ -110,27 +110,27 @@ order-says : CellsAreToldApart → TranscriptsAreFollowed → LegalLivesAreFollo
     Stands (now config passes (event ∷ before)).host (now config passes (event ∷ before)).device cell read
 order-says apart host laws config passes before event cell word end read is tells last ended says =
     go (told-by (now config passes before) event before tells is.legal.0.free) where
-  setup : Setup
-  setup = setup_of config passes
+      setup : Setup
+      setup = setup_of config passes
 
-  entries : List Entry
-  entries = (life config passes before).entries
+      entries : List Entry
+      entries = (life config passes before).entries
 
-  all : (entry : Entry) → (share_of (now config passes before) event).told ≡ Some entry →
-      (life config passes (event ∷ before)).entries ≡ entry ∷ entries
-  all entry told = entries-more config passes before event ∙ ap (λ o. option_to_list o ++ entries) told
+      all : (entry : Entry) → (share_of (now config passes before) event).told ≡ Some entry →
+          (life config passes (event ∷ before)).entries ≡ entry ∷ entries
+      all entry told = entries-more config passes before event ∙ ap (λ o. option_to_list o ++ entries) told
 
-  go : Told (now config passes before) event →
-      Stands (now config passes (event ∷ before)).host (now config passes (event ∷ before)).device cell read
-  go (wrote acked told) = absurd (order-wrote setup entries acked cell word end read
-      (subst (λ e. last_job e ≡ Some (Order cell word)) (all (Finished acked) told) last)
-      (subst (λ e. end_of setup e ≡ Some end) (all (Finished acked) told) ended) says)
-  go (came bytes told) =
-      let over = subst (λ e. end_of setup e ≡ Some end) (all (Got bytes) told) ended in
-      stands apart laws config passes before event bytes cell read end is told
-      (order-read host setup entries bytes cell word end read is.made
-      (subst (AreTold setup) (all (Got bytes) told) (laws.told config passes (event ∷ before) is.sound is.made is.legal))
-      (subst (λ e. last_job e ≡ Some (Order cell word)) (all (Got bytes) told) last) over says) over
+      go : Told (now config passes before) event →
+          Stands (now config passes (event ∷ before)).host (now config passes (event ∷ before)).device cell read
+      go (wrote acked told) = absurd (order-wrote setup entries acked cell word end read
+          (subst (λ e. last_job e ≡ Some (Order cell word)) (all (Finished acked) told) last)
+          (subst (λ e. end_of setup e ≡ Some end) (all (Finished acked) told) ended) says)
+      go (came bytes told) =
+          let over = subst (λ e. end_of setup e ≡ Some end) (all (Got bytes) told) ended in
+          stands apart laws config passes before event bytes cell read end is told
+          (order-read host setup entries bytes cell word end read is.made
+          (subst (AreTold setup) (all (Got bytes) told) (laws.told config passes (event ∷ before) is.sound is.made is.legal))
+          (subst (λ e. last_job e ≡ Some (Order cell word)) (all (Got bytes) told) last) over says) over
 
 -- and a check that is done with some word
 check-says : CellsAreToldApart → TranscriptsAreFollowed → LegalLivesAreFollowed →
@@ -142,27 +142,27 @@ check-says : CellsAreToldApart → TranscriptsAreFollowed → LegalLivesAreFollo
     (word : ℕ) × Stands (now config passes (event ∷ before)).host (now config passes (event ∷ before)).device cell word
 check-says apart host laws config passes before event cell is tells last ended =
     go (told-by (now config passes before) event before tells is.legal.0.free) where
-  setup : Setup
-  setup = setup_of config passes
+      setup : Setup
+      setup = setup_of config passes
 
-  entries : List Entry
-  entries = (life config passes before).entries
+      entries : List Entry
+      entries = (life config passes before).entries
 
-  all : (entry : Entry) → (share_of (now config passes before) event).told ≡ Some entry →
-      (life config passes (event ∷ before)).entries ≡ entry ∷ entries
-  all entry told = entries-more config passes before event ∙ ap (λ o. option_to_list o ++ entries) told
+      all : (entry : Entry) → (share_of (now config passes before) event).told ≡ Some entry →
+          (life config passes (event ∷ before)).entries ≡ entry ∷ entries
+      all entry told = entries-more config passes before event ∙ ap (λ o. option_to_list o ++ entries) told
 
-  go : Told (now config passes before) event →
-      (word : ℕ) × Stands (now config passes (event ∷ before)).host (now config passes (event ∷ before)).device cell word
-  go (wrote acked told) = absurd (check-wrote setup entries acked cell
-      (subst (λ e. last_job e ≡ Some (Check cell)) (all (Finished acked) told) last)
-      (subst (λ e. end_of setup e ≡ Some Done) (all (Finished acked) told) ended))
-  go (came bytes told) =
-      let over = subst (λ e. end_of setup e ≡ Some Done) (all (Got bytes) told) ended in
-      let found = check-read host setup entries bytes cell is.made
-      (subst (AreTold setup) (all (Got bytes) told) (laws.told config passes (event ∷ before) is.sound is.made is.legal))
-      (subst (λ e. last_job e ≡ Some (Check cell)) (all (Got bytes) told) last) over in
-      (found.0, stands apart laws config passes before event bytes cell found.0 Done is told found.1 over)
+      go : Told (now config passes before) event →
+          (word : ℕ) × Stands (now config passes (event ∷ before)).host (now config passes (event ∷ before)).device cell word
+      go (wrote acked told) = absurd (check-wrote setup entries acked cell
+          (subst (λ e. last_job e ≡ Some (Check cell)) (all (Finished acked) told) last)
+          (subst (λ e. end_of setup e ≡ Some Done) (all (Finished acked) told) ended))
+      go (came bytes told) =
+          let over = subst (λ e. end_of setup e ≡ Some Done) (all (Got bytes) told) ended in
+          let found = check-read host setup entries bytes cell is.made
+          (subst (AreTold setup) (all (Got bytes) told) (laws.told config passes (event ∷ before) is.sound is.made is.legal))
+          (subst (λ e. last_job e ≡ Some (Check cell)) (all (Got bytes) told) last) over in
+          (found.0, stands apart laws config passes before event bytes cell found.0 Done is told found.1 over)
 
 -- a learn that learned found a format
 learned-so : (o : Option (Option Shape)) → option_map (λ shape. cond (is_some shape) Learned Unknown) o ≡ Some Learned →
@@ -217,20 +217,20 @@ learn-says host laws config passes before event output is spelled tells last end
     let has = agree.learned output shape.0 (there told (told-by (now config passes before) event before tells is.legal.0.free))
     (learned-format setup entries output shape.0 last shape.1) in
     subst (λ o. IsSomeAnd o (λ s. s ≡ shape_for config output)) (sym has) (agree.held output shape.0 has) where
-  all : (entry : Entry) → (share_of (now config passes before) event).told ≡ Some entry →
-      (life config passes (event ∷ before)).entries ≡ entry ∷ (life config passes before).entries
-  all entry told = entries-more config passes before event ∙ ap (λ o. option_to_list o ++ (life config passes before).entries) told
+      all : (entry : Entry) → (share_of (now config passes before) event).told ≡ Some entry →
+          (life config passes (event ∷ before)).entries ≡ entry ∷ (life config passes before).entries
+      all entry told = entries-more config passes before event ∙ ap (λ o. option_to_list o ++ (life config passes before).entries) told
 
-  there : AreTold (setup_of config passes) (life config passes (event ∷ before)).entries → Told (now config passes before) event →
-      output < config.count
-  there told (wrote acked said) =
-      learn-there host (setup_of config passes) (life config passes before).entries (Finished acked) output is.made
-      (subst (AreTold (setup_of config passes)) (all (Finished acked) said) told)
-      (subst (λ e. last_job e ≡ Some (Learn output)) (all (Finished acked) said) last) (inl (acked, refl))
-  there told (came bytes said) =
-      learn-there host (setup_of config passes) (life config passes before).entries (Got bytes) output is.made
-      (subst (AreTold (setup_of config passes)) (all (Got bytes) said) told)
-      (subst (λ e. last_job e ≡ Some (Learn output)) (all (Got bytes) said) last) (inr (bytes, refl))
+      there : AreTold (setup_of config passes) (life config passes (event ∷ before)).entries → Told (now config passes before) event →
+          output < config.count
+      there told (wrote acked said) =
+          learn-there host (setup_of config passes) (life config passes before).entries (Finished acked) output is.made
+          (subst (AreTold (setup_of config passes)) (all (Finished acked) said) told)
+          (subst (λ e. last_job e ≡ Some (Learn output)) (all (Finished acked) said) last) (inl (acked, refl))
+      there told (came bytes said) =
+          learn-there host (setup_of config passes) (life config passes before).entries (Got bytes) output is.made
+          (subst (AreTold (setup_of config passes)) (all (Got bytes) said) told)
+          (subst (λ e. last_job e ≡ Some (Learn output)) (all (Got bytes) said) last) (inr (bytes, refl))
 
 -- the end of the last job is that of the transcript
 now-end : (config : Config) (passes : ℕ) (events : List Event) →
@@ -248,26 +248,26 @@ pub ends-are-true : CellsAreToldApart → TranscriptsAreFollowed → LegalLivesA
 ends-are-true apart host laws config passes [] job end sound spelled made legal tells last ended = cc
 ends-are-true apart host laws config passes (event ∷ before) job end sound spelled made legal tells last ended =
     go job end last (sym (now-end config passes (event ∷ before)) ∙ ended) where
-  is : IsLife config passes (event ∷ before) (now config passes (event ∷ before)).host (now config passes (event ∷ before)).device
-  is = record { sound = sound; made = made; legal = legal; host_is = refl; held_is = refl }
+      is : IsLife config passes (event ∷ before) (now config passes (event ∷ before)).host (now config passes (event ∷ before)).device
+      is = record { sound = sound; made = made; legal = legal; host_is = refl; held_is = refl }
 
-  go : (j : Job) (e : JobEnd) → last_job (life config passes (event ∷ before)).entries ≡ Some j →
-      end_of (setup_of config passes) (life config passes (event ∷ before)).entries ≡ Some e →
-      EndSays j (now config passes (event ∷ before)).host (now config passes (event ∷ before)).device e
-  go (Order cell word) Done l so = order-says apart host laws config passes before event cell word Done word is tells l so refl
-  go (Order cell word) (Differs read) l so =
-      order-says apart host laws config passes before event cell word (Differs read) read is tells l so refl
-  go (Order cell word) Unknown l so = tt
-  go (Order cell word) Learned l so = tt
-  go (Check cell) Done l so = check-says apart host laws config passes before event cell is tells l so
-  go (Check cell) (Differs read) l so = tt
-  go (Check cell) Unknown l so = tt
-  go (Check cell) Learned l so = tt
-  go (Learn output) Learned l so =
-      subst (λ c. IsSomeAnd (format_at (now config passes (event ∷ before)).host output) (λ shape. shape ≡ shape_for c output))
-      (sym (now-config config passes (event ∷ before)))
-      (learn-says host laws config passes before event output is spelled tells l so)
-  go (Learn output) Done l so = tt
-  go (Learn output) (Differs read) l so = tt
-  go (Learn output) Unknown l so = tt
-  go (Send command) e l so = tt
+      go : (j : Job) (e : JobEnd) → last_job (life config passes (event ∷ before)).entries ≡ Some j →
+          end_of (setup_of config passes) (life config passes (event ∷ before)).entries ≡ Some e →
+          EndSays j (now config passes (event ∷ before)).host (now config passes (event ∷ before)).device e
+      go (Order cell word) Done l so = order-says apart host laws config passes before event cell word Done word is tells l so refl
+      go (Order cell word) (Differs read) l so =
+          order-says apart host laws config passes before event cell word (Differs read) read is tells l so refl
+      go (Order cell word) Unknown l so = tt
+      go (Order cell word) Learned l so = tt
+      go (Check cell) Done l so = check-says apart host laws config passes before event cell is tells l so
+      go (Check cell) (Differs read) l so = tt
+      go (Check cell) Unknown l so = tt
+      go (Check cell) Learned l so = tt
+      go (Learn output) Learned l so =
+          subst (λ c. IsSomeAnd (format_at (now config passes (event ∷ before)).host output) (λ shape. shape ≡ shape_for c output))
+          (sym (now-config config passes (event ∷ before)))
+          (learn-says host laws config passes before event output is spelled tells l so)
+      go (Learn output) Done l so = tt
+      go (Learn output) (Differs read) l so = tt
+      go (Learn output) Unknown l so = tt
+      go (Send command) e l so = tt

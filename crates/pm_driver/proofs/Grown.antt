@@ -48,14 +48,14 @@ grown laws {config = config} {passes = passes} {before = before} event share is 
         made = is.made;
         legal = legal;
         host_is = ap (λ (t : State). t.host) more ∙ (ap (λ (w : Share). host_after s.host w.told) tells
-        ∙ ap (λ h. host_after h share.told) is.host_is);
+            ∙ ap (λ h. host_after h share.told) is.host_is);
         held_is = ap (λ (t : State). t.device) more ∙ (ap (λ (w : Share). device_after s.device w.heard) tells
-        ∙ ap (λ d. device_after d share.heard) is.held_is);
+            ∙ ap (λ d. device_after d share.heard) is.held_is);
       };
       told = entries-more config passes before event
           ∙ ap (λ (w : Share). option_to_list w.told ++ (life config passes before).entries) tells;
       ended = ap (λ (t : State). t.end) more ∙ (ap (λ (w : Share). end_after s.host s.end w.told) tells
-      ∙ ap (λ h. end_after h s.end share.told) is.host_is);
+          ∙ ap (λ h. end_after h s.end share.told) is.host_is);
     }
 
 -- what holds of the host that a life led to holds of the life's

@@ -100,10 +100,10 @@ order-there : TranscriptsAreFollowed → (setup : Setup) (entries : List Entry) 
 unfolding host_now
 order-there laws setup entries cell word made told is =
     go (is_write_turn (told_since entries)) (stage-sound laws setup entries (Order cell word) made told is) where
-  go : (b : Bool) → IsStage (host_now setup entries) (Some (cond b (Writes cell word (length (told_since entries) / 2))
-      (Reads cell word (length (told_since entries) / 2)))) → IsCell setup.outputs cell
-  go true stage = stage.there
-  go false stage = stage.there
+      go : (b : Bool) → IsStage (host_now setup entries) (Some (cond b (Writes cell word (length (told_since entries) / 2))
+          (Reads cell word (length (told_since entries) / 2)))) → IsCell setup.outputs cell
+      go true stage = stage.there
+      go false stage = stage.there
 
 check-there : TranscriptsAreFollowed → (setup : Setup) (entries : List Entry) (cell : Cell) → IsSetup setup → AreTold setup entries →
     open_job setup entries ≡ Some (Check cell) → IsCell setup.outputs cell
@@ -117,10 +117,10 @@ unfolding host_now
 learn-open laws setup entries output made told is =
     let T = told_since entries in
     go (is_some (mode_told setup output T)) (stage-sound laws setup entries (Learn output) made told is) where
-  go : (b : Bool) → IsStage (host_now setup entries) (Some (cond b (Asks (Coefficients output) (coefficients_tries setup output (told_since entries)))
-      (Asks (Mode output) (length (told_since entries))))) → output < setup.outputs
-  go true stage = stage.there
-  go false stage = stage.there
+      go : (b : Bool) → IsStage (host_now setup entries) (Some (cond b (Asks (Coefficients output) (coefficients_tries setup output (told_since entries)))
+          (Asks (Mode output) (length (told_since entries))))) → output < setup.outputs
+      go true stage = stage.there
+      go false stage = stage.there
 
 -- and the output of a learn that is told the end of a write, or bytes
 pub learn-there : TranscriptsAreFollowed → (setup : Setup) (before : List Entry) (entry : Entry) (output : ℕ) → IsSetup setup →
@@ -182,12 +182,14 @@ check-read laws setup before bytes cell made told last ended =
     let here : check_end setup cell (Got bytes ∷ T) ≡ Some Done =
     ap (option_and_then (λ job. job_end setup job (Got bytes ∷ T))) (sym last) ∙ ended in
     let found = check-end (good_word setup.addr cell bytes) (eqb (length (Got bytes ∷ T)) setup.passes) here in
-    let is = open-job laws setup before (Check cell) told.0 last in
-    (found.0, record {
-      good = found.1;
-      asked = ap (λ job. read_by job T) is;
-      there = check-there laws setup before cell made told.1 is;
-    })
+    let is = open-job laws setup before (Check cell) told.0 last in (
+      found.0,
+      record {
+        good = found.1;
+        asked = ap (λ job. read_by job T) is;
+        there = check-there laws setup before cell made told.1 is;
+      },
+    )
 
 pub check-wrote : (setup : Setup) (before : List Entry) (acked : Bool) (cell : Cell) → last_job before ≡ Some (Check cell) →
     end_of setup (Finished acked ∷ before) ≡ Some Done → ⊥

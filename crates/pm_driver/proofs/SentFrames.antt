@@ -140,7 +140,7 @@ exchange-free s request needed arrival back sends legal returned =
     let answer : Bool → List ℕ → List ℕ = λ b f. answer_in (reply_of s.device (bytes f) (ending_of (cond b Restart Stop) arrival)) in
     let heard : Bool → List ℕ → Bool = λ b f. is_legal_hearing f (bytes f) (ending_of (cond b Restart Stop) arrival) in
     let came : Bool → List ℕ → ℕ → Bool = λ b f n. is_legal_return f n (is_heard_whole f (bytes f) (ending_of (cond b Restart Stop) arrival))
-        (answer b f) (back_bytes (answer b f) back) in
+    (answer b f) (back_bytes (answer b f) back) in
     ap (exchange_cause s arrival back) sends.sending
     ∙ (ap₂ (λ b f. option_or (rule (not b) WrongKind) (option_or (rule (not (heard b f)) NotBetrayed)
     (rule (not (came b f (whole_answer sends.message))) NotBetrayed))) sends.is.reads (request-frame sends.is)

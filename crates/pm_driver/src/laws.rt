@@ -11,8 +11,7 @@ use pm_world::legal_lives_are_followed;
 /// What leads on from where something led is one that leads from its beginning: calls compose.
 pub fn leads_compose<B: Bus>()
     ensures { LeadsCompose B.gives B.held }
-{
-}
+{}
 
 /// In every life whose newest event is one that the host was told of, the end of the last job says what it is worth:
 /// an order that is done is confirmed and held, one that differs stands with the word that was read, a check that is

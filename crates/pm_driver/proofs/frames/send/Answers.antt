@@ -1,5 +1,7 @@
-use Rattle.std.proofs.Common.{◌≡◌, [], None, Some, true, length, take, refl, sym, ◌∙◌, ap, subst}
+use Rattle.std.proofs.Common.{◌≡◌, ℕ, List, [], None, Some, true, length, replicate, take, refl, sym, ◌∙◌, ap, subst}
+use Rattle.std.proofs.lemmas.List.{length-take-le}
 use Rattle.std.specs.Prelude.{IsSomeAnd}
+use Rattle.pm_frame.specs.Fault.{whole_answer}
 use Rattle.pm_frame.specs.Layout.{IsRequest, IsWrite}
 use Rattle.pm_host.specs.Summary.{sending_in}
 use Rattle.pm_driver.specs.Acts.{Read, Wrote}
@@ -26,7 +28,17 @@ returns-in-Write-clause-open g c =
     c.told-step.ensures.after c.told-step.ensures.step
 
 pub returns-in-Request-clause-leads : goal.returns-in-Request-clause-leads
-returns-in-Request-clause-leads g c = let asked = c.read-count.ensures.asked in let told = c.told-step-in-Request.ensures.after in let gives = c.read-count.ensures.gives in ?
+returns-in-Request-clause-leads g c =
+    let room : List ℕ = take c.in-Request.bytes (replicate 8 0) in
+    let came : List ℕ = take c.read-count.result c.read-count.new.answer in
+    let long : length room ≡ c.in-Request.bytes = length-take-le c.in-Request.bytes (replicate 8 0) c.in-Request.ensures.3 in
+    told-leads g.B.Bus.gives g.B.Bus.held c.frames_lead.ensures (Read c.as_slice-in-Request.result.now (length room) came) c.args.host.now
+    c.told-step-in-Request.new.self c.told-step-in-Request.result c.args.bus.now c.read-count.new.self (
+      subst (λ f. IsSomeAnd (sending_in c.args.host.now) (λ message. IsRequest c.args.host.now.setup.addr message f))
+          (sym c.as_slice-in-Request.ensures.value) c.in-Request.ensures.1,
+      subst (λ n. IsSomeAnd (sending_in c.args.host.now) (λ message. n ≡ whole_answer message)) (sym long) c.in-Request.ensures.2,
+    )
+    c.read-count.ensures.asked c.read-count.ensures.gives c.told-step-in-Request.ensures.after c.told-step-in-Request.ensures.step
 
 pub returns-in-Request-clause-open : goal.returns-in-Request-clause-open
 returns-in-Request-clause-open g c =
