@@ -55,8 +55,7 @@ fn send<B: Bus>(host: &mut Host, bus: &mut B) -> Option<Step>
             host.told(Told::Finished { acked })
         }
         Turn::Request { frame, bytes } => {
-            // It is empty for each read: one that keeps the last answer is how a read that never happened gets
-            // believed.
+            // A buffer that keeps the last answer is how a read that never happened gets believed.
             let room = &mut answer[..bytes];
             let count = bus.read(frame.as_slice(), room);
             host.told(Told::Got(&room[..count]))

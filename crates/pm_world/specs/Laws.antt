@@ -169,6 +169,12 @@ pub record LegalLivesAreFollowed : Type 0 where
       output < config.count → CommandsOwn config passes events output
       (commanded (value_for (now config passes events).device.config output)
       (now config passes events).device.words output)
+  pub few : (config : Config) (passes : ℕ) (events : List Event) →
+      IsSound config → IsSetup (setup_of config passes) → AreLegal config passes events →
+      AreFewFrames config passes events
+  pub through : (config : Config) (passes : ℕ) (events : List Event) →
+      IsSound config → IsSetup (setup_of config passes) → AreLegal config passes events →
+      OrdersGoThrough config passes events
   pub agree : (config : Config) (passes : ℕ) (events : List Event) →
       IsSound config → IsSpelled config → IsSetup (setup_of config passes) →
       AreLegal config passes events → FormatsAgree config passes events

@@ -14,8 +14,7 @@ mod uncertainty;
 
 pub use confirmed::confirmed_settings_are_held;
 pub use damage::{betrayed_damage_is_legal, betrayed_damage_is_taken};
-pub use formats::learned_formats_are_true;
-pub(crate) use formats::spell;
+pub use formats::{learned_formats_are_true, spell};
 pub use honest::{frames_are_few, honest_orders_go_through};
 pub use legal_lives::legal_lives_are_followed;
 pub use lives::lives_are_followed;

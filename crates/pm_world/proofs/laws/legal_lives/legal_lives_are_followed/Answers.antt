@@ -1,18 +1,21 @@
-use Rattle.std.proofs.Common.{◌≡◌, ℕ, ◌∷◌, List}
+use Rattle.std.proofs.Common.{◌≡◌, ℕ, ◌∷◌, List, subst}
 use Rattle.pm_device.specs.declared.config.Config.{Config}
 use Rattle.pm_device.specs.Start.{IsSound}
 use Rattle.pm_host.specs.Refusals.{IsSetup}
 use Rattle.pm_world.specs.declared.event.Event.{Event}
+use Rattle.pm_world.specs.Honest.{honest}
+use Rattle.pm_world.specs.Life.{life}
 use Rattle.pm_world.specs.Setup.{setup_of}
 use Rattle.pm_world.specs.Uncertainty.{AreLegal}
 use Rattle.pm_world.proofs.Exact.{witness-leaves}
 use Rattle.pm_world.proofs.HeldWords.{confirmed-held}
 use Rattle.pm_world.proofs.LearnedLives.{formats-agree, micros-nearest}
 use Rattle.pm_world.proofs.LeftWords.{left-possible}
-use Rattle.pm_world.proofs.Lives.{IsLived, life-told, now-next, now-nil}
+use Rattle.pm_world.proofs.Lives.{IsLived, life-told, lived-before, now-next, now-nil}
 use Rattle.pm_world.proofs.OwnWords.{life-commands, life-own, life-stored}
 use Rattle.pm_world.proofs.Retellings.{life-run}
 use Rattle.pm_world.proofs.Seen.{possible-held, seen-true}
+use Rattle.pm_world.proofs.Undisturbed.{went-through}
 use Rattle.pm_world.proofs.laws.legal_lives.legal_lives_are_followed.Goals as goal
 
 -- legal events were lived through
@@ -32,6 +35,18 @@ returns c =
       stored = λ config passes events cell sound made legal. life-stored laws config passes events cell (lived sound made legal);
       commanded = λ config passes events output sound made legal.
           life-commands laws config passes events output (lived sound made legal);
+      few = λ config passes events sound made legal. record {
+        few = λ later before is.
+            laws.jobs_are_bounded (setup_of config passes) (life config passes before).entries made
+            (life-told config passes before (lived-before config passes later before
+            (subst (IsLived config passes) is (lived sound made legal))).legal);
+      };
+      through = λ config passes events sound made legal. record {
+        through = λ later before order cell word arrivals acked is.
+            went-through laws before order arrivals
+            (lived-before config passes later (honest order arrivals acked before)
+            (subst (IsLived config passes) is (lived sound made legal)));
+      };
       agree = λ config passes events sound spelled made legal.
           formats-agree laws config passes events (lived sound made legal) spelled;
       nearest = λ config passes events sound spelled made legal.
