@@ -175,12 +175,13 @@ def toolchain_faults(shell, found):
 
 
 def listing_fault(found):
-    """The README's loop is the test's, whose clauses it leaves out."""
+    """The README's listing is the driver's, whose clauses and call for the prover it leaves out."""
     listing = re.search(r"^```rust\n(.*?)^```", found, re.M | re.S)[1]
-    with open(os.path.join(program.ROOT, "crates/pm_host_tests/src/driver.rt"), encoding="utf-8") as file:
-        body = re.search(r"^fn carry_out.*?^}\n", file.read(), re.M | re.S)[0]
-    plain = [" ".join(re.sub(r"^ *ensures .*$", "", it, flags=re.M).split()) for it in (listing, body)]
-    return [] if plain[0] == plain[1] else ["its listing isn't that of crates/pm_host_tests/src/driver.rt"]
+    with open(os.path.join(program.ROOT, "crates/pm_driver/src/frames.rt"), encoding="utf-8") as file:
+        body = re.search(r"^fn send.*?^}\n", file.read(), re.M | re.S)[0]
+    body = re.sub(r"^    ensures .*?^{\n.*?<B>\(\);\n", "{\n", body, flags=re.M | re.S)
+    plain = [" ".join(it.split()) for it in (listing, body)]
+    return [] if plain[0] == plain[1] else ["its listing isn't that of crates/pm_driver/src/frames.rt"]
 
 
 def manual_faults(page):

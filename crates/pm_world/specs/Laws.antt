@@ -141,6 +141,68 @@ pub record PossibleWordsAreExact : Type 0 where
       IsSound config → IsSetup (setup_of config passes) → length events ≤ event_limit →
       AreLegal config passes events ↔ AreTaken config passes events
 
+-- What a life comes to without the limit of a world: of legal events, as many as there may be, all that the
+-- laws above say of those that are taken. A life of a caller's own loop is such a one.
+pub record LegalLivesAreFollowed : Type 0 where
+  pub none : (config : Config) (passes : ℕ) → IsSetup (setup_of config passes) →
+      now config passes [] ≡ start config passes
+  pub more : (config : Config) (passes : ℕ) (events : List Event) (event : Event) →
+      IsSound config → IsSetup (setup_of config passes) → AreLegal config passes (event ∷ events) →
+      now config passes (event ∷ events) ≡ next (now config passes events) event
+  pub told : (config : Config) (passes : ℕ) (events : List Event) →
+      IsSound config → IsSetup (setup_of config passes) → AreLegal config passes events →
+      AreTold (setup_of config passes) (life config passes events).entries
+  pub orders : (config : Config) (passes : ℕ) (events : List Event) →
+      IsSound config → IsSetup (setup_of config passes) → AreLegal config passes events →
+      IsOrderRun config passes events (now config passes events).device.words
+      (now config passes events).device.store
+  pub own : (config : Config) (passes : ℕ) (events : List Event) (cell : Cell) →
+      IsSound config → IsSetup (setup_of config passes) → AreLegal config passes events →
+      IsCell config.count cell →
+      IsOwnWord config passes events cell (word_at (now config passes events).device.words cell)
+  pub stored : (config : Config) (passes : ℕ) (events : List Event) (cell : Cell) →
+      IsSound config → IsSetup (setup_of config passes) → AreLegal config passes events →
+      IsCell config.count cell →
+      IsOwnWord config passes events cell (word_at (now config passes events).device.store cell)
+  pub commanded : (config : Config) (passes : ℕ) (events : List Event) (output : ℕ) →
+      IsSound config → IsSetup (setup_of config passes) → AreLegal config passes events →
+      output < config.count → CommandsOwn config passes events output
+      (commanded (value_for (now config passes events).device.config output)
+      (now config passes events).device.words output)
+  pub few : (config : Config) (passes : ℕ) (events : List Event) →
+      IsSound config → IsSetup (setup_of config passes) → AreLegal config passes events →
+      AreFewFrames config passes events
+  pub through : (config : Config) (passes : ℕ) (events : List Event) →
+      IsSound config → IsSetup (setup_of config passes) → AreLegal config passes events →
+      OrdersGoThrough config passes events
+  pub agree : (config : Config) (passes : ℕ) (events : List Event) →
+      IsSound config → IsSpelled config → IsSetup (setup_of config passes) →
+      AreLegal config passes events → FormatsAgree config passes events
+  pub nearest : (config : Config) (passes : ℕ) (events : List Event) →
+      IsSound config → IsSpelled config → IsSetup (setup_of config passes) →
+      AreLegal config passes events → MicrosAreNearest config passes events
+  pub confirmed : (config : Config) (passes : ℕ) (events : List Event) →
+      IsSound config → IsSetup (setup_of config passes) → AreLegal config passes events →
+      ConfirmedIsHeld config passes events (now config passes events)
+  pub possible : (config : Config) (passes : ℕ) (events : List Event) →
+      IsSound config → IsSetup (setup_of config passes) → AreLegal config passes events →
+      PossibleIsHeld config passes events (now config passes events)
+  pub seen : (config : Config) (passes : ℕ) (events : List Event) →
+      IsSound config → IsSetup (setup_of config passes) → AreLegal config passes events →
+      SeenIsTrue config passes events (now config passes events)
+  pub witness : (config : Config) (passes : ℕ) (events : List Event) (chosen : Choice) →
+      IsSound config → IsSetup (setup_of config passes) → AreLegal config passes events →
+      restarted_since_host events ≡ false →
+      let entries = since_restart (life config passes events).entries in
+      let told = marks (setup_of config passes) entries in AreOpen told →
+      ArePossible config (now config passes events).host chosen →
+      Leaves config passes entries chosen (witness_start config (due_before chosen told))
+      (witness_events (setup_of config passes) chosen entries)
+  pub only : (config : Config) (passes : ℕ) (events retold : List Event) (chosen : Choice) (other : Config) →
+      IsSound config → IsSetup (setup_of config passes) → AreLegal config passes events →
+      Leaves config passes (since_restart (life config passes events).entries) chosen other retold →
+      ArePossible config (now config passes events).host chosen
+
 -- Damage that the packet error code betrays is legal: of a write, of an answer, and of a request whose answer
 -- comes back whole.
 pub record BetrayedDamageIsLegal : Type 0 where

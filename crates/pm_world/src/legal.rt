@@ -13,7 +13,7 @@ use pm_device::{Converter, Ending, Heard, refusals_set_one_bit};
 use pm_frame::is_betrayed;
 
 /// What is heard of a frame.
-pub(crate) fn heard_bytes<'a>(frame: &'a [u8], arrival: &'a Arrival) -> &'a [u8]
+pub fn heard_bytes<'a>(frame: &'a [u8], arrival: &'a Arrival) -> &'a [u8]
     ensures { result.now ≡ spec_heard_bytes frame.entry.now arrival.entry.now }
 {
     match arrival {
@@ -24,7 +24,7 @@ pub(crate) fn heard_bytes<'a>(frame: &'a [u8], arrival: &'a Arrival) -> &'a [u8]
 }
 
 /// How it ends, where a whole frame ends so.
-pub(crate) fn heard_ending(whole: Ending, arrival: &Arrival) -> Ending
+pub fn heard_ending(whole: Ending, arrival: &Arrival) -> Ending
     ensures { result ≡ ending_of whole arrival.now }
 {
     match arrival {
@@ -35,7 +35,7 @@ pub(crate) fn heard_ending(whole: Ending, arrival: &Arrival) -> Ending
 }
 
 /// The bytes that a converter answers.
-pub(crate) fn answer_in(heard: &Heard) -> &[u8]
+pub fn answer_in(heard: &Heard) -> &[u8]
     ensures { result.now ≡ spec_answer_in heard.now }
 {
     match heard {
@@ -45,7 +45,7 @@ pub(crate) fn answer_in(heard: &Heard) -> &[u8]
 }
 
 /// What comes back of an answer.
-pub(crate) fn back_bytes<'a>(answer: &'a [u8], back: &'a Back) -> &'a [u8]
+pub fn back_bytes<'a>(answer: &'a [u8], back: &'a Back) -> &'a [u8]
     ensures { result.now ≡ spec_back_bytes answer.entry.now back.entry.now }
 {
     match back {
@@ -67,14 +67,14 @@ fn first(bytes: &[u8], count: u8) -> &[u8]
 
 /// Whether bytes that are heard while this frame is being sent are legal.
 #[tactic(auto, unfolding(crate::specs::Legal::is_legal_hearing))]
-pub(crate) fn is_legal_hearing(frame: &[u8], bytes: &[u8], ending: Ending) -> bool
+pub fn is_legal_hearing(frame: &[u8], bytes: &[u8], ending: Ending) -> bool
     ensures { result ≡ spec_is_legal_hearing frame.now bytes.now ending }
 {
     ending == Ending::Restart || frame.starts_with(bytes) || is_betrayed(&[], bytes)
 }
 
 /// Whether a request was heard whole.
-pub(crate) fn is_heard_whole(frame: &[u8], bytes: &[u8], ending: Ending) -> bool
+pub fn is_heard_whole(frame: &[u8], bytes: &[u8], ending: Ending) -> bool
     ensures { result ≡ spec_is_heard_whole frame.now bytes.now ending }
 {
     ending == Ending::Restart && bytes == frame
@@ -82,7 +82,7 @@ pub(crate) fn is_heard_whole(frame: &[u8], bytes: &[u8], ending: Ending) -> bool
 
 /// Whether bytes that come back for a request are legal, where the converter answered this to it.
 #[tactic(auto, unfolding(crate::specs::Legal::is_legal_return))]
-pub(crate) fn is_legal_return(
+pub fn is_legal_return(
     request: &[u8],
     whole_answer: usize,
     whole: bool,

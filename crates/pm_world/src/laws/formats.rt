@@ -15,8 +15,9 @@ pub fn learned_formats_are_true()
     lower_laws();
 }
 
-/// The numbers of a configuration are those that its bytes spell.
-pub(crate) fn spell(c: Config)
+/// The numbers of a configuration are those that its bytes spell. It does nothing when it runs, and tells a caller
+/// that makes a converter by [`Converter::new`](pm_device::Converter::new) what a life asks of its configuration.
+pub fn spell(c: Config)
     ensures { IsSpelled c }
 {
     // The clauses of these calls are what is wanted.

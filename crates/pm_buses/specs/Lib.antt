@@ -1,0 +1,3 @@
+-- What the crate promises.
+pub mod Tries
+pub mod Disturbed

@@ -1,0 +1,24 @@
+use crate::converter_end::{lose_request};
+use pm_device::Converter;
+use pm_driver::Bus;
+
+/// A bus whose line is cut: nothing arrives, and nothing comes back.
+#[derive(Drop)]
+pub struct DeadBus {
+    /// The converter at its other end.
+    pub device: Converter,
+}
+
+impl Bus for DeadBus {
+    ghost held = { λ bus. bus.device };
+
+    ghost gives = { λ old call new. Unit {0} };
+
+    fn write(&mut self, _packet: &[u8]) -> bool {
+        false
+    }
+
+    fn read(&mut self, request: &[u8], answer: &mut [u8]) -> usize {
+        lose_request(&mut self.device, request, answer)
+    }
+}

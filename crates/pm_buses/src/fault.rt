@@ -1,0 +1,18 @@
+use pm_world::{Arrival, Back};
+
+/// What goes wrong with one frame, and what happens beside the bus before it.
+#[derive(Debug, Drop)]
+pub struct Fault {
+    /// The converter restarts before the frame is sent.
+    pub restarts: bool,
+    /// How a write is heard; `None` where it is lost.
+    pub heard: Option<Arrival>,
+    /// How it is heard once more.
+    pub repeated: Option<Arrival>,
+    /// What a write's acknowledgement says, whatever was heard.
+    pub acked: bool,
+    /// How a request is heard.
+    pub request: Arrival,
+    /// What comes back of the answer.
+    pub back: Back,
+}

@@ -1,0 +1,26 @@
+//! Buses for a [`Driver`](pm_driver::Driver), each proved to meet the contract of [`Bus`](pm_driver::Bus).
+//!
+//! A [`SimulatedBus`] has the model converter at its other end, and a plan of faults: a firmware's own code is tried
+//! over it under loss, cuts, repeats, damage and restarts. A [`DeadBus`] is one whose line is cut. [`Retrying`]
+//! stands over any bus, and tries a write again that wasn't acknowledged.
+//!
+//! ```
+//! fn tried(config: Config, plan: &[Fault]) -> Option<JobEnd> {
+//!     let mut driver = driver_over(config, 2, plan)?;
+//!     driver.order(Cell::Out(0, Reg::VoutCommand), 0x34CD).ok()
+//! }
+//! ```
+#![tactic(auto)]
+
+mod converter_end;
+mod dead_bus;
+mod fault;
+mod laws;
+mod retrying;
+mod simulated_bus;
+
+pub use dead_bus::DeadBus;
+pub use fault::Fault;
+pub use laws::parts_compose;
+pub use retrying::Retrying;
+pub use simulated_bus::{SimulatedBus, driver_over};

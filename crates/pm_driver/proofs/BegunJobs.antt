@@ -1,0 +1,277 @@
+-- A job that begins, a host that restarts, and what a driver begins with.
+use Rattle.std.proofs.Common.{◌≡◌, ℕ, true, List, [], ◌∷◌, ◌++◌, Option, Some, None, Ok, refl, sym, ◌∙◌, ap, subst}
+use Rattle.std.specs.Option.{option_or}
+use Rattle.std.specs.Prelude.{IsSomeAnd, option_map, option_and_then}
+use Rattle.std.proofs.lemmas.Option.{same_Some}
+use Rattle.pm_table.specs.declared.cell.Cell.{Cell}
+use Rattle.pm_table.specs.Cell.{output_of}
+use Rattle.pm_device.specs.declared.config.Config.{Config}
+use Rattle.pm_model.specs.Commanded.{commanded}
+use Rattle.pm_model.specs.Settings.{word_at}
+use Rattle.pm_device.specs.Held.{Held, value_for}
+use Rattle.pm_host.specs.declared.command.Command.TheVariants.{ClearFaults, StoreUserAll, RestoreUserAll}
+use Rattle.pm_host.specs.declared.job.Job.{Job}
+use Rattle.pm_host.specs.declared.job.Job.TheVariants as job
+use Rattle.pm_host.specs.declared.job_end.JobEnd.{JobEnd}
+use Rattle.pm_host.specs.Frames.{frames_left}
+use Rattle.pm_host.specs.Jobs.{Begins, accepted_job, begin_fault}
+use Rattle.pm_host.specs.Now.{now as host_now}
+use Rattle.pm_host.specs.Refusals.{is_busy, job_fault, micro_word, order_fault, range_fault, voltage_fault}
+use Rattle.pm_host.specs.Summary.{Summary, format_at, next as host_next, start as host_start}
+use Rattle.pm_host.specs.Transcript as host
+use Rattle.pm_world.specs.declared.event.Event.{Event}
+use Rattle.pm_world.specs.declared.event.Event.TheVariants.{Check, Clear, Learn, Order, RestartHost, Restore, Store}
+use Rattle.pm_world.specs.Laws.{LegalLivesAreFollowed}
+use Rattle.pm_world.specs.Life.{life, now, state_of}
+use Rattle.pm_world.specs.Retelling.{CommandsOwn, IsOwnWord}
+use Rattle.pm_world.specs.Setup.{setup_of, start}
+use Rattle.pm_world.specs.State.{State, refused, tells}
+use Rattle.pm_world.specs.Uncertainty.{job_event}
+use Rattle.pm_driver.specs.Acts.{Act, Began, Call, Called, Read, Renewed, Wrote, asked_in, told_all}
+use Rattle.pm_driver.specs.Driven.{HasLife, IsTrueOf, MayBegin, Runs}
+use Rattle.pm_driver.specs.Ends.{EndSays}
+use Rattle.pm_driver.specs.Laws.{EndsAreTrue, LeadsCompose, NewConvertersMayBegin}
+use Rattle.pm_driver.specs.Lives.{Driven, Goes, IsLife, Leads}
+use Rattle.pm_driver.specs.Steps.{JobsLead, RenewalsLead}
+use Rattle.pm_driver.proofs.Composed.{tells-append}
+use Rattle.pm_driver.proofs.Grown.{IsGrown, grown, of-life}
+
+-- a job that the host accepted
+begun : {config : Config} {passes : ℕ} {before : List Event} {event : Event} {summary : Summary} {held : Held} (job : host.Job) →
+    IsGrown config passes before event (tells (host.Accepted job)) summary held →
+    Goes config passes before (event ∷ []) (Began job ∷ []) None (host_next summary (host.Accepted job)) held
+begun job is = record { is_life = is.is_life; told = is.told; ended = tt }
+
+-- there is an event for each
+job-goes : LegalLivesAreFollowed → {config : Config} {passes : ℕ} {before : List Event} {summary : Summary} {held : Held} (job : host.Job) →
+    job_fault summary job ≡ None → IsLife config passes before summary held →
+    Goes config passes before (job_event job ∷ []) (Began job ∷ []) None (host_next summary (host.Accepted job)) held
+job-goes laws (host.Order cell word) free is = begun (host.Order cell word)
+    (grown laws (Order cell word) (tells (host.Accepted (host.Order cell word))) is
+    (ap (λ f. option_or (refused f) None) (of-life (λ h. job_fault h (host.Order cell word) ≡ None) is free)) tt refl)
+job-goes laws (host.Check cell) free is = begun (host.Check cell)
+    (grown laws (Check cell) (tells (host.Accepted (host.Check cell))) is
+    (ap (λ f. option_or (refused f) None) (of-life (λ h. job_fault h (host.Check cell) ≡ None) is free)) tt refl)
+job-goes laws (host.Learn output) free is = begun (host.Learn output)
+    (grown laws (Learn output) (tells (host.Accepted (host.Learn output))) is
+    (ap (λ f. option_or (refused f) None) (of-life (λ h. job_fault h (host.Learn output) ≡ None) is free)) tt refl)
+job-goes laws (host.Send (ClearFaults output)) free is = begun (host.Send (ClearFaults output))
+    (grown laws (Clear output) (tells (host.Accepted (host.Send (ClearFaults output)))) is
+    (ap (λ f. option_or (refused f) None) (of-life (λ h. job_fault h (host.Send (ClearFaults output)) ≡ None) is free)) tt refl)
+job-goes laws (host.Send StoreUserAll) free is = begun (host.Send StoreUserAll)
+    (grown laws Store (tells (host.Accepted (host.Send StoreUserAll))) is
+    (ap (λ f. option_or (refused f) None) (of-life (λ h. job_fault h (host.Send StoreUserAll) ≡ None) is free)) tt refl)
+job-goes laws (host.Send RestoreUserAll) free is = begun (host.Send RestoreUserAll)
+    (grown laws Restore (tells (host.Accepted (host.Send RestoreUserAll))) is
+    (ap (λ f. option_or (refused f) None) (of-life (λ h. job_fault h (host.Send RestoreUserAll) ≡ None) is free)) tt refl)
+
+-- so it leads on
+pub jobs-lead : LegalLivesAreFollowed → {B : Type 0} → (gives : B → Call → B → Type 0) → (held : B → Held) → JobsLead gives held
+jobs-lead laws gives held summary bus job free = record {
+  acts = Began job ∷ [];
+  events = job_event job ∷ [];
+  asks = refl;
+  calls = refl;
+  may = (free, tt);
+  host = refl;
+  newest = tt;
+  lives = λ config passes before life. job-goes laws job free life;
+}
+
+-- a restart of the host leads on
+pub renewals-lead : LegalLivesAreFollowed → {B : Type 0} → (gives : B → Call → B → Type 0) → (held : B → Held) → RenewalsLead gives held
+renewals-lead laws gives held summary bus = record {
+  acts = Renewed ∷ [];
+  events = RestartHost ∷ [];
+  asks = refl;
+  calls = refl;
+  may = (tt, tt);
+  host = refl;
+  newest = tt;
+  lives = λ config passes before life.
+      let one = grown laws RestartHost (tells host.Restarted) life refl tt refl in
+      record { is_life = one.is_life; told = one.told; ended = tt };
+}
+
+-- the host of a life was made for it
+life-setup : {config : Config} {passes : ℕ} {events : List Event} {summary : Summary} {held : Held} →
+    IsLife config passes events summary held → summary.setup ≡ setup_of config passes
+unfolding now state_of host_now
+life-setup is = ap (λ (s : Summary). s.setup) (sym is.host_is)
+
+-- a restarted host is new
+renewed-new : (summary : Summary) → host_next summary host.Restarted ≡ host_start summary.setup
+unfolding host_next
+renewed-new summary = refl
+
+-- a driver begins with a life
+pub begins-lived : LegalLivesAreFollowed → (summary : Summary) (held : Held) → MayBegin summary held → HasLife summary held
+begins-lived laws summary held may =
+    let has = may.has in
+    let one = grown laws RestartHost (tells host.Restarted) has.life refl tt refl in
+    let same : host_next may.was host.Restarted ≡ summary =
+    renewed-new may.was ∙ (ap host_start (life-setup has.life) ∙ sym may.made) in
+    record {
+      config = has.config;
+      passes = has.passes;
+      events = RestartHost ∷ has.events;
+      spelled = has.spelled;
+      life = subst (λ h. IsLife has.config has.passes (RestartHost ∷ has.events) h held) same one.is_life;
+    }
+
+-- a converter as it was made has a life of no event
+pub new-begins : LegalLivesAreFollowed → NewConvertersMayBegin
+unfolding start
+new-begins laws config passes sound spelled made =
+    let none = laws.none config passes made in
+    record {
+      was = host_start (setup_of config passes);
+      has = record {
+        config = config;
+        passes = passes;
+        events = [];
+        spelled = spelled;
+        life = record {
+          sound = sound;
+          made = made;
+          legal = tt;
+          host_is = ap (λ (s : State). s.host) none;
+          held_is = ap (λ (s : State). s.device) none;
+        };
+      };
+      made = refl;
+    }
+
+-- what is true of a host and a converter to which a life led
+pub true-of : LegalLivesAreFollowed → (summary : Summary) (held : Held) → HasLife summary held → IsTrueOf summary held
+true-of laws summary held has =
+    let is = has.life in
+    record {
+      has = has;
+      confirmed = laws.confirmed has.config has.passes has.events is.sound is.made is.legal;
+      possible = laws.possible has.config has.passes has.events is.sound is.made is.legal;
+      seen = laws.seen has.config has.passes has.events is.sound is.made is.legal;
+      formats = laws.agree has.config has.passes has.events is.sound has.spelled is.made is.legal;
+      own = λ cell there. subst (λ (d : Held). IsOwnWord has.config has.passes has.events cell (word_at d.words cell)) is.held_is
+          (laws.own has.config has.passes has.events cell is.sound is.made is.legal there);
+      commanded = λ output there. subst (λ (d : Held). CommandsOwn has.config has.passes has.events output
+          (commanded (value_for d.config output) d.words output)) is.held_is
+          (laws.commanded has.config has.passes has.events output is.sound is.made is.legal there);
+    }
+
+-- where a driver leads there is a life
+pub leads-lived : {B : Type 0} (gives : B → Call → B → Type 0) (held : B → Held) (asked : List Act) (end : Option JobEnd) (old new : Driven B) →
+    HasLife old.host (held old.bus) → Leads gives held asked end old new → HasLife new.host (held new.bus)
+leads-lived gives held asked end old new has leads = record {
+  config = has.config;
+  passes = has.passes;
+  events = leads.events ++ has.events;
+  spelled = has.spelled;
+  life = (leads.lives has.config has.passes has.events has.life).is_life;
+}
+
+-- the last job of acts that asked for one alone
+last-begun : (job : host.Job) (earlier acts : List Act) (rest : List host.Entry) → asked_in acts ≡ Began job ∷ earlier →
+    host.last_job (told_all acts ++ rest) ≡ Some job
+last-begun job earlier [] rest h = cc
+last-begun job earlier (Called (Wrote frame acked) ∷ acts) rest h = last-begun job earlier acts rest h
+last-begun job earlier (Called (Read request needed came) ∷ acts) rest h = last-begun job earlier acts rest h
+last-begun job earlier (Began other ∷ acts) rest h =
+    let same : Began other ≡ Began job = cc in
+    let jobs : other ≡ job = cc in ap (λ j. Some j) jobs
+last-begun job earlier (Renewed ∷ acts) rest h = cc
+
+-- so the end of the job that a driver carried out says what it is worth
+pub leads-say : EndsAreTrue → {B : Type 0} (gives : B → Call → B → Type 0) (held : B → Held) (job : host.Job) (end : JobEnd) (old new : Driven B) →
+    HasLife old.host (held old.bus) → Leads gives held (Began job ∷ []) (Some end) old new → EndSays job new.host (held new.bus) end
+leads-say law gives held job end old new has leads =
+    let goes = leads.lives has.config has.passes has.events has.life in
+    let is = goes.is_life in
+    let events = leads.events ++ has.events in
+    let last = ap host.last_job goes.told
+    ∙ last-begun job [] leads.acts (life has.config has.passes has.events).entries leads.asks in
+    subst (λ d. EndSays job new.host d end) is.held_is
+    (subst (λ h. EndSays job h (now has.config has.passes events).device end) is.host_is
+    (law has.config has.passes events job end is.sound has.spelled is.made is.legal
+    (tells-append leads.events has.events leads.newest) last goes.ended))
+
+-- an order in microvolts that isn't refused is one of a word that isn't
+micro-order : (s : Summary) (cell : Cell) (word : Option ℕ) (begun : host.Job) → option_map (λ w. host.Order cell w) word ≡ Some begun →
+    option_and_then (λ w. order_fault s cell w) word ≡ None → job_fault s begun ≡ None
+micro-order s cell None begun is h = cc
+micro-order s cell (Some word) begun is h = subst (λ j. job_fault s j ≡ None) (same_Some (host.Order cell word) begun is) h
+
+-- of two faults, none
+or-none : {A : Type 0} (one other : Option A) → option_or one other ≡ None → (one ≡ None) × (other ≡ None)
+or-none None other h = (refl, h)
+or-none (Some x) other h = cc
+
+-- a job that is accepted isn't refused
+begun-free : (s : Summary) (asked : Job) (begun : host.Job) → accepted_job s asked ≡ Some begun → begin_fault s asked ≡ None →
+    job_fault s begun ≡ None
+begun-free s (job.OrderMicro cell x) begun is h =
+    let past_voltage = (or-none (voltage_fault s cell) _ h).1 in
+    let past_range = (or-none (option_and_then (λ shape. range_fault shape x) (format_at s (output_of cell))) _ past_voltage).1 in
+    micro-order s cell (micro_word s cell x) begun is (or-none (option_and_then (λ w. order_fault s cell w) (micro_word s cell x)) None past_range).0
+begun-free s asked begun is h = subst (λ o. option_and_then (job_fault s) o ≡ None) is h
+
+-- where a driver leads that carries a job out which its host began
+job-leads : {B : Type 0} (gives : B → Call → B → Type 0) (held : B → Held) → JobsLead gives held → LeadsCompose gives held →
+    (asked : Job) (end : JobEnd) (old new : Driven B) (middle : Summary) → Begins old.host asked (Ok tt) middle →
+    Leads gives held [] (Some end) (record { host = middle; bus = old.bus }) new →
+    IsSomeAnd (accepted_job old.host asked) (λ begun. Leads gives held (Began begun ∷ []) (Some end) old new)
+job-leads gives held jobs compose asked end old new middle begins leads = go (accepted_job old.host asked) refl begins.ok where
+  go : (o : Option host.Job) → accepted_job old.host asked ≡ o → IsSomeAnd o (λ begun. middle ≡ host_next old.host (host.Accepted begun)) →
+      IsSomeAnd o (λ begun. Leads gives held (Began begun ∷ []) (Some end) old new)
+  go None is ok = absurd ok
+  go (Some begun) is ok =
+      let first = jobs old.host old.bus begun (begun-free old.host asked begun is (sym begins.fault)) in
+      let second = subst (λ h. Leads gives held [] (Some end) (record { host = h; bus = old.bus }) new) ok leads in
+      compose (Began begun ∷ []) [] None (Some end) old (record { host = host_next old.host (host.Accepted begun); bus = old.bus }) new
+      first second
+
+-- so there is a life
+pub job-lived : {B : Type 0} (gives : B → Call → B → Type 0) (held : B → Held) → JobsLead gives held → LeadsCompose gives held →
+    (asked : Job) (end : JobEnd) (old new : Driven B) (middle : Summary) → HasLife old.host (held old.bus) →
+    Begins old.host asked (Ok tt) middle →
+    Leads gives held [] (Some end) (record { host = middle; bus = old.bus }) new → HasLife new.host (held new.bus)
+job-lived gives held jobs compose asked end old new middle has begins leads =
+    go (accepted_job old.host asked) (job-leads gives held jobs compose asked end old new middle begins leads) where
+      go : (o : Option host.Job) → IsSomeAnd o (λ begun. Leads gives held (Began begun ∷ []) (Some end) old new) → HasLife new.host (held new.bus)
+      go None is = absurd is
+      go (Some begun) is = leads-lived gives held (Began begun ∷ []) (Some end) old new has is
+
+-- what a driver does for a job that its host began
+pub runs-so : EndsAreTrue → {B : Type 0} (gives : B → Call → B → Type 0) (held : B → Held) → JobsLead gives held → LeadsCompose gives held →
+    (asked : Job) (end : JobEnd) (old new : Driven B) (middle : Summary) → HasLife old.host (held old.bus) →
+    Begins old.host asked (Ok tt) middle →
+    Leads gives held [] (Some end) (record { host = middle; bus = old.bus }) new → frames_left new.host ≡ 0 → new.host.setup ≡ middle.setup →
+    Runs gives held asked old (Ok end) new
+runs-so law gives held jobs compose asked end old new middle has begins leads over kept =
+    let led = job-leads gives held jobs compose asked end old new middle begins leads in
+    record {
+      fault = begins.fault;
+      leads = led;
+      says = go (accepted_job old.host asked) led;
+      over = over;
+      err = tt;
+      kept = kept ∙ begins.kept;
+    } where
+      go : (o : Option host.Job) → IsSomeAnd o (λ begun. Leads gives held (Began begun ∷ []) (Some end) old new) →
+          IsSomeAnd o (λ begun. EndSays begun new.host (held new.bus) end)
+      go None is = absurd is
+      go (Some begun) is = leads-say law gives held begun end old new has is
+
+-- a job that began is open
+pub begun-busy : (s after : Summary) (asked : Job) → Begins s asked (Ok tt) after → is_busy after ≡ true
+unfolding host_next
+begun-busy s after asked begins = go (accepted_job s asked) begins.ok where
+  busy : (begun : host.Job) → is_busy (host_next s (host.Accepted begun)) ≡ true
+  busy (host.Order cell word) = refl
+  busy (host.Check cell) = refl
+  busy (host.Learn output) = refl
+  busy (host.Send command) = refl
+
+  go : (o : Option host.Job) → IsSomeAnd o (λ begun. after ≡ host_next s (host.Accepted begun)) → is_busy after ≡ true
+  go None ok = absurd ok
+  go (Some begun) ok = subst (λ h. is_busy h ≡ true) (sym ok) (busy begun)

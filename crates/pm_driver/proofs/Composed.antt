@@ -1,0 +1,78 @@
+-- What leads on from where something led; and the acts that are no calls.
+use Rattle.std.proofs.Common.{◌≡◌, ℕ, List, [], ◌∷◌, ◌++◌, Option, Some, None, refl, sym, ◌∙◌, ap, ap₂, subst, true}
+use Rattle.pm_device.specs.Held.{Held}
+use Rattle.pm_host.specs.declared.job_end.JobEnd.{JobEnd}
+use Rattle.pm_host.specs.Summary.{Summary, next as host_next}
+use Rattle.pm_world.specs.declared.event.Event.{Event}
+use Rattle.pm_world.specs.declared.event.Event.TheVariants.{Exchange, Finish}
+use Rattle.pm_driver.specs.Acts.{Act, AreCalls, AreDone, Began, Call, Called, MayDo, Renewed, asked_in, host_by, told_by}
+use Rattle.pm_driver.specs.Laws.{LeadsCompose}
+use Rattle.pm_driver.specs.Lives.{Driven, EndsTold, Leads, newest_tells}
+use Rattle.pm_driver.proofs.Grown.{goes-on, stays}
+
+-- the host after acts and more of them
+host-append : (s : Summary) (second first : List Act) → host_by s (second ++ first) ≡ host_by (host_by s first) second
+host-append s [] first = refl
+host-append s (act ∷ second) first = ap (λ h. host_next h (told_by act)) (host-append s second first)
+
+-- what may be done may be done one after the other
+done-append : (s : Summary) (second first : List Act) → AreDone s first → AreDone (host_by s first) second →
+    AreDone s (second ++ first)
+done-append s [] first one two = one
+done-append s (act ∷ second) first one two =
+    (subst (λ h. MayDo h act) (sym (host-append s second first)) two.0, done-append s second first one two.1)
+
+-- the calls lead on
+calls-append : {B : Type 0} (gives : B → Call → B → Type 0) (a b c : B) (second first : List Act) →
+    AreCalls gives a first b → AreCalls gives b second c → AreCalls gives a (second ++ first) c
+calls-append gives a b c [] first one two = subst (λ bus. AreCalls gives a first bus) two one
+calls-append gives a b c (Called call ∷ second) first one two =
+    (two.0, calls-append gives a b two.0 second first one two.1, two.2)
+calls-append gives a b c (Began job ∷ second) first one two = calls-append gives a b c second first one two
+calls-append gives a b c (Renewed ∷ second) first one two = calls-append gives a b c second first one two
+
+-- what is asked for is asked for one after the other
+asked-append : (second first : List Act) → asked_in (second ++ first) ≡ asked_in second ++ asked_in first
+asked-append [] first = refl
+asked-append (Called call ∷ second) first = asked-append second first
+asked-append (Began job ∷ second) first = ap (λ l. Began job ∷ l) (asked-append second first)
+asked-append (Renewed ∷ second) first = ap (λ l. Renewed ∷ l) (asked-append second first)
+
+-- the newest event stays the newest
+pub tells-append : (second first : List Event) → newest_tells second ≡ true → newest_tells (second ++ first) ≡ true
+tells-append (Finish acked ∷ second) first is = refl
+tells-append (Exchange arrival back ∷ second) first is = refl
+tells-append [] first is = cc
+tells-append (event ∷ second) first is = cc
+
+newest-append : (end : Option JobEnd) (second first : List Event) → EndsTold end second → EndsTold end (second ++ first)
+newest-append None second first is = tt
+newest-append (Some end) second first is = tells-append second first is
+
+-- calls compose
+pub leads-compose : {B : Type 0} (gives : B → Call → B → Type 0) (held : B → Held) → LeadsCompose gives held
+leads-compose gives held first second middle end a b c one two = record {
+  acts = two.acts ++ one.acts;
+  events = two.events ++ one.events;
+  asks = asked-append two.acts one.acts ∙ ap₂ (λ x y. x ++ y) two.asks one.asks;
+  calls = calls-append gives a.bus b.bus c.bus two.acts one.acts one.calls two.calls;
+  may = done-append a.host two.acts one.acts one.may (subst (λ h. AreDone h two.acts) (sym one.host) two.may);
+  host = host-append a.host two.acts one.acts ∙ (ap (λ h. host_by h two.acts) one.host ∙ two.host);
+  newest = newest-append end two.events one.events two.newest;
+  lives = λ config passes before life.
+      let here = one.lives config passes before life in
+      goes-on here (two.lives config passes (one.events ++ before) here.is_life);
+}
+
+-- nothing done leads nowhere
+pub leads-nothing : {B : Type 0} (gives : B → Call → B → Type 0) (held : B → Held) (d : Driven B) → Leads gives held [] None d d
+leads-nothing gives held d = record {
+  acts = [];
+  events = [];
+  asks = refl;
+  calls = refl;
+  may = tt;
+  host = refl;
+  newest = tt;
+  lives = λ config passes before life. stays life;
+}

@@ -1,0 +1,7 @@
+mod BegunJobs
+mod Composed
+mod EndedJobs
+mod Grown
+mod OpenJobs
+mod ReadBack
+mod SentFrames

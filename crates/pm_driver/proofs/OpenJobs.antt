@@ -1,0 +1,117 @@
+-- A job stays open until it ends.
+use Rattle.std.proofs.Common.{◌≡◌, ℕ, Bool, true, false, cond, eqb, ◌+◌, List, Option, Some, None, Result, Ok, Err, refl, is_some, option_map}
+use Rattle.std.specs.Prelude.{IsSomeAnd}
+use Rattle.std.specs.Result.{result_ok}
+use Rattle.pm_num.specs.AnyFormat.{Shape, InUlinear16}
+use Rattle.pm_table.specs.declared.cell.Cell.{Cell}
+use Rattle.pm_table.specs.declared.fault.TableFault.{TableFault}
+use Rattle.pm_table.specs.declared.vout_mode.VoutMode.{VoutMode}
+use Rattle.pm_table.specs.declared.vout_mode.VoutMode.TheVariants.{Linear, Direct}
+use Rattle.pm_table.specs.Coefficients.{coefficients_of}
+use Rattle.pm_table.specs.Format.{shape_in}
+use Rattle.pm_table.specs.VoutMode.{mode_of}
+use Rattle.pm_frame.specs.declared.message.Message.{Message}
+use Rattle.pm_host.specs.declared.job_end.JobEnd.{JobEnd}
+use Rattle.pm_host.specs.declared.job_end.JobEnd.TheVariants.{Done, Differs, Unknown}
+use Rattle.pm_host.specs.declared.question.Question.{Question}
+use Rattle.pm_host.specs.declared.question.Question.TheVariants.{Word, Mode, Coefficients}
+use Rattle.pm_host.specs.declared.stage.Stage.{Stage}
+use Rattle.pm_host.specs.declared.stage.Stage.TheVariants.{Asks, Reads, Sends, Writes}
+use Rattle.pm_host.specs.declared.step.Step.TheVariants.{Next, Ended}
+use Rattle.pm_host.specs.Answers.{good_payload, good_word, word_in}
+use Rattle.pm_host.specs.Marks.{Good}
+use Rattle.pm_host.specs.Question.{question_message}
+use Rattle.pm_host.specs.Refusals.{is_busy}
+use Rattle.pm_host.specs.Summary.{Change, Summary, answer_taken, answered, asked, ends, finished, goes_on, idle, learned, marked, mode_taken, read_back}
+use Rattle.pm_host.specs.Summary.{next as host_next, sending_in, sends, stage_message, step_of, writes}
+use Rattle.pm_driver.specs.Acts.{Call, Read, Wrote, told_of}
+
+-- a change that doesn't end the job leaves one open
+abbrev IsOpen : Change → Type 0
+IsOpen change = change.step ≡ Next → is_some change.after.stage ≡ true
+
+-- of two, either
+open-cond : (b : Bool) (one other : Change) → IsOpen one → IsOpen other → IsOpen (cond b one other)
+open-cond true one other first second = first
+open-cond false one other first second = second
+
+-- the end of a job isn't one that leaves it open
+ended-open : (s : Summary) (end : JobEnd) → IsOpen (ends s end)
+ended-open s end h = cc
+
+-- a write was finished
+finished-open : (s : Summary) (stage : Stage) (acked : Bool) → IsOpen (finished s (Some stage) acked)
+finished-open s (Sends command tries) acked =
+    let more = cond (eqb (tries + 1) s.setup.passes) (ends s Unknown) (sends s command (tries + 1)) in
+    open-cond acked (ends s Done) more (ended-open s Done)
+    (open-cond (eqb (tries + 1) s.setup.passes) (ends s Unknown) (sends s command (tries + 1)) (ended-open s Unknown) (λ h. refl))
+finished-open s stage acked = λ h. refl
+
+-- an order read its cell back
+read-open : (s : Summary) (cell : Cell) (word pass : ℕ) (read : Option ℕ) → IsOpen (read_back s cell word pass read)
+read-open s cell word pass None =
+    open-cond (eqb (pass + 1) s.setup.passes) (ends s Unknown) (writes s cell word (pass + 1)) (ended-open s Unknown) (λ h. refl)
+read-open s cell word pass (Some read) =
+    let t = marked s (Good cell read) in
+    let more = cond (eqb (pass + 1) t.setup.passes) (ends t (Differs read)) (writes t cell word (pass + 1)) in
+    open-cond (eqb read word) (ends t Done) more (ended-open t Done)
+    (open-cond (eqb (pass + 1) t.setup.passes) (ends t (Differs read)) (writes t cell word (pass + 1)) (ended-open t (Differs read)) (λ h. refl))
+
+-- a learn found a format, or none
+learned-open : (s : Summary) (output : ℕ) (shape : Option Shape) → IsOpen (learned s output shape)
+learned-open s output None = ended-open s Unknown
+learned-open s output (Some shape) = λ h. cc
+
+-- a learn read VOUT_MODE
+mode-open : (s : Summary) (output : ℕ) (mode : Result VoutMode TableFault) → IsOpen (mode_taken s output mode)
+mode-open s output (Err fault) = learned-open s output None
+mode-open s output (Ok (Linear exponent)) = learned-open s output (Some (InUlinear16 exponent))
+mode-open s output (Ok Direct) = λ h. refl
+
+-- a question was answered
+taken-open : (s : Summary) (question : Question) (payload : List ℕ) → IsOpen (answer_taken s question payload)
+taken-open s (Word cell) payload = ended-open (marked s (Good cell (word_in payload))) Done
+taken-open s (Mode output) payload = mode-open s output (mode_of (word_in payload))
+taken-open s (Coefficients output) payload = learned-open s output (result_ok (shape_in Direct (coefficients_of payload)))
+
+-- or not
+asked-open : (s : Summary) (question : Question) (tries : ℕ) (payload : Option (List ℕ)) → IsOpen (asked s question tries payload)
+asked-open s question tries None =
+    open-cond (eqb (tries + 1) s.setup.passes) (ends s Unknown) (goes_on s (Asks question (tries + 1))) (ended-open s Unknown) (λ h. refl)
+asked-open s question tries (Some payload) = taken-open s question payload
+
+-- bytes came back
+answered-open : (s : Summary) (stage : Stage) (bytes : List ℕ) → IsOpen (answered s (Some stage) bytes)
+answered-open s (Reads cell word pass) bytes = read-open s cell word pass (good_word s.setup.addr cell bytes)
+answered-open s (Asks question tries) bytes =
+    asked-open s question tries (good_payload s.setup.addr (question_message question) bytes)
+answered-open s stage bytes = λ h. refl
+
+-- a call that doesn't end the job leaves it open
+pub stays-open : (s : Summary) (call : Call) → is_busy s ≡ true → step_of s (told_of call) ≡ Next →
+    is_busy (host_next s (told_of call)) ≡ true
+unfolding host_next step_of
+stays-open s (Wrote frame acked) busy h = go s.stage busy h where
+  go : (stage : Option Stage) → is_some stage ≡ true → (finished (idle s) stage acked).step ≡ Next →
+      is_some (finished (idle s) stage acked).after.stage ≡ true
+  go None b e = cc
+  go (Some stage) b e = finished-open (idle s) stage acked e
+stays-open s (Read request needed came) busy h = go s.stage busy h where
+  go : (stage : Option Stage) → is_some stage ≡ true → (answered (idle s) stage came).step ≡ Next →
+      is_some (answered (idle s) stage came).after.stage ≡ true
+  go None b e = cc
+  go (Some stage) b e = answered-open (idle s) stage came e
+
+-- a host that sends nothing has no job open
+pub idle-host : (s : Summary) → sending_in s ≡ None → is_busy s ≡ false
+idle-host s h = go s.stage h where
+  go : (stage : Option Stage) → option_map stage_message stage ≡ None → is_some stage ≡ false
+  go None e = refl
+  go (Some stage) e = cc
+
+-- and one that sends something has
+pub busy-host : (P : Message → Type 0) (s : Summary) → IsSomeAnd (sending_in s) P → is_busy s ≡ true
+busy-host P s h = go s.stage h where
+  go : (stage : Option Stage) → IsSomeAnd (option_map stage_message stage) P → is_some stage ≡ true
+  go None e = absurd e
+  go (Some stage) e = refl

@@ -1,0 +1,256 @@
+-- A call of the bus, as the events of a life.
+use Rattle.std.proofs.Common.{◌≡◌, ℕ, Bool, true, false, not, cond, List, [], ◌∷◌, ◌++◌, Option, Some, None, refl, sym, ◌∙◌, ap, ap₂, subst}
+use Rattle.std.specs.Prelude.{IsSomeAnd}
+use Rattle.std.specs.Option.{option_or}
+use Rattle.pm_frame.specs.declared.message.Message.{Message}
+use Rattle.pm_frame.specs.Fault.{whole_answer}
+use Rattle.pm_frame.specs.Layout.{IsRequest, IsWrite, is_read_message, sent, with_pec}
+use Rattle.pm_device.specs.declared.ending.Ending.TheVariants.{Stop, Restart}
+use Rattle.pm_device.specs.Effect as device
+use Rattle.pm_device.specs.Held.{Held}
+use Rattle.pm_device.specs.History.{next as device_next}
+use Rattle.pm_device.specs.Reply.{reply_of}
+use Rattle.pm_host.specs.declared.job_end.JobEnd.{JobEnd}
+use Rattle.pm_host.specs.declared.step.Step.{Step}
+use Rattle.pm_host.specs.declared.step.Step.TheVariants.{Next, Ended}
+use Rattle.pm_host.specs.Refusals.{is_busy}
+use Rattle.pm_host.specs.Summary.{Summary, sending_in, next as host_next, step_of}
+use Rattle.pm_host.specs.Transcript.{Finished, Got}
+use Rattle.pm_device.specs.declared.config.Config.{Config}
+use Rattle.pm_world.specs.declared.arrival.Arrival.{Arrival}
+use Rattle.pm_world.specs.declared.back.Back.{Back}
+use Rattle.pm_world.specs.declared.cause.Cause.TheVariants.{WrongKind, NotBetrayed}
+use Rattle.pm_world.specs.declared.event.Event.{Event}
+use Rattle.pm_world.specs.declared.event.Event.TheVariants.{Deliver, Exchange, Finish, Reading, RestartDevice}
+use Rattle.pm_world.specs.Laws.{LegalLivesAreFollowed}
+use Rattle.pm_world.specs.Legal.{frame_of, heard_bytes, heard_ending, ending_of, is_legal_hearing, is_legal_return, is_heard_whole, answer_in, back_bytes}
+use Rattle.pm_world.specs.Life.{now}
+use Rattle.pm_world.specs.State.{State, Share, delivered, delivery_cause, end_by, event_cause, exchange_cause, exchanged, finish_cause, hears, rule, share_of, tells}
+use Rattle.pm_driver.specs.Acts.{Act, Call, Called, MayDo, Read, Wrote, told_of}
+use Rattle.pm_driver.specs.Bus.{IsAsked, IsSent, answer_of, held_after, held_by, is_beside, may_hear}
+use Rattle.pm_driver.specs.Lives.{Driven, EndsSo, EndsTold, Goes, IsLife, Leads, newest_tells}
+use Rattle.pm_driver.specs.Steps.{FramesLead, IsCalled, StaysOpen}
+use Rattle.pm_driver.proofs.Grown.{IsGrown, beside-one, goes-on, grown, heard-one, of-life, quiet}
+use Rattle.pm_driver.proofs.OpenJobs.{stays-open}
+
+-- a message that the host is sending, with its frame
+record SendsWrite (host : Summary) (frame : List ℕ) : Type 0 where
+  message : Message
+  sending : sending_in host ≡ Some message
+  is : IsWrite host.setup.addr message frame
+
+record SendsRequest (host : Summary) (request : List ℕ) (needed : ℕ) : Type 0 where
+  message : Message
+  sending : sending_in host ≡ Some message
+  is : IsRequest host.setup.addr message request
+  long : needed ≡ whole_answer message
+
+-- by what the host shows
+sends-write : (host : Summary) (frame : List ℕ) → IsSomeAnd (sending_in host) (λ message. IsWrite host.setup.addr message frame) →
+    SendsWrite host frame
+sends-write host frame shown = go (sending_in host) refl shown where
+  go : (sending : Option Message) → sending_in host ≡ sending →
+      IsSomeAnd sending (λ message. IsWrite host.setup.addr message frame) → SendsWrite host frame
+  go None e is = absurd is
+  go (Some message) e is = record { message = message; sending = e; is = is }
+
+sends-request : (host : Summary) (request : List ℕ) (needed : ℕ) →
+    IsSomeAnd (sending_in host) (λ message. IsRequest host.setup.addr message request)
+    × IsSomeAnd (sending_in host) (λ message. needed ≡ whole_answer message) → SendsRequest host request needed
+sends-request host request needed shown = go (sending_in host) refl shown where
+  go : (sending : Option Message) → sending_in host ≡ sending →
+      IsSomeAnd sending (λ message. IsRequest host.setup.addr message request)
+      × IsSomeAnd sending (λ message. needed ≡ whole_answer message) → SendsRequest host request needed
+  go None e is = absurd is.0
+  go (Some message) e is = record { message = message; sending = e; is = is.0; long = is.1 }
+
+-- the frame of a write, and of a request
+write-frame : {addr : ℕ} {message : Message} {frame : List ℕ} → IsWrite addr message frame → frame_of addr message ≡ frame
+unfolding frame_of
+write-frame {addr = addr} {message = message} is =
+    ap (λ b. cond b (sent addr message) (with_pec [] (sent addr message))) is.writes ∙ sym is.spelled
+
+request-frame : {addr : ℕ} {message : Message} {frame : List ℕ} → IsRequest addr message frame → frame_of addr message ≡ frame
+unfolding frame_of
+request-frame {addr = addr} {message = message} is =
+    ap (λ b. cond b (sent addr message) (with_pec [] (sent addr message))) is.reads ∙ sym is.spelled
+
+-- the converter hears a write that is being sent
+deliver-free : (s : State) (frame : List ℕ) (arrival : Arrival) → SendsWrite s.host frame →
+    is_legal_hearing frame (heard_bytes frame arrival) (ending_of Stop arrival) ≡ true →
+    event_cause s (Deliver arrival) ≡ None
+deliver-free s frame arrival sends legal =
+    let hears_so : Bool → List ℕ → Bool = λ b f. is_legal_hearing f (heard_bytes f arrival) (ending_of (cond b Restart Stop) arrival) in
+    ap (delivery_cause s arrival) sends.sending
+    ∙ (ap₂ (λ b f. option_or (rule b WrongKind) (rule (not (hears_so b f)) NotBetrayed)) sends.is.writes (write-frame sends.is)
+    ∙ ap (λ b. rule (not b) NotBetrayed) legal)
+
+deliver-tells : (s : State) (frame : List ℕ) (arrival : Arrival) → SendsWrite s.host frame →
+    share_of s (Deliver arrival) ≡ hears (device.Hearing (heard_bytes frame arrival) (ending_of Stop arrival))
+deliver-tells s frame arrival sends =
+    ap (delivered s arrival) sends.sending
+    ∙ ap₂ (λ b f. hears (device.Hearing (heard_bytes f arrival) (ending_of (cond b Restart Stop) arrival))) sends.is.writes
+    (write-frame sends.is)
+
+-- while a write is being sent
+hear-one : LegalLivesAreFollowed → {config : Config} {passes : ℕ} {host : Summary} (frame : List ℕ) → SendsWrite host frame →
+    (earlier : List Event) (event : Event) (then : Held) → IsLife config passes earlier host then → may_hear frame event ≡ true →
+    Goes config passes earlier (event ∷ []) [] None host (held_by frame then event)
+hear-one laws {config = config} {passes = passes} frame sends earlier (Deliver arrival) then is so =
+    let shown = of-life (λ h. SendsWrite h frame) is sends in
+    let s = now config passes earlier in
+    heard-one (grown laws (Deliver arrival) (hears (device.Hearing (heard_bytes frame arrival) (ending_of Stop arrival))) is
+    (deliver-free s frame arrival shown so) tt (deliver-tells s frame arrival shown))
+hear-one laws frame sends earlier RestartDevice then is so = beside-one laws frame earlier RestartDevice then is refl
+hear-one laws frame sends earlier (Reading output code word) then is so =
+    beside-one laws frame earlier (Reading output code word) then is refl
+hear-one laws frame sends earlier event then is so = cc
+
+-- how the job stands is what the last event says
+ends-so : (end last : Option JobEnd) → last ≡ end → EndsSo end last
+ends-so None last is = tt
+ends-so (Some end) last is = is
+
+-- and it ended with the newest event
+pub ends-told : (end : Option JobEnd) (events : List Event) → newest_tells events ≡ true → EndsTold end events
+ends-told None events tells = tt
+ends-told (Some end) events tells = tells
+
+-- a write is over
+finish-free : (s : State) (frame : List ℕ) (acked : Bool) → SendsWrite s.host frame → event_cause s (Finish acked) ≡ None
+finish-free s frame acked sends = ap finish_cause sends.sending ∙ ap (λ b. rule b WrongKind) sends.is.writes
+
+finished : LegalLivesAreFollowed → {config : Config} {passes : ℕ} {before : List Event} {host : Summary} {held : Held} →
+    (frame : List ℕ) (acked : Bool) → SendsWrite host frame → IsLife config passes before host held →
+    Goes config passes before (Finish acked ∷ []) (Called (Wrote frame acked) ∷ []) (end_by (step_of host (Finished acked)))
+    (host_next host (Finished acked)) held
+finished laws {config = config} {passes = passes} {before = before} {host = host} frame acked sends is =
+    let one = grown laws (Finish acked) (tells (Finished acked)) is
+    (finish-free (now config passes before) frame acked (of-life (λ h. SendsWrite h frame) is sends)) tt refl in
+    record { is_life = one.is_life; told = one.told; ended = ends-so (end_by (step_of host (Finished acked))) _ one.ended }
+
+-- what an exchange of this request is, of a life
+exchange-free : (s : State) (request : List ℕ) (needed : ℕ) (arrival : Arrival) (back : Back) → SendsRequest s.host request needed →
+    is_legal_hearing request (heard_bytes request arrival) (ending_of Restart arrival) ≡ true →
+    is_legal_return request needed (is_heard_whole request (heard_bytes request arrival) (ending_of Restart arrival))
+    (answer_of s.device request arrival) (back_bytes (answer_of s.device request arrival) back) ≡ true →
+    event_cause s (Exchange arrival back) ≡ None
+exchange-free s request needed arrival back sends legal returned =
+    let bytes : List ℕ → List ℕ = λ f. heard_bytes f arrival in
+    let answer : Bool → List ℕ → List ℕ = λ b f. answer_in (reply_of s.device (bytes f) (ending_of (cond b Restart Stop) arrival)) in
+    let heard : Bool → List ℕ → Bool = λ b f. is_legal_hearing f (bytes f) (ending_of (cond b Restart Stop) arrival) in
+    let came : Bool → List ℕ → ℕ → Bool = λ b f n. is_legal_return f n (is_heard_whole f (bytes f) (ending_of (cond b Restart Stop) arrival))
+    (answer b f) (back_bytes (answer b f) back) in
+    ap (exchange_cause s arrival back) sends.sending
+    ∙ (ap₂ (λ b f. option_or (rule (not b) WrongKind) (option_or (rule (not (heard b f)) NotBetrayed)
+    (rule (not (came b f (whole_answer sends.message))) NotBetrayed))) sends.is.reads (request-frame sends.is)
+    ∙ (ap (λ n. option_or (rule (not (heard true request)) NotBetrayed) (rule (not (came true request n)) NotBetrayed)) (sym sends.long)
+    ∙ ap₂ (λ x y. option_or (rule (not x) NotBetrayed) (rule (not y) NotBetrayed)) legal returned))
+
+exchange-tells : (s : State) (request : List ℕ) (needed : ℕ) (arrival : Arrival) (back : Back) → SendsRequest s.host request needed →
+    share_of s (Exchange arrival back)
+    ≡ record {
+      heard = Some (device.Hearing (heard_bytes request arrival) (ending_of Restart arrival));
+      told = Some (Got (back_bytes (answer_of s.device request arrival) back));
+    }
+exchange-tells s request needed arrival back sends =
+    let share : Bool → List ℕ → Share = λ b f. record {
+      heard = Some (device.Hearing (heard_bytes f arrival) (ending_of (cond b Restart Stop) arrival));
+      told = Some (Got (back_bytes (answer_in (reply_of s.device (heard_bytes f arrival) (ending_of (cond b Restart Stop) arrival))) back));
+    } in
+    ap (exchanged s arrival back) sends.sending ∙ ap₂ share sends.is.reads (request-frame sends.is)
+
+-- what a bus makes of a converter that hears a request
+record Comes (request : List ℕ) (needed : ℕ) (held : Held) (came : List ℕ) (arrival : Arrival) (back : Back) (new : Held) : Type 0 where
+  legal : is_legal_hearing request (heard_bytes request arrival) (ending_of Restart arrival) ≡ true
+  returned : is_legal_return request needed (is_heard_whole request (heard_bytes request arrival) (ending_of Restart arrival))
+      (answer_of held request arrival) (back_bytes (answer_of held request arrival) back) ≡ true
+  came_is : back_bytes (answer_of held request arrival) back ≡ came
+  after : device_next held (device.Hearing (heard_bytes request arrival) (ending_of Restart arrival)) ≡ new
+
+-- a request came back
+answered : LegalLivesAreFollowed → {config : Config} {passes : ℕ} {before : List Event} {host : Summary} {held new : Held} →
+    (request : List ℕ) (needed : ℕ) (came : List ℕ) (arrival : Arrival) (back : Back) → SendsRequest host request needed →
+    IsLife config passes before host held → Comes request needed held came arrival back new →
+    Goes config passes before (Exchange arrival back ∷ []) (Called (Read request needed came) ∷ [])
+    (end_by (step_of host (Got came))) (host_next host (Got came)) new
+answered laws {config = config} {passes = passes} {before = before} {host = host} {held = held} {new = new} request needed came arrival back sends is comes =
+    let s = now config passes before in
+    let shown = of-life (λ h. SendsRequest h request needed) is sends in
+    let hears_so : device.Event = device.Hearing (heard_bytes request arrival) (ending_of Restart arrival) in
+    let share : Share = record { heard = Some hears_so; told = Some (Got came) } in
+    let returned = subst (λ d. is_legal_return request needed (is_heard_whole request (heard_bytes request arrival) (ending_of Restart arrival))
+    (answer_of d request arrival) (back_bytes (answer_of d request arrival) back) ≡ true) (sym is.held_is) comes.returned in
+    let told : share_of s (Exchange arrival back) ≡ share = exchange-tells s request needed arrival back shown
+    ∙ ap (λ (b : List ℕ). record { heard = Some hears_so; told = Some (Got b) })
+    (ap (λ d. back_bytes (answer_of d request arrival) back) is.held_is ∙ comes.came_is) in
+    let one = grown laws (Exchange arrival back) share is
+    (exchange-free s request needed arrival back shown comes.legal returned) tt told in
+    record {
+      is_life = subst (λ d. IsLife config passes (Exchange arrival back ∷ before) (host_next host (Got came)) d) comes.after one.is_life;
+      told = one.told;
+      ended = ends-so (end_by (step_of host (Got came))) _ one.ended;
+    }
+
+-- the events of a call of the frame that the host was sending
+pub record CallEvents (call : Call) (host : Summary) (old new : Held) : Type 0 where
+  pub events : List Event
+  pub newest : newest_tells events ≡ true
+  pub goes : (config : Config) (passes : ℕ) (before : List Event) → IsLife config passes before host old →
+      Goes config passes before events (Called call ∷ []) (end_by (step_of host (told_of call))) (host_next host (told_of call)) new
+
+-- there are such
+pub call-events : LegalLivesAreFollowed → (call : Call) (host : Summary) (old new : Held) → MayDo host (Called call) → IsCalled call old new →
+    CallEvents call host old new
+call-events laws (Wrote frame acked) host old new may is =
+    let sends = sends-write host frame may in
+    record {
+      events = Finish acked ∷ is.events;
+      newest = refl;
+      goes = λ config passes before life.
+          let heard = subst (λ d. Goes config passes before is.events [] None host d) is.after
+          (quiet frame (may_hear frame) (hear-one laws frame sends) is.events is.may life) in
+          goes-on heard (finished laws frame acked sends heard.is_life);
+    }
+call-events laws (Read request needed came) host old new may is =
+    let sends = sends-request host request needed may in
+    record {
+      events = Exchange is.arrival is.back ∷ is.before;
+      newest = refl;
+      goes = λ config passes before life.
+          let beside = quiet request is_beside (beside-one laws request) is.before is.beside_before life in
+          goes-on beside (answered laws request needed came is.arrival is.back sends beside.is_life
+          (record { legal = is.legal; returned = is.returned; came_is = is.came_is; after = is.after }));
+    }
+
+-- so it leads on
+pub frames-lead : LegalLivesAreFollowed → {B : Type 0} → (gives : B → Call → B → Type 0) → (held : B → Held) → FramesLead gives held
+frames-lead laws gives held call host old new may is so =
+    let e = call-events laws call host (held old) (held new) may is in
+    record {
+      acts = Called call ∷ [];
+      events = e.events;
+      asks = refl;
+      calls = (old, refl, so);
+      may = (may, tt);
+      host = refl;
+      newest = ends-told (end_by (step_of host (told_of call))) e.events e.newest;
+      lives = e.goes;
+    }
+
+-- what `told` leaves and answers after a call leads on
+pub told-leads : {B : Type 0} (gives : B → Call → B → Type 0) (held : B → Held) → FramesLead gives held →
+    (call : Call) (host after : Summary) (step : Step) (old new : B) → MayDo host (Called call) → IsCalled call (held old) (held new) →
+    gives old call new → after ≡ host_next host (told_of call) → step ≡ step_of host (told_of call) →
+    Leads gives held [] (end_by step) (record { host = host; bus = old }) (record { host = after; bus = new })
+told-leads gives held lead call host after step old new may is so next_is step_is =
+    subst (λ s. Leads gives held [] (end_by s) (record { host = host; bus = old }) (record { host = after; bus = new })) (sym step_is)
+    (subst (λ h. Leads gives held [] (end_by (step_of host (told_of call))) (record { host = host; bus = old })
+    (record { host = h; bus = new })) (sym next_is) (lead call host old new may is so))
+
+-- and it leaves the job open where it didn't end
+pub told-open : (call : Call) (host after : Summary) (step : Step) → is_busy host ≡ true → after ≡ host_next host (told_of call) →
+    step ≡ step_of host (told_of call) → StaysOpen (Some step) after
+told-open call host after Next busy next_is step_is =
+    subst (λ h. is_busy h ≡ true) (sym next_is) (stays-open host call busy (sym step_is))
+told-open call host after (Ended end) busy next_is step_is = tt

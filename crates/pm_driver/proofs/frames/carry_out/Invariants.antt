@@ -1,0 +1,15 @@
+use Rattle.std.proofs.Common.{◌≡◌, [], None}
+use Rattle.pm_host.specs.Frames.{frames_left}
+use Rattle.pm_host.specs.Refusals.{is_busy}
+use Rattle.pm_driver.specs.Lives.{Leads}
+use Rattle.pm_driver.proofs.frames.carry_out.Given as goal
+
+abbrev pub invariant-frames : goal.invariant-frames
+invariant-frames g l = record {
+  leads : Leads g.B.Bus.gives g.B.Bus.held [] None (record { host = l.fn.host; bus = l.fn.bus }) (record { host = l.host; bus = l.bus });
+  some : is_busy l.host ≡ is_busy l.fn.host;
+  kept : l.host.setup ≡ l.fn.host.setup;
+}
+
+abbrev pub decreases-frames : goal.decreases-frames
+decreases-frames g l = frames_left l.host

@@ -1,0 +1,74 @@
+-- What a driver does, call by call: the calls of its bus, with what they answered, and the jobs and restarts of its
+-- host. Lists are newest first.
+use Rattle.std.specs.Prelude.{◌≡◌, ℕ, Bool, List, [], ◌∷◌, None, IsSomeAnd}
+use Rattle.pm_frame.specs.Fault.{whole_answer}
+use Rattle.pm_frame.specs.Layout.{IsWrite, IsRequest}
+use Rattle.pm_host.specs.Refusals.{job_fault}
+use Rattle.pm_host.specs.Summary.{Summary, sending_in, next as host_next}
+use Rattle.pm_host.specs.Transcript.{Job, Entry, Accepted, Finished, Got, Restarted}
+
+-- one call of a bus, and what it answered
+pub data Call : Type 0 where
+  -- this frame was sent, and acknowledged or not
+  Wrote : (frame : List ℕ) (acked : Bool) → Call
+  -- this request was sent, whose whole answer has this many bytes, and these came back
+  Read : (request : List ℕ) (needed : ℕ) (came : List ℕ) → Call
+
+-- one act of a driver
+pub data Act : Type 0 where
+  -- a call of its bus
+  Called : (call : Call) → Act
+  -- its host accepted a job
+  Began : (job : Job) → Act
+  -- its host restarted
+  Renewed : Act
+
+-- what the host is told by a call, and by an act
+abbrev pub told_of : Call → Entry
+told_of (Wrote frame acked) = Finished acked
+told_of (Read request needed came) = Got came
+
+abbrev pub told_by : Act → Entry
+told_by (Called call) = told_of call
+told_by (Began job) = Accepted job
+told_by Renewed = Restarted
+
+abbrev pub told_all : List Act → List Entry
+told_all [] = []
+told_all (act ∷ before) = told_by act ∷ told_all before
+
+-- what the host holds after acts
+abbrev pub host_by : Summary → List Act → Summary
+host_by s [] = s
+host_by s (act ∷ before) = host_next (host_by s before) (told_by act)
+
+-- a call sends the frame of the message that the host was sending; a job is one that it doesn't refuse
+abbrev pub MayDo : Summary → Act → Type 0
+MayDo s (Called (Wrote frame acked)) =
+    IsSomeAnd (sending_in s) (λ message. IsWrite s.setup.addr message frame)
+MayDo s (Called (Read request needed came)) =
+    IsSomeAnd (sending_in s) (λ message. IsRequest s.setup.addr message request)
+    × IsSomeAnd (sending_in s) (λ message. needed ≡ whole_answer message)
+MayDo s (Began job) = job_fault s job ≡ None
+MayDo s Renewed = Unit {0}
+
+-- so does each of the acts
+abbrev pub AreDone : Summary → List Act → Type 0
+AreDone s [] = Unit {0}
+AreDone s (act ∷ before) = MayDo (host_by s before) act × AreDone s before
+
+-- The calls among the acts, each from the bus that the one before it left, lead from this bus to that one: no call
+-- more than these, none fewer, and none in another order.
+abbrev pub AreCalls : {B : Type 0} → (B → Call → B → Type 0) → B → List Act → B → Type 0
+AreCalls gives old [] new = old ≡ new
+AreCalls {B = B} gives old (Called call ∷ before) new =
+    (bus : B) × AreCalls gives old before bus × gives bus call new
+AreCalls gives old (Began job ∷ before) new = AreCalls gives old before new
+AreCalls gives old (Renewed ∷ before) new = AreCalls gives old before new
+
+-- what the host was asked for: the acts that are no calls
+abbrev pub asked_in : List Act → List Act
+asked_in [] = []
+asked_in (Called call ∷ before) = asked_in before
+asked_in (Began job ∷ before) = Began job ∷ asked_in before
+asked_in (Renewed ∷ before) = Renewed ∷ asked_in before

@@ -1,0 +1,72 @@
+-- What a bus may do to the converter at its other end, by the events of a world: this project's own premise on
+-- a bus. Lists are newest first.
+use Rattle.std.specs.Prelude.{◌≡◌, ℕ, Bool, true, false, List, [], ◌∷◌}
+use Rattle.pm_device.specs.declared.ending.Ending.TheVariants.{Stop, Restart}
+use Rattle.pm_device.specs.Held.{Held}
+use Rattle.pm_device.specs.Effect as device
+use Rattle.pm_device.specs.History.{next as device_next}
+use Rattle.pm_device.specs.Reply.{reply_of}
+use Rattle.pm_world.specs.declared.arrival.Arrival.{Arrival}
+use Rattle.pm_world.specs.declared.back.Back.{Back}
+use Rattle.pm_world.specs.declared.event.Event.{Event}
+use Rattle.pm_world.specs.declared.event.Event.TheVariants.{Deliver, RestartDevice, Reading}
+use Rattle.pm_world.specs.Legal.{heard_bytes, ending_of, is_legal_hearing, is_legal_return, is_heard_whole, answer_in, back_bytes}
+
+-- what happens to a converter beside the bus: it restarts, or what it measures changes
+abbrev pub is_beside : Event → Bool
+is_beside RestartDevice = true
+is_beside (Reading output code word) = true
+is_beside _ = false
+
+-- and while the frame of a write is being sent: it also hears it, legally
+abbrev pub may_hear : List ℕ → Event → Bool
+may_hear frame RestartDevice = true
+may_hear frame (Reading output code word) = true
+may_hear frame (Deliver arrival) = is_legal_hearing frame (heard_bytes frame arrival) (ending_of Stop arrival)
+may_hear frame _ = false
+
+-- each of the events is such a one
+abbrev pub AreAll : (Event → Bool) → List Event → Type 0
+AreAll may [] = Unit {0}
+AreAll may (event ∷ before) = (may event ≡ true) × AreAll may before
+
+-- what one of them makes of what the converter holds
+abbrev pub held_by : List ℕ → Held → Event → Held
+held_by frame held RestartDevice = device_next held device.Restarted
+held_by frame held (Reading output code word) = device_next held (device.Reading output code.0 word)
+held_by frame held (Deliver arrival) =
+    device_next held (device.Hearing (heard_bytes frame arrival) (ending_of Stop arrival))
+held_by frame held _ = held
+
+-- and what all of them make of it
+abbrev pub held_after : List ℕ → Held → List Event → Held
+held_after frame held [] = held
+held_after frame held (event ∷ before) = held_by frame (held_after frame held before) event
+
+-- A write was sent: the converter heard its frame any number of times, also never, each time legally, and what
+-- else happened to it.
+pub record IsSent (frame : List ℕ) (old new : Held) : Type 0 where
+  pub events : List Event
+  pub may : AreAll (may_hear frame) events
+  pub after : held_after frame old events ≡ new
+
+-- the answer of a converter to a request as it arrives
+abbrev pub answer_of : Held → List ℕ → Arrival → List ℕ
+answer_of held request arrival =
+    answer_in (reply_of held (heard_bytes request arrival) (ending_of Restart arrival))
+
+-- A request was sent, whose whole answer has this many bytes, and these came back: the converter heard it once,
+-- legally, and what came back is a legal return of its answer.
+pub record IsAsked (request : List ℕ) (needed : ℕ) (old : Held) (came : List ℕ) (new : Held) : Type 0 where
+  pub before : List Event
+  pub arrival : Arrival
+  pub back : Back
+  pub beside_before : AreAll is_beside before
+  pub legal : is_legal_hearing request (heard_bytes request arrival) (ending_of Restart arrival) ≡ true
+  pub returned : is_legal_return request needed
+      (is_heard_whole request (heard_bytes request arrival) (ending_of Restart arrival))
+      (answer_of (held_after request old before) request arrival)
+      (back_bytes (answer_of (held_after request old before) request arrival) back) ≡ true
+  pub came_is : back_bytes (answer_of (held_after request old before) request arrival) back ≡ came
+  pub after : device_next (held_after request old before)
+      (device.Hearing (heard_bytes request arrival) (ending_of Restart arrival)) ≡ new

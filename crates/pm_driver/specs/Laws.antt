@@ -1,0 +1,38 @@
+-- The laws of a driver, over the definitions alone.
+use Rattle.std.specs.Prelude.{◌≡◌, ℕ, true, List, [], ◌∷◌, ◌++◌, Option, Some}
+use Rattle.pm_device.specs.declared.config.Config.{Config}
+use Rattle.pm_device.specs.Held.{Held}
+use Rattle.pm_device.specs.Start.{IsSound, start_of}
+use Rattle.pm_device.specs.History as history
+use Rattle.pm_host.specs.declared.job_end.JobEnd.{JobEnd}
+use Rattle.pm_host.specs.Refusals.{IsSetup}
+use Rattle.pm_host.specs.Summary.{start}
+use Rattle.pm_host.specs.Transcript.{Job, last_job}
+use Rattle.pm_world.specs.declared.event.Event.{Event}
+use Rattle.pm_world.specs.Honest.{IsSpelled}
+use Rattle.pm_world.specs.Life.{life, now}
+use Rattle.pm_world.specs.Setup.{setup_of}
+use Rattle.pm_world.specs.Uncertainty.{AreLegal}
+use Rattle.pm_driver.specs.Acts.{Act, Call}
+use Rattle.pm_driver.specs.Driven.{MayBegin}
+use Rattle.pm_driver.specs.Ends.{EndSays}
+use Rattle.pm_driver.specs.Lives.{Driven, Leads, newest_tells}
+
+-- What leads on from where something led is one that leads from its beginning: calls compose.
+abbrev pub LeadsCompose : {B : Type 0} → (B → Call → B → Type 0) → (B → Held) → Type 0
+LeadsCompose {B = B} gives held = (first second : List Act) (middle end : Option JobEnd) (a b c : Driven B) →
+    Leads gives held first middle a b → Leads gives held second end b c → Leads gives held (second ++ first) end a c
+
+-- In every life whose newest event is one that the host was told of, the end of the last job says what it is worth.
+abbrev pub EndsAreTrue : Type 0
+EndsAreTrue = (config : Config) (passes : ℕ) (events : List Event) (job : Job) (end : JobEnd) →
+    IsSound config → IsSpelled config → IsSetup (setup_of config passes) → AreLegal config passes events →
+    newest_tells events ≡ true → last_job (life config passes events).entries ≡ Some job →
+    (now config passes events).end ≡ Some end →
+    EndSays job (now config passes events).host (now config passes events).device end
+
+-- A new host may begin beside a converter as it was made.
+abbrev pub NewConvertersMayBegin : Type 0
+NewConvertersMayBegin = (config : Config) (passes : ℕ) →
+    IsSound config → IsSpelled config → IsSetup (setup_of config passes) →
+    MayBegin (start (setup_of config passes)) (history.start_of config)

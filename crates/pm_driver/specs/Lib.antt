@@ -1,0 +1,9 @@
+-- What the crate promises.
+pub mod Bus
+pub mod Acts
+pub mod Lives
+pub mod Ends
+pub mod Driven
+pub mod Laws
+-- How it is kept.
+pub mod Steps

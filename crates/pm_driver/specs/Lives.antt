@@ -1,0 +1,69 @@
+-- What a driver's acts come to, over every life that may have led to where they began: this project's own choice.
+-- Lists are newest first.
+use Rattle.std.specs.Prelude.{◌≡◌, ℕ, Bool, true, false, List, [], ◌∷◌, ◌++◌, Option, Some, None}
+use Rattle.pm_device.specs.declared.config.Config.{Config}
+use Rattle.pm_device.specs.Held.{Held}
+use Rattle.pm_device.specs.Start.{IsSound}
+use Rattle.pm_host.specs.declared.job_end.JobEnd.{JobEnd}
+use Rattle.pm_host.specs.Refusals.{IsSetup}
+use Rattle.pm_host.specs.Summary.{Summary}
+use Rattle.pm_world.specs.declared.event.Event.{Event}
+use Rattle.pm_world.specs.declared.event.Event.TheVariants.{Finish, Exchange}
+use Rattle.pm_world.specs.Life.{life, now}
+use Rattle.pm_world.specs.Setup.{setup_of}
+use Rattle.pm_world.specs.Uncertainty.{AreLegal}
+use Rattle.pm_driver.specs.Acts.{Act, Call, AreCalls, AreDone, asked_in, host_by, told_all}
+
+-- a driver: what its host holds, and its bus
+pub record Driven (B : Type 0) : Type 0 where
+  pub host : Summary
+  pub bus : B
+
+-- These events, legal one after another in a new world, lead to this host and this converter. However many they
+-- are: no world counts them.
+pub record IsLife (config : Config) (passes : ℕ) (events : List Event) (host : Summary) (held : Held) : Type 0 where
+  pub sound : IsSound config
+  pub made : IsSetup (setup_of config passes)
+  pub legal : AreLegal config passes events
+  pub host_is : (now config passes events).host ≡ host
+  pub held_is : (now config passes events).device ≡ held
+
+-- the newest event is one that the host was told of, so nothing happened after it
+abbrev pub newest_tells : List Event → Bool
+newest_tells (Finish acked ∷ before) = true
+newest_tells (Exchange arrival back ∷ before) = true
+newest_tells _ = false
+
+-- where a job ended, it did with the newest event
+abbrev pub EndsTold : Option JobEnd → List Event → Type 0
+EndsTold None events = Unit {0}
+EndsTold (Some end) events = newest_tells events ≡ true
+
+abbrev pub EndsSo : Option JobEnd → Option JobEnd → Type 0
+EndsSo None last = Unit {0}
+EndsSo (Some end) last = last ≡ Some end
+
+-- What acts come to over a life: with these further events it leads to this host and this converter, the host was
+-- told just what the acts tell it, in their order, and the last job ended so.
+pub record Goes (config : Config) (passes : ℕ) (before events : List Event) (acts : List Act) (end : Option JobEnd) (host : Summary) (held : Held) : Type 0 where
+  pub is_life : IsLife config passes (events ++ before) host held
+  pub told : (life config passes (events ++ before)).entries
+      ≡ told_all acts ++ (life config passes before).entries
+  pub ended : EndsSo end (now config passes (events ++ before)).end
+
+-- A driver leads from one host and bus to another, asked for just these jobs and restarts of its host. There are
+-- acts, with these jobs and restarts among them, whose calls lead from the one bus to the other, each of the frame
+-- that the host was sending, and what each answered is what the host was told. And there are further events by
+-- which every life that led to the old host and its converter leads to the new ones. A life's events that tell a
+-- host something are those of the acts; the others are deliveries, restarts of the converter and readings.
+pub record Leads {B : Type 0} (gives : B → Call → B → Type 0) (held : B → Held) (asked : List Act) (end : Option JobEnd) (old new : Driven B) : Type 0 where
+  pub acts : List Act
+  pub events : List Event
+  pub asks : asked_in acts ≡ asked
+  pub calls : AreCalls gives old.bus acts new.bus
+  pub may : AreDone old.host acts
+  pub host : host_by old.host acts ≡ new.host
+  pub newest : EndsTold end events
+  pub lives : (config : Config) (passes : ℕ) (before : List Event) →
+      IsLife config passes before old.host (held old.bus) →
+      Goes config passes before events acts end new.host (held new.bus)

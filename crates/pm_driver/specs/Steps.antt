@@ -1,0 +1,47 @@
+-- What sending one frame comes to, for the loop that sends them all.
+use Rattle.std.specs.Prelude.{◌≡◌, ℕ, true, List, [], ◌∷◌, Option, Some, None}
+use Rattle.pm_device.specs.Held.{Held}
+use Rattle.pm_host.specs.declared.job_end.JobEnd.{JobEnd}
+use Rattle.pm_host.specs.declared.step.Step.{Step}
+use Rattle.pm_host.specs.declared.step.Step.TheVariants.{Next, Ended}
+use Rattle.pm_host.specs.Refusals.{is_busy, job_fault}
+use Rattle.pm_host.specs.Summary.{Summary, next as host_next, step_of}
+use Rattle.pm_host.specs.Transcript.{Job, Accepted, Restarted}
+use Rattle.pm_world.specs.State.{end_by}
+use Rattle.pm_driver.specs.Acts.{Began, Call, Called, MayDo, Read, Renewed, Wrote, told_of}
+use Rattle.pm_driver.specs.Bus.{IsSent, IsAsked}
+use Rattle.pm_driver.specs.Lives.{Driven, Leads}
+
+-- how the job ended with a step
+abbrev pub end_in : Option Step → Option JobEnd
+end_in None = None
+end_in (Some step) = end_by step
+
+-- where the step doesn't end the job, one is open
+abbrev pub StaysOpen : Option Step → Summary → Type 0
+StaysOpen (Some Next) host = is_busy host ≡ true
+StaysOpen step host = Unit {0}
+
+-- what the bus does to the converter by a call
+abbrev pub IsCalled : Call → Held → Held → Type 0
+IsCalled (Wrote frame acked) old new = IsSent frame old new
+IsCalled (Read request needed came) old new = IsAsked request needed old came new
+
+-- A call of the frame that the host was sending, whose answer the host is told, leads on.
+abbrev pub FramesLead : {B : Type 0} → (B → Call → B → Type 0) → (B → Held) → Type 0
+FramesLead {B = B} gives held = (call : Call) (host : Summary) (old new : B) →
+    MayDo host (Called call) → IsCalled call (held old) (held new) → gives old call new →
+    Leads gives held [] (end_by (step_of host (told_of call)))
+    (record { host = host; bus = old }) (record { host = host_next host (told_of call); bus = new })
+
+-- A restart of the host leads on.
+abbrev pub RenewalsLead : {B : Type 0} → (B → Call → B → Type 0) → (B → Held) → Type 0
+RenewalsLead {B = B} gives held = (host : Summary) (bus : B) →
+    Leads gives held (Renewed ∷ []) None
+    (record { host = host; bus = bus }) (record { host = host_next host Restarted; bus = bus })
+
+-- A job that the host accepts leads on.
+abbrev pub JobsLead : {B : Type 0} → (B → Call → B → Type 0) → (B → Held) → Type 0
+JobsLead {B = B} gives held = (host : Summary) (bus : B) (job : Job) → job_fault host job ≡ None →
+    Leads gives held (Began job ∷ []) None
+    (record { host = host; bus = bus }) (record { host = host_next host (Accepted job); bus = bus })

@@ -1,0 +1,35 @@
+ghost use Rattle.std.specs.Prelude.{◌≤◌, ℕ, Bool, List, length, take};
+ghost use Rattle.pm_device.specs.Held.{Held};
+ghost use Rattle.pm_driver.specs.Acts.{Call, Wrote, Read as Asked};
+ghost use Rattle.pm_driver.specs.Bus.{IsSent, IsAsked};
+
+/// A bus with one converter at its other end, and no second master.
+pub trait Bus {
+    /// What the converter holds.
+    ghost held: { Self → Held };
+
+    /// From this bus a call, with what it answers, leads to that one. It is any relation that an implementor has of
+    /// its calls, also one that always holds; so nobody but a call can have it, and it takes no memory.
+    ghost gives: { Self → Call → Self → Type 0 };
+
+    /// Sends a packet and then a stop. Whether every byte was acknowledged, which nobody trusts.
+    ///
+    /// The converter heard the packet any number of times, each time whole, cut or so damaged that its packet error
+    /// code betrays it (`sent`).
+    fn write(&mut self, packet: &[u8]) -> bool
+        ensures sent { IsSent packet.now (held self.old) (held self.new) }
+        ensures gives { gives self.old (Wrote packet.now result) self.new };
+
+    /// Sends a request, a repeated start and the read address, and reads. How many bytes came, the
+    /// read address, which is put first, with them.
+    ///
+    /// The bytes are this request's own answer, or fewer than a whole one, or so damaged that their packet error
+    /// code betrays it (`asked`). `answer` has as many bytes as a whole answer, at least one, and is all zero.
+    fn read(&mut self, request: &[u8], answer: &mut [u8]) -> usize
+        requires { 1 ≤ length answer.old }
+        ensures fits { result ≤ length answer.new }
+        ensures asked { IsAsked request.now (length answer.old) (held self.old)
+            (take result answer.new) (held self.new) }
+        ensures gives { gives self.old
+            (Asked request.now (length answer.old) (take result answer.new)) self.new };
+}

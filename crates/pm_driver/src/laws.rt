@@ -1,0 +1,53 @@
+//! The laws of a driver: each is the contract of a function that does nothing when it runs.
+
+ghost use Rattle.pm_driver.specs.Laws.{EndsAreTrue, LeadsCompose, NewConvertersMayBegin};
+ghost use Rattle.pm_driver.specs.Steps.{FramesLead, JobsLead, RenewalsLead};
+
+use crate::bus::Bus;
+use pm_host::transcripts_are_followed;
+use pm_table::cells_are_told_apart;
+use pm_world::legal_lives_are_followed;
+
+/// What leads on from where something led is one that leads from its beginning: calls compose.
+pub fn leads_compose<B: Bus>()
+    ensures { LeadsCompose B.gives B.held }
+{}
+
+/// In every life whose newest event is one that the host was told of, the end of the last job says what it is worth:
+/// an order that is done is confirmed and held, one that differs stands with the word that was read, a check that is
+/// done stands with some word, and a learned format is the converter's.
+pub fn ends_are_true()
+    ensures { EndsAreTrue }
+{
+    cells_are_told_apart();
+    transcripts_are_followed();
+    legal_lives_are_followed();
+}
+
+/// A new host may begin beside a converter as it was made.
+pub fn new_converters_may_begin()
+    ensures { NewConvertersMayBegin }
+{
+    legal_lives_are_followed();
+}
+
+/// A call of the frame that the host was sending, whose answer the host is told, leads on.
+pub(crate) fn frames_lead<B: Bus>()
+    ensures { FramesLead B.gives B.held }
+{
+    legal_lives_are_followed();
+}
+
+/// A job that the host accepts leads on.
+pub(crate) fn jobs_lead<B: Bus>()
+    ensures { JobsLead B.gives B.held }
+{
+    legal_lives_are_followed();
+}
+
+/// A restart of the host leads on.
+pub(crate) fn renewals_lead<B: Bus>()
+    ensures { RenewalsLead B.gives B.held }
+{
+    legal_lives_are_followed();
+}

@@ -1,0 +1,31 @@
+//! The loop of firmware: a [`Driver`] carries the jobs of a [`Host`](pm_host::Host) out over a [`Bus`], and what it
+//! answers is proved to the calls of the bus.
+//!
+//! A [`Bus`] has two calls, `write` and `read`, and its contract says what a bus may do to the converter at its
+//! other end: lose, cut, repeat and damage frames, acknowledge falsely and restart the converter, but no damage that
+//! the packet error code doesn't betray. [`carry_out`] sends each frame of the host's open job by one such call and
+//! tells the host what it answered. Its contract (`Leads`) says just that, and that every life which led to the host
+//! and the converter before leads to those after; so what holds of lives holds of a caller's own loop, with no list
+//! of events.
+//!
+//! It has no bus of its own, no clock and no memory: a bus decides how long it waits, and whether it tries a write
+//! again. There is one host and one converter; a second master on the bus is no part of it.
+//!
+//! An order, over a bus of the caller's:
+//!
+//! ```
+//! fn ordered<B: Bus>(driver: &mut Driver<B>) -> Result<JobEnd, HostFault> {
+//!     driver.order(Cell::Out(0, Reg::VoutCommand), 0x34CD) // Done: the converter held 34CDh when it was read
+//! }
+//! ```
+#![tactic(auto)]
+
+mod bus;
+mod driver;
+mod frames;
+mod laws;
+
+pub use bus::Bus;
+pub use driver::Driver;
+pub use frames::carry_out;
+pub use laws::{ends_are_true, leads_compose, new_converters_may_begin};
