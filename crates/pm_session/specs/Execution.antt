@@ -1,21 +1,19 @@
 -- How a run of `pmbhost` ends: its status, what happened at its port and in which order, and the line that
 -- standard error gets. This project's own choice.
-use Rattle.std.specs.Prelude.{◌≡◌, ◌⊎◌, ℕ, true, List, [], ◌∷◌, ◌++◌, map, Option, Result, Ok, Err, IsTrue, IsFalse, codes, string_bytes}
+use Rattle.std.specs.Prelude.{◌≡◌, ◌⊎◌, ℕ, true, List, [], ◌++◌, Option, Result, Ok, Err, codes}
 use Rattle.std.specs.List.{list_all}
-use Rattle.std.specs.Borrow.{Bor}
-use Rattle.std.specs.Io.KnownBytes.{Appends}
 use Rattle.std.specs.declared.io.ErrorKind.{ErrorKind as IoKind}
-use Rattle.std.specs.declared.io.ErrorKind.TheVariants.{OutOfMemory as IoMemory}
-use Rattle.clap.specs.Walk.{texts}
 use Rattle.clap.specs.Words.{IsAmong, Text, fault_of, matches_of}
 use Rattle.clap.specs.declared.error.kind.ErrorKind.{ErrorKind}
 use Rattle.pm_host.specs.Summary.{Summary}
 use Rattle.pm_lines.specs.Faults.{fault_words}
 use Rattle.pm_lines.specs.Lines.{EndsLine}
-use Rattle.pm_lines.specs.Streams.{AppendsFront, Held}
+use Rattle.pm_lines.specs.Streams.{Held}
 use Rattle.pm_lines.specs.declared.fault.TextFault.{TextFault}
 use Rattle.pm_lines.specs.declared.fault.TextFault.TheVariants.{Memory, Write}
-use Rattle.pm_session.specs.Options.{HasTexts, pmbhost, start_fault_words, start_of, start_status, usage_status}
+use Rattle.pm_program.specs.Refusals.{Says, no_words, no_words_status, program_line}
+use Rattle.pm_program.specs.Usage.{usage_status}
+use Rattle.pm_session.specs.Options.{HasTexts, pmbhost, start_fault_words, start_of, start_status}
 use Rattle.pm_session.specs.Talk.{after_lines, handed_on, is_line, last_turn, talk, IsCut, IsCutShort, IsOver}
 use Rattle.pm_session.specs.declared.happening.Happening.{Happening}
 use Rattle.pm_session.specs.declared.options.Options.{Options}
@@ -31,27 +29,7 @@ pub record Run (P E : Type 0) : Type 0 where
 
 -- the line that says a refusal: `pmbhost: H1 OutputCount`
 abbrev pub refusal_line : List ℕ → List ℕ
-refusal_line words = codes "pmbhost: " ++ (words ++ codes "\n")
-
--- standard error got the line, or a strict front of it where it failed
-abbrev pub Says : {E : Type 0} → (E → Option (List ℕ)) → Held E → Held E → List ℕ → Type 0
-Says told old new line =
-    (IsFalse new.failed × Appends (told old.inner) (told new.inner) line)
-    ⊎ (IsTrue new.failed × AppendsFront (told old.inner) (told new.inner) line)
-
--- the status where the arguments can't be had as words, and what is said
-abbrev pub no_words_status : IoKind → ℕ
-no_words_status IoMemory = 1
-no_words_status _ = 2
-
-abbrev pub no_words : IoKind → List ℕ
-no_words IoMemory = fault_words Memory
-no_words _ = codes "bad arguments"
-
--- the words' texts, or why there are none
-abbrev pub arguments_of : Result (Bor (List (Bor Text))) IoKind → Result (List Text) IoKind
-arguments_of (Ok words) = Ok (texts words.now)
-arguments_of (Err kind) = Err kind
+refusal_line words = program_line (codes "pmbhost") words
 
 module _ {P E : Type 0} (goes : P → List Happening → P → Type 0) (run : Run P E) where
   -- these things happened at the port, one after another

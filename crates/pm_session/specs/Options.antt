@@ -1,21 +1,15 @@
 -- The command line of `pmbhost`, and the host that its options make. This project's own choice.
 use Rattle.std.specs.Prelude.{◌≡◌, ℕ, true, ◌&&◌, nat_le, if◌then◌else◌, List, [], Option, Some, None, Result, Ok, Err, codes, unwrap_or, option_and_then}
-use Rattle.clap.specs.Words.{App, Row, Rule, Text, first_of, new_app, new_rule, with_rule}
-use Rattle.clap.specs.declared.builder.action.ArgAction.TheVariants.{Set}
-use Rattle.clap.specs.declared.error.kind.ErrorKind.{ErrorKind}
-use Rattle.clap.specs.declared.error.kind.ErrorKind.TheVariants.{DisplayHelp, DisplayVersion, OutOfMemory}
+use Rattle.clap.specs.Words.{App, Row, first_of, new_app, with_rule}
 use Rattle.pm_host.specs.FaultWords.{host_fault_words}
 use Rattle.pm_host.specs.Refusals.{setup_fault}
 use Rattle.pm_host.specs.Summary.{Summary, start}
 use Rattle.pm_host.specs.declared.fault.HostFault.{HostFault}
 use Rattle.pm_lines.specs.Digits.{hex_of, small_of}
+use Rattle.pm_program.specs.Options.{option_rule}
 use Rattle.pm_session.specs.declared.options.Options.{Options}
 use Rattle.pm_session.specs.declared.options.start_fault.StartFault.{StartFault}
 use Rattle.pm_session.specs.declared.options.start_fault.StartFault.TheVariants.{Address, Outputs, Passes, Host}
-
--- `--NAME=VALUE`: an option with one value, for which help has a name
-abbrev pub option_rule : Text → Rule
-option_rule name = record (new_rule name) { long = Some name; action = Some Set; value_names = 1 }
 
 -- there is a version
 abbrev pub with_version : App → App
@@ -65,10 +59,3 @@ start_fault_words (Host fault) = host_fault_words fault
 abbrev pub start_status : StartFault → ℕ
 start_status (Host fault) = 1
 start_status _ = 2
-
--- the status of what the parser says in place of options
-abbrev pub usage_status : ErrorKind → ℕ
-usage_status OutOfMemory = 1
-usage_status DisplayHelp = 0
-usage_status DisplayVersion = 0
-usage_status _ = 2

@@ -1,25 +1,29 @@
 //! The program: its options make a host, which is then spoken to over its port.
-ghost use Rattle.std.specs.Prelude.{◌≡◌, ◌≤◌, IfOk, IsFalse, MatchResult, Err, Ok, map, string_bytes};
+ghost use Rattle.std.specs.Prelude.{◌≡◌, ◌≤◌, IsFalse, MatchResult, Err, Ok, map, string_bytes};
 ghost use Rattle.std.specs.IoError.{error_kind};
 ghost use Rattle.std.specs.Process.{exit_status};
 ghost use Rattle.std.specs.Vec.Iter.{into_iter_items};
 ghost use Rattle.clap.specs.Words.{kind_of};
 ghost use Rattle.pm_lines.specs.Faults.{fault_words};
-ghost use Rattle.pm_lines.specs.declared.fault.TextFault.TheVariants.{Memory};
-ghost use Rattle.pm_lines.specs.Lines.{EndsLine};
-ghost use Rattle.pm_session.specs.Execution.{Run, RunEnds, Says, ServeEnds, UsageEnds};
-ghost use Rattle.pm_session.specs.Execution.{arguments_of, no_words, no_words_status, refusal_line};
+ghost use Rattle.pm_program.specs.Arguments.{arguments_of};
+ghost use Rattle.pm_program.specs.Refusals.{Says};
+ghost use Rattle.pm_session.specs.Execution.{Run, RunEnds, ServeEnds, UsageEnds, refusal_line};
 ghost use Rattle.pm_session.specs.Options.{start_of};
 
 use crate::options::Options;
 use crate::port::Port;
 use crate::talk::{converse, hand_on};
-use clap::error::ErrorKind;
-use pm_lines::{Sink, TextFault, with_line_end};
-use std::alloc::{AllocError, Global};
+use pm_lines::{Sink, TextFault};
+use pm_program::{
+    Usage, misuse, refuse_arguments, refuse_memory, say, texts_of, usage_of, words_of,
+};
+use std::alloc::Global;
 use std::env::Args;
 use std::io::{self, Write};
 use std::process::ExitCode;
+
+/// The program's name, as it begins each line on standard error.
+const NAME: &str = "pmbhost";
 
 /// Runs the program over what `env::args` gave, over a port and over standard error, as `run` does. `main`
 /// hands on what its runtime has: no clause can say what a terminal or a pipe gives or takes. `errors` hasn't
@@ -65,33 +69,15 @@ fn run_given<P: Port, E: Write>(
 {
     let given = match arguments {
         Ok(given) => given,
-        Err(error) => return refuse_arguments(error.kind(), errors),
+        Err(error) => return refuse_arguments(errors, NAME, error.kind()),
     };
     let Ok(given) = texts_of(alloc, given) else {
-        return refuse_memory(errors);
+        return refuse_memory(errors, NAME);
     };
     let Ok(words) = words_of(alloc, &given) else {
-        return refuse_memory(errors);
+        return refuse_memory(errors, NAME);
     };
     run(alloc, Ok(words.as_slice()), port, errors)
-}
-
-// The arguments as texts.
-fn texts_of(alloc: Global, given: Args) -> Result<Vec<String>, AllocError>
-    ensures { IfOk result (λ texts. texts.items ≡ into_iter_items given) }
-{
-    given.collect(alloc)
-}
-
-// The texts as words.
-fn words_of(alloc: Global, given: &Vec<String>) -> Result<Vec<&str>, AllocError>
-    ensures { IfOk result (λ words. map (λ word. word.now) words.items ≡ map string_bytes given.now.items) }
-{
-    let mut words = Vec::new(alloc);
-    'words: for text in given {
-        words.push(text.as_str())?;
-    }
-    Ok(words)
 }
 
 /// Runs the program: makes the host that the words of the command line ask for, answers the lines that
@@ -122,7 +108,7 @@ pub fn run<P: Port, E: Write>(
 {
     let words = match words {
         Ok(words) => words,
-        Err(kind) => return refuse_arguments(kind, errors),
+        Err(kind) => return refuse_arguments(errors, NAME, kind),
     };
     match Options::read(alloc, words) {
         Ok(options) => serve(&options, port, errors),
@@ -144,7 +130,7 @@ fn serve<P: Port, E: Write>(options: &Options<'_>, port: &mut P, errors: &mut Si
     let mut host = match options.start() {
         Ok(host) => host,
         Err(fault) => {
-            say(errors, fault.words());
+            say(errors, NAME, fault.words());
             return fault.status();
         }
     };
@@ -170,54 +156,16 @@ fn show_usage<P: Port, E: Write>(
       errors' = errors.new;
     } in UsageEnds P.goes run result (kind_of error.now) }
 {
-    let Ok(text) = usage_text(alloc, error) else {
-        return refuse_memory(errors);
-    };
-    match error.kind() {
-        ErrorKind::OutOfMemory => refuse_memory(errors),
-        ErrorKind::DisplayHelp | ErrorKind::DisplayVersion => {
-            match hand_on(port, text.as_bytes()) {
+    match usage_of(alloc, error) {
+        Usage::Shown(text) => {
+            match hand_on(port, text.as_str().as_bytes()) {
                 Ok(()) => 0,
                 Err(_) => refuse(errors, TextFault::Write),
             }
         }
-        _ => {
-            let _ = errors.put(text.as_bytes());
-            2
-        }
+        Usage::Misused(text) => misuse(errors, text.as_str()),
+        Usage::NoMemory => refuse_memory(errors, NAME),
     }
-}
-
-// The parser's text, which ends its line.
-fn usage_text(alloc: Global, error: &clap::Error) -> Result<String, AllocError>
-    ensures { IfOk result (λ text. EndsLine (string_bytes text)) }
-{
-    with_line_end(format!(in alloc; "{error}")?)
-}
-
-// Says that the arguments couldn't be had as texts, for want of memory or since they are none.
-fn refuse_arguments<E: Write>(kind: io::ErrorKind, errors: &mut Sink<E>) -> u8
-    requires { IsFalse errors.old.failed }
-    ensures status { result ≡ no_words_status kind }
-    ensures said { Says E.contents errors.old errors.new (refusal_line (no_words kind)) }
-{
-    match kind {
-        io::ErrorKind::OutOfMemory => refuse_memory(errors),
-        _ => {
-            say(errors, "bad arguments");
-            2
-        }
-    }
-}
-
-// Says that memory was refused.
-fn refuse_memory<E: Write>(errors: &mut Sink<E>) -> u8
-    requires { IsFalse errors.old.failed }
-    ensures status { result ≡ 1 }
-    ensures said { Says E.contents errors.old errors.new (refusal_line (fault_words Memory)) }
-{
-    say(errors, TextFault::want_of_memory());
-    1
 }
 
 // Says the fault of a stream or of memory, and gives its status.
@@ -226,14 +174,6 @@ fn refuse<E: Write>(errors: &mut Sink<E>, fault: TextFault) -> u8
     ensures status { result ≡ 1 }
     ensures said { Says E.contents errors.old errors.new (refusal_line (fault_words fault)) }
 {
-    say(errors, fault.words());
+    say(errors, NAME, fault.words());
     1
-}
-
-// Says a refusal as the one line `pmbhost: WORDS`. Where that fails too, the status alone tells.
-fn say<E: Write>(errors: &mut Sink<E>, words: &str)
-    requires { IsFalse errors.old.failed }
-    ensures { Says E.contents errors.old errors.new (refusal_line words.now) }
-{
-    let _ = errors.put_all(&[b"pmbhost: ", words.as_bytes(), b"\n"]);
 }

@@ -1,23 +1,21 @@
 //! The command line of `pmbhost`, by the rules of `clap`, and the host that its options make. The options
 //! are optional for the parser: which texts they may have is for `Options::start` to judge.
-ghost use Rattle.std.specs.Prelude.{◌≡◌, [], IfErr, IfOk, IfSome, MatchResult, Err, Ok, codes, true, unwrap_or};
+ghost use Rattle.std.specs.Prelude.{◌≡◌, IfErr, IfOk, IfSome, MatchResult, Err, Ok, codes, true};
 ghost use Rattle.clap.specs.Walk.{texts};
-ghost use Rattle.clap.specs.Words.{FailsBy, app_of, fault_of, first_of, found_of, kind_of, matches_of, new_app, rows_of, takes, with_rule};
+ghost use Rattle.clap.specs.Words.{FailsBy, app_of, fault_of, kind_of, matches_of, new_app, takes};
 ghost use Rattle.clap.specs.declared.error.kind.ErrorKind.TheVariants.{OutOfMemory};
 ghost use Rattle.pm_table.specs.Address.{IsAddress};
-ghost use Rattle.pm_session.specs.Options.{HasTexts, address_of, option_rule, pmbhost, start_of, with_version};
+ghost use Rattle.pm_session.specs.Options.{HasTexts, address_of, pmbhost, start_of, with_version};
 
 mod start_fault;
 
-use clap::{Arg, ArgAction, ArgMatches, Command, Error};
+use clap::{Command, Error};
 use pm_host::Host;
 use pm_lines::{read_byte, read_u8};
+use pm_program::{VERSION, text_of, with_option};
 use pm_table::address_ok;
 pub use start_fault::StartFault;
 use std::alloc::{AllocError, Global};
-
-/// The version that `pmbhost --version` prints.
-const VERSION: &str = "0.1.0";
 
 /// What the help shows at its end.
 const LINES: &str = "Each line of standard input gets one line at once. A line says:
@@ -114,13 +112,6 @@ fn read_address(text: &[u8]) -> Option<u8>
     }
 }
 
-// The text of an option, empty where it isn't used.
-fn text_of<'a>(matches: &ArgMatches<'a>, name: &str) -> &'a str
-    ensures { result.now ≡ unwrap_or (first_of name.now (rows_of (found_of matches.now))) [] }
-{
-    matches.get_str(name).unwrap_or("")
-}
-
 // The command as `clap` knows it.
 fn host_command<'a>(alloc: Global) -> Result<Command<'a>, AllocError>
     ensures { IfOk result (λ command. app_of command ≡ pmbhost) }
@@ -153,23 +144,4 @@ fn top_command<'a>(alloc: Global) -> Command<'a>
         .about("A proved PMBus host that is spoken to in lines, for scripts that drive a bus")
         .after_help(LINES)
         .version(VERSION)
-}
-
-// The command with one more option `--NAME=VALUE`, which may be left out. `names` are the option's
-// name and what help calls its value.
-fn with_option<'a>(
-    command: Command<'a>,
-    alloc: Global,
-    names: (&'a str, &'a str),
-    help: &'a str,
-) -> Result<Command<'a>, AllocError>
-    ensures { IfOk result (λ with_it.
-        app_of with_it ≡ with_rule (app_of command.entry) (option_rule names.entry.0.now)) }
-{
-    let option = Arg::new(alloc, names.0)
-        .long(names.0)
-        .value_name(names.1)
-        .action(ArgAction::Set)
-        .help(help);
-    command.arg(option)
 }

@@ -4,20 +4,19 @@ use Rattle.std.proofs.Common.{Err, IsTrue, IsFalse, OnOk, OnErr, is_err, refl, s
 use Rattle.std.specs.Io.KnownBytes.{Appends, Consumes, Keeps}
 use Rattle.std.proofs.KnownBytes.{Appends-kept}
 use Rattle.clap.specs.declared.error.kind.ErrorKind.{ErrorKind}
-use Rattle.clap.specs.declared.error.kind.ErrorKind.TheVariants.{DisplayHelp, DisplayVersion, OutOfMemory}
+use Rattle.clap.specs.declared.error.kind.ErrorKind.TheVariants.{OutOfMemory}
 use Rattle.pm_lines.specs.Streams.{AppendsFront, Held, IsWholeText, max_text}
 use Rattle.pm_lines.specs.declared.fault.TextFault.{TextFault}
 use Rattle.pm_lines.specs.declared.fault.TextFault.TheVariants.{Syntax, BadHex, TooLong, Read, Write, Memory, Setup}
-use Rattle.std.specs.declared.io.ErrorKind.{ErrorKind as IoKind}
-use Rattle.std.specs.declared.io.ErrorKind.TheVariants.{OutOfMemory as IoMemory}
 use Rattle.clap.specs.Kinds.{IsAmong}
 use Rattle.clap.specs.Words.{Text, fault_of}
 use Rattle.pm_num.specs.declared.fault.NumFault.{NumFault}
-use Rattle.pm_tool.specs.Commandline.{pmb, status_by}
+use Rattle.pm_program.specs.Refusals.{Says}
+use Rattle.pm_tool.specs.Commandline.{pmb}
 use Rattle.pm_tool.specs.Execution.{End, Printed, CutShort, Refused, Broken, Misused, GaveFaulty, GaveMore, GaveSome, GaveText}
 use Rattle.pm_tool.specs.Execution.{TextEnds, HearRefuses, ReplayRefuses, DecodeBreaks, DecodeEnds, NumberEnds, NumberRefuses, UsageEnds}
 use Rattle.pm_tool.specs.Execution.{WordsEnd}
-use Rattle.pm_tool.specs.Execution.{IsDone, IsEnd, Says, decode_status, no_words_end, refusal_line, text_refusal, wants_memory}
+use Rattle.pm_tool.specs.Execution.{IsDone, IsEnd, decode_status, refusal_line, text_refusal, wants_memory}
 use Rattle.pm_tool.specs.Outcome.{IsOfHear}
 use Rattle.pm_tool.specs.NumberFaults.{refusal_status, refusal_words}
 use Rattle.pm_tool.specs.NumberText.{IsCommandLineFault, IsNumberText, IsOfNumber, RefusesNumber}
@@ -36,27 +35,18 @@ pub false_unless : (b : Bool) → (IsTrue b → ⊥) → IsFalse b
 false_unless true none = absurd (none refl)
 false_unless false none = refl
 
--- the status of a fault of the command line that is neither want of memory nor help nor the version
-pub status_other : (kind : ErrorKind) → kind ≢ OutOfMemory → kind ≢ DisplayHelp → kind ≢ DisplayVersion → status_by kind ≡ 2
-status_other OutOfMemory memory help version = absurd (memory refl)
-status_other DisplayHelp memory help version = absurd (help refl)
-status_other DisplayVersion memory help version = absurd (version refl)
-status_other _ memory help version = refl
-
 module _ {E : Type 0} (err : E → Option (List ℕ)) where
   -- what one call to write came to
   pub put_said : (r : Result (Unit {0}) TextFault) (errors errors' : Held E) (line : List ℕ)
       → OnOk r (Appends (err errors.inner) (err errors'.inner) line) → OnErr r (AppendsFront (err errors.inner) (err errors'.inner) line)
-      → errors'.failed ≡ is_err r → Says err errors errors' (Some line)
+      → errors'.failed ≡ is_err r → Says err errors errors' line
   put_said (Ok done) errors errors' line all front failed = inl (failed, all)
   put_said (Err fault) errors errors' line all front failed = inr (failed, front)
 
   -- what was said is what was to be said
   pub said_as : (errors errors' : Held E) (words other : List ℕ) → words ≡ other
-      → Says err errors errors' (Some (refusal_line (words ++ [])))
-      → Says err errors errors' (Some (refusal_line other))
-  said_as errors errors' words other same said =
-      subst (λ w. Says err errors errors' (Some (refusal_line w))) (append-nil words ∙ same) said
+      → Says err errors errors' (refusal_line words) → Says err errors errors' (refusal_line other)
+  said_as errors errors' words other same said = subst (λ w. Says err errors errors' (refusal_line w)) same said
 
 -- a text's fault is that of a writer or another
 is_write : (fault : TextFault) → (fault ≡ Write) ⊎ (fault ≢ Write)
@@ -112,14 +102,14 @@ module _ {W E : Type 0} (w : Writers W E) where
 
   -- a text was cut short as it was written
   pub cut : (text : List ℕ) → IsTrue w.output'.failed → AppendsFront (w.out w.output.inner) (w.out w.output'.inner) text
-      → Says w.err w.errors w.errors' (Some (refusal_line (codes "X5 Write"))) → Ends w 1 (CutShort text)
+      → Says w.err w.errors w.errors' (refusal_line (codes "X5 Write")) → Ends w 1 (CutShort text)
   cut text failed short said =
       let (front, rest, split, some, appended) = short in
       record { status_is = refl; printed = (failed, (front, rest, split, appended)); said = said }
 
   -- nothing was printed, and a refusal said
   pub refused : (status : ℕ) (words : List ℕ) → w.output' ≡ w.output
-      → Says w.err w.errors w.errors' (Some (refusal_line words)) → Ends w status (Refused status words)
+      → Says w.err w.errors w.errors' (refusal_line words) → Ends w status (Refused status words)
   refused status words same said = record { status_is = refl; printed = same; said = said }
 
   -- ---- an engine that writes its whole text or refuses
@@ -144,7 +134,7 @@ module _ {W E : Type 0} (w : Writers W E) where
       pub write : (fault ≡ Write) ↔ IsTrue w.output'.failed
 
     -- it refused
-    pub text_refused : (fault : TextFault) → TextRefusal fault → Says w.err w.errors w.errors' (Some (refusal_line (text_refusal fault)))
+    pub text_refused : (fault : TextFault) → TextRefusal fault → Says w.err w.errors w.errors' (refusal_line (text_refusal fault))
         → (end : End) × TextEnds new Gives Refuses end × Ends w 1 end
     text_refused fault is said = elim (is_write fault) [ inl write ↦ failed write | inr other ↦ other_fault other ]
       where
@@ -152,7 +142,7 @@ module _ {W E : Type 0} (w : Writers W E) where
         failed write =
             let (status, text, gives, front) = is.short write in
             let sound : IsFalse new.failed = false_unless new.failed (λ t. let e : Write ≡ Read = sym write ∙ is.read.1 t in cc) in
-            let line = subst (λ f. Says w.err w.errors w.errors' (Some (refusal_line (text_refusal f)))) write said in
+            let line = subst (λ f. Says w.err w.errors w.errors' (refusal_line (text_refusal f))) write said in
             (CutShort text, (sound, status, gives), cut text (is.write.0 write) front line)
 
         other_fault : fault ≢ Write → (end : End) × TextEnds new Gives Refuses end × Ends w 1 end
@@ -201,7 +191,7 @@ module _ {W E : Type 0} (w : Writers W E) where
     broken : (fault : TextFault) → DecodeRefusal fault → fault ≢ Write → (text : List ℕ)
         → DecodeBreaks (r.remaining r.old.inner) (r.remaining r.new.inner) text fault
         → Appends (w.out w.output.inner) (w.out w.output'.inner) text
-        → Says w.err w.errors w.errors' (Some (refusal_line (text_refusal fault)))
+        → Says w.err w.errors w.errors' (refusal_line (text_refusal fault))
         → (end : End) × DecodeEnds r.remaining r.old r.new end × Ends w 1 end
     broken fault is other text breaks written said =
         let sound = false_unless w.output'.failed (λ t. absurd (other (is.write.1 t))) in (
@@ -216,7 +206,7 @@ module _ {W E : Type 0} (w : Writers W E) where
         )
 
     -- `decode` broke off with its refusal, or its text was cut short where the writer failed
-    pub decode_broke : (fault : TextFault) → DecodeRefusal fault → Says w.err w.errors w.errors' (Some (refusal_line (text_refusal fault)))
+    pub decode_broke : (fault : TextFault) → DecodeRefusal fault → Says w.err w.errors w.errors' (refusal_line (text_refusal fault))
         → (end : End) × DecodeEnds r.remaining r.old r.new end × Ends w 1 end
     decode_broke TooLong is said =
         let (front, more, full, some, given, written) = is.too_long refl in
@@ -260,7 +250,7 @@ module _ {W E : Type 0} (w : Writers W E) where
       pub memory : fault ≡ OfText Memory → (text : List ℕ) × IsNumberText asked text
       pub of : IsOfNumber fault
       pub unwritten : fault ≢ OfText Write → w.output' ≡ w.output
-      pub said : Says w.err w.errors w.errors' (Some (refusal_line (refusal_words fault)))
+      pub said : Says w.err w.errors w.errors' (refusal_line (refusal_words fault))
 
     -- any refusal of `number` but its writer's is said, and nothing printed
     refused_as : (fault : NumberFault) → NumberRefusal fault → fault ≢ OfText Write → NumberRefuses asked fault
@@ -336,10 +326,3 @@ usage_ends remaining input words kind end (inl memory) (inl usage) = absurd (non
     none (Broken text words) h = h
     none (Misused text) h = let e : ◌≡◌ {A = ℕ} 1 2 = h.0 in omega arith
 usage_ends remaining input words kind end of (inr memory) = inr (inr (refl, memory))
-
--- ---- the arguments
-
--- where the words can't be had, other than for want of memory, the arguments are bad
-pub other_words : (kind : IoKind) → kind ≢ IoMemory → no_words_end kind ≡ Refused 2 (codes "bad arguments")
-other_words IoMemory other = absurd (other refl)
-other_words _ other = refl

@@ -4,20 +4,15 @@ use Rattle.std.specs.Prelude.{Option, Some, Result, MatchResult, codes, find, ma
 use Rattle.std.specs.Prelude.{unwrap_or}
 use Rattle.std.specs.List.{list_any}
 use Rattle.std.specs.Str.{bytes_eq}
-use Rattle.clap.specs.Words.{App, Row, Rule, Text, first_of, kind_of, new_app, new_rule, with_rule}
+use Rattle.clap.specs.Words.{App, Row, Text, first_of, kind_of, new_app, with_rule}
 use Rattle.clap.specs.Words.{with_subcommand}
-use Rattle.clap.specs.declared.builder.action.ArgAction.TheVariants.{Set}
 use Rattle.clap.specs.declared.error.Error.{Error}
-use Rattle.clap.specs.declared.error.kind.ErrorKind.{ErrorKind}
-use Rattle.clap.specs.declared.error.kind.ErrorKind.TheVariants.{DisplayHelp, DisplayVersion, OutOfMemory}
+use Rattle.clap.specs.declared.error.kind.ErrorKind.TheVariants.{OutOfMemory}
+use Rattle.pm_program.specs.Options.{option_rule}
 use Rattle.pm_tool.specs.declared.commandline.choice.Chosen.{Chosen}
 use Rattle.pm_tool.specs.declared.commandline.choice.Chosen.TheVariants.{Hear, Replay, Decode, Number}
 
 -- ---- the commands, as the builder's calls make them
-
--- `--NAME=VALUE`: an option with one value, for which help has a name
-abbrev pub option_rule : Text → Rule
-option_rule name = record (new_rule name) { long = Some name; action = Some Set; value_names = 1 }
 
 abbrev pub number_app : App
 number_app = with_rule (with_rule (with_rule (new_app (codes "number"))
@@ -111,11 +106,3 @@ HasValuesOf given (Number format word micro) =
     (format.now ≡ unwrap_or (text_of format_option given) [])
     × (option_map (λ s. s.now) word ≡ text_of word_option given)
     × (option_map (λ s. s.now) micro ≡ text_of micro_option given)
-
--- ---- the status that goes with a refusal of the command line
-
-abbrev pub status_by : ErrorKind → ℕ
-status_by OutOfMemory = 1
-status_by DisplayHelp = 0
-status_by DisplayVersion = 0
-status_by _ = 2

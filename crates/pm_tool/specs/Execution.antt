@@ -4,10 +4,7 @@ use Rattle.std.specs.Prelude.{◌≡◌, ◌⊎◌, ◌↔◌, ◌<◌, ◌≤�
 use Rattle.std.specs.Prelude.{Result, Ok, Err, IsTrue, IsFalse, IsSomeAnd, codes, decimal, ⊤}
 use Rattle.std.specs.Io.KnownBytes.{Appends, Consumes}
 use Rattle.std.specs.declared.io.ErrorKind.{ErrorKind as IoKind}
-use Rattle.std.specs.declared.io.ErrorKind.TheVariants.{OutOfMemory as IoMemory}
-use Rattle.std.specs.Borrow.{Bor}
 use Rattle.clap.specs.Kinds.{IsAmong}
-use Rattle.clap.specs.Walk.{texts}
 use Rattle.clap.specs.Words.{Text, fault_of, subcommand_of}
 use Rattle.clap.specs.declared.error.kind.ErrorKind.{ErrorKind}
 use Rattle.pm_lines.specs.Faults.{fault_line, fault_setup, fault_words}
@@ -27,7 +24,9 @@ use Rattle.pm_text.specs.ScenarioText.{scenario_of}
 use Rattle.pm_text.specs.Replay.{IsReplay, RefusesSetup}
 use Rattle.pm_text.specs.declared.replay_end.ReplayEnd.{ReplayEnd}
 use Rattle.pm_text.specs.declared.replay_end.ReplayEnd.TheVariants.{Ran as AllTaken, Stopped}
-use Rattle.pm_tool.specs.Commandline.{Asks, pmb, status_by}
+use Rattle.pm_program.specs.Refusals.{Says, no_words, no_words_status, program_line}
+use Rattle.pm_program.specs.Usage.{usage_status}
+use Rattle.pm_tool.specs.Commandline.{Asks, pmb}
 use Rattle.pm_tool.specs.NumberFaults.{refusal_status, refusal_words}
 use Rattle.pm_tool.specs.NumberText.{IsNumberText, RefusesNumber}
 use Rattle.pm_tool.specs.Script.{printed_text}
@@ -61,7 +60,7 @@ status_of (Misused text) = 2
 
 -- the line that says a refusal: `pmb: X2 BadHex line 3`
 abbrev pub refusal_line : List ℕ → List ℕ
-refusal_line words = codes "pmb: " ++ words ++ codes "\n"
+refusal_line words = program_line (codes "pmb") words
 
 -- what standard error gets, if anything
 abbrev pub said_by : End → Option (List ℕ)
@@ -87,12 +86,10 @@ Prints contents old new (Broken text words) =
     IsFalse new.failed × Appends (contents old.inner) (contents new.inner) text
 Prints contents old new (Misused text) = new ≡ old
 
--- what standard error got: all that it was to get, or a strict front of it where it failed
-abbrev pub Says : {E : Type 0} → (E → Option (List ℕ)) → Held E → Held E → Option (List ℕ) → Type 0
-Says contents old new None = new ≡ old
-Says contents old new (Some line) =
-    (IsFalse new.failed × Appends (contents old.inner) (contents new.inner) line)
-    ⊎ (IsTrue new.failed × AppendsFront (contents old.inner) (contents new.inner) line)
+-- what standard error got: nothing, or all that it was to get, or a strict front of it where it failed
+abbrev pub SaysAny : {E : Type 0} → (E → Option (List ℕ)) → Held E → Held E → Option (List ℕ) → Type 0
+SaysAny contents old new None = new ≡ old
+SaysAny contents old new (Some line) = Says contents old new line
 
 -- ---- the refusals of a text
 
@@ -260,11 +257,11 @@ ChoiceEnds remaining old new (NumberChosen format word micro) end = (new ≡ old
 -- how a command line ends of which the parser finds a fault of this kind: help or the version that was
 -- asked for is printed, and what is said of any other fault is the parser's own text; each ends its line
 abbrev pub UsageEnds : ErrorKind → End → Type 0
-UsageEnds kind (Printed status text) = (status ≡ 0) × (status_by kind ≡ 0) × EndsLine text
-UsageEnds kind (CutShort text) = (status_by kind ≡ 0) × EndsLine text
+UsageEnds kind (Printed status text) = (status ≡ 0) × (usage_status kind ≡ 0) × EndsLine text
+UsageEnds kind (CutShort text) = (usage_status kind ≡ 0) × EndsLine text
 UsageEnds kind (Refused status words) = ⊥
 UsageEnds kind (Broken text words) = ⊥
-UsageEnds kind (Misused text) = (status_by kind ≡ 2) × EndsLine text
+UsageEnds kind (Misused text) = (usage_status kind ≡ 2) × EndsLine text
 
 -- memory for the command line itself was refused
 abbrev pub wants_memory : End
@@ -282,13 +279,7 @@ WordsEnd remaining old new words end =
 
 -- how a run ends whose arguments couldn't be had as words
 abbrev pub no_words_end : IoKind → End
-no_words_end IoMemory = wants_memory
-no_words_end _ = Refused 2 (codes "bad arguments")
-
--- the words' texts, or why there are none
-abbrev pub arguments_of : Result (Bor (List (Bor Text))) IoKind → Result (List Text) IoKind
-arguments_of (Ok words) = Ok (texts words.now)
-arguments_of (Err kind) = Err kind
+no_words_end kind = Refused (no_words_status kind) (no_words kind)
 
 -- how a run ends, by its words or why there are none
 abbrev pub RunEnds : {R : Type 0} → (R → Option (List ℕ)) → Held R → Held R → Result (List Text) IoKind → End → Type 0
@@ -302,11 +293,11 @@ pub record IsEnd {W E : Type 0} (out : W → Option (List ℕ)) (err : E → Opt
     (output output' : Held W) (errors errors' : Held E) (status : ℕ) (end : End) : Type 0 where
   pub status_is : status ≡ status_of end
   pub printed : Prints out output output' end
-  pub said : Says err errors errors' (said_by end)
+  pub said : SaysAny err errors errors' (said_by end)
 
 -- a text that was written is handed on, or standard output failed as it should be
 abbrev pub IsDone : {W E : Type 0} → (E → Option (List ℕ)) → Held W → Held E → Held E → ℕ → ℕ → Type 0
 IsDone err output errors errors' wanted status =
     ((IsFalse output.failed) × (status ≡ wanted) × (errors' ≡ errors))
     ⊎ ((IsTrue output.failed) × (status ≡ 1)
-    × Says err errors errors' (Some (refusal_line (fault_words Write))))
+    × Says err errors errors' (refusal_line (fault_words Write)))

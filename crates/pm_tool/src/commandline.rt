@@ -20,6 +20,7 @@ pub use choice::Chosen;
 use clap::error::ErrorKind;
 use clap::{ArgMatches, Error};
 use commands::pmb_command;
+use pm_program::text_of;
 use std::alloc::Global;
 
 /// Which subcommand the words name, with its options' texts. The first word is the program's name.
@@ -81,7 +82,7 @@ fn choice_of<'a>(name: &str, found: &ArgMatches<'a>) -> Chosen<'a>
         "replay" => Chosen::Replay,
         "decode" => Chosen::Decode,
         "number" => Chosen::Number {
-            format: found.get_str("format").unwrap_or(""),
+            format: text_of(found, "format"),
             word: found.get_str("word"),
             micro: found.get_str("micro"),
         },

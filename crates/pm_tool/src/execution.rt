@@ -1,22 +1,25 @@
-ghost use Rattle.std.specs.Prelude.{◌≡◌, ◌⊎◌, ◌≤◌, IfOk, IsFalse, Some, codes, string_bytes};
-ghost use Rattle.pm_lines.specs.Lines.{EndsLine};
+ghost use Rattle.std.specs.Prelude.{◌≡◌, ◌⊎◌, ◌≤◌, IsFalse, Ok, map, string_bytes};
 ghost use Rattle.std.specs.Io.KnownBytes.{Keeps};
 ghost use Rattle.std.specs.Process.{exit_status};
+ghost use Rattle.std.specs.Vec.Iter.{into_iter_items};
 ghost use Rattle.clap.specs.Words.{kind_of};
-ghost use Rattle.pm_tool.specs.Execution.{DecodeEnds, End, HearEnds, IsDone, IsEnd, NumberEnds, ReplayEnds, RunEnds, Says, UsageEnds};
+ghost use Rattle.pm_program.specs.Arguments.{arguments_of};
+ghost use Rattle.pm_program.specs.Refusals.{Says};
+ghost use Rattle.pm_tool.specs.Execution.{DecodeEnds, End, HearEnds, IsDone, IsEnd, NumberEnds, ReplayEnds, RunEnds, UsageEnds};
 ghost use Rattle.pm_tool.specs.Execution.{decode_status as status_of_decode, replay_status as status_of_replay};
-ghost use Rattle.pm_tool.specs.Execution.{CutShort, Printed, arguments_of, no_words_end, refusal_line, said_by, status_of, text_refusal, wants_memory};
+ghost use Rattle.pm_tool.specs.Execution.{CutShort, Printed, refusal_line, text_refusal, wants_memory};
 ghost use Rattle.pm_tool.specs.Question.{asked_by};
 
 use crate::commandline::{Chosen, chosen};
 use crate::numbers::number;
-use crate::refusal::{say, say_fault};
+use crate::refusal::{NAME, say_fault};
 use crate::script::hear;
-use clap::error::ErrorKind;
-use pm_lines::with_line_end;
+use pm_program::{
+    Usage, misuse, refuse_arguments, refuse_memory, say, texts_of, usage_of, words_of,
+};
 use pm_text::{DecodeEnd, ReplayEnd, Sink, Source, TextFault, decode, replay};
-use std::alloc::{AllocError, Global};
-use std::env::{self, Env};
+use std::alloc::Global;
+use std::env::{self, Args, Env};
 use std::io::{self, Read, Write};
 use std::process::ExitCode;
 
@@ -34,28 +37,40 @@ pub fn program<R: Env + AllocGlobal, I: Read + Drop, W: Write + Drop, E: Write +
     let mut input = Source::new(input);
     let mut output = Sink::new(output);
     let mut errors = Sink::new(errors);
-    let texts = arguments(rt);
-    let words = match &texts {
-        Ok(texts) => texts
-            .iter()
-            .map(|text| text.as_str())
-            .collect(rt.alloc())
-            .map_err(|error| io::Error::from(error).kind()),
-        Err(kind) => Err(*kind),
+    let status = match env::args(rt) {
+        Ok(given) => run_given(rt.alloc(), given, &mut input, &mut output, &mut errors),
+        Err(error) => run(
+            rt.alloc(),
+            Err(error.kind()),
+            &mut input,
+            &mut output,
+            &mut errors,
+        ),
     };
-    let words = words
-        .as_ref()
-        .map(|words: &Vec<&str>| words.as_slice())
-        .map_err(|kind| *kind);
-    ExitCode::from(run(rt.alloc(), words, &mut input, &mut output, &mut errors))
+    ExitCode::from(status)
 }
 
-// The arguments as texts, or why they can't be had as such.
-fn arguments<R: Env + AllocGlobal>(rt: &R) -> Result<Vec<String>, io::ErrorKind> {
-    let arguments = env::args(rt).map_err(|error| error.kind())?;
-    arguments
-        .collect(rt.alloc())
-        .map_err(|error| io::Error::from(error).kind())
+// Runs the program over arguments.
+fn run_given<R: Read, W: Write, E: Write>(
+    alloc: Global,
+    given: Args,
+    input: &mut Source<R>,
+    output: &mut Sink<W>,
+    errors: &mut Sink<E>,
+) -> u8
+    requires input { IsFalse input.old.failed }
+    requires output { IsFalse output.old.failed }
+    requires errors { IsFalse errors.old.failed }
+    ensures { (end : End) × RunEnds R.remaining input.old input.new (Ok (map string_bytes (into_iter_items given))) end
+        × IsEnd W.contents E.contents output.old output.new errors.old errors.new result end }
+{
+    let Ok(given) = texts_of(alloc, given) else {
+        return refuse_memory(errors, NAME);
+    };
+    let Ok(words) = words_of(alloc, &given) else {
+        return refuse_memory(errors, NAME);
+    };
+    run(alloc, Ok(words.as_slice()), input, output, errors)
 }
 
 /// Runs the program: does what the words of the command line ask, over any reader and any two
@@ -84,7 +99,7 @@ pub fn run<R: Read, W: Write, E: Write>(
 {
     let words = match words {
         Ok(words) => words,
-        Err(kind) => return no_words(kind, errors),
+        Err(kind) => return refuse_arguments(errors, NAME, kind),
     };
     match chosen(alloc, words) {
         Ok(Chosen::Hear) => run_hear(alloc, input, output, errors),
@@ -162,7 +177,7 @@ fn run_decode<R: Read, W: Write, E: Write>(
 fn refuse_text<E: Write>(errors: &mut Sink<E>, fault: &TextFault) -> u8
     requires { IsFalse errors.old.failed }
     ensures status { result ≡ 1 }
-    ensures said { Says E.contents errors.old errors.new (Some (refusal_line (text_refusal fault.now))) }
+    ensures said { Says E.contents errors.old errors.new (refusal_line (text_refusal fault.now)) }
 {
     say_fault(errors, fault);
     1
@@ -198,7 +213,7 @@ fn done<W: Write, E: Write>(output: &mut Sink<W>, errors: &mut Sink<E>, status: 
     match output.flush() {
         Ok(()) => status,
         Err(_) => {
-            say(errors, TextFault::Write.words(), None);
+            say(errors, NAME, TextFault::Write.words());
             1
         }
     }
@@ -222,7 +237,7 @@ fn run_number<W: Write, E: Write>(
     match number(alloc, output, format, word, micro) {
         Ok(()) => done(output, errors, 0),
         Err(fault) => {
-            say(errors, fault.words(), None);
+            say(errors, NAME, fault.words());
             fault.status()
         }
     }
@@ -241,28 +256,11 @@ fn show_usage<W: Write, E: Write>(
     ensures { (end : End) × (UsageEnds (kind_of error.now) end ⊎ (end ≡ wants_memory))
         × IsEnd W.contents E.contents output.old output.new errors.old errors.new result end }
 {
-    let Ok(text) = usage_text(alloc, error) else {
-        return refuse_memory(errors);
-    };
-    match error.kind() {
-        ErrorKind::OutOfMemory => refuse_memory(errors),
-        ErrorKind::DisplayHelp | ErrorKind::DisplayVersion => print_whole(
-            text.as_bytes(),
-            output,
-            errors,
-        ),
-        _ => {
-            let _ = errors.put(text.as_bytes());
-            2
-        }
+    match usage_of(alloc, error) {
+        Usage::Shown(text) => print_whole(text.as_str().as_bytes(), output, errors),
+        Usage::Misused(text) => misuse(errors, text.as_str()),
+        Usage::NoMemory => refuse_memory(errors, NAME),
     }
-}
-
-// The parser's text, which ends its line.
-fn usage_text(alloc: Global, error: &clap::Error) -> Result<String, AllocError>
-    ensures { IfOk result (λ text. EndsLine (string_bytes text)) }
-{
-    with_line_end(format!(in alloc; "{error}")?)
 }
 
 // Prints a whole text.
@@ -275,33 +273,8 @@ fn print_whole<W: Write, E: Write>(text: &[u8], output: &mut Sink<W>, errors: &m
     match output.put(text) {
         Ok(()) => done(output, errors, 0),
         Err(_) => {
-            say(errors, TextFault::Write.words(), None);
+            say(errors, NAME, TextFault::Write.words());
             1
         }
     }
-}
-
-// Says that the arguments couldn't be had as texts, for want of memory or since they are none.
-fn no_words<E: Write>(kind: io::ErrorKind, errors: &mut Sink<E>) -> u8
-    requires { IsFalse errors.old.failed }
-    ensures status { result ≡ status_of (no_words_end kind) }
-    ensures said { Says E.contents errors.old errors.new (said_by (no_words_end kind)) }
-{
-    match kind {
-        io::ErrorKind::OutOfMemory => refuse_memory(errors),
-        _ => {
-            say(errors, "bad arguments", None);
-            2
-        }
-    }
-}
-
-// Says that memory was refused.
-fn refuse_memory<E: Write>(errors: &mut Sink<E>) -> u8
-    requires { IsFalse errors.old.failed }
-    ensures status { result ≡ status_of wants_memory }
-    ensures said { Says E.contents errors.old errors.new (said_by wants_memory) }
-{
-    say(errors, TextFault::want_of_memory(), None);
-    1
 }

@@ -1,7 +1,8 @@
 //! What the program says on standard error. Where that fails too, the status alone tells. Nothing here
 //! takes memory.
-ghost use Rattle.std.specs.Prelude.{◌≡◌, [], ◌++◌, IsFalse, Some, codes, option_map};
-ghost use Rattle.pm_tool.specs.Execution.{Says, line_words, refusal_line, text_refusal};
+ghost use Rattle.std.specs.Prelude.{◌≡◌, [], ◌++◌, IsFalse, codes, option_map};
+ghost use Rattle.pm_program.specs.Refusals.{Says};
+ghost use Rattle.pm_tool.specs.Execution.{line_words, refusal_line, text_refusal};
 ghost use Rattle.std.specs.Option.{option_map_or};
 
 use pm_device::ConfigFault;
@@ -10,11 +11,25 @@ use pm_text::{Sink, TextFault};
 use pm_world::SetupFault;
 use std::io::Write;
 
-/// Says a refusal as the one line `pmb: WORDS`, with ` line N` after the words where the refusal has
-/// a line.
-pub(crate) fn say<E: Write>(errors: &mut Sink<E>, words: &str, line: Option<u64>)
+/// The program's name, as it begins each line on standard error.
+pub(crate) const NAME: &str = "pmb";
+
+/// Says why a text is refused: `pmb: X2 BadHex line 3`, `pmb: X7 Setup V2 BadStart 0 OPERATION`.
+pub(crate) fn say_fault<E: Write>(errors: &mut Sink<E>, fault: &TextFault)
     requires { IsFalse errors.old.failed }
-    ensures { Says E.contents errors.old errors.new (Some (refusal_line (words.now ++ line_words line))) }
+    ensures { Says E.contents errors.old errors.new (refusal_line (text_refusal fault.now)) }
+{
+    match fault {
+        TextFault::Setup(setup) => say_setup(errors, *setup),
+        _ => say_line(errors, fault.words(), fault.line()),
+    }
+}
+
+// Says a refusal as the one line `pmb: WORDS`, with ` line N` after the words where the refusal has
+// a line.
+fn say_line<E: Write>(errors: &mut Sink<E>, words: &str, line: Option<u64>)
+    requires { IsFalse errors.old.failed }
+    ensures { Says E.contents errors.old errors.new (refusal_line (words.now ++ line_words line)) }
 {
     let mut digits = itoa::Buffer::new();
     let _ = match line {
@@ -29,22 +44,11 @@ pub(crate) fn say<E: Write>(errors: &mut Sink<E>, words: &str, line: Option<u64>
     };
 }
 
-/// Says why a text is refused: `pmb: X2 BadHex line 3`, `pmb: X7 Setup V2 BadStart 0 OPERATION`.
-pub(crate) fn say_fault<E: Write>(errors: &mut Sink<E>, fault: &TextFault)
-    requires { IsFalse errors.old.failed }
-    ensures { Says E.contents errors.old errors.new (Some (refusal_line (text_refusal fault.now))) }
-{
-    match fault {
-        TextFault::Setup(setup) => say_setup(errors, *setup),
-        _ => say(errors, fault.words(), fault.line()),
-    }
-}
-
 // Says why no world is made.
 fn say_setup<E: Write>(errors: &mut Sink<E>, fault: SetupFault)
     requires { IsFalse errors.old.failed }
     ensures { Says E.contents errors.old errors.new
-        (Some (refusal_line (text_refusal (TextFault.Setup fault)))) }
+        (refusal_line (text_refusal (TextFault.Setup fault))) }
 {
     match fault {
         SetupFault::Device(fault) => say_config(errors, fault),
@@ -56,7 +60,7 @@ fn say_setup<E: Write>(errors: &mut Sink<E>, fault: SetupFault)
 fn say_host<E: Write>(errors: &mut Sink<E>, fault: HostFault)
     requires { IsFalse errors.old.failed }
     ensures { Says E.contents errors.old errors.new
-        (Some (refusal_line (text_refusal (TextFault.Setup (SetupFault.Host fault))))) }
+        (refusal_line (text_refusal (TextFault.Setup (SetupFault.Host fault)))) }
 {
     let setup = TextFault::Setup(SetupFault::Host(fault)).words();
     let words = fault.words();
@@ -68,7 +72,7 @@ fn say_host<E: Write>(errors: &mut Sink<E>, fault: HostFault)
 fn say_config<E: Write>(errors: &mut Sink<E>, fault: ConfigFault)
     requires { IsFalse errors.old.failed }
     ensures { Says E.contents errors.old errors.new
-        (Some (refusal_line (text_refusal (TextFault.Setup (SetupFault.Device fault))))) }
+        (refusal_line (text_refusal (TextFault.Setup (SetupFault.Device fault)))) }
 {
     let mut digits = itoa::Buffer::new();
     let setup = TextFault::Setup(SetupFault::Device(fault)).words();

@@ -1,14 +1,12 @@
 //! The commands as `clap` knows them.
 ghost use Rattle.std.specs.Prelude.{◌≡◌, IfOk, codes};
-ghost use Rattle.clap.specs.Words.{app_of, new_app, with_rule};
-ghost use Rattle.pm_tool.specs.Commandline.{number_app, option_rule, pmb, with_required_subcommand};
+ghost use Rattle.clap.specs.Words.{app_of, new_app};
+ghost use Rattle.pm_tool.specs.Commandline.{number_app, pmb, with_required_subcommand};
 
 use super::helps;
-use clap::{Arg, ArgAction, Command};
+use clap::Command;
+use pm_program::{VERSION, with_option};
 use std::alloc::{AllocError, Global};
-
-/// The version that `pmb --version` prints.
-const VERSION: &str = "0.1.0";
 
 /// The whole command line. A further subcommand is one more line here.
 pub(super) fn pmb_command<'a>(alloc: Global) -> Result<Command<'a>, AllocError>
@@ -103,23 +101,4 @@ fn number_command<'a>(alloc: Global) -> Result<Command<'a>, AllocError>
         ("micro", "K"),
         "A value of K millionths, whose nearest word is taken",
     )
-}
-
-// The command with one more option `--NAME=VALUE`, which may be left out. `names` are the option's
-// name and what help calls its value.
-fn with_option<'a>(
-    command: Command<'a>,
-    alloc: Global,
-    names: (&'a str, &'a str),
-    help: &'a str,
-) -> Result<Command<'a>, AllocError>
-    ensures { IfOk result (λ with_it.
-        app_of with_it ≡ with_rule (app_of command.entry) (option_rule names.entry.0.now)) }
-{
-    let option = Arg::new(alloc, names.0)
-        .long(names.0)
-        .value_name(names.1)
-        .action(ArgAction::Set)
-        .help(help);
-    command.arg(option)
 }

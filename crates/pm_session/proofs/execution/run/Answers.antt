@@ -1,7 +1,7 @@
 use Rattle.std.proofs.Common.{◌≡◌, ◌⊎◌, inl, inr}
 use Rattle.clap.specs.declared.error.kind.ErrorKind.{ErrorKind}
 use Rattle.clap.specs.declared.error.kind.ErrorKind.TheVariants.{OutOfMemory}
-use Rattle.pm_session.specs.Options.{usage_status}
+use Rattle.pm_program.specs.Usage.{usage_status}
 use Rattle.pm_session.proofs.execution.run.Goals as goal
 
 -- of the parser's ends, that of its own want of memory is that of the program's

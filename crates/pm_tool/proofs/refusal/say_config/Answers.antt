@@ -3,7 +3,8 @@ use Rattle.std.specs.Option.{option_map_or}
 use Rattle.pm_device.specs.FaultWords.{config_fault_words, config_fault_output, config_fault_detail}
 use Rattle.pm_device.specs.declared.config_fault.ConfigFault.{ConfigFault}
 use Rattle.pm_frame.specs.FaultWords.{place_text}
-use Rattle.pm_tool.specs.Execution.{Says, refusal_line}
+use Rattle.pm_program.specs.Refusals.{Says}
+use Rattle.pm_tool.specs.Execution.{refusal_line}
 use Rattle.pm_tool.proofs.EndLemmas.{put_said}
 use Rattle.pm_tool.proofs.SetupLemmas.{lettered, line-none, line-some}
 use Rattle.pm_lines.specs.Faults.{fault_words}
@@ -27,7 +28,7 @@ returns-in-None g c =
     let detail : c.as_bytes-in-None-2.result.now ++ c.as_bytes-in-None-3.result.now ≡ detail_of f =
     (λ i. c.as_bytes-in-None-2.ensures.value i ++ c.as_bytes-in-None-3.ensures.value i) ∙ c.spaced.ensures
     ∙ ap (λ o. option_map_or (λ t. codes " " ++ t) o []) c.detail.ensures in
-    subst (λ line. Says g.E.Write.contents c.args.errors.now c.put_all.new.self (Some line))
+    subst (λ line. Says g.E.Write.contents c.args.errors.now c.put_all.new.self line)
     (lettered (Device f) _ _ (c.as_bytes.ensures.value ∙ c.words-setup.ensures)
     ∙ line-none (config_fault_words f) _ (detail_of f) _ _ (c.as_bytes-in-None.ensures.value ∙ c.words-words.ensures) detail
     ∙ ap (line_with f) (sym named))
@@ -41,7 +42,7 @@ returns-in-Some g c =
     let detail : c.as_bytes-in-Some-4.result.now ++ c.as_bytes-in-Some-5.result.now ≡ detail_of f =
     (λ i. c.as_bytes-in-Some-4.ensures.value i ++ c.as_bytes-in-Some-5.ensures.value i) ∙ c.spaced.ensures
     ∙ ap (λ o. option_map_or (λ t. codes " " ++ t) o []) c.detail.ensures in
-    subst (λ line. Says g.E.Write.contents c.args.errors.now c.put_all-in-Some.new.self (Some line))
+    subst (λ line. Says g.E.Write.contents c.args.errors.now c.put_all-in-Some.new.self line)
     (lettered (Device f) _ _ (c.as_bytes-in-Some.ensures.value ∙ c.words-setup.ensures)
     ∙ line-some (config_fault_words f) _ (detail_of f) _ _ (c.as_bytes-in-Some-2.ensures.value ∙ c.words-words.ensures) detail
     c.in-Some.output _ (c.as_bytes-in-Some-3.ensures.value ∙ c.format.ensures.text) ∙ ap (line_with f) (sym named))

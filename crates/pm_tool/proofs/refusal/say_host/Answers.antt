@@ -1,5 +1,5 @@
 use Rattle.std.proofs.Common.{◌∙◌, Some, subst}
-use Rattle.pm_tool.specs.Execution.{Says}
+use Rattle.pm_program.specs.Refusals.{Says}
 use Rattle.pm_tool.proofs.EndLemmas.{put_said}
 use Rattle.pm_tool.proofs.SetupLemmas.{lettered, line-host}
 use Rattle.pm_world.specs.declared.setup_fault.SetupFault.TheVariants.{Host}
@@ -7,7 +7,7 @@ use Rattle.pm_tool.proofs.refusal.say_host.Goals as goal
 
 pub returns : goal.returns
 returns g c =
-    subst (λ line. Says g.E.Write.contents c.args.errors.now c.put_all.new.self (Some line))
+    subst (λ line. Says g.E.Write.contents c.args.errors.now c.put_all.new.self line)
     (lettered (Host c.args.fault) _ _ (c.as_bytes.ensures.value ∙ c.words-setup.ensures)
     ∙ line-host _ _ (c.as_bytes-2.ensures.value ∙ c.words-words.ensures))
     (put_said g.E.Write.contents c.put_all.result c.args.errors.now c.put_all.new.self _

@@ -1,5 +1,5 @@
 use Rattle.std.proofs.Common.{◌≡◌, map, string_bytes, take}
-use Rattle.pm_session.proofs.execution.words_of.Given as goal
+use Rattle.pm_program.proofs.arguments.words_of.Given as goal
 
 -- the words so far are the texts so far
 abbrev pub invariant-words : goal.invariant-words

@@ -2,7 +2,7 @@ use Rattle.std.proofs.Common.{◌≡◌, ◌∙◌, ap, refl, [], Option, Some, 
 use Rattle.std.specs.Borrow.{Bor}
 use Rattle.clap.specs.Words.{Text, found_of}
 use Rattle.clap.proofs.WalkLemmas.{first_value-rows}
-use Rattle.pm_session.proofs.options.text_of.Goals as goal
+use Rattle.pm_program.proofs.options.text_of.Goals as goal
 
 -- the text of an option, or else the empty text
 text_or : (o : Option (Bor Text)) (d r : Bor Text) (t : Option Text) → r ≡ unwrap_or o d → d.now ≡ []
