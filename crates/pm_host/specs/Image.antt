@@ -1,8 +1,7 @@
 -- The image of a host: plain numbers in a caller's memory, and what they mean. Every number has a
 -- meaning, so that memory of any bytes is an image; that it is a host's is asked apart. This project's
 -- own choice.
-use Rattle.std.specs.Prelude.{ℕ, ℤ, pos, neg_ℤ, int_le, Bool, true, false, ◌&&◌, nat_lt, if◌then◌else◌, ◌==◌, List, map, take, Option, Some, None}
-use Rattle.std.specs.Option.{option_map_or}
+use Rattle.std.specs.Prelude.{ℕ, ℤ, pos, neg_ℤ, int_le, Bool, true, false, ◌&&◌, nat_lt, if◌then◌else◌, ◌==◌, List, map, take, Option, Some, None, option_map, option_and_then}
 use Rattle.std.specs.Result.{result_ok}
 use Rattle.pm_num.specs.AnyFormat.{Shape, InUlinear16}
 use Rattle.pm_table.specs.declared.cell.Cell.{Cell}
@@ -17,7 +16,7 @@ use Rattle.pm_host.specs.declared.possible.Possible.TheVariants.{Any, Words}
 use Rattle.pm_host.specs.declared.question.Question.TheVariants.{Word, Mode, Coefficients}
 use Rattle.pm_host.specs.declared.stage.Stage.{Stage}
 use Rattle.pm_host.specs.declared.stage.Stage.TheVariants.{Writes, Reads, Asks, Sends}
-use Rattle.pm_host.specs.declared.stage_image.StageImage.{StageImage}
+use Rattle.pm_host.specs.declared.image.StageImage.{StageImage}
 use Rattle.pm_host.specs.declared.standing.Standing.{Standing}
 use Rattle.pm_host.specs.declared.standing.Standing.TheVariants.{Confirmed, Unknown}
 use Rattle.pm_host.specs.declared.standing_image.StandingImage.{StandingImage}
@@ -66,38 +65,34 @@ format_held i =
 unfoldable pub formats_held : List FormatImage → List (Option Shape)
 formats_held formats = map format_held formats
 
--- A kind or a command code that means nothing is read as this, a stage that no host stands at, so that
--- it is refused.
-abbrev pub nowhere : Stage
-nowhere = Asks (Mode 255) 255
-
 -- a stage of the cell that the image names
-abbrev pub at_cell : StageImage → (Cell → Stage) → Stage
-at_cell i stage = option_map_or stage (cell_at i.code i.output) nowhere
+abbrev pub at_cell : StageImage → (Cell → Stage) → Option Stage
+at_cell i stage = option_map stage (cell_at i.code i.output)
 
 -- the stage that sends the command of the code that the image has, at this output or at the device
-abbrev pub at_command : StageImage → Option ℕ → Stage
-at_command i output =
-    option_map_or (λ command. Sends command i.count) (command_of i.code output) nowhere
+abbrev pub at_command : StageImage → Option ℕ → Option Stage
+at_command i output = option_map (λ command. Sends command i.count) (command_of i.code output)
 
-abbrev pub stage_in : StageImage → Stage
+-- the stage that the numbers mean, where they mean one
+abbrev pub stage_in : StageImage → Option Stage
 stage_in i =
     if i.kind == 1 then at_cell i (λ cell. Writes cell i.word i.count)
     else (if i.kind == 2 then at_cell i (λ cell. Reads cell i.word i.count)
     else (if i.kind == 3 then at_cell i (λ cell. Asks (Word cell) i.count)
-    else (if i.kind == 4 then Asks (Mode i.output) i.count
-    else (if i.kind == 5 then Asks (Coefficients i.output) i.count
+    else (if i.kind == 4 then Some (Asks (Mode i.output) i.count)
+    else (if i.kind == 5 then Some (Asks (Coefficients i.output) i.count)
     else (if i.kind == 6 then at_command i (Some i.output)
     else (if i.kind == 7 then at_command i None
-    else nowhere))))))
+    else None))))))
 
--- kind 0 is no open job
-unfoldable pub stage_held : StageImage → Option Stage
-stage_held i = if i.kind == 0 then None else Some (stage_in i)
+-- where the open job stands, if one is open: kind 0 is none; None for a kind or a command code that means
+-- nothing
+unfoldable pub stage_held : StageImage → Option (Option Stage)
+stage_held i = if i.kind == 0 then Some None else option_map (λ stage. Some stage) (stage_in i)
 
--- what the numbers of a state mean
-abbrev pub held : State → Summary
-held state = summary state.address state.outputs state.passes (stage_held state.stage)
+-- what a host holds whose open job stands there
+abbrev pub held : Option Stage → State → Summary
+held stage state = summary state.address state.outputs state.passes stage
     (formats_held state.formats) (known_held state.known)
 
 -- a host may be made with this
@@ -136,15 +131,17 @@ abbrev pub image_mark : ℕ
 image_mark = 0x504D
 
 abbrev pub image_version : ℕ
-image_version = 2
+image_version = 3
 
 -- the image has this layout
 abbrev pub is_current : Image → Bool
 is_current image = image.mark == image_mark && image.version == image_version
 
--- the image is that of a host, and that host
-abbrev pub is_host : Image → Bool
-is_host image = is_current image && is_sound (held image.state)
+-- the host of these numbers, where they are a host's
+abbrev pub sound_in : State → Option Stage → Option Summary
+sound_in state stage = if is_sound (held stage state) then Some (held stage state) else None
 
+-- the host whose image it is
 unfoldable pub host_of : Image → Option Summary
-host_of image = if is_host image then Some (held image.state) else None
+host_of image =
+    if is_current image then option_and_then (sound_in image.state) (stage_held image.stage) else None

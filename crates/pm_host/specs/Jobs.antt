@@ -1,5 +1,5 @@
 -- What a host is asked for, which job that is, and how it begins: this project's own choice.
-use Rattle.std.specs.Prelude.{◌≡◌, ◌*◌, ◌≤◌, Option, Some, option_map, option_and_then, IsSomeAnd, Result, OnOk, OnErr}
+use Rattle.std.specs.Prelude.{◌≡◌, ◌*◌, ◌≤◌, Option, Some, option_map, option_and_then, IsSomeAnd, Result, Ok, Err, OnOk, OnErr}
 use Rattle.std.specs.Result.{result_err}
 use Rattle.pm_num.specs.AnyFormat.{shape_value, shape_rank}
 use Rattle.pm_num.specs.Nearest.{IsNearest}
@@ -8,6 +8,7 @@ use Rattle.pm_table.specs.Cell.{output_of}
 use Rattle.pm_host.specs.declared.fault.HostFault.{HostFault}
 use Rattle.pm_host.specs.declared.job.Job.{Job}
 use Rattle.pm_host.specs.declared.job.Job.TheVariants.{Order, OrderMicro, Check, Learn, Send}
+use Rattle.pm_host.specs.declared.stage.Stage.{Stage}
 use Rattle.pm_host.specs.Frames.{frames_left}
 use Rattle.pm_host.specs.Refusals.{job_fault, micro_fault, micro_word}
 use Rattle.pm_host.specs.Summary.{Summary, next, format_at}
@@ -34,7 +35,7 @@ HasNearestWord s (OrderMicro cell x) = IsSomeAnd (format_at s (output_of cell))
 HasNearestWord s job = Unit {0}
 
 -- how a host begins a job that it is asked for
-pub record Begins (old : Summary) (job : Job) (result : Result (Unit {0}) HostFault) (new : Summary) : Type 0 where
+pub record Begins {X : Type 0} (old : Summary) (job : Job) (result : Result X HostFault) (new : Summary) : Type 0 where
   -- it is refused exactly for these
   pub fault : result_err result ≡ begin_fault old job
   -- otherwise it is accepted
@@ -46,3 +47,8 @@ pub record Begins (old : Summary) (job : Job) (result : Result (Unit {0}) HostFa
   pub kept : new.setup ≡ old.setup
   -- it sends at most twice as many frames as it has passes
   pub left : OnOk result (frames_left new ≤ 2 * new.setup.passes)
+
+-- where the job stands after the call that begins it, or what was open
+abbrev pub begun_at : Option Stage → Result Stage HostFault → Option Stage
+begun_at before (Ok stage) = Some stage
+begun_at before (Err fault) = before

@@ -20,4 +20,5 @@ pub mod Transcript
 pub mod Turn
 -- How it is kept.
 pub mod Known
+pub mod Progress
 pub mod Sound

@@ -1,13 +1,22 @@
 -- What a host is told, as an entry of its transcript, and what a call that tells it answers.
+use Rattle.std.specs.Prelude.{Bool, not}
+use Rattle.pm_frame.specs.Layout.{is_read_message}
+use Rattle.pm_host.specs.declared.stage.Stage.{Stage}
 use Rattle.pm_host.specs.declared.step.Step.{Step}
 use Rattle.pm_host.specs.declared.step.Step.TheVariants.{Next, Ended}
 use Rattle.pm_host.specs.declared.told.Told.{Told}
 use Rattle.pm_host.specs.declared.told.Told.TheVariants as told
+use Rattle.pm_host.specs.Summary.{stage_message}
 use Rattle.pm_host.specs.Transcript.{Entry, Finished, Got}
 
 abbrev pub entry_told : Told → Entry
 entry_told (told.Finished acked) = Finished acked
 entry_told (told.Got bytes) = Got bytes.now
+
+-- it is of the kind of the stage's frame: the end of a write, or what came back for a request
+abbrev pub is_awaited : Stage → Told → Bool
+is_awaited stage (told.Finished acked) = not (is_read_message (stage_message stage))
+is_awaited stage (told.Got bytes) = is_read_message (stage_message stage)
 
 -- where the job has ended, a fact
 abbrev pub OnEnded : Step → Type 0 → Type 0

@@ -15,6 +15,7 @@ use crate::command::Command;
 use crate::fault::HostFault;
 use crate::job::Job;
 use crate::possible::Possible;
+use crate::progress::Progress;
 use crate::sending::Sending;
 use crate::standing::Standing;
 use crate::state::State;
@@ -38,7 +39,7 @@ use std::marker::Model;
 #[derive(Drop)]
 pub struct Host {
     state: State,
-    // What is being sent; nothing where no job is open.
+    // What the open job is sending; nothing where no job is open.
     sending: Option<Sending>,
 }
 
@@ -52,12 +53,12 @@ impl Model for Host {
     ghost use Rattle.pm_host.specs.Image.{held};
     ghost use Rattle.pm_host.specs.Messages.{IsFrameOf};
     ghost use Rattle.pm_host.specs.Sound.{IsSound};
-    ghost use Rattle.pm_host.specs.Summary.{sending_in};
+    ghost use Rattle.pm_host.specs.Summary.{stage_message};
 
-    ghost view = { λ h. held h.state };
+    ghost view = { λ h. held (option_map (λ s. s.stage) h.sending) h.state };
 
-    ghost invariant = { λ h. IsSound (held h.state)
-        × (option_map (λ s. s.message) h.sending ≡ sending_in (held h.state))
+    ghost invariant = { λ h. IsSound (held (option_map (λ s. s.stage) h.sending) h.state)
+        × IfSome h.sending (λ s. s.message ≡ stage_message s.stage)
         × IfSome h.sending (λ s. IsFrameOf h.state.address s.message s.frame.items) };
 }
 
@@ -90,8 +91,12 @@ impl Host {
     pub fn begin(&mut self, job: Job) -> Result<(), HostFault>
         ensures { Begins self.old job result self.new }
     {
-        self.state.begin(job)?;
-        self.sending = self.state.sending();
+        let stage = match &self.sending {
+            Some(sending) => Some(sending.stage),
+            None => None,
+        };
+        let stage = self.state.begin(stage, job)?;
+        self.sending = Some(Sending::of(stage, self.state.address));
         Ok(())
     }
 
@@ -158,7 +163,7 @@ impl Host {
     {
         match &self.sending {
             None => Turn::Idle,
-            Some(Sending { message, frame }) => {
+            Some(Sending { message, frame, .. }) => {
                 if message.is_read() {
                     Turn::Request {
                         frame,
@@ -209,19 +214,27 @@ impl Host {
         ensures left { frames_left self.new < frames_left self.old }
         ensures over { OnEnded result (frames_left self.new ≡ 0) }
     {
-        let step = self.state.told(told);
-        self.sending = self.state.sending();
-        step
+        let Some(sending) = &self.sending else {
+            // What is told is of a frame that is being sent.
+            unreachable!()
+        };
+        let progress = self.state.told(sending.stage, told);
+        self.sending = match progress {
+            Progress::At(stage) => Some(Sending::of(stage, self.state.address)),
+            Progress::Over(_) => None,
+        };
+        progress.step()
     }
 
     /// Drops the open job and all that is known of cells and formats, as after `new`.
+    #[tactic(auto, unfolding(crate::specs::Summary::next))]
     pub fn restart(&mut self)
         ensures after { self.new ≡ next self.old Restarted }
         ensures kept { self.new.setup ≡ self.old.setup }
         ensures left { frames_left self.new ≡ 0 }
     {
         self.state.restart();
-        self.sending = self.state.sending();
+        self.sending = None;
     }
 
     /// The address of its device.
@@ -252,7 +265,7 @@ impl Host {
         requires { IsCell self.now.setup.outputs cell }
         ensures { result ≡ standing_at self.now cell }
     {
-        self.state.standing(cell).standing()
+        self.state.known.standing(cell).standing()
     }
 
     /// The words that a cell may hold: the word of its last good answer, and those that were put on the
@@ -263,7 +276,7 @@ impl Host {
         requires { IsCell self.now.setup.outputs cell }
         ensures { result ≡ possible_at self.now cell }
     {
-        self.state.possible(cell).possible()
+        self.state.known.possible(cell).possible()
     }
 
     /// Whether a restart of the device was seen since the host started: a good answer came whose word
@@ -272,6 +285,6 @@ impl Host {
     pub fn restart_seen(&self) -> bool
         ensures { result ≡ self.now.known.seen }
     {
-        self.state.restart_seen()
+        self.state.known.restart_seen()
     }
 }

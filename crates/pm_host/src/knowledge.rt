@@ -34,22 +34,30 @@ impl Knowledge {
         self.seen = 0;
     }
 
-    /// The words that a cell may hold.
+    /// The words that a cell may hold, as `Host::possible` says.
     #[tactic(auto, unfolding(crate::specs::Image::known_held))]
-    pub(crate) fn possible(&self, cell: Cell) -> &WordsImage
+    pub fn possible(&self, cell: Cell) -> &WordsImage
         requires { IsCell 8 cell }
         ensures { words_held result.now ≡ known_possible (known_held self.now) cell }
     {
         &self.possible[cell.place()]
     }
 
-    /// What is known of a cell's word.
+    /// What is known of a cell's word, as `Host::standing` says.
     #[tactic(auto, unfolding(crate::specs::Image::known_held))]
-    pub(crate) fn standing(&self, cell: Cell) -> StandingImage
+    pub fn standing(&self, cell: Cell) -> StandingImage
         requires { IsCell 8 cell }
         ensures { standing_held result ≡ known_standing (known_held self.now) cell }
     {
         self.standing[cell.place()]
+    }
+
+    /// Whether a restart of the device was seen, as `Host::restart_seen` says.
+    #[tactic(auto, unfolding(crate::specs::Image::known_held))]
+    pub fn restart_seen(&self) -> bool
+        ensures { result ≡ (known_held self.now).seen }
+    {
+        self.seen == 1
     }
 
     // This is known of the cell now.

@@ -1,8 +1,34 @@
-use pm_frame::{Frame, Message};
+ghost use Rattle.std.specs.Prelude.{◌≡◌};
+ghost use Rattle.pm_table.specs.Address.{IsAddress};
+ghost use Rattle.pm_host.specs.Messages.{IsFrameOf};
+ghost use Rattle.pm_host.specs.Sound.{HasWord};
+ghost use Rattle.pm_host.specs.Summary.{stage_message};
 
-/// What is being sent: a message, and the frame that carries it.
+use crate::stage::Stage;
+use pm_frame::{Frame, Message, write_part};
+
+/// What is being sent: where the open job stands, its message, and the frame that carries it.
 #[derive(Drop)]
 pub(crate) struct Sending {
+    pub(crate) stage: Stage,
     pub(crate) message: Message,
     pub(crate) frame: Frame,
+}
+
+impl Sending {
+    /// What the stage sends to a device.
+    pub(crate) fn of(stage: Stage, address: u8) -> Sending
+        requires address { IsAddress address }
+        requires word { HasWord stage }
+        ensures stage { result.stage ≡ stage }
+        ensures message { result.message ≡ stage_message stage }
+        ensures frame { IsFrameOf address result.message result.frame.items }
+    {
+        let message = stage.message();
+        Sending {
+            stage,
+            frame: write_part(address, &message),
+            message,
+        }
+    }
 }

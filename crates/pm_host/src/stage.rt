@@ -5,6 +5,7 @@ ghost use Rattle.pm_host.specs.Summary.{stage_message};
 use crate::command::Command;
 use crate::messages::{cell_read, cell_write, command_message};
 use crate::question::Question;
+use crate::told::Told;
 use pm_frame::Message;
 use pm_table::Cell;
 
@@ -23,6 +24,7 @@ pub enum Stage {
 
 impl Stage {
     ghost use Rattle.pm_host.specs.Sound.{HasWord};
+    ghost use Rattle.pm_host.specs.Told.{is_awaited};
 
     /// The message whose frame is sent.
     pub(crate) fn message(&self) -> Message
@@ -35,6 +37,16 @@ impl Stage {
             Stage::Reads { cell, .. } => cell_read(cell),
             Stage::Asks { question, .. } => question.message(),
             Stage::Sends { command, .. } => command_message(command),
+        }
+    }
+
+    /// Whether what is told is of the kind of its frame: `Finished` of a write, `Got` of a request.
+    pub fn awaits(&self, told: &Told<'_>) -> bool
+        ensures { result ≡ is_awaited self.now told.now }
+    {
+        match self {
+            Stage::Writes { .. } | Stage::Sends { .. } => matches!(told, Told::Finished { .. }),
+            Stage::Reads { .. } | Stage::Asks { .. } => matches!(told, Told::Got(_)),
         }
     }
 }

@@ -1,6 +1,6 @@
 //! The word of an order that names a number of microvolts.
 
-ghost use Rattle.std.specs.Prelude.{◌≡◌, ◌<◌, Some, IfOk};
+ghost use Rattle.std.specs.Prelude.{◌≡◌, ◌<◌, Some, None, IfOk};
 ghost use Rattle.std.specs.Result.{result_err};
 ghost use Rattle.pm_num.specs.AnyFormat.{shape_of, shape_value, shape_rank};
 ghost use Rattle.pm_num.specs.Nearest.{IsNearest};
@@ -21,10 +21,10 @@ use pm_table::Cell;
 impl State {
     /// The format of the cell's output, where the cell is a voltage that may be ordered now.
     pub(super) fn voltage_format(&self, cell: Cell) -> Result<AnyFormat, HostFault>
-        requires { IsSound (held self.now) }
-        ensures fault { result_err result ≡ voltage_fault (held self.now) cell }
+        requires { IsSound (held None self.now) }
+        ensures fault { result_err result ≡ voltage_fault (held None self.now) cell }
         ensures format { IfOk result (λ format.
-            format_at (held self.now) (output_of cell) ≡ Some (shape_of format)) }
+            format_at (held None self.now) (output_of cell) ≡ Some (shape_of format)) }
     {
         self.refuse_cell(cell)?;
         match cell {
@@ -39,7 +39,7 @@ impl State {
     #[tactic(auto, unfolding(crate::specs::Image::formats_held))]
     pub fn format(&self, output: u8) -> FormatImage
         requires { output < 8 }
-        ensures { format_held result ≡ format_at (held self.now) output }
+        ensures { format_held result ≡ format_at (held None self.now) output }
     {
         self.formats[usize::from(output)]
     }

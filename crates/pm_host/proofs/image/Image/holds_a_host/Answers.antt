@@ -1,8 +1,0 @@
-use Rattle.std.proofs.Common.{refl}
-use Rattle.pm_host.specs.Image.{held, host_of}
-use Rattle.pm_host.proofs.Tested.{sound-tested}
-use Rattle.pm_host.proofs.image.Image.holds_a_host.Goals as goal
-
-pub returns : goal.returns
-unfolding host_of
-returns c = rw (c.requires.current, sound-tested (held c.args.self.now.state) c.requires.sound) refl

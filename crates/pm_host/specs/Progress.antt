@@ -1,0 +1,25 @@
+-- Where a job stands once its frame was sent, and what the host then holds.
+use Rattle.std.specs.Prelude.{Option, Some, None}
+use Rattle.pm_host.specs.declared.progress.Progress.{Progress}
+use Rattle.pm_host.specs.declared.progress.Progress.TheVariants.{At, Over}
+use Rattle.pm_host.specs.declared.stage.Stage.{Stage}
+use Rattle.pm_host.specs.declared.state.State.{State}
+use Rattle.pm_host.specs.declared.step.Step.{Step}
+use Rattle.pm_host.specs.declared.step.Step.TheVariants.{Next, Ended}
+use Rattle.pm_host.specs.Image.{held}
+use Rattle.pm_host.specs.Summary.{Change}
+
+-- the stage of the open job; None where none is open
+abbrev pub stage_after : Progress → Option Stage
+stage_after (At stage) = Some stage
+stage_after (Over end) = None
+
+-- what a call answers that tells what became of the frame
+abbrev pub step_after : Progress → Step
+step_after (At stage) = Next
+step_after (Over end) = Ended end
+
+-- both, with what the host then holds
+abbrev pub change_to : Progress → State → Change
+change_to progress state =
+    record { after = held (stage_after progress) state; step = step_after progress }

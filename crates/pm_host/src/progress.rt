@@ -1,0 +1,37 @@
+ghost use Rattle.std.specs.Prelude.{◌≡◌};
+ghost use Rattle.pm_host.specs.Progress.{stage_after, step_after};
+
+use crate::job_end::JobEnd;
+use crate::stage::Stage;
+use crate::step::Step;
+
+/// Where a job stands once its frame was sent.
+#[derive(Clone, Copy, Debug)]
+pub enum Progress {
+    /// It goes on at this stage, whose frame is sent next.
+    At(Stage),
+    /// It has ended.
+    Over(JobEnd),
+}
+
+impl Progress {
+    /// The stage of the open job; `None` where none is open.
+    pub fn stage(self) -> Option<Stage>
+        ensures { result ≡ stage_after self }
+    {
+        match self {
+            Progress::At(stage) => Some(stage),
+            Progress::Over(_) => None,
+        }
+    }
+
+    /// What a call answers that tells what became of the frame.
+    pub fn step(self) -> Step
+        ensures { result ≡ step_after self }
+    {
+        match self {
+            Progress::At(_) => Step::Next,
+            Progress::Over(end) => Step::Ended(end),
+        }
+    }
+}
