@@ -1,6 +1,6 @@
 -- What the calls of a host answer and do, by the host's own model. Memory that holds no host, a code
 -- that is no cell's and a frame of the other kind are refused first; then the host decides.
-use Rattle.std.specs.Prelude.{◌≡◌, ◌≢◌, ◌≤◌, ℕ, Bool, false, if◌then◌else◌, take, Option, Some, None, option_map, option_and_then, MatchOption}
+use Rattle.std.specs.Prelude.{◌≡◌, ◌≢◌, ◌≤◌, ℕ, Bool, true, false, if◌then◌else◌, take, Option, Some, None, option_map, option_and_then, MatchOption}
 use Rattle.std.specs.Option.{option_map_or}
 use Rattle.pm_table.specs.declared.cell.Cell.{Cell}
 use Rattle.pm_frame.specs.declared.message.Message.{Message}
@@ -104,6 +104,12 @@ told_answer (Some s) entry =
 
 abbrev pub after : Option Summary → Entry → Option Summary
 after host entry = option_map (λ s. next s entry) host
+
+-- how a call tells it: a refused call leaves the memory as it is
+pub record TellsHost (old : Image) (entry : Entry) (result : HostStep) (new : Image) : Type 0 where
+  pub answer : result ≡ told_answer (host_of old) entry
+  pub told : is_told (host_of old) entry ≡ true → host_of new ≡ after (host_of old) entry
+  pub refused : is_told (host_of old) entry ≡ false → new ≡ old
 
 -- what is asked of a cell
 abbrev pub cell_number : Option Summary → Option Cell → ℕ

@@ -8,7 +8,7 @@ ghost use Rattle.pm_host.specs.Transcript.{Setup, Restarted};
 ghost use Rattle.pm_c.specs.Sizes.{host_size};
 ghost use Rattle.pm_c.specs.Host.{new_number, memory_number, after, BeginsJob};
 
-use crate::numbers::{ACCEPTED, NO_ADDRESS, NO_CELL, NO_HOST, number_of};
+use crate::numbers::{ACCEPTED, NO_ADDRESS, NO_CELL, NO_HOST, number_of, of_host};
 use pm_host::{Command, Image, Job};
 use pm_table::{Code, address_ok, cell_of};
 use std::mem::size_of;
@@ -48,16 +48,19 @@ pub extern "C" fn pm_host_new(host: &mut Image, address: u8, outputs: u8, passes
 fn begin(host: &mut Image, job: Option<Job>) -> u8
     ensures { BeginsJob host.old job result host.new }
 {
-    if !host.is_host() {
+    let Ok(stage) = host.read_stage() else {
         return NO_HOST;
-    }
+    };
     let Some(job) = job else {
         return NO_CELL;
     };
-    let outcome = host.state.begin(job);
-    // Hands the prover that this is the image of a host.
-    host.holds_a_host();
-    number_of(outcome)
+    match host.state.begin(stage, job) {
+        Ok(stage) => {
+            host.write_stage(Some(stage));
+            ACCEPTED
+        }
+        Err(fault) => of_host(fault),
+    }
 }
 
 /// Begins an order. E0h, E1h, H3, H4, H5, H6.
@@ -124,17 +127,17 @@ pub extern "C" fn pm_host_restore(host: &mut Image) -> u8
 }
 
 /// Drops the open job and all that is known of cells and formats. E0h.
+#[tactic(auto, unfolding(pm_host::specs::Summary::next))]
 #[unsafe(no_mangle)]
 pub extern "C" fn pm_host_restart(host: &mut Image) -> u8
     ensures number { result ≡ memory_number (host_of host.old) }
     ensures begun { host_of host.new ≡ after (host_of host.old) Restarted }
     ensures refused { result ≢ 0 → host.new ≡ host.old }
 {
-    if !host.is_host() {
+    if host.read_stage().is_err() {
         return NO_HOST;
     }
     host.state.restart();
-    // Hands the prover that this is the image of a host.
-    host.holds_a_host();
+    host.write_stage(None);
     ACCEPTED
 }

@@ -21,7 +21,7 @@ pub extern "C" fn pm_host_standing(
     ensures said { result ≡ 0 → IsStanding (host_of host.now) (cell_at code output) standing.new }
     ensures refused { result ≢ 0 → standing.new ≡ standing.old }
 {
-    if !host.is_host() {
+    if host.read_stage().is_err() {
         return NO_HOST;
     }
     let Some(cell) = cell_of(Code(code), output) else {
@@ -30,7 +30,7 @@ pub extern "C" fn pm_host_standing(
     if !cell.is_there(host.state.outputs) {
         return of_host(HostFault::UnknownOutput);
     }
-    *standing = flagged(host.state.standing(cell));
+    *standing = flagged(host.state.known.standing(cell));
     ACCEPTED
 }
 
@@ -56,7 +56,7 @@ pub extern "C" fn pm_host_possible(host: &Image, output: u8, code: u8, words: &m
     ensures said { result ≡ 0 → IsPossible (host_of host.now) (cell_at code output) words.new }
     ensures refused { result ≢ 0 → words.new ≡ words.old }
 {
-    if !host.is_host() {
+    if host.read_stage().is_err() {
         return NO_HOST;
     }
     let Some(cell) = cell_of(Code(code), output) else {
@@ -65,7 +65,7 @@ pub extern "C" fn pm_host_possible(host: &Image, output: u8, code: u8, words: &m
     if !cell.is_there(host.state.outputs) {
         return of_host(HostFault::UnknownOutput);
     }
-    *words = counted(host.state.possible(cell));
+    *words = counted(host.state.known.possible(cell));
     ACCEPTED
 }
 
@@ -89,8 +89,8 @@ fn counted(words: &WordsImage) -> WordsImage
 pub extern "C" fn pm_host_restart_seen(host: &Image) -> u8
     ensures { result ≡ seen_number (host_of host.now) }
 {
-    if !host.is_host() {
+    if host.read_stage().is_err() {
         return NO_HOST;
     }
-    u8::from(host.state.restart_seen())
+    u8::from(host.state.known.restart_seen())
 }

@@ -15,14 +15,13 @@ pub extern "C" fn pm_host_sending(host: &Image, sending: &mut SendingImage) -> u
     ensures number { result ≡ memory_number (host_of host.now) }
     ensures frame { IsSent (host_of host.now) sending.new }
 {
-    if !host.is_host() {
+    let Ok(stage) = host.read_stage() else {
         sending.clear();
         return NO_HOST;
-    }
-    let Some(message) = host.state.message() else {
-        sending.clear();
-        return ACCEPTED;
     };
-    sending.put(host.state.address, &message);
+    match stage {
+        Some(stage) => sending.put(host.state.address, &stage.message()),
+        None => sending.clear(),
+    }
     ACCEPTED
 }

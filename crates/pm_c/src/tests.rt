@@ -16,7 +16,7 @@ use pm_host::{FormatImage, Image, WordsImage};
 #[test]
 fn sizes_are_those_of_the_header(rt: HostRuntime) {
     equal(&rt, &(pm_host_size(), pm_desk_size()), &(1926, 122), &1);
-    equal(&rt, &pm_host_version(), &2, &2);
+    equal(&rt, &pm_host_version(), &3, &2);
 }
 
 #[test]
@@ -162,24 +162,23 @@ fn is_refused(image: &mut Image) -> bool {
 fn changed(change: u8) -> Image {
     let mut image = host(2);
     let _ = order(&mut image, 0, 0x21, 0x34CD);
-    let state = &mut image.state;
     match change {
-        0 => image.version = 1,
+        0 => image.version = 2,
         1 => image.mark = 0,
-        2 => state.address = 0x78,
-        3 => state.outputs = 9,
-        4 => state.passes = 0,
-        5 => state.stage.kind = 8,
-        6 => state.stage.code = 0x20,
-        7 => state.stage.count = 2,
-        8 => state.stage.output = 2,
-        9 => state.known.possible[1] = WordsImage {
+        2 => image.state.address = 0x78,
+        3 => image.state.outputs = 9,
+        4 => image.state.passes = 0,
+        5 => image.stage.kind = 8,
+        6 => image.stage.code = 0x20,
+        7 => image.stage.count = 2,
+        8 => image.stage.output = 2,
+        9 => image.state.known.possible[1] = WordsImage {
             count: 1,
             words: [0; 16],
         },
-        10 => state.known.standing[1].is_confirmed = 1,
-        11 => state.stage.kind = 6,
-        12 => state.stage.kind = 7,
+        10 => image.state.known.standing[1].is_confirmed = 1,
+        11 => image.stage.kind = 6,
+        12 => image.stage.kind = 7,
         _ => {}
     }
     image

@@ -1,9 +1,9 @@
 //! What became of the frame that a host is sending.
 
-ghost use Rattle.std.specs.Prelude.{◌≡◌, true, false, not, ◌==◌};
-ghost use Rattle.pm_host.specs.Image.{host_of};
+ghost use Rattle.std.specs.Prelude.{◌≡◌, not, ◌==◌};
+ghost use Rattle.pm_host.specs.Told.{entry_told};
 ghost use Rattle.pm_host.specs.Transcript.{Finished, Got};
-ghost use Rattle.pm_c.specs.Host.{is_told, told_answer, after};
+ghost use Rattle.pm_c.specs.Host.{TellsHost};
 
 use crate::host_step::{HostStep, no_step, step_after};
 use crate::numbers::{NO_HOST, OTHER_FRAME};
@@ -12,44 +12,32 @@ use pm_host::{Image, Told};
 /// A write was sent, and acknowledged or not (0). E0h, E2h where no write is being sent.
 #[unsafe(no_mangle)]
 pub extern "C" fn pm_host_finished(host: &mut Image, acked: u8) -> HostStep
-    ensures answer { result ≡ told_answer (host_of host.old) (Finished (not (acked == 0))) }
-    ensures told { is_told (host_of host.old) (Finished (not (acked == 0))) ≡ true →
-        host_of host.new ≡ after (host_of host.old) (Finished (not (acked == 0))) }
-    ensures refused { is_told (host_of host.old) (Finished (not (acked == 0))) ≡ false →
-        host.new ≡ host.old }
+    ensures { TellsHost host.old (Finished (not (acked == 0))) result host.new }
 {
-    if !host.is_host() {
-        return no_step(NO_HOST);
-    }
-    match host.state.message() {
-        Some(message) if !message.is_read() => {
-            let step = host.state.told(Told::Finished { acked: acked != 0 });
-            // Hands the prover that this is the image of a host.
-            host.holds_a_host();
-            step_after(step)
-        }
-        _ => no_step(OTHER_FRAME),
-    }
+    tell(host, Told::Finished { acked: acked != 0 })
 }
 
 /// A request was sent, and these bytes came back, the read address first; none where there was no
 /// answer. E0h, E2h where no request is being sent.
 #[unsafe(no_mangle)]
 pub extern "C" fn pm_host_got(host: &mut Image, bytes: &[u8]) -> HostStep
-    ensures answer { result ≡ told_answer (host_of host.old) (Got bytes.now) }
-    ensures told { is_told (host_of host.old) (Got bytes.now) ≡ true →
-        host_of host.new ≡ after (host_of host.old) (Got bytes.now) }
-    ensures refused { is_told (host_of host.old) (Got bytes.now) ≡ false → host.new ≡ host.old }
+    ensures { TellsHost host.old (Got bytes.now) result host.new }
 {
-    if !host.is_host() {
+    tell(host, Told::Got(bytes))
+}
+
+// Tells a host what became of its frame.
+fn tell(host: &mut Image, told: Told<'_>) -> HostStep
+    ensures { TellsHost host.old (entry_told told.entry) result host.new }
+{
+    let Ok(stage) = host.read_stage() else {
         return no_step(NO_HOST);
-    }
-    match host.state.message() {
-        Some(message) if message.is_read() => {
-            let step = host.state.told(Told::Got(bytes));
-            // Hands the prover that this is the image of a host.
-            host.holds_a_host();
-            step_after(step)
+    };
+    match stage {
+        Some(stage) if stage.awaits(&told) => {
+            let progress = host.state.told(stage, told);
+            host.write_stage(progress.stage());
+            step_after(progress.step())
         }
         _ => no_step(OTHER_FRAME),
     }

@@ -26,7 +26,7 @@ pub extern "C" fn pm_host_format(host: &Image, output: u8, format: &mut FormatIm
         (λ s. IsFormat (format_at s output) format.new) }
     ensures refused { result ≢ 0 → format.new ≡ format.old }
 {
-    if !host.is_host() {
+    if host.read_stage().is_err() {
         return NO_HOST;
     }
     if host.state.outputs <= output {

@@ -27,7 +27,7 @@ impl Stage {
     ghost use Rattle.pm_host.specs.Told.{is_awaited};
 
     /// The message whose frame is sent.
-    pub(crate) fn message(&self) -> Message
+    pub fn message(&self) -> Message
         requires { HasWord self.now }
         ensures message { result ≡ stage_message self.now }
         ensures fits { fits_layout result ≡ true }

@@ -1,0 +1,19 @@
+use Rattle.std.proofs.Common.{◌≡◌, Some, ap, ◌∙◌, rules}
+use Rattle.pm_host.specs.Image.{held, host_of}
+use Rattle.pm_host.specs.Summary.{next, step_of}
+use Rattle.pm_host.specs.Told.{entry_told}
+use Rattle.pm_c.specs.Host.{host_step}
+use Rattle.pm_c.proofs.Tells.{awaited, tells}
+use Rattle.pm_c.proofs.told.tell.Goals as goal
+
+pub returns-in-Some : goal.returns-in-Some
+returns-in-Some c =
+    let stage = c.in-Some.stage in
+    let before = c.args.host.now in
+    let entry = entry_told c.args.told in
+    let is_open : c.in-Ok.stage ≡ Some stage = search rules in
+    let became : host_of c.write_stage.new.self ≡ Some (next (held (Some stage) before.state) entry) = search rules in
+    let answered : c.step_after.result ≡ host_step (step_of (held (Some stage) before.state) entry) = search rules in
+    tells before c.write_stage.new.self (held (Some stage) before.state) entry c.step_after.result
+    (c.in-Ok.ensures.found ∙ ap (λ at. Some (held at before.state)) is_open)
+    (awaited stage before.state c.args.told (search rules)) became answered
