@@ -1,4 +1,4 @@
-ghost use Rattle.std.specs.Prelude.{◌≡◌, true, slice_set};
+ghost use Rattle.std.specs.Prelude.{◌≡◌, true, false, slice_set};
 ghost use Rattle.pm_table.specs.Cell.{place_of, IsCell};
 ghost use Rattle.pm_host.specs.Image.{known_held, words_held, standing_held};
 ghost use Rattle.pm_host.specs.Possible.{is_possible, has_room, only};
@@ -77,18 +77,23 @@ impl Knowledge {
         self.standing[place] = said;
     }
 
-    /// A write of the cell begins to be sent.
+    /// A write of the cell begins to be sent, where its word has room among those that the cell may hold;
+    /// says whether it has.
     #[tactic(auto, unfolding(crate::specs::Image::known_held))]
-    pub(crate) fn put(&mut self, cell: Cell, word: u16)
-        requires there { IsCell 8 cell }
-        requires room { has_room word (known_possible (known_held self.old) cell) ≡ true }
-        ensures after { known_held self.new ≡ known_after (known_held self.old) (Put cell word) }
-        ensures listed { is_possible word (known_possible (known_held self.new) cell) ≡ true }
-        ensures unknown { known_standing (known_held self.new) cell ≡ Standing.Unknown }
+    pub(crate) fn put(&mut self, cell: Cell, word: u16) -> bool
+        requires { IsCell 8 cell }
+        ensures room { result ≡ has_room word (known_possible (known_held self.old) cell) }
+        ensures after { result ≡ true → known_held self.new ≡ known_after (known_held self.old) (Put cell word) }
+        ensures listed { result ≡ true → is_possible word (known_possible (known_held self.new) cell) ≡ true }
+        ensures unknown { result ≡ true → known_standing (known_held self.new) cell ≡ Standing.Unknown }
+        ensures full { result ≡ false → self.new ≡ self.old }
     {
         let mut words = *self.possible(cell);
-        words.join(word);
+        if !words.join(word) {
+            return false;
+        }
         self.set(cell, words, StandingImage::UNKNOWN);
+        true
     }
 
     /// A good answer for the cell.

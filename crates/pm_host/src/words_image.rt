@@ -1,6 +1,6 @@
 ghost use Rattle.std.specs.Prelude.{◌≡◌, true, false, MatchOption};
 ghost use Rattle.pm_host.specs.Image.{listing, words_held};
-ghost use Rattle.pm_host.specs.Possible.{is_possible, has_room as spec_has_room, joined, only as spec_only};
+ghost use Rattle.pm_host.specs.Possible.{is_possible, has_room, joined, only as spec_only};
 
 use crate::possible::Possible;
 use arrayvec::ArrayVec;
@@ -59,26 +59,22 @@ impl WordsImage {
         }
     }
 
-    /// Whether this word can be joined: it is listed, or there are fewer than 16.
-    pub(crate) fn has_room(&self, word: u16) -> bool
-        ensures { result ≡ spec_has_room word (words_held self.now) }
+    /// Joins this word, and says whether it has room: it is listed, or there are fewer than 16.
+    pub(crate) fn join(&mut self, word: u16) -> bool
+        ensures room { result ≡ has_room word (words_held self.old) }
+        ensures joined { result ≡ true → words_held self.new ≡ joined (words_held self.old) word }
+        ensures listed { result ≡ true → is_possible word (words_held self.new) ≡ true }
+        ensures full { result ≡ false → self.new ≡ self.old }
     {
-        match self.listed() {
-            Some(words) => words.contains(&word) || words.len() < 16,
-            None => true,
+        if self.allows(word) {
+            return true;
         }
-    }
-
-    /// Joins this word.
-    pub(crate) fn join(&mut self, word: u16)
-        requires { spec_has_room word (words_held self.old) ≡ true }
-        ensures joined { words_held self.new ≡ joined (words_held self.old) word }
-        ensures listed { is_possible word (words_held self.new) ≡ true }
-    {
-        if !self.allows(word) {
-            self.words[usize::from(self.count)] = word;
-            self.count += 1;
+        if self.count == 16 {
+            return false;
         }
+        self.words[usize::from(self.count)] = word;
+        self.count += 1;
+        true
     }
 
     /// Exactly this word.

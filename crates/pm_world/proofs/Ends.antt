@@ -35,7 +35,7 @@ begun-next s job = refl
 
 -- the host accepts the job that an event asks for, and the event happened
 pub begun : (s inside : State) (event : Event) (asks : Asked) (new : Summary) → inside ≡ s → asked_by event ≡ Some asks →
-    Begins inside.host asks (Ok tt) new → Acts s event (Ok tt) (state inside.device new None inside.taken)
+    Begins {X = Unit {0}} inside.host asks (Ok tt) new → Acts s event (Ok tt) (state inside.device new None inside.taken)
 begun s inside event asks new view by begins = go (accepted_job inside.host asks) refl begins.ok where
   go : (o : Option Job) → accepted_job inside.host asks ≡ o → IsSomeAnd o (λ j. new ≡ host_next inside.host (Accepted j)) →
       Acts s event (Ok tt) (state inside.device new None inside.taken)

@@ -52,10 +52,8 @@ impl State {
         if !cell.accepts(word) {
             return Err(HostFault::BadWord);
         }
-        if !self.known.possible(cell).has_room(word) {
-            return Err(HostFault::TooUncertain);
-        }
-        Ok(self.begin_write(cell, word, 0))
+        self.begin_write(cell, word, 0)
+            .ok_or(HostFault::TooUncertain)
     }
 
     // Begins an order of the word that is nearest to a number of microvolts.

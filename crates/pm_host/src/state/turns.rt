@@ -1,6 +1,6 @@
 //! What becomes of an open job once its frame was sent.
 
-ghost use Rattle.std.specs.Prelude.{◌≡◌, ◌+◌, ◌-◌, ◌*◌, ◌<◌, ◌≤◌, true, length, slice_set, Some, None};
+ghost use Rattle.std.specs.Prelude.{◌≡◌, ◌+◌, ◌-◌, ◌*◌, ◌<◌, ◌≤◌, true, length, slice_set, is_some, Some, None, IfSome, MatchOption};
 ghost use Rattle.std.specs.Result.{ForOk};
 ghost use Rattle.pm_table.specs.Cell.{cell_accepts, IsCell};
 ghost use Rattle.pm_table.specs.VoutMode.{IsMode};
@@ -25,19 +25,25 @@ use crate::state::{OUTPUTS, State};
 use pm_table::{Cell, TableFault, VoutMode};
 
 impl State {
-    /// The write of an order begins to be sent.
-    pub(super) fn begin_write(&mut self, cell: Cell, word: u16, pass: u8) -> Stage
+    /// The write of an order begins to be sent; `None` where its word has no room among those that the cell
+    /// may hold.
+    pub(super) fn begin_write(&mut self, cell: Cell, word: u16, pass: u8) -> Option<Stage>
         requires sound { IsSound (held None self.old) }
         requires there { IsCell self.old.outputs cell }
         requires accepted { cell_accepts cell word ≡ true }
-        requires room { has_room word (possible_at (held None self.old) cell) ≡ true }
         requires left { pass < self.old.passes }
-        ensures sound { IsSound (held (Some result) self.new) }
-        ensures stage { result ≡ Stage.Writes cell word pass }
-        ensures after { held (Some result) self.new ≡ (writes (held None self.old) cell word pass).after }
+        ensures room { is_some result ≡ has_room word (possible_at (held None self.old) cell) }
+        ensures sound { IsSound (held result self.new) }
+        ensures stage { IfSome result (λ stage. stage ≡ Stage.Writes cell word pass) }
+        ensures after { IfSome result
+            (λ stage. held (Some stage) self.new ≡ (writes (held None self.old) cell word pass).after) }
+        ensures full { MatchOption result (self.new ≡ self.old) (λ stage. Unit {0}) }
     {
-        self.known.put(cell, word);
-        Stage::Writes { cell, word, pass }
+        if self.known.put(cell, word) {
+            Some(Stage::Writes { cell, word, pass })
+        } else {
+            None
+        }
     }
 
     /// A command begins to be sent, after these tries.
@@ -85,7 +91,8 @@ impl State {
                 None => JobEnd::Unknown,
             });
         }
-        Progress::At(self.begin_write(cell, word, pass + 1))
+        // The word is listed, or was just read.
+        Progress::At(self.begin_write(cell, word, pass + 1).unwrap())
     }
 
     /// A request came back: a good answer, or another try.
