@@ -72,7 +72,13 @@ impl State {
     }
 
     /// An order read its cell back.
-    pub(super) fn read_back(&mut self, cell: Cell, word: u16, pass: u8, read: Option<u16>) -> Progress
+    pub(super) fn read_back(
+        &mut self,
+        cell: Cell,
+        word: u16,
+        pass: u8,
+        read: Option<u16>,
+    ) -> Progress
         requires sound { IsSound (held None self.old) }
         requires ordering { IsOrdering (held None self.old) cell word pass }
         ensures sound { IsSound (held (stage_after result) self.new) }
