@@ -66,12 +66,7 @@ end-held side shape (Listed words) word dens short is =
 
 -- a register that is selected by a listed byte is selected
 same-itself : (register : Reg) → same_register register register ≡ true
-same-itself Operation = refl
-same-itself VoutCommand = refl
-same-itself VoutMax = refl
-same-itself MarginHigh = refl
-same-itself MarginLow = refl
-same-itself VoutMin = refl
+same-itself register = grind (arith, nat_tests)
 
 listed-selected : (bytes : List ℕ) (byte : ℕ) → is_listed byte bytes ≡ true → is_selected bytes (selected_register byte) ≡ true
 listed-selected [] byte is = is
@@ -90,12 +85,12 @@ listed-selected (other ∷ bytes) byte is =
 -- a selected register decides
 selected-decides : (known : Known) (register : Reg) → is_selected (operations (known Operation)) register ≡ true →
     decides known register ≡ true
-selected-decides known Operation h = refl
-selected-decides known VoutCommand h = h
-selected-decides known VoutMax h = refl
-selected-decides known MarginHigh h = h
-selected-decides known MarginLow h = h
-selected-decides known VoutMin h = refl
+selected-decides known register h = go (list_any (same_register register) (Operation ∷ VoutMax ∷ VoutMin ∷ []))
+    (is_selected (operations (known Operation)) register) h
+  where
+    go : (p q : Bool) → q ≡ true → (p || q) ≡ true
+    go true q e = refl
+    go false q e = e
 
 byte-selects : (possible : Possible) (byte : ℕ) → is_possible byte possible ≡ true →
     is_selected (operations possible) (selected_register byte) ≡ true
@@ -113,7 +108,7 @@ byte-held side shape known Any byte dens is =
     each-selected (λ r. Reaches side far (shape_value shape (word_end side shape known r)))
     (farthest_of-listed side (reach side shape known) (operations Any) 0x80 all refl)
     (farthest_of-listed side (reach side shape known) (operations Any) 0xA8 all refl)
-    (farthest_of-listed side (reach side shape known) (operations Any) 0x98 all refl) byte
+    (farthest_of-listed side (reach side shape known) (operations Any) 0x94 all refl) byte
 byte-held side shape known (Listed words) byte dens is =
     farthest_of-listed side (reach side shape known) words.items byte
     (all-dens (reach side shape known) (λ b. dens (word_end side shape known (selected_register b))) words.items) is
@@ -164,8 +159,8 @@ band-reached side shape known words output are =
     let byte = word_at words (Out output Operation) in
     let far = operation_end side shape known (operations (known Operation)) in
     let chosen = are (selected_register byte)
-        ∙ each-selected (λ r. end_choice side shape known r ≡ word_end side shape known r) refl refl refl byte
-        ∙ ap (λ (b : ℕ). word_end side shape known (selected_register b)) (are Operation) in
+    ∙ each-selected (λ r. end_choice side shape known r ≡ word_end side shape known r) refl refl refl byte
+    ∙ ap (λ (b : ℕ). word_end side shape known (selected_register b)) (are Operation) in
     ap (λ (w : ℕ). limited (value w) (value (word_at words (Out output VoutMin))) (value (word_at words (Out output VoutMax)))) chosen
     ∙ ap (λ (w : ℕ). limited (reach side shape known far) (value w) (value (word_at words (Out output VoutMax)))) (are VoutMin)
     ∙ ap (λ (w : ℕ). limited (reach side shape known far) (value (word_end side shape known VoutMin)) (value w)) (are VoutMax)
