@@ -1,10 +1,10 @@
 -- Between which voltages an output may be, by what a host knows: the band. This project's own choice.
-use Rattle.std.specs.Prelude.{◌≡◌, ◌<◌, ℕ, Bool, true, false, not, ◌||◌, if◌then◌else◌, List, [], ◌∷◌, Option, Some, None, option_map}
+use Rattle.std.specs.Prelude.{◌<◌, ℕ, Bool, true, false, not, ◌||◌, if◌then◌else◌, List, [], ◌∷◌, Option, Some, None, option_map}
 use Rattle.std.specs.List.{list_any}
 use Rattle.pm_num.specs.AnyFormat.{Shape, shape_value}
 use Rattle.pm_num.specs.Ratio.{Ratio, IsBetween, is_above, micros}
 use Rattle.pm_table.specs.declared.reg.Reg.{Reg}
-use Rattle.pm_table.specs.declared.reg.Reg.TheVariants.{Operation, VoutCommand, VoutMax, MarginHigh, MarginLow, VoutMin}
+use Rattle.pm_table.specs.declared.reg.Reg.TheVariants.{Operation, VoutMax, VoutMin}
 use Rattle.pm_table.specs.declared.cell.Cell.TheVariants.{Out}
 use Rattle.pm_table.specs.Cell.{same_register}
 use Rattle.pm_model.specs.Commanded.{selected_register, limited}

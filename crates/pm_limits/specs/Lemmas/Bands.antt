@@ -1,7 +1,7 @@
 -- The ends of a band.
-use Rattle.std.specs.Prelude.{◌≡◌, ◌≢◌, ℕ, ◌*◌, ◌^◌, ◌<◌, ◌==◌, suc, ℤ, pos, negsuc, unsigned_abs, Bool, true, false, cond, ◌||◌, List, [], ◌∷◌, refl}
+use Rattle.std.specs.Prelude.{◌≡◌, ℕ, ◌^◌, ◌<◌, ◌==◌, pos, negsuc, Bool, true, false, ◌||◌, List, [], ◌∷◌, refl}
 use Rattle.std.specs.List.{list_any}
-use Rattle.std.proofs.Common.{◌∙◌, ap, arith, lit<, subst, sym}
+use Rattle.std.proofs.Common.{◌∙◌, ap, arith, subst}
 use Rattle.std.proofs.lemmas.Bool.Decides.{nat_tests}
 use Rattle.pm_num.specs.AnyFormat.{Shape, InLinear11, InUlinear16, InDirect, shape_value}
 use Rattle.pm_num.specs.Ratio.{Ratio, IsBetween}
@@ -9,10 +9,10 @@ use Rattle.pm_num.specs.Lemmas.Spelling.{linear11-within}
 use Rattle.pm_num.specs.Lemmas.Slope.{direct-within}
 use Rattle.pm_num.specs.Lemmas.Unsigned.{ulinear16-within}
 use Rattle.pm_table.specs.declared.reg.Reg.{Reg}
-use Rattle.pm_table.specs.declared.reg.Reg.TheVariants.{Operation, VoutCommand, VoutMax, MarginHigh, MarginLow, VoutMin}
+use Rattle.pm_table.specs.declared.reg.Reg.TheVariants.{Operation, VoutMax, VoutMin}
 use Rattle.pm_table.specs.declared.cell.Cell.TheVariants.{Out}
 use Rattle.pm_table.specs.Cell.{same_register}
-use Rattle.pm_model.specs.Commanded.{Scale, commanded, limited, selected, selected_register}
+use Rattle.pm_model.specs.Commanded.{commanded, limited, selected, selected_register}
 use Rattle.pm_model.specs.Settings.{Words, word_at}
 use Rattle.pm_host.specs.declared.possible.Possible.{Possible}
 use Rattle.pm_host.specs.declared.possible.Possible.TheVariants.{Any, Words as Listed}
@@ -20,8 +20,8 @@ use Rattle.pm_host.specs.Possible.{is_listed, is_possible}
 use Rattle.pm_limits.specs.declared.side.Side.{Side}
 use Rattle.pm_limits.specs.declared.side.Side.TheVariants.{Lowest, Highest}
 use Rattle.pm_limits.specs.Band.{HasDens, Known, decides, end_choice, end_with, is_selected, operation_end, operations, reach, word_end}
-use Rattle.pm_limits.specs.Ends.{Reaches, candidates, end_of, farthest_of, shape_ends}
-use Rattle.pm_limits.specs.Lemmas.Cuts.{Cut, reaches-cut}
+use Rattle.pm_limits.specs.Ends.{Reaches, end_of, farthest_of, shape_ends}
+use Rattle.pm_limits.specs.Lemmas.Cuts.{reaches-cut}
 use Rattle.pm_limits.specs.Lemmas.Farthest.{HaveDens, farthest_of-listed, reaches-through}
 use Rattle.pm_limits.specs.Lemmas.Selected.{each-selected}
 

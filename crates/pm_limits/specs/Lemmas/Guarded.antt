@@ -1,5 +1,5 @@
 -- What a guard lets through.
-use Rattle.std.specs.Prelude.{◌≡◌, ℕ, ℤ, Bool, true, false, cond, not, ◌&&◌, Option, Some, None, IsSomeAnd, refl, option_map, option_and_then, is_none}
+use Rattle.std.specs.Prelude.{◌≡◌, ℕ, Bool, true, false, cond, not, ◌&&◌, Option, Some, None, IsSomeAnd, refl, option_map, option_and_then}
 use Rattle.std.specs.Option.{option_or}
 use Rattle.std.proofs.Common.{◌∙◌, ap, sym, subst}
 use Rattle.pm_num.specs.AnyFormat.{Shape, shape_value}
@@ -15,15 +15,14 @@ use Rattle.pm_host.specs.declared.job.Job.TheVariants as job
 use Rattle.pm_host.specs.Jobs.{accepted_job, begin_fault}
 use Rattle.pm_host.specs.Refusals.{cell_fault, micro_word, order_fault}
 use Rattle.pm_host.specs.Summary.{format_at}
-use Rattle.pm_host.specs.Transcript.{Order, Send, Check, Learn}
-use Rattle.pm_host.specs.Transcript as accepted
+use Rattle.pm_host.specs.Transcript.{Order}
 use Rattle.pm_limits.specs.declared.fault.LimitFault.{LimitFault}
 use Rattle.pm_limits.specs.declared.fault.LimitFault.TheVariants.{BelowLimit, AboveLimit, NotKnownWithin}
 use Rattle.pm_limits.specs.declared.within.Within.{Within}
 use Rattle.pm_limits.specs.declared.within.Within.TheVariants.{Yes, No, NotKnown}
 use Rattle.pm_limits.specs.Band.{band_on, is_yes, within_of}
 use Rattle.pm_limits.specs.Bounds.{Bounds, IsWithin, outside_fault}
-use Rattle.pm_limits.specs.Guard.{Guarded, first, guard_fault, guarded_order, judged, leaves_on, limits_at, of_host, operation_limit, voltage_limit, word_fault}
+use Rattle.pm_limits.specs.Guard.{Guarded, guard_fault, guarded_order, judged, leaves_on, limits_at, of_host, operation_limit, voltage_limit, word_fault}
 use Rattle.pm_limits.specs.Lemmas.Order.{at-most}
 
 -- the second of two faults is none where neither comes

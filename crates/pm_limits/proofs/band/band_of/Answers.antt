@@ -1,4 +1,4 @@
-use Rattle.std.proofs.Common.{◌≡◌, ◌∙◌, List, ℕ, Option, Some, option_map, ap, sym}
+use Rattle.std.proofs.Common.{◌∙◌, List, ℕ, Some, option_map, ap, sym}
 use Rattle.pm_num.specs.AnyFormat.{Shape, shape_of}
 use Rattle.pm_host.specs.declared.possible.Possible.{Possible}
 use Rattle.pm_limits.specs.Band.{band_with, known_of, operations}

@@ -1,4 +1,4 @@
-use Rattle.std.proofs.Common.{◌≡◌, ◌∙◌, [], ◌∷◌, Option, Some, option_map, ap, sym}
+use Rattle.std.proofs.Common.{◌∙◌, [], ◌∷◌, Some, option_map, ap, sym}
 use Rattle.pm_num.specs.AnyFormat.{Shape, shape_of}
 use Rattle.pm_limits.specs.Band.{band_with, known_of}
 use Rattle.pm_limits.proofs.band.band_on.Goals as goal

@@ -1,4 +1,4 @@
-use Rattle.std.proofs.Common.{◌≡◌, ◌∙◌, ℕ, ap}
+use Rattle.std.proofs.Common.{◌∙◌, ℕ, ap}
 use Rattle.std.proofs.Math.Path.{fun_ext}
 use Rattle.pm_num.specs.AnyFormat.{any_value, shape_of}
 use Rattle.pm_num.specs.Ratio.{Ratio}

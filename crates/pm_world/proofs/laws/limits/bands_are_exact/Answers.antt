@@ -17,5 +17,5 @@ returns c = λ config passes events sides sound spelled made taken fresh open'.
     let leaves = witness-leaves laws chosen lived fresh open' (ends-possible laws sides lived) in (
       leaves,
       end-left laws sides lived spelled entries (witness_start config (due_before chosen (marks (setup_of config passes) entries)))
-      (witness_events (setup_of config passes) chosen entries) leaves,
+          (witness_events (setup_of config passes) chosen entries) leaves,
     )
