@@ -2,9 +2,10 @@
 """Searches for a list of events that breaks a promise of `World::run`: draws LISTS lists of 5 to 60 events of
 all kinds, with damage, false acknowledgements, repeats and restarts of either end, holds the plain model of
 scripts/plain to every promise after each event, and the program's report to that of the model and to the
-promises on its own. Two prefixes of each tenth list are run by the program too. Some lists have a faulty
-setup, of which the program must say the fault, and nothing else. What is broken is printed, and the status is
-then 1; at the end stands how many lists met what.
+promises on its own. A host that keeps limits takes the same events, and the model is held to what limits and
+bands promise. Two prefixes of each tenth list are run by the program too. Some lists have a faulty setup, of
+which the program must say the fault, and nothing else. What is broken is printed, and the status is then 1; at
+the end stands how many lists met what.
 
     scripts/search_promises.py [SEED [LISTS]]
 
@@ -21,6 +22,7 @@ import program  # noqa: E402
 import refusals  # noqa: E402
 from plain.draw_faulty_setups import draw_faulty  # noqa: E402
 from plain.draw_scenarios import chance, draw_events, draw_setup, draw_uncertain, event_words, setup_lines  # noqa: E402
+from plain.limit_promises import limit_faults  # noqa: E402
 from plain.promises import Watch  # noqa: E402
 from plain.report import report  # noqa: E402
 from plain.scenario import registers_of  # noqa: E402
@@ -35,7 +37,10 @@ def figures():
     """What lists have to meet: each is told at the end, also where no list met it."""
     yield from ("a restart that was seen", "16 possible words", "an order that went through in a later pass",
                 "a Differs", "an undisturbed order", "an order in microvolts", "a store",
-                "a restore that changed words")
+                "a restore that changed words", "a band that stands", "a band with VOUT_MIN above VOUT_MAX",
+                "a band of VOUT_COMMAND and a margin")
+    for name in ("L2 FormatUnknown", "L3 BelowLimit", "L4 AboveLimit", "L5 NotKnownWithin"):
+        yield f"an order that limits refuse: {name}"
     for letter, name, _ in refusals.rows():
         if letter in WORLD + HOST:
             yield f"a stop by {'S4 Host ' * (letter in HOST)}{letter} {name}"
@@ -138,6 +143,8 @@ def searched(dice, is_tenth):
         return text, [*setup_faults(text, setup, passes, fault)], {"a faulty setup", f"setup {fault}"}
     watch, cause, broken = watched(setup, passes, events)
     text, met = text_of(dice, setup, passes, events), watch.reached | set(kinds_of(events))
+    limited, kept = limit_faults(random.Random(text), setup, passes, [plain for _, plain in events])
+    broken, met = broken + limited, met | kept
     if program.PROGRAM:
         broken += program_faults(text, watch, cause)
     if program.PROGRAM and is_tenth:

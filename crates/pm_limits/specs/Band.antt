@@ -1,10 +1,10 @@
 -- Between which voltages an output may be, by what a host knows: the band. This project's own choice.
-use Rattle.std.specs.Prelude.{◌≡◌, ◌<◌, ℕ, Bool, true, false, not, ◌||◌, if◌then◌else◌, List, [], ◌∷◌, Option, Some, None, option_map}
+use Rattle.std.specs.Prelude.{◌<◌, ℕ, Bool, true, false, not, ◌||◌, if◌then◌else◌, List, [], ◌∷◌, Option, Some, None, option_map}
 use Rattle.std.specs.List.{list_any}
 use Rattle.pm_num.specs.AnyFormat.{Shape, shape_value}
 use Rattle.pm_num.specs.Ratio.{Ratio, IsBetween, is_above, micros}
 use Rattle.pm_table.specs.declared.reg.Reg.{Reg}
-use Rattle.pm_table.specs.declared.reg.Reg.TheVariants.{Operation, VoutCommand, VoutMax, MarginHigh, MarginLow, VoutMin}
+use Rattle.pm_table.specs.declared.reg.Reg.TheVariants.{Operation, VoutMax, VoutMin}
 use Rattle.pm_table.specs.declared.cell.Cell.TheVariants.{Out}
 use Rattle.pm_table.specs.Cell.{same_register}
 use Rattle.pm_model.specs.Commanded.{selected_register, limited}
@@ -37,7 +37,7 @@ word_end side shape known register = end_of side shape (shape_value shape) (know
 -- the bytes that OPERATION may be, as far as it matters: where it may be any, one for each register that a byte
 -- selects
 abbrev pub operations : Possible → List ℕ
-operations Any = 0x80 ∷ 0xA8 ∷ 0x98 ∷ []
+operations Any = 0x80 ∷ 0xA8 ∷ 0x94 ∷ []
 operations (Words words) = words.items
 
 -- how far out a byte of OPERATION reaches: to the end of the register that it selects
@@ -103,10 +103,8 @@ abbrev pub is_selected : List ℕ → Reg → Bool
 is_selected bytes register = list_any (λ byte. same_register (selected_register byte) register) bytes
 
 abbrev pub decides : Known → Reg → Bool
-decides known Operation = true
-decides known VoutMax = true
-decides known VoutMin = true
-decides known register = is_selected (operations (known Operation)) register
+decides known register = list_any (same_register register) (Operation ∷ VoutMax ∷ VoutMin ∷ [])
+    || is_selected (operations (known Operation)) register
 
 -- the word with which each register lets the output command an end of its band
 abbrev pub end_choice : Side → Shape → Known → Reg → ℕ

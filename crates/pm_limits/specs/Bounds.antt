@@ -1,5 +1,5 @@
 -- The limits of an output's voltage, in whole microvolts. This project's own choice.
-use Rattle.std.specs.Prelude.{◌^◌, ◌≤◌, ◌≤ℤ◌, ℤ, unsigned_abs, int_lt, nat_lt, Bool, false, not, ◌||◌, if◌then◌else◌, Option, Some, None}
+use Rattle.std.specs.Prelude.{◌^◌, ◌≤◌, ◌≤ℤ◌, ℤ, unsigned_abs, int_lt, nat_lt, Bool, false, ◌||◌, if◌then◌else◌, Option, Some, None}
 use Rattle.pm_num.specs.declared.fault.NumFault.TheVariants.{TooLarge}
 use Rattle.pm_num.specs.Ratio.{Ratio, IsBetween, is_above, micros}
 use Rattle.pm_host.specs.declared.fault.HostFault.TheVariants.{Num}

@@ -1,8 +1,7 @@
 -- What the laws of this crate say, each by a name that a crate above takes it by.
-use Rattle.std.specs.Prelude.{◌≡◌, ◌≢◌, ◌^◌, ◌<◌, ℕ, true, false, Some, None, IsSomeAnd}
+use Rattle.std.specs.Prelude.{◌≡◌, ◌^◌, ◌<◌, ℕ, true, false, Some, None, IsSomeAnd}
 use Rattle.pm_num.specs.AnyFormat.{Shape, shape_value}
 use Rattle.pm_table.specs.declared.reg.Reg.{Reg}
-use Rattle.pm_table.specs.declared.cell.Cell.{Cell}
 use Rattle.pm_table.specs.declared.cell.Cell.TheVariants.{Out}
 use Rattle.pm_table.specs.declared.reg.Reg.TheVariants.{Operation}
 use Rattle.pm_table.specs.Cell.{is_voltage}

@@ -1,17 +1,16 @@
 ghost use Rattle.std.specs.Prelude.{◌≡◌, ◌<◌};
 ghost use Rattle.pm_num.specs.AnyFormat.{shape_of};
-ghost use Rattle.pm_limits.specs.Band.{band_at, band_on as spec_band_on, band_with, operations as spec_operations};
-ghost use Rattle.pm_limits.specs.Registers.{known_in};
+ghost use Rattle.pm_limits.specs.Band.{band_at, band_on as spec_band_on, band_with, known_of, operations as spec_operations};
 
 use crate::ends::end_with;
-use crate::registers::Registers;
 use crate::side::Side;
 use pm_host::{Host, Possible};
 use pm_num::{AnyFormat, Frac};
+use pm_table::{Cell, Reg};
 
 // What stands for the bytes that OPERATION may be where it may be any: on, on with margin high, and on with
 // margin low.
-static EACH_SELECTION: [u16; 3] = [0x80, 0xA8, 0x98];
+static EACH_SELECTION: [u16; 3] = [0x80, 0xA8, 0x94];
 
 /// The least and the greatest voltage that an output may command, in volts, by what is known.
 #[derive(Clone, Copy, Debug)]
@@ -34,8 +33,8 @@ pub fn band_of(host: &Host, output: u8) -> Option<Band>
 {
     match host.format(output) {
         Some(format) => {
-            let registers = Registers::of(host, output);
-            Some(band_in(&format, &registers, operations(&registers.operation)))
+            let operation = host.possible(Cell::Out(output, Reg::Operation));
+            Some(band_in(&format, host, output, operations(&operation)))
         }
         None => None,
     }
@@ -47,18 +46,19 @@ pub(crate) fn band_on(host: &Host, output: u8, byte: u16) -> Option<Band>
     ensures { result ≡ spec_band_on host.now output byte }
 {
     match host.format(output) {
-        Some(format) => Some(band_in(&format, &Registers::of(host, output), &[byte])),
+        Some(format) => Some(band_in(&format, host, output, &[byte])),
         None => None,
     }
 }
 
 // The band with one of these bytes in OPERATION.
-fn band_in(format: &AnyFormat, registers: &Registers, bytes: &[u16]) -> Band
-    ensures { result ≡ band_with (shape_of format.now) (known_in registers.now) bytes.now }
+fn band_in(format: &AnyFormat, host: &Host, output: u8, bytes: &[u16]) -> Band
+    requires { output < host.now.setup.outputs }
+    ensures { result ≡ band_with (shape_of format.now) (known_of host.now output) bytes.now }
 {
     Band {
-        least: end_with(Side::Lowest, format, registers, bytes),
-        greatest: end_with(Side::Highest, format, registers, bytes),
+        least: end_with(Side::Lowest, format, host, output, bytes),
+        greatest: end_with(Side::Highest, format, host, output, bytes),
     }
 }
 

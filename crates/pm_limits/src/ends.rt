@@ -1,59 +1,72 @@
 //! The words of an output's registers whose values lie farthest out on a side.
 
-ghost use Rattle.std.specs.Prelude.{◌≡◌, ℕ};
+ghost use Rattle.std.specs.Prelude.{◌≡◌, ◌<◌, ℕ};
 ghost use Rattle.pm_num.specs.AnyFormat.{any_value, shape_of};
-ghost use Rattle.pm_table.specs.declared.reg.Reg.{Reg as AnyReg};
-ghost use Rattle.pm_table.specs.declared.reg.Reg.TheVariants as reg;
 ghost use Rattle.pm_model.specs.Commanded.{limited as spec_limited, selected_register as spec_selected_register};
-ghost use Rattle.pm_limits.specs.Band.{end_with as spec_end_with, word_end};
+ghost use Rattle.pm_limits.specs.Band.{end_with as spec_end_with, known_of, word_end};
 ghost use Rattle.pm_limits.specs.Ends.{candidates as spec_candidates, end_of as spec_end_of, farthest as spec_farthest, farthest_of as spec_farthest_of, is_farther as spec_is_farther};
-ghost use Rattle.pm_limits.specs.Registers.{end_in, known_in, selected_value};
+ghost use Rattle.pm_limits.specs.Selectable.{end_in, selected_value};
 
-use crate::registers::Registers;
 use crate::side::Side;
-use pm_host::Possible;
+use pm_host::{Host, Possible};
 use pm_num::{AnyFormat, Frac, NumFormat};
-use pm_table::Reg;
+use pm_table::{Cell, Reg};
 
 // The words of the ends of each format, in one order or the other.
 static LINEAR11_ENDS: [u16; 2] = [0x7C00, 0x7BFF];
+
 static ULINEAR16_ENDS: [u16; 2] = [0x0000, 0xFFFF];
+
 static DIRECT_ENDS: [u16; 2] = [0x7FFF, 0x8000];
 
-/// The word of each voltage, of those that it may hold, whose value lies farthest out on a side.
+/// The word of each register that a byte of OPERATION may select, of those that it may hold, whose value lies
+/// farthest out on a side.
 #[derive(Clone, Copy)]
-struct Ends {
+struct Selectable {
     command: u16,
     high: u16,
     low: u16,
-    min: u16,
-    max: u16,
 }
 
-/// How far out on a side an output may command, with one of these bytes in OPERATION.
+/// How far out on a side an output may command, with one of these bytes in OPERATION. The output is there.
 #[tactic(auto, unfolding(crate::specs::Band::end_with))]
-pub(crate) fn end_with(side: Side, format: &AnyFormat, registers: &Registers, bytes: &[u16]) -> Frac
-    ensures { result ≡ spec_end_with side (shape_of format.now) (known_in registers.now) bytes.now }
+pub(crate) fn end_with(
+    side: Side,
+    format: &AnyFormat,
+    host: &Host,
+    output: u8,
+    bytes: &[u16],
+) -> Frac
+    requires { output < host.now.setup.outputs }
+    ensures { result
+        ≡ spec_end_with side (shape_of format.now) (known_of host.now output) bytes.now }
 {
-    let ends = Ends::of(side, format, registers);
+    let ends = Selectable::of(side, format, host, output);
     let selected = ends.word(ends.farthest(side, format, bytes));
-    limited(format, selected, ends.min, ends.max)
+    let least = end_at(side, format, host, output, Reg::VoutMin);
+    let greatest = end_at(side, format, host, output, Reg::VoutMax);
+    limited(format, selected, least, greatest)
 }
 
-impl Ends {
-    // The ends of what the registers may hold.
-    fn of(side: Side, format: &AnyFormat, registers: &Registers) -> Ends
-        ensures selected { (byte : ℕ) → end_in result (spec_selected_register byte)
-            ≡ word_end side (shape_of format.now) (known_in registers.now) (spec_selected_register byte) }
-        ensures min { result.min ≡ word_end side (shape_of format.now) (known_in registers.now) reg.VoutMin }
-        ensures max { result.max ≡ word_end side (shape_of format.now) (known_in registers.now) reg.VoutMax }
+// The word of an output's voltage, of those that it may hold, whose value lies farthest out.
+fn end_at(side: Side, format: &AnyFormat, host: &Host, output: u8, register: Reg) -> u16
+    requires { output < host.now.setup.outputs }
+    ensures { result ≡ word_end side (shape_of format.now) (known_of host.now output) register }
+{
+    end_of(side, format, &host.possible(Cell::Out(output, register)))
+}
+
+impl Selectable {
+    // The ends of what an output's registers may hold.
+    fn of(side: Side, format: &AnyFormat, host: &Host, output: u8) -> Selectable
+        requires { output < host.now.setup.outputs }
+        ensures { (byte : ℕ) → end_in result (spec_selected_register byte)
+            ≡ word_end side (shape_of format.now) (known_of host.now output) (spec_selected_register byte) }
     {
-        Ends {
-            command: end_of(side, format, &registers.command),
-            high: end_of(side, format, &registers.high),
-            low: end_of(side, format, &registers.low),
-            min: end_of(side, format, &registers.min),
-            max: end_of(side, format, &registers.max),
+        Selectable {
+            command: end_at(side, format, host, output, Reg::VoutCommand),
+            high: end_at(side, format, host, output, Reg::MarginHigh),
+            low: end_at(side, format, host, output, Reg::MarginLow),
         }
     }
 
@@ -69,7 +82,7 @@ impl Ends {
     }
 
     // Whether the register that the other byte selects has the farther end.
-    #[tactic(auto, unfolding(crate::specs::Registers::selected_value))]
+    #[tactic(auto, unfolding(crate::specs::Selectable::selected_value))]
     fn is_farther(&self, side: Side, format: &AnyFormat, byte: u16, other: u16) -> bool
         ensures { let value = selected_value (any_value format.now) self.now in
             result ≡ spec_is_farther side (value byte) (value other) }

@@ -25,7 +25,6 @@ mod fault;
 mod guard;
 mod laws;
 mod limits;
-mod registers;
 mod side;
 mod within;
 

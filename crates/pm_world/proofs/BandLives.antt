@@ -7,7 +7,7 @@ use Rattle.pm_num.specs.Ratio.{Ratio}
 use Rattle.pm_table.specs.declared.cell.Cell.{Cell}
 use Rattle.pm_table.specs.declared.cell.Cell.TheVariants.{Out, Protect}
 use Rattle.pm_table.specs.declared.reg.Reg.{Reg}
-use Rattle.pm_table.specs.declared.reg.Reg.TheVariants.{Operation, VoutCommand, VoutMax, MarginHigh, MarginLow, VoutMin}
+use Rattle.pm_table.specs.declared.reg.Reg.TheVariants.{Operation}
 use Rattle.pm_table.specs.Cell.{IsCell, is_operation, is_output_cell, is_voltage, same_cell}
 use Rattle.pm_model.specs.Commanded.{commanded}
 use Rattle.pm_model.specs.Settings.{word_at}
@@ -144,16 +144,16 @@ listed-is side value [] h = absurd h
 listed-is side value (word ∷ words) h = farthest_of-is side value word words
 
 -- of the three bytes that stand for all each is accepted
-accepted : (byte : ℕ) → is_listed byte (0x80 ∷ 0xA8 ∷ 0x98 ∷ []) ≡ true → is_operation byte ≡ true
-accepted byte h = go (0x80 == byte) (0xA8 == byte) (0x98 == byte) refl refl refl h where
-  go : (on high low : Bool) → (0x80 == byte) ≡ on → (0xA8 == byte) ≡ high → (0x98 == byte) ≡ low →
+accepted : (byte : ℕ) → is_listed byte (0x80 ∷ 0xA8 ∷ 0x94 ∷ []) ≡ true → is_operation byte ≡ true
+accepted byte h = go (0x80 == byte) (0xA8 == byte) (0x94 == byte) refl refl refl h where
+  go : (on high low : Bool) → (0x80 == byte) ≡ on → (0xA8 == byte) ≡ high → (0x94 == byte) ≡ low →
       (on || (high || (low || false))) ≡ true → is_operation byte ≡ true
   go true high low a b c h' =
       let it : 0x80 ≡ byte = grind (arith, nat_tests) in subst (λ n. is_operation n ≡ true) it refl
   go false true low a b c h' =
       let it : 0xA8 ≡ byte = grind (arith, nat_tests) in subst (λ n. is_operation n ≡ true) it refl
   go false false true a b c h' =
-      let it : 0x98 ≡ byte = grind (arith, nat_tests) in subst (λ n. is_operation n ≡ true) it refl
+      let it : 0x94 ≡ byte = grind (arith, nat_tests) in subst (λ n. is_operation n ≡ true) it refl
   go false false false a b c h' = cc
 
 -- so the words of an end are possible
@@ -167,17 +167,13 @@ voltage-held side shape output register (Words words) voltage full = listed-is s
 operation-held : (side : Side) (value : ℕ → Ratio) (output : ℕ) (possible : Possible) → PossibleFilled possible →
     may_hold (Out output Operation) (farthest_of side value (operations possible)) possible ≡ true
 operation-held side value output Any full =
-    accepted (farthest_of side value (operations Any)) (farthest_of-is side value 0x80 (0xA8 ∷ 0x98 ∷ []))
+    accepted (farthest_of side value (operations Any)) (farthest_of-is side value 0x80 (0xA8 ∷ 0x94 ∷ []))
 operation-held side value output (Words words) full = listed-is side value words.items full
 
 choice-held : (side : Side) (shape : Shape) (output : ℕ) (known : Known) (register : Reg) → PossibleFilled (known register) →
     may_hold (Out output register) (end_choice side shape known register) (known register) ≡ true
 choice-held side shape output known Operation full = operation-held side (reach side shape known) output (known Operation) full
-choice-held side shape output known VoutCommand full = voltage-held side shape output VoutCommand (known VoutCommand) refl full
-choice-held side shape output known VoutMax full = voltage-held side shape output VoutMax (known VoutMax) refl full
-choice-held side shape output known MarginHigh full = voltage-held side shape output MarginHigh (known MarginHigh) refl full
-choice-held side shape output known MarginLow full = voltage-held side shape output MarginLow (known MarginLow) refl full
-choice-held side shape output known VoutMin full = voltage-held side shape output VoutMin (known VoutMin) refl full
+choice-held side shape output known register full = voltage-held side shape output register (known register) refl full
 
 pub ends-possible : Below → {config : Config} {passes : ℕ} {events : List Event} (sides : ℕ → Side) → IsLived config passes events →
     ArePossible config (now config passes events).host (end_choices config (now config passes events).host sides)

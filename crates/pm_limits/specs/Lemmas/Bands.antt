@@ -1,7 +1,7 @@
 -- The ends of a band.
-use Rattle.std.specs.Prelude.{◌≡◌, ◌≢◌, ℕ, ◌*◌, ◌^◌, ◌<◌, ◌==◌, suc, ℤ, pos, negsuc, unsigned_abs, Bool, true, false, cond, ◌||◌, List, [], ◌∷◌, refl}
+use Rattle.std.specs.Prelude.{◌≡◌, ℕ, ◌^◌, ◌<◌, ◌==◌, pos, negsuc, Bool, true, false, ◌||◌, List, [], ◌∷◌, refl}
 use Rattle.std.specs.List.{list_any}
-use Rattle.std.proofs.Common.{◌∙◌, ap, arith, lit<, subst, sym}
+use Rattle.std.proofs.Common.{◌∙◌, ap, arith, subst}
 use Rattle.std.proofs.lemmas.Bool.Decides.{nat_tests}
 use Rattle.pm_num.specs.AnyFormat.{Shape, InLinear11, InUlinear16, InDirect, shape_value}
 use Rattle.pm_num.specs.Ratio.{Ratio, IsBetween}
@@ -9,10 +9,10 @@ use Rattle.pm_num.specs.Lemmas.Spelling.{linear11-within}
 use Rattle.pm_num.specs.Lemmas.Slope.{direct-within}
 use Rattle.pm_num.specs.Lemmas.Unsigned.{ulinear16-within}
 use Rattle.pm_table.specs.declared.reg.Reg.{Reg}
-use Rattle.pm_table.specs.declared.reg.Reg.TheVariants.{Operation, VoutCommand, VoutMax, MarginHigh, MarginLow, VoutMin}
+use Rattle.pm_table.specs.declared.reg.Reg.TheVariants.{Operation, VoutMax, VoutMin}
 use Rattle.pm_table.specs.declared.cell.Cell.TheVariants.{Out}
 use Rattle.pm_table.specs.Cell.{same_register}
-use Rattle.pm_model.specs.Commanded.{Scale, commanded, limited, selected, selected_register}
+use Rattle.pm_model.specs.Commanded.{commanded, limited, selected, selected_register}
 use Rattle.pm_model.specs.Settings.{Words, word_at}
 use Rattle.pm_host.specs.declared.possible.Possible.{Possible}
 use Rattle.pm_host.specs.declared.possible.Possible.TheVariants.{Any, Words as Listed}
@@ -20,8 +20,8 @@ use Rattle.pm_host.specs.Possible.{is_listed, is_possible}
 use Rattle.pm_limits.specs.declared.side.Side.{Side}
 use Rattle.pm_limits.specs.declared.side.Side.TheVariants.{Lowest, Highest}
 use Rattle.pm_limits.specs.Band.{HasDens, Known, decides, end_choice, end_with, is_selected, operation_end, operations, reach, word_end}
-use Rattle.pm_limits.specs.Ends.{Reaches, candidates, end_of, farthest_of, shape_ends}
-use Rattle.pm_limits.specs.Lemmas.Cuts.{Cut, reaches-cut}
+use Rattle.pm_limits.specs.Ends.{Reaches, end_of, farthest_of, shape_ends}
+use Rattle.pm_limits.specs.Lemmas.Cuts.{reaches-cut}
 use Rattle.pm_limits.specs.Lemmas.Farthest.{HaveDens, farthest_of-listed, reaches-through}
 use Rattle.pm_limits.specs.Lemmas.Selected.{each-selected}
 
@@ -66,12 +66,7 @@ end-held side shape (Listed words) word dens short is =
 
 -- a register that is selected by a listed byte is selected
 same-itself : (register : Reg) → same_register register register ≡ true
-same-itself Operation = refl
-same-itself VoutCommand = refl
-same-itself VoutMax = refl
-same-itself MarginHigh = refl
-same-itself MarginLow = refl
-same-itself VoutMin = refl
+same-itself register = grind (arith, nat_tests)
 
 listed-selected : (bytes : List ℕ) (byte : ℕ) → is_listed byte bytes ≡ true → is_selected bytes (selected_register byte) ≡ true
 listed-selected [] byte is = is
@@ -90,12 +85,12 @@ listed-selected (other ∷ bytes) byte is =
 -- a selected register decides
 selected-decides : (known : Known) (register : Reg) → is_selected (operations (known Operation)) register ≡ true →
     decides known register ≡ true
-selected-decides known Operation h = refl
-selected-decides known VoutCommand h = h
-selected-decides known VoutMax h = refl
-selected-decides known MarginHigh h = h
-selected-decides known MarginLow h = h
-selected-decides known VoutMin h = refl
+selected-decides known register h = go (list_any (same_register register) (Operation ∷ VoutMax ∷ VoutMin ∷ []))
+    (is_selected (operations (known Operation)) register) h
+  where
+    go : (p q : Bool) → q ≡ true → (p || q) ≡ true
+    go true q e = refl
+    go false q e = e
 
 byte-selects : (possible : Possible) (byte : ℕ) → is_possible byte possible ≡ true →
     is_selected (operations possible) (selected_register byte) ≡ true
@@ -113,7 +108,7 @@ byte-held side shape known Any byte dens is =
     each-selected (λ r. Reaches side far (shape_value shape (word_end side shape known r)))
     (farthest_of-listed side (reach side shape known) (operations Any) 0x80 all refl)
     (farthest_of-listed side (reach side shape known) (operations Any) 0xA8 all refl)
-    (farthest_of-listed side (reach side shape known) (operations Any) 0x98 all refl) byte
+    (farthest_of-listed side (reach side shape known) (operations Any) 0x94 all refl) byte
 byte-held side shape known (Listed words) byte dens is =
     farthest_of-listed side (reach side shape known) words.items byte
     (all-dens (reach side shape known) (λ b. dens (word_end side shape known (selected_register b))) words.items) is
@@ -164,8 +159,8 @@ band-reached side shape known words output are =
     let byte = word_at words (Out output Operation) in
     let far = operation_end side shape known (operations (known Operation)) in
     let chosen = are (selected_register byte)
-        ∙ each-selected (λ r. end_choice side shape known r ≡ word_end side shape known r) refl refl refl byte
-        ∙ ap (λ (b : ℕ). word_end side shape known (selected_register b)) (are Operation) in
+    ∙ each-selected (λ r. end_choice side shape known r ≡ word_end side shape known r) refl refl refl byte
+    ∙ ap (λ (b : ℕ). word_end side shape known (selected_register b)) (are Operation) in
     ap (λ (w : ℕ). limited (value w) (value (word_at words (Out output VoutMin))) (value (word_at words (Out output VoutMax)))) chosen
     ∙ ap (λ (w : ℕ). limited (reach side shape known far) (value w) (value (word_at words (Out output VoutMax)))) (are VoutMin)
     ∙ ap (λ (w : ℕ). limited (reach side shape known far) (value (word_end side shape known VoutMin)) (value w)) (are VoutMax)

@@ -1,5 +1,5 @@
 -- What is cut to limits lies as far out as what it is cut from and its limits do.
-use Rattle.std.specs.Prelude.{◌≡◌, ℕ, ◌<◌, Bool, true, false, cond, ◌&&◌, ◌||◌, refl}
+use Rattle.std.specs.Prelude.{◌≡◌, ◌<◌, Bool, true, false, cond, ◌&&◌, ◌||◌, refl}
 use Rattle.pm_num.specs.Ratio.{Ratio, AtMost, is_above}
 use Rattle.pm_model.specs.Commanded.{limited}
 use Rattle.pm_limits.specs.declared.side.Side.{Side}

@@ -1,7 +1,6 @@
 -- The farthest of several words lies at least as far out as each of them, and is one of them.
 use Rattle.std.specs.Prelude.{◌≡◌, ℕ, ◌<◌, ◌==◌, Bool, true, false, cond, ◌||◌, List, [], ◌∷◌, refl}
-use Rattle.std.specs.List.{list_any}
-use Rattle.std.proofs.Common.{arith, subst, sym}
+use Rattle.std.proofs.Common.{arith, subst}
 use Rattle.std.proofs.lemmas.Bool.Decides.{nat_tests}
 use Rattle.pm_num.specs.Ratio.{Ratio}
 use Rattle.pm_host.specs.Possible.{is_listed}

@@ -1,5 +1,5 @@
 -- What a guard lets through.
-use Rattle.std.specs.Prelude.{◌≡◌, ℕ, ℤ, Bool, true, false, cond, not, ◌&&◌, Option, Some, None, IsSomeAnd, refl, option_map, option_and_then, is_none}
+use Rattle.std.specs.Prelude.{◌≡◌, ℕ, Bool, true, false, cond, not, ◌&&◌, Option, Some, None, IsSomeAnd, refl, option_map, option_and_then}
 use Rattle.std.specs.Option.{option_or}
 use Rattle.std.proofs.Common.{◌∙◌, ap, sym, subst}
 use Rattle.pm_num.specs.AnyFormat.{Shape, shape_value}
@@ -7,7 +7,7 @@ use Rattle.pm_num.specs.Ratio.{Ratio, is_above, micros}
 use Rattle.pm_table.specs.declared.cell.Cell.{Cell}
 use Rattle.pm_table.specs.declared.cell.Cell.TheVariants.{Out}
 use Rattle.pm_table.specs.declared.reg.Reg.{Reg}
-use Rattle.pm_table.specs.declared.reg.Reg.TheVariants.{Operation, VoutCommand, VoutMax, MarginHigh, MarginLow, VoutMin}
+use Rattle.pm_table.specs.declared.reg.Reg.TheVariants.{Operation}
 use Rattle.pm_table.specs.Cell.{is_voltage}
 use Rattle.pm_host.specs.declared.fault.HostFault.{HostFault}
 use Rattle.pm_host.specs.declared.job.Job.{Job}
@@ -15,15 +15,14 @@ use Rattle.pm_host.specs.declared.job.Job.TheVariants as job
 use Rattle.pm_host.specs.Jobs.{accepted_job, begin_fault}
 use Rattle.pm_host.specs.Refusals.{cell_fault, micro_word, order_fault}
 use Rattle.pm_host.specs.Summary.{format_at}
-use Rattle.pm_host.specs.Transcript.{Order, Send, Check, Learn}
-use Rattle.pm_host.specs.Transcript as accepted
+use Rattle.pm_host.specs.Transcript.{Order}
 use Rattle.pm_limits.specs.declared.fault.LimitFault.{LimitFault}
 use Rattle.pm_limits.specs.declared.fault.LimitFault.TheVariants.{BelowLimit, AboveLimit, NotKnownWithin}
 use Rattle.pm_limits.specs.declared.within.Within.{Within}
 use Rattle.pm_limits.specs.declared.within.Within.TheVariants.{Yes, No, NotKnown}
 use Rattle.pm_limits.specs.Band.{band_on, is_yes, within_of}
 use Rattle.pm_limits.specs.Bounds.{Bounds, IsWithin, outside_fault}
-use Rattle.pm_limits.specs.Guard.{Guarded, first, guard_fault, guarded_order, judged, leaves_on, limits_at, of_host, operation_limit, voltage_limit, word_fault}
+use Rattle.pm_limits.specs.Guard.{Guarded, guard_fault, guarded_order, judged, leaves_on, limits_at, of_host, operation_limit, voltage_limit, word_fault}
 use Rattle.pm_limits.specs.Lemmas.Order.{at-most}
 
 -- the second of two faults is none where neither comes
@@ -58,11 +57,7 @@ let-through (Some own) (Some shape) word bounds is free =
 judged-voltage : (g : Guarded) (output : ℕ) (register : Reg) (word : ℕ) → is_voltage register ≡ true →
     judged g (Out output register) word ≡ voltage_limit (limits_at g output) (format_at g.host output) word
 judged-voltage g output Operation word h = cc
-judged-voltage g output VoutCommand word h = refl
-judged-voltage g output VoutMax word h = refl
-judged-voltage g output MarginHigh word h = refl
-judged-voltage g output MarginLow word h = refl
-judged-voltage g output VoutMin word h = refl
+judged-voltage g output register word h = refl
 
 -- an order that is let through
 order-within : (g : Guarded) (cell : Cell) (output : ℕ) (register : Reg) (word : ℕ) (bounds : Bounds) →
@@ -144,11 +139,7 @@ judged-free g output Operation word none =
     go : (b : Bool) → cond (b && false) (Some NotKnownWithin) None ≡ None
     go true = refl
     go false = refl
-judged-free g output VoutCommand word none = ap (λ (l : Option Bounds). voltage_limit l (format_at g.host output) word) none
-judged-free g output VoutMax word none = ap (λ (l : Option Bounds). voltage_limit l (format_at g.host output) word) none
-judged-free g output MarginHigh word none = ap (λ (l : Option Bounds). voltage_limit l (format_at g.host output) word) none
-judged-free g output MarginLow word none = ap (λ (l : Option Bounds). voltage_limit l (format_at g.host output) word) none
-judged-free g output VoutMin word none = ap (λ (l : Option Bounds). voltage_limit l (format_at g.host output) word) none
+judged-free g output register word none = ap (λ (l : Option Bounds). voltage_limit l (format_at g.host output) word) none
 
 pub guarded-free : (g : Guarded) (output : ℕ) (register : Reg) (word : ℕ) → limits_at g output ≡ None →
     guard_fault g (job.Order (Out output register) word)

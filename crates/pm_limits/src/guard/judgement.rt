@@ -115,7 +115,9 @@ impl Guard {
         requires { output < self.now.host.setup.outputs }
         ensures { result_err result ≡ operation_limit self.now output byte }
     {
-        if leaves_on(byte) && self.within_band(output, band_on(&self.host, output, byte)) != Within::Yes {
+        if leaves_on(byte)
+            && self.within_band(output, band_on(&self.host, output, byte)) != Within::Yes
+        {
             return Err(LimitFault::NotKnownWithin);
         }
         Ok(())

@@ -1,0 +1,86 @@
+"""Limits of an output's voltage, a host that keeps them, and the band of voltage that is known: for each side
+the word of each register that reaches farthest. Limits are a least and a most in whole microvolts, or None."""
+from fractions import Fraction
+
+from .converter import COMMAND, HIGH, LOW, MAX, MIN, OPERATION, PROTECT, accepts
+from .host import ANY
+from .numbers import nearest, value_of
+
+# Where OPERATION may be any byte: one for each register that a byte selects.
+EACH_SELECTION = (0x80, 0xA8, 0x94)
+VOLTAGES = (COMMAND, MAX, HIGH, LOW, MIN)
+
+
+def selected(byte):
+    return HIGH if byte >> 2 in (0x29, 0x2A) else LOW if byte >> 2 in (0x25, 0x26) else COMMAND
+
+
+def value(form, word):
+    return Fraction(*value_of(form, word))
+
+
+def end_words(form):
+    """The words of a format's least and greatest value."""
+    return (0x8000, 0x7FFF) if form[0] == "direct" else (0, 0xFFFF)
+
+
+def end_values(host, output, form, register, farthest):
+    words = host.possible((output, register))
+    return farthest(value(form, word) for word in (end_words(form) if words is ANY else words))
+
+
+def band(host, output, byte=None):
+    """The least and the greatest voltage that the output may command, with this byte in OPERATION where one is
+    given; None where its format isn't known."""
+    form = host.format(output)
+    if form is None:
+        return None
+    bytes_ = host.possible((output, OPERATION)) if byte is None else [byte]
+    bytes_ = EACH_SELECTION if bytes_ is ANY else bytes_
+    ends = []
+    for farthest in (min, max):
+        end = {register: end_values(host, output, form, register, farthest) for register in VOLTAGES}
+        reach = farthest(end[selected(it)] for it in bytes_)
+        ends.append(min(max(reach, end[MIN]), end[MAX]))
+    return tuple(ends)
+
+
+def outside(limits, found):
+    """L3 or L4 for a value outside limits."""
+    least, most = (Fraction(it, 10**6) for it in limits)
+    return "L3 BelowLimit" if found < least else "L4 AboveLimit" if found > most else None
+
+
+def within(limits, found):
+    """Whether a band lies within limits: yes, no or not known."""
+    if limits is None:
+        return "yes"
+    if found is None:
+        return "unknown"
+    faults = [outside(limits, end) for end in found]
+    if faults == [None, None]:
+        return "yes"
+    return "no" if faults[0] == faults[1] else "unknown"
+
+
+def order_refusal(host, limits, cell, word):
+    """What a guard says of an order beside its host: None where the host alone decides."""
+    if host.refusal(cell[0]) or cell == PROTECT or limits[cell[0]] is None:
+        return None
+    own = limits[cell[0]]
+    if cell[1] == OPERATION:
+        is_on = accepts(cell, word) and word >= 0x80
+        return "L5 NotKnownWithin" if is_on and within(own, band(host, cell[0], word)) != "yes" else None
+    form = host.format(cell[0])
+    return outside(own, value(form, word)) if form else "L2 FormatUnknown"
+
+
+def refusal(host, limits, event):
+    """The same of an event that asks for an order, as a word or in microvolts."""
+    if event[0] == "order":
+        return order_refusal(host, limits, *event[1:])
+    if event[0] != "volts" or host.refusal(event[1][0]) or event[1] == PROTECT or event[1][1] == OPERATION:
+        return None
+    form = host.format(event[1][0])
+    word = nearest(form, event[2])[0] if form else None
+    return None if word is None else order_refusal(host, limits, event[1], word)
