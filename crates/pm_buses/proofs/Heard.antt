@@ -126,3 +126,10 @@ came-back request bytes given came ending way so whole needed old new h came_so 
       came_is = came_is;
       after = hears-after h;
     }
+
+-- bytes that were put into the room for them are what is taken from it
+pub put-in : (came copied rest : List ℕ) → copied ≡ came → take (length came) (copied ++ rest) ≡ came
+put-in came copied rest same = ap (λ l. take (length came) (l ++ rest)) same ∙ go came where
+  go : (bytes : List ℕ) → take (length bytes) (bytes ++ rest) ≡ bytes
+  go [] = refl
+  go (byte ∷ bytes) = ap (λ l. byte ∷ l) (go bytes)
