@@ -45,10 +45,12 @@ data Told (s : State) (event : Event) : Type 0 where
   wrote : (acked : Bool) → (share_of s event).told ≡ Some (Finished acked) → Told s event
   came : (bytes : List ℕ) → (share_of s event).told ≡ Some (Got bytes) → Told s event
 
-told-by : (s : State) (event : Event) (before : List Event) → newest_tells (event ∷ before) ≡ true → event_cause s event ≡ None → Told s event
+told-by : (s : State) (event : Event) (before : List Event) → newest_tells (event ∷ before) ≡ true → event_cause s event ≡ None →
+    Told s event
 told-by s (Finish acked) before tells free = wrote acked refl
 told-by s (Exchange arrival back) before tells free = go (sending_in s.host) refl free where
-  go : (sending : Option Message) → sending_in s.host ≡ sending → exchange_cause s arrival back sending ≡ None → Told s (Exchange arrival back)
+  go : (sending : Option Message) → sending_in s.host ≡ sending → exchange_cause s arrival back sending ≡ None →
+      Told s (Exchange arrival back)
   go None e h = cc
   go (Some message) e h = came _ (ap (λ o. (exchanged s arrival back o).told) e)
 told-by s event before tells free = cc
@@ -72,10 +74,12 @@ marks-so : (setup : Setup) (before : List Entry) (bytes : List ℕ) (cell : Cell
 unfolding goods puts open_job
 marks-so setup before bytes cell word end was ended =
     ap₂ (λ new good. new ++ (good ++ marks setup before))
-    (ap (λ e. put_by (cond (is_none e) (last_job before) None) (told_since (Got bytes ∷ before))) ended) (goods-so setup before bytes cell word was)
+    (ap (λ e. put_by (cond (is_none e) (last_job before) None) (told_since (Got bytes ∷ before))) ended)
+    (goods-so setup before bytes cell word was)
 
 -- the host calls a word that it just read confirmed, and the converter holds it
-stands : CellsAreToldApart → LegalLivesAreFollowed → (config : Config) (passes : ℕ) (before : List Event) (event : Event) (bytes : List ℕ) (cell : Cell) (word : ℕ) (end : JobEnd) →
+stands : CellsAreToldApart → LegalLivesAreFollowed → (config : Config) (passes : ℕ) (before : List Event) (event : Event)
+    (bytes : List ℕ) (cell : Cell) (word : ℕ) (end : JobEnd) →
     (is : IsLife config passes (event ∷ before) (now config passes (event ∷ before)).host (now config passes (event ∷ before)).device) →
     (share_of (now config passes before) event).told ≡ Some (Got bytes) →
     WasRead (setup_of config passes) (life config passes before).entries bytes cell word →

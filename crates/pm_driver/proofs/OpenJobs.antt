@@ -55,7 +55,8 @@ read-open s cell word pass (Some read) =
     let t = marked s (Good cell read) in
     let more = cond (eqb (pass + 1) t.setup.passes) (ends t (Differs read)) (writes t cell word (pass + 1)) in
     open-cond (eqb read word) (ends t Done) more (ended-open t Done)
-    (open-cond (eqb (pass + 1) t.setup.passes) (ends t (Differs read)) (writes t cell word (pass + 1)) (ended-open t (Differs read)) (λ h. refl))
+    (open-cond (eqb (pass + 1) t.setup.passes) (ends t (Differs read)) (writes t cell word (pass + 1)) (ended-open t (Differs read))
+    (λ h. refl))
 
 -- a learn found a format, or none
 learned-open : (s : Summary) (output : ℕ) (shape : Option Shape) → IsOpen (learned s output shape)

@@ -14,7 +14,8 @@ returns-then-count-answer-clause-asked c =
       given_is = c.answer_in-given.ensures ∙ ap answer_in c.hear-reply.ensures.reply;
       after = c.hear-reply.ensures.after;
     } in
-    lost-back c.args.request.now c.heard_bytes-bytes.result.now c.answer_in-given.result.now c.heard_ending-ending.result c.args.arrival.now
+    lost-back c.args.request.now c.heard_bytes-bytes.result.now c.answer_in-given.result.now c.heard_ending-ending.result
+    c.args.arrival.now
     (length c.args.answer.now) c.args.device.now c.hear-reply.new.self c.requires hears
 
 pub returns-clause-asked : goal.returns-clause-asked
@@ -28,7 +29,8 @@ returns-clause-asked c =
       after = c.hear-reply.ensures.after;
     } in
     let back = came-back c.args.request.now c.heard_bytes-bytes.result.now c.answer_in-given.result.now c.back_bytes-came.result.now
-    c.heard_ending-ending.result c.args.arrival.now c.args.back.now c.is_heard_whole-whole.result (length c.args.answer.now) c.args.device.now
+    c.heard_ending-ending.result c.args.arrival.now c.args.back.now c.is_heard_whole-whole.result
+    (length c.args.answer.now) c.args.device.now
     c.hear-reply.new.self hears c.back_bytes-came.ensures c.is_heard_whole-whole.ensures
     (sym c.is_legal_return.ensures ∙ c.if-not-is_legal_return.false) in
     subst (λ bytes. IsAsked c.args.request.now (length c.args.answer.now) c.args.device.now bytes c.hear-reply.new.self)

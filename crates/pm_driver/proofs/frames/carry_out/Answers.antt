@@ -19,7 +19,8 @@ returns-in-None-clause-leads g c =
 
 pub frames-preserved : goal.frames-preserved
 frames-preserved g c = record {
-  leads = c.leads_compose.ensures [] [] None None _ _ _ c.frames.invariant.leads (rw c.in-Some-Next.field-0-is at c.in-Some-Next.ensures).leads;
+  leads = c.leads_compose.ensures [] [] None None _ _ _ c.frames.invariant.leads
+      (rw c.in-Some-Next.field-0-is at c.in-Some-Next.ensures).leads;
   some = (let open_now = (rw c.in-Some-Next.field-0-is at c.in-Some-Next.ensures).open in
       open_now ∙ (c.in-Some-Next.ensures.some ∙ c.frames.invariant.some));
   kept = c.in-Some-Next.ensures.kept ∙ c.frames.invariant.kept;
