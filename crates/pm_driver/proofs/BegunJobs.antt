@@ -243,7 +243,7 @@ pub job-lived : {B : Type 0} (gives : B → Call → B → Type 0) (held : B →
 job-lived gives held jobs compose asked end old new middle has begins leads =
     go (accepted_job old.host asked) (job-leads gives held jobs compose asked end old new middle begins leads) where
       go : (o : Option host.Job) → IsSomeAnd o (λ begun. Leads gives held (Began begun ∷ []) (Some end) old new) →
-      HasLife new.host (held new.bus)
+          HasLife new.host (held new.bus)
       go None is = absurd is
       go (Some begun) is = leads-lived gives held (Began begun ∷ []) (Some end) old new has is
 

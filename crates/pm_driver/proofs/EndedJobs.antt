@@ -1,31 +1,27 @@
 -- What the end of a job is worth, in every life.
-use Rattle.std.proofs.Common.{◌≡◌, ◌<◌, inl, inr, ℕ, Bool, true, false, not, cond, eqb, ◌||◌, List, [], ◌∷◌, ◌++◌, Option, Some, None, is_none, is_some, option_map, refl, sym, ◌∙◌, ap, ap₂, subst}
+use Rattle.std.proofs.Common.{◌≡◌, ◌<◌, inl, inr, ℕ, Bool, true, false, cond, eqb, ◌||◌, List, [], ◌∷◌, ◌++◌, Option, Some, None, is_none, is_some, option_map, refl, sym, ◌∙◌, ap, ap₂, subst}
 use Rattle.std.specs.Prelude.{IsSomeAnd, option_to_list}
 use Rattle.std.specs.List.{list_any}
 use Rattle.std.specs.Option.{option_and_then, option_or}
 use Rattle.std.proofs.lemmas.Bool.{eq-eqb}
 use Rattle.pm_num.specs.AnyFormat.{Shape}
 use Rattle.pm_table.specs.declared.cell.Cell.{Cell}
-use Rattle.pm_table.specs.Cell.{IsCell, same_cell}
+use Rattle.pm_table.specs.Cell.{same_cell}
 use Rattle.pm_table.specs.Laws.{CellsAreToldApart}
 use Rattle.pm_frame.specs.declared.message.Message.{Message}
-use Rattle.pm_model.specs.Settings.{word_at}
 use Rattle.pm_device.specs.declared.config.Config.{Config}
 use Rattle.pm_device.specs.Held.{shape_for}
 use Rattle.pm_device.specs.History.{now as device_now}
 use Rattle.pm_host.specs.declared.job_end.JobEnd.{JobEnd}
 use Rattle.pm_host.specs.declared.job_end.JobEnd.TheVariants.{Done, Differs, Unknown, Learned}
-use Rattle.pm_host.specs.declared.standing.Standing.{Standing}
 use Rattle.pm_host.specs.declared.standing.Standing.TheVariants.{Confirmed}
 use Rattle.pm_host.specs.Answers.{good_word}
 use Rattle.pm_host.specs.Laws.{TranscriptsAreFollowed}
-use Rattle.pm_host.specs.Marks.{Good, Mark, goods, marks, put_by, puts}
+use Rattle.pm_host.specs.Marks.{Good, goods, marks, put_by, puts}
 use Rattle.pm_host.specs.Now.{AreTold}
 use Rattle.pm_host.specs.Standing.{standing_of}
 use Rattle.pm_host.specs.Summary.{format_at, standing_at, sending_in}
 use Rattle.pm_host.specs.Transcript.{Accepted, Check, Entry, Finished, Got, Job, Learn, Order, Restarted, Send, Setup, end_of, found, found_for, format_of_output, job_end, last_job, learn_end, open_job, told_since}
-use Rattle.pm_world.specs.declared.arrival.Arrival.{Arrival}
-use Rattle.pm_world.specs.declared.back.Back.{Back}
 use Rattle.pm_world.specs.declared.event.Event.{Event}
 use Rattle.pm_world.specs.declared.event.Event.TheVariants.{Exchange, Finish}
 use Rattle.pm_world.specs.Confirmed.{is_good_for, reads, reads_cell, restarted_since, restarts_converter}

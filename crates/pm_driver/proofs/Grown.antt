@@ -1,5 +1,5 @@
 -- A life with more events.
-use Rattle.std.proofs.Common.{◌≡◌, ℕ, Bool, true, List, [], ◌∷◌, ◌++◌, Option, Some, None, refl, sym, ◌∙◌, ap, subst, append_assoc}
+use Rattle.std.proofs.Common.{◌≡◌, ℕ, Bool, true, List, [], ◌∷◌, ◌++◌, Option, None, refl, sym, ◌∙◌, ap, subst, append_assoc}
 use Rattle.std.specs.Prelude.{option_to_list}
 use Rattle.pm_device.specs.declared.config.Config.{Config}
 use Rattle.pm_device.specs.Effect as device
@@ -9,7 +9,7 @@ use Rattle.pm_host.specs.declared.job_end.JobEnd.{JobEnd}
 use Rattle.pm_host.specs.Summary.{Summary}
 use Rattle.pm_host.specs.Transcript.{Entry}
 use Rattle.pm_world.specs.declared.event.Event.{Event}
-use Rattle.pm_world.specs.declared.event.Event.TheVariants.{Deliver, RestartDevice, Reading}
+use Rattle.pm_world.specs.declared.event.Event.TheVariants.{RestartDevice, Reading}
 use Rattle.pm_world.specs.Laws.{LegalLivesAreFollowed}
 use Rattle.pm_world.specs.Life.{life, now}
 use Rattle.pm_world.specs.State.{State, Share, HasWord, device_after, end_after, event_cause, hears, host_after, next, share_of}

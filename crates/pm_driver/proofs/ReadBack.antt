@@ -1,13 +1,12 @@
 -- The good answer with which an order or a check ended, by the transcript.
-use Rattle.std.proofs.Common.{◌≡◌, ◌<◌, ◌⊎◌, inl, inr, ℕ, suc, Bool, true, false, not, cond, eqb, arith, ◌*◌, ◌/◌, ◌%◌, List, [], ◌∷◌, length, Option, Some, None, is_none, is_some, option_map, refl, sym, ◌∙◌, ap, subst}
+use Rattle.std.proofs.Common.{◌≡◌, ◌<◌, ◌⊎◌, inl, inr, ℕ, suc, Bool, true, false, not, cond, eqb, arith, ◌*◌, ◌/◌, ◌%◌, List, ◌∷◌, length, Option, Some, None, is_none, is_some, option_map, refl, sym, ◌∙◌, ap, subst}
 use Rattle.std.specs.Option.{option_map_or, option_and_then}
 use Rattle.std.proofs.lemmas.Bool.{eqb-true}
 use Rattle.pm_table.specs.declared.cell.Cell.{Cell}
 use Rattle.pm_table.specs.Cell.{IsCell}
 use Rattle.pm_host.specs.declared.job_end.JobEnd.{JobEnd}
 use Rattle.pm_host.specs.declared.job_end.JobEnd.TheVariants.{Done, Differs, Unknown, Learned}
-use Rattle.pm_host.specs.declared.question.Question.TheVariants.{Coefficients, Mode, Word}
-use Rattle.pm_host.specs.declared.stage.Stage.{Stage}
+use Rattle.pm_host.specs.declared.question.Question.TheVariants.{Coefficients, Mode}
 use Rattle.pm_host.specs.declared.stage.Stage.TheVariants.{Asks, Reads, Writes}
 use Rattle.pm_host.specs.Answers.{good_word}
 use Rattle.pm_host.specs.Laws.{TranscriptsAreFollowed}
@@ -15,8 +14,8 @@ use Rattle.pm_host.specs.Marks.{read_by}
 use Rattle.pm_host.specs.Now.{AreTold, job_stage, now as host_now, stage_of}
 use Rattle.pm_host.specs.Refusals.{IsSetup, sends_read}
 use Rattle.pm_host.specs.Sound.{IsStage}
-use Rattle.pm_host.specs.Summary.{Summary, sending_in}
-use Rattle.pm_host.specs.Transcript.{Setup, Job, Order, Check, Entry, Finished, Got, Learn, check_end, coefficients_tries, mode_told, end_of, is_write_turn, job_end, job_message, last_end, last_job, newest_word, open_job, order_end, sending_of, told_since}
+use Rattle.pm_host.specs.Summary.{sending_in}
+use Rattle.pm_host.specs.Transcript.{Setup, Job, Order, Check, Entry, Finished, Got, Learn, check_end, coefficients_tries, mode_told, end_of, is_write_turn, job_end, job_message, last_end, last_job, open_job, order_end, sending_of, told_since}
 use Rattle.pm_frame.specs.declared.message.Message.{Message}
 use Rattle.pm_frame.specs.Layout.{is_read_message}
 
@@ -119,7 +118,7 @@ learn-open laws setup entries output made told is =
     let T = told_since entries in
     go (is_some (mode_told setup output T)) (stage-sound laws setup entries (Learn output) made told is) where
       go : (b : Bool) → IsStage (host_now setup entries) (Some (cond b (Asks (Coefficients output) (coefficients_tries setup output
-      (told_since entries)))
+          (told_since entries)))
           (Asks (Mode output) (length (told_since entries))))) → output < setup.outputs
       go true stage = stage.there
       go false stage = stage.there

@@ -1,10 +1,10 @@
 -- A call of the bus, as the events of a life.
-use Rattle.std.proofs.Common.{◌≡◌, ℕ, Bool, true, false, not, cond, List, [], ◌∷◌, ◌++◌, Option, Some, None, refl, sym, ◌∙◌, ap, ap₂, subst}
+use Rattle.std.proofs.Common.{◌≡◌, ℕ, Bool, true, not, cond, List, [], ◌∷◌, Option, Some, None, refl, sym, ◌∙◌, ap, ap₂, subst}
 use Rattle.std.specs.Prelude.{IsSomeAnd}
 use Rattle.std.specs.Option.{option_or}
 use Rattle.pm_frame.specs.declared.message.Message.{Message}
 use Rattle.pm_frame.specs.Fault.{whole_answer}
-use Rattle.pm_frame.specs.Layout.{IsRequest, IsWrite, is_read_message, sent, with_pec}
+use Rattle.pm_frame.specs.Layout.{IsRequest, IsWrite, sent, with_pec}
 use Rattle.pm_device.specs.declared.ending.Ending.TheVariants.{Stop, Restart}
 use Rattle.pm_device.specs.Effect as device
 use Rattle.pm_device.specs.Held.{Held}
@@ -23,14 +23,14 @@ use Rattle.pm_world.specs.declared.cause.Cause.TheVariants.{WrongKind, NotBetray
 use Rattle.pm_world.specs.declared.event.Event.{Event}
 use Rattle.pm_world.specs.declared.event.Event.TheVariants.{Deliver, Exchange, Finish, Reading, RestartDevice}
 use Rattle.pm_world.specs.Laws.{LegalLivesAreFollowed}
-use Rattle.pm_world.specs.Legal.{frame_of, heard_bytes, heard_ending, ending_of, is_legal_hearing, is_legal_return, is_heard_whole, answer_in, back_bytes}
+use Rattle.pm_world.specs.Legal.{frame_of, heard_bytes, ending_of, is_legal_hearing, is_legal_return, is_heard_whole, answer_in, back_bytes}
 use Rattle.pm_world.specs.Life.{now}
 use Rattle.pm_world.specs.State.{State, Share, delivered, delivery_cause, end_by, event_cause, exchange_cause, exchanged, finish_cause, hears, rule, share_of, tells}
-use Rattle.pm_driver.specs.Acts.{Act, Call, Called, MayDo, Read, Wrote, told_of}
-use Rattle.pm_driver.specs.Bus.{IsAsked, IsSent, answer_of, held_after, held_by, is_beside, may_hear}
-use Rattle.pm_driver.specs.Lives.{Driven, EndsSo, EndsTold, Goes, IsLife, Leads, newest_tells}
+use Rattle.pm_driver.specs.Acts.{Call, Called, MayDo, Read, Wrote, told_of}
+use Rattle.pm_driver.specs.Bus.{answer_of, held_by, is_beside, may_hear}
+use Rattle.pm_driver.specs.Lives.{EndsSo, EndsTold, Goes, IsLife, Leads, newest_tells}
 use Rattle.pm_driver.specs.Steps.{FramesLead, IsCalled, StaysOpen}
-use Rattle.pm_driver.proofs.Grown.{IsGrown, beside-one, goes-on, grown, heard-one, of-life, quiet}
+use Rattle.pm_driver.proofs.Grown.{beside-one, goes-on, grown, heard-one, of-life, quiet}
 use Rattle.pm_driver.proofs.OpenJobs.{stays-open}
 
 -- a message that the host is sending, with its frame
@@ -158,7 +158,7 @@ exchange-tells s request needed arrival back sends =
     let share : Bool → List ℕ → Share = λ b f. record {
       heard = Some (device.Hearing (heard_bytes f arrival) (ending_of (cond b Restart Stop) arrival));
       told = Some (Got (back_bytes (answer_in (reply_of s.device (heard_bytes f arrival) (ending_of
-      (cond b Restart Stop) arrival))) back));
+          (cond b Restart Stop) arrival))) back));
     } in
     ap (exchanged s arrival back) sends.sending ∙ ap₂ share sends.is.reads (request-frame sends.is)
 

@@ -1,8 +1,4 @@
-use Rattle.std.proofs.Common.{◌≡◌, [], None, Some, true, refl, sym, ◌∙◌, ap, subst}
-use Rattle.pm_host.specs.declared.step.Step.TheVariants.{Next, Ended}
-use Rattle.pm_host.specs.Refusals.{is_busy}
-use Rattle.pm_driver.specs.Lives.{Leads}
-use Rattle.pm_driver.specs.Steps.{StaysOpen}
+use Rattle.std.proofs.Common.{[], None, Some, refl, ◌∙◌}
 use Rattle.pm_driver.proofs.Composed.{leads-nothing}
 use Rattle.pm_driver.proofs.frames.carry_out.Goals as goal
 
