@@ -80,15 +80,18 @@ pub record Hears (request bytes given : List ℕ) (ending : Ending) (way : Arriv
   pub after : new ≡ device_next old (device.Hearing bytes ending)
 
 -- the same of how it arrives
-hears-legal : {request bytes given : List ℕ} {ending : Ending} {way : Arrival} {old new : Held} → Hears request bytes given ending way old new →
+hears-legal : {request bytes given : List ℕ} {ending : Ending} {way : Arrival} {old new : Held} →
+    Hears request bytes given ending way old new →
     is_legal_hearing request (heard_bytes request way) (ending_of Restart way) ≡ true
 hears-legal {request = request} h = sym (ap₂ (λ b e. is_legal_hearing request b e) h.bytes_are h.ending_is) ∙ h.legal
 
-hears-given : {request bytes given : List ℕ} {ending : Ending} {way : Arrival} {old new : Held} → Hears request bytes given ending way old new →
+hears-given : {request bytes given : List ℕ} {ending : Ending} {way : Arrival} {old new : Held} →
+    Hears request bytes given ending way old new →
     given ≡ answer_of old request way
 hears-given {old = old} h = h.given_is ∙ ap₂ (λ b e. answer_in (reply_of old b e)) h.bytes_are h.ending_is
 
-hears-after : {request bytes given : List ℕ} {ending : Ending} {way : Arrival} {old new : Held} → Hears request bytes given ending way old new →
+hears-after : {request bytes given : List ℕ} {ending : Ending} {way : Arrival} {old new : Held} →
+    Hears request bytes given ending way old new →
     device_next old (device.Hearing (heard_bytes request way) (ending_of Restart way)) ≡ new
 hears-after {old = old} h = sym (h.after ∙ ap₂ (λ b e. device_next old (device.Hearing b e)) h.bytes_are h.ending_is)
 
@@ -101,13 +104,15 @@ lost-back request bytes given ending way needed old new some h = record {
   back = back.Cut 0;
   beside_before = tt;
   legal = hears-legal h;
-  returned = none-back request (answer_of old request way) needed (is_heard_whole request (heard_bytes request way) (ending_of Restart way)) some;
+  returned = none-back request (answer_of old request way) needed (is_heard_whole request (heard_bytes request way)
+      (ending_of Restart way)) some;
   came_is = refl;
   after = hears-after h;
 }
 
 -- or comes back, legally
-pub came-back : (request bytes given came : List ℕ) (ending : Ending) (way : Arrival) (so : Back) (whole : Bool) (needed : ℕ) (old new : Held) →
+pub came-back : (request bytes given came : List ℕ) (ending : Ending) (way : Arrival) (so : Back) (whole : Bool) (needed : ℕ)
+    (old new : Held) →
     Hears request bytes given ending way old new → came ≡ back_bytes given so → whole ≡ is_heard_whole request bytes ending →
     is_legal_return request needed whole given came ≡ true → IsAsked request needed old came new
 came-back request bytes given came ending way so whole needed old new h came_so whole_is legal =
@@ -121,8 +126,16 @@ came-back request bytes given came ending way so whole needed old new h came_so 
       beside_before = tt;
       legal = hears-legal h;
       returned = sym (ap₂ (λ w g. is_legal_return request needed w g came) whole_so (hears-given h)
-      ∙ ap (is_legal_return request needed (is_heard_whole request (heard_bytes request way) (ending_of Restart way)) (answer_of old request way))
+      ∙ ap (is_legal_return request needed (is_heard_whole request (heard_bytes request way) (ending_of Restart way))
+      (answer_of old request way))
       (sym came_is)) ∙ legal;
       came_is = came_is;
       after = hears-after h;
     }
+
+-- bytes that were put into the room for them are what is taken from it
+pub put-in : (came copied rest : List ℕ) → copied ≡ came → take (length came) (copied ++ rest) ≡ came
+put-in came copied rest same = ap (λ l. take (length came) (l ++ rest)) same ∙ go came where
+  go : (bytes : List ℕ) → take (length bytes) (bytes ++ rest) ≡ bytes
+  go [] = refl
+  go (byte ∷ bytes) = ap (λ l. byte ∷ l) (go bytes)

@@ -30,6 +30,16 @@ pub(crate) fn deliver(device: &mut Converter, packet: &[u8], arrival: &Arrival)
     }
 }
 
+/// The same of a packet that may be lost.
+pub(crate) fn deliver_some(device: &mut Converter, packet: &[u8], arrival: &Option<Arrival>)
+    ensures { IsSent packet.now device.old device.new }
+{
+    match arrival {
+        Some(arrival) => deliver(device, packet, arrival),
+        None => {}
+    }
+}
+
 /// A request is lost: nothing of it arrives, and nothing comes back.
 pub(crate) fn lose_request(device: &mut Converter, request: &[u8], answer: &mut [u8]) -> usize
     requires { 1 ≤ length answer.old }

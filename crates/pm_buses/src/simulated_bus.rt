@@ -3,7 +3,7 @@ ghost use Rattle.pm_host.specs.Summary.{start};
 ghost use Rattle.pm_device.specs.History.{start_of};
 ghost use Rattle.pm_world.specs.Setup.{setup_of};
 
-use crate::converter_end::{ask, deliver, disturb};
+use crate::converter_end::{ask, deliver, deliver_some, disturb};
 use crate::fault::Fault;
 use crate::laws::parts_compose;
 use pm_device::{Config, Converter};
@@ -35,12 +35,8 @@ impl<'a> Bus for SimulatedBus<'a> {
         };
         self.plan = plan;
         disturb(&mut self.device, fault.restarts);
-        if let Some(arrival) = &fault.heard {
-            deliver(&mut self.device, packet, arrival);
-        }
-        if let Some(arrival) = &fault.repeated {
-            deliver(&mut self.device, packet, arrival);
-        }
+        deliver_some(&mut self.device, packet, &fault.heard);
+        deliver_some(&mut self.device, packet, &fault.repeated);
         fault.acked
     }
 

@@ -43,7 +43,8 @@ begun : {config : Config} {passes : ℕ} {before : List Event} {event : Event} {
 begun job is = record { is_life = is.is_life; told = is.told; ended = tt }
 
 -- there is an event for each
-job-goes : LegalLivesAreFollowed → {config : Config} {passes : ℕ} {before : List Event} {summary : Summary} {held : Held} (job : host.Job) →
+job-goes : LegalLivesAreFollowed → {config : Config} {passes : ℕ} {before : List Event} {summary : Summary} {held : Held}
+    (job : host.Job) →
     job_fault summary job ≡ None → IsLife config passes before summary held →
     Goes config passes before (job_event job ∷ []) (Began job ∷ []) None (host_next summary (host.Accepted job)) held
 job-goes laws (host.Order cell word) free is = begun (host.Order cell word)
@@ -160,7 +161,8 @@ true-of laws summary held has =
     }
 
 -- where a driver leads there is a life
-pub leads-lived : {B : Type 0} (gives : B → Call → B → Type 0) (held : B → Held) (asked : List Act) (end : Option JobEnd) (old new : Driven B) →
+pub leads-lived : {B : Type 0} (gives : B → Call → B → Type 0) (held : B →
+    Held) (asked : List Act) (end : Option JobEnd) (old new : Driven B) →
     HasLife old.host (held old.bus) → Leads gives held asked end old new → HasLife new.host (held new.bus)
 leads-lived gives held asked end old new has leads = record {
   config = has.config;
@@ -182,7 +184,8 @@ last-begun job earlier (Began other ∷ acts) rest h =
 last-begun job earlier (Renewed ∷ acts) rest h = cc
 
 -- so the end of the job that a driver carried out says what it is worth
-pub leads-say : EndsAreTrue → {B : Type 0} (gives : B → Call → B → Type 0) (held : B → Held) (job : host.Job) (end : JobEnd) (old new : Driven B) →
+pub leads-say : EndsAreTrue → {B : Type 0} (gives : B → Call → B → Type 0) (held : B →
+    Held) (job : host.Job) (end : JobEnd) (old new : Driven B) →
     HasLife old.host (held old.bus) → Leads gives held (Began job ∷ []) (Some end) old new → EndSays job new.host (held new.bus) end
 leads-say law gives held job end old new has leads =
     let goes = leads.lives has.config has.passes has.events has.life in
@@ -212,7 +215,8 @@ begun-free : (s : Summary) (asked : Job) (begun : host.Job) → accepted_job s a
 begun-free s (job.OrderMicro cell x) begun is h =
     let past_voltage = (or-none (voltage_fault s cell) _ h).1 in
     let past_range = (or-none (option_and_then (λ shape. range_fault shape x) (format_at s (output_of cell))) _ past_voltage).1 in
-    micro-order s cell (micro_word s cell x) begun is (or-none (option_and_then (λ w. order_fault s cell w) (micro_word s cell x)) None past_range).0
+    micro-order s cell (micro_word s cell x) begun is (or-none (option_and_then (λ w. order_fault s cell w)
+    (micro_word s cell x)) None past_range).0
 begun-free s asked begun is h = subst (λ o. option_and_then (job_fault s) o ≡ None) is h
 
 -- where a driver leads that carries a job out which its host began
@@ -221,7 +225,8 @@ job-leads : {B : Type 0} (gives : B → Call → B → Type 0) (held : B → Hel
     Leads gives held [] (Some end) (record { host = middle; bus = old.bus }) new →
     IsSomeAnd (accepted_job old.host asked) (λ begun. Leads gives held (Began begun ∷ []) (Some end) old new)
 job-leads gives held jobs compose asked end old new middle begins leads = go (accepted_job old.host asked) refl begins.ok where
-  go : (o : Option host.Job) → accepted_job old.host asked ≡ o → IsSomeAnd o (λ begun. middle ≡ host_next old.host (host.Accepted begun)) →
+  go : (o : Option host.Job) → accepted_job old.host asked ≡ o →
+      IsSomeAnd o (λ begun. middle ≡ host_next old.host (host.Accepted begun)) →
       IsSomeAnd o (λ begun. Leads gives held (Began begun ∷ []) (Some end) old new)
   go None is ok = absurd ok
   go (Some begun) is ok =
@@ -237,15 +242,18 @@ pub job-lived : {B : Type 0} (gives : B → Call → B → Type 0) (held : B →
     Leads gives held [] (Some end) (record { host = middle; bus = old.bus }) new → HasLife new.host (held new.bus)
 job-lived gives held jobs compose asked end old new middle has begins leads =
     go (accepted_job old.host asked) (job-leads gives held jobs compose asked end old new middle begins leads) where
-      go : (o : Option host.Job) → IsSomeAnd o (λ begun. Leads gives held (Began begun ∷ []) (Some end) old new) → HasLife new.host (held new.bus)
+      go : (o : Option host.Job) → IsSomeAnd o (λ begun. Leads gives held (Began begun ∷ []) (Some end) old new) →
+          HasLife new.host (held new.bus)
       go None is = absurd is
       go (Some begun) is = leads-lived gives held (Began begun ∷ []) (Some end) old new has is
 
 -- what a driver does for a job that its host began
-pub runs-so : EndsAreTrue → {B : Type 0} (gives : B → Call → B → Type 0) (held : B → Held) → JobsLead gives held → LeadsCompose gives held →
+pub runs-so : EndsAreTrue → {B : Type 0} (gives : B → Call → B → Type 0) (held : B → Held) → JobsLead gives held →
+    LeadsCompose gives held →
     (asked : Job) (end : JobEnd) (old new : Driven B) (middle : Summary) → HasLife old.host (held old.bus) →
     Begins old.host asked (Ok tt) middle →
-    Leads gives held [] (Some end) (record { host = middle; bus = old.bus }) new → frames_left new.host ≡ 0 → new.host.setup ≡ middle.setup →
+    Leads gives held [] (Some end) (record { host = middle; bus = old.bus }) new → frames_left new.host ≡ 0 →
+    new.host.setup ≡ middle.setup →
     Runs gives held asked old (Ok end) new
 runs-so law gives held jobs compose asked end old new middle has begins leads over kept =
     let led = job-leads gives held jobs compose asked end old new middle begins leads in

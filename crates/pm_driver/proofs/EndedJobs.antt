@@ -1,31 +1,27 @@
 -- What the end of a job is worth, in every life.
-use Rattle.std.proofs.Common.{◌≡◌, ◌<◌, inl, inr, ℕ, Bool, true, false, not, cond, eqb, ◌||◌, List, [], ◌∷◌, ◌++◌, Option, Some, None, is_none, is_some, option_map, refl, sym, ◌∙◌, ap, ap₂, subst}
+use Rattle.std.proofs.Common.{◌≡◌, ◌<◌, inl, inr, ℕ, Bool, true, false, cond, eqb, ◌||◌, List, [], ◌∷◌, ◌++◌, Option, Some, None, is_none, is_some, option_map, refl, sym, ◌∙◌, ap, ap₂, subst}
 use Rattle.std.specs.Prelude.{IsSomeAnd, option_to_list}
 use Rattle.std.specs.List.{list_any}
 use Rattle.std.specs.Option.{option_and_then, option_or}
 use Rattle.std.proofs.lemmas.Bool.{eq-eqb}
 use Rattle.pm_num.specs.AnyFormat.{Shape}
 use Rattle.pm_table.specs.declared.cell.Cell.{Cell}
-use Rattle.pm_table.specs.Cell.{IsCell, same_cell}
+use Rattle.pm_table.specs.Cell.{same_cell}
 use Rattle.pm_table.specs.Laws.{CellsAreToldApart}
 use Rattle.pm_frame.specs.declared.message.Message.{Message}
-use Rattle.pm_model.specs.Settings.{word_at}
 use Rattle.pm_device.specs.declared.config.Config.{Config}
 use Rattle.pm_device.specs.Held.{shape_for}
 use Rattle.pm_device.specs.History.{now as device_now}
 use Rattle.pm_host.specs.declared.job_end.JobEnd.{JobEnd}
 use Rattle.pm_host.specs.declared.job_end.JobEnd.TheVariants.{Done, Differs, Unknown, Learned}
-use Rattle.pm_host.specs.declared.standing.Standing.{Standing}
 use Rattle.pm_host.specs.declared.standing.Standing.TheVariants.{Confirmed}
 use Rattle.pm_host.specs.Answers.{good_word}
 use Rattle.pm_host.specs.Laws.{TranscriptsAreFollowed}
-use Rattle.pm_host.specs.Marks.{Good, Mark, goods, marks, put_by, puts}
+use Rattle.pm_host.specs.Marks.{Good, goods, marks, put_by, puts}
 use Rattle.pm_host.specs.Now.{AreTold}
 use Rattle.pm_host.specs.Standing.{standing_of}
 use Rattle.pm_host.specs.Summary.{format_at, standing_at, sending_in}
 use Rattle.pm_host.specs.Transcript.{Accepted, Check, Entry, Finished, Got, Job, Learn, Order, Restarted, Send, Setup, end_of, found, found_for, format_of_output, job_end, last_job, learn_end, open_job, told_since}
-use Rattle.pm_world.specs.declared.arrival.Arrival.{Arrival}
-use Rattle.pm_world.specs.declared.back.Back.{Back}
 use Rattle.pm_world.specs.declared.event.Event.{Event}
 use Rattle.pm_world.specs.declared.event.Event.TheVariants.{Exchange, Finish}
 use Rattle.pm_world.specs.Confirmed.{is_good_for, reads, reads_cell, restarted_since, restarts_converter}
@@ -45,10 +41,12 @@ data Told (s : State) (event : Event) : Type 0 where
   wrote : (acked : Bool) → (share_of s event).told ≡ Some (Finished acked) → Told s event
   came : (bytes : List ℕ) → (share_of s event).told ≡ Some (Got bytes) → Told s event
 
-told-by : (s : State) (event : Event) (before : List Event) → newest_tells (event ∷ before) ≡ true → event_cause s event ≡ None → Told s event
+told-by : (s : State) (event : Event) (before : List Event) → newest_tells (event ∷ before) ≡ true → event_cause s event ≡ None →
+    Told s event
 told-by s (Finish acked) before tells free = wrote acked refl
 told-by s (Exchange arrival back) before tells free = go (sending_in s.host) refl free where
-  go : (sending : Option Message) → sending_in s.host ≡ sending → exchange_cause s arrival back sending ≡ None → Told s (Exchange arrival back)
+  go : (sending : Option Message) → sending_in s.host ≡ sending → exchange_cause s arrival back sending ≡ None →
+      Told s (Exchange arrival back)
   go None e h = cc
   go (Some message) e h = came _ (ap (λ o. (exchanged s arrival back o).told) e)
 told-by s event before tells free = cc
@@ -72,10 +70,12 @@ marks-so : (setup : Setup) (before : List Entry) (bytes : List ℕ) (cell : Cell
 unfolding goods puts open_job
 marks-so setup before bytes cell word end was ended =
     ap₂ (λ new good. new ++ (good ++ marks setup before))
-    (ap (λ e. put_by (cond (is_none e) (last_job before) None) (told_since (Got bytes ∷ before))) ended) (goods-so setup before bytes cell word was)
+    (ap (λ e. put_by (cond (is_none e) (last_job before) None) (told_since (Got bytes ∷ before))) ended)
+    (goods-so setup before bytes cell word was)
 
 -- the host calls a word that it just read confirmed, and the converter holds it
-stands : CellsAreToldApart → LegalLivesAreFollowed → (config : Config) (passes : ℕ) (before : List Event) (event : Event) (bytes : List ℕ) (cell : Cell) (word : ℕ) (end : JobEnd) →
+stands : CellsAreToldApart → LegalLivesAreFollowed → (config : Config) (passes : ℕ) (before : List Event) (event : Event)
+    (bytes : List ℕ) (cell : Cell) (word : ℕ) (end : JobEnd) →
     (is : IsLife config passes (event ∷ before) (now config passes (event ∷ before)).host (now config passes (event ∷ before)).device) →
     (share_of (now config passes before) event).told ≡ Some (Got bytes) →
     WasRead (setup_of config passes) (life config passes before).entries bytes cell word →

@@ -1,5 +1,5 @@
 -- A life with more events.
-use Rattle.std.proofs.Common.{◌≡◌, ℕ, Bool, true, List, [], ◌∷◌, ◌++◌, Option, Some, None, refl, sym, ◌∙◌, ap, subst, append_assoc}
+use Rattle.std.proofs.Common.{◌≡◌, ℕ, Bool, true, List, [], ◌∷◌, ◌++◌, Option, None, refl, sym, ◌∙◌, ap, subst, append_assoc}
 use Rattle.std.specs.Prelude.{option_to_list}
 use Rattle.pm_device.specs.declared.config.Config.{Config}
 use Rattle.pm_device.specs.Effect as device
@@ -9,7 +9,7 @@ use Rattle.pm_host.specs.declared.job_end.JobEnd.{JobEnd}
 use Rattle.pm_host.specs.Summary.{Summary}
 use Rattle.pm_host.specs.Transcript.{Entry}
 use Rattle.pm_world.specs.declared.event.Event.{Event}
-use Rattle.pm_world.specs.declared.event.Event.TheVariants.{Deliver, RestartDevice, Reading}
+use Rattle.pm_world.specs.declared.event.Event.TheVariants.{RestartDevice, Reading}
 use Rattle.pm_world.specs.Laws.{LegalLivesAreFollowed}
 use Rattle.pm_world.specs.Life.{life, now}
 use Rattle.pm_world.specs.State.{State, Share, HasWord, device_after, end_after, event_cause, hears, host_after, next, share_of}
@@ -19,7 +19,8 @@ use Rattle.pm_driver.specs.Bus.{AreAll, held_after, held_by, is_beside}
 use Rattle.pm_driver.specs.Lives.{EndsSo, Goes, IsLife}
 
 -- what one more event makes of a life, which tells the ends this
-pub record IsGrown (config : Config) (passes : ℕ) (before : List Event) (event : Event) (share : Share) (host : Summary) (held : Held) : Type 0 where
+pub record IsGrown (config : Config) (passes : ℕ) (before : List Event) (event : Event) (share : Share) (host : Summary)
+    (held : Held) : Type 0 where
   pub is_life : IsLife config passes (event ∷ before) (host_after host share.told) (device_after held share.heard)
   pub told : (life config passes (event ∷ before)).entries
       ≡ option_to_list share.told ++ (life config passes before).entries
@@ -69,7 +70,8 @@ pub stays : {config : Config} {passes : ℕ} {before : List Event} {host : Summa
 stays is = record { is_life = is; told = refl; ended = tt }
 
 -- an event that the converter alone notices
-pub heard-one : {config : Config} {passes : ℕ} {before : List Event} {event : Event} {heard : device.Event} {host : Summary} {held : Held} →
+pub heard-one : {config : Config} {passes : ℕ} {before : List Event} {event : Event} {heard : device.Event} {host : Summary} {held :
+    Held} →
     IsGrown config passes before event (hears heard) host held →
     Goes config passes before (event ∷ []) [] None host (device_next held heard)
 heard-one is = record { is_life = is.is_life; told = is.told; ended = tt }
@@ -86,7 +88,8 @@ pub goes-on : {config : Config} {passes : ℕ} {before first second : List Event
     Goes config passes before first acts end middle between →
     Goes config passes (first ++ before) second more other host held →
     Goes config passes before (second ++ first) (more ++ acts) other host held
-goes-on {config = config} {passes = passes} {before = before} {first = first} {second = second} {acts = acts} {more = more} {other = other} {host = host} {held = held} one two =
+goes-on {config = config} {passes = passes} {before = before} {first = first} {second = second} {acts = acts} {more = more} {other =
+    other} {host = host} {held = held} one two =
     let same : second ++ (first ++ before) ≡ (second ++ first) ++ before = sym (append_assoc second first before) in
     record {
       is_life = subst (λ events. IsLife config passes events host held) same two.is_life;

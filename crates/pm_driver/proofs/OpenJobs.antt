@@ -16,8 +16,8 @@ use Rattle.pm_host.specs.declared.job_end.JobEnd.TheVariants.{Done, Differs, Unk
 use Rattle.pm_host.specs.declared.question.Question.{Question}
 use Rattle.pm_host.specs.declared.question.Question.TheVariants.{Word, Mode, Coefficients}
 use Rattle.pm_host.specs.declared.stage.Stage.{Stage}
-use Rattle.pm_host.specs.declared.stage.Stage.TheVariants.{Asks, Reads, Sends, Writes}
-use Rattle.pm_host.specs.declared.step.Step.TheVariants.{Next, Ended}
+use Rattle.pm_host.specs.declared.stage.Stage.TheVariants.{Asks, Reads, Sends}
+use Rattle.pm_host.specs.declared.step.Step.TheVariants.{Next}
 use Rattle.pm_host.specs.Answers.{good_payload, good_word, word_in}
 use Rattle.pm_host.specs.Marks.{Good}
 use Rattle.pm_host.specs.Question.{question_message}
@@ -55,7 +55,8 @@ read-open s cell word pass (Some read) =
     let t = marked s (Good cell read) in
     let more = cond (eqb (pass + 1) t.setup.passes) (ends t (Differs read)) (writes t cell word (pass + 1)) in
     open-cond (eqb read word) (ends t Done) more (ended-open t Done)
-    (open-cond (eqb (pass + 1) t.setup.passes) (ends t (Differs read)) (writes t cell word (pass + 1)) (ended-open t (Differs read)) (λ h. refl))
+    (open-cond (eqb (pass + 1) t.setup.passes) (ends t (Differs read)) (writes t cell word (pass + 1)) (ended-open t (Differs read))
+    (λ h. refl))
 
 -- a learn found a format, or none
 learned-open : (s : Summary) (output : ℕ) (shape : Option Shape) → IsOpen (learned s output shape)

@@ -1,13 +1,12 @@
 -- The good answer with which an order or a check ended, by the transcript.
-use Rattle.std.proofs.Common.{◌≡◌, ◌<◌, ◌⊎◌, inl, inr, ℕ, suc, Bool, true, false, not, cond, eqb, arith, ◌*◌, ◌/◌, ◌%◌, List, [], ◌∷◌, length, Option, Some, None, is_none, is_some, option_map, refl, sym, ◌∙◌, ap, subst}
+use Rattle.std.proofs.Common.{◌≡◌, ◌<◌, ◌⊎◌, inl, inr, ℕ, suc, Bool, true, false, not, cond, eqb, arith, ◌*◌, ◌/◌, ◌%◌, List, ◌∷◌, length, Option, Some, None, is_none, is_some, option_map, refl, sym, ◌∙◌, ap, subst}
 use Rattle.std.specs.Option.{option_map_or, option_and_then}
 use Rattle.std.proofs.lemmas.Bool.{eqb-true}
 use Rattle.pm_table.specs.declared.cell.Cell.{Cell}
 use Rattle.pm_table.specs.Cell.{IsCell}
 use Rattle.pm_host.specs.declared.job_end.JobEnd.{JobEnd}
 use Rattle.pm_host.specs.declared.job_end.JobEnd.TheVariants.{Done, Differs, Unknown, Learned}
-use Rattle.pm_host.specs.declared.question.Question.TheVariants.{Coefficients, Mode, Word}
-use Rattle.pm_host.specs.declared.stage.Stage.{Stage}
+use Rattle.pm_host.specs.declared.question.Question.TheVariants.{Coefficients, Mode}
 use Rattle.pm_host.specs.declared.stage.Stage.TheVariants.{Asks, Reads, Writes}
 use Rattle.pm_host.specs.Answers.{good_word}
 use Rattle.pm_host.specs.Laws.{TranscriptsAreFollowed}
@@ -15,8 +14,8 @@ use Rattle.pm_host.specs.Marks.{read_by}
 use Rattle.pm_host.specs.Now.{AreTold, job_stage, now as host_now, stage_of}
 use Rattle.pm_host.specs.Refusals.{IsSetup, sends_read}
 use Rattle.pm_host.specs.Sound.{IsStage}
-use Rattle.pm_host.specs.Summary.{Summary, sending_in}
-use Rattle.pm_host.specs.Transcript.{Setup, Job, Order, Check, Entry, Finished, Got, Learn, check_end, coefficients_tries, mode_told, end_of, is_write_turn, job_end, job_message, last_end, last_job, newest_word, open_job, order_end, sending_of, told_since}
+use Rattle.pm_host.specs.Summary.{sending_in}
+use Rattle.pm_host.specs.Transcript.{Setup, Job, Order, Check, Entry, Finished, Got, Learn, check_end, coefficients_tries, mode_told, end_of, is_write_turn, job_end, job_message, last_end, last_job, open_job, order_end, sending_of, told_since}
 use Rattle.pm_frame.specs.declared.message.Message.{Message}
 use Rattle.pm_frame.specs.Layout.{is_read_message}
 
@@ -95,7 +94,8 @@ stage-sound : TranscriptsAreFollowed → (setup : Setup) (entries : List Entry) 
 stage-sound laws setup entries job made told is =
     subst (IsStage (host_now setup entries)) (stage-is setup entries job is) (laws.sound setup entries made told).stage
 
-order-there : TranscriptsAreFollowed → (setup : Setup) (entries : List Entry) (cell : Cell) (word : ℕ) → IsSetup setup → AreTold setup entries →
+order-there : TranscriptsAreFollowed → (setup : Setup) (entries : List Entry) (cell : Cell) (word : ℕ) → IsSetup setup →
+    AreTold setup entries →
     open_job setup entries ≡ Some (Order cell word) → IsCell setup.outputs cell
 unfolding host_now
 order-there laws setup entries cell word made told is =
@@ -117,7 +117,8 @@ unfolding host_now
 learn-open laws setup entries output made told is =
     let T = told_since entries in
     go (is_some (mode_told setup output T)) (stage-sound laws setup entries (Learn output) made told is) where
-      go : (b : Bool) → IsStage (host_now setup entries) (Some (cond b (Asks (Coefficients output) (coefficients_tries setup output (told_since entries)))
+      go : (b : Bool) → IsStage (host_now setup entries) (Some (cond b (Asks (Coefficients output) (coefficients_tries setup output
+          (told_since entries)))
           (Asks (Mode output) (length (told_since entries))))) → output < setup.outputs
       go true stage = stage.there
       go false stage = stage.there
@@ -128,14 +129,16 @@ pub learn-there : TranscriptsAreFollowed → (setup : Setup) (before : List Entr
     ((acked : Bool) × (entry ≡ Finished acked)) ⊎ ((bytes : List ℕ) × (entry ≡ Got bytes)) → output < setup.outputs
 unfolding host_now
 learn-there laws setup before (Finished acked) output made told last kind =
-    learn-open laws setup before output made told.1 (open-sending laws setup before (Learn output) (λ m. not (is_read_message m)) told.0 last)
+    learn-open laws setup before output made told.1 (open-sending laws setup before (Learn output) (λ m. not
+    (is_read_message m)) told.0 last)
 learn-there laws setup before (Got bytes) output made told last kind =
     learn-open laws setup before output made told.1 (open-sending laws setup before (Learn output) is_read_message told.0 last)
 learn-there laws setup before entry output made told last (inl is) = cc
 learn-there laws setup before entry output made told last (inr is) = cc
 
 -- an order that says which word was read read it
-pub order-read : TranscriptsAreFollowed → (setup : Setup) (before : List Entry) (bytes : List ℕ) (cell : Cell) (word : ℕ) (end : JobEnd) (read : ℕ) →
+pub order-read : TranscriptsAreFollowed → (setup : Setup) (before : List Entry) (bytes : List ℕ) (cell : Cell) (word : ℕ)
+    (end : JobEnd) (read : ℕ) →
     IsSetup setup → AreTold setup (Got bytes ∷ before) → last_job before ≡ Some (Order cell word) →
     end_of setup (Got bytes ∷ before) ≡ Some end → word_in_end word end ≡ Some read → WasRead setup before bytes cell read
 unfolding end_of
@@ -162,7 +165,8 @@ order-wrote setup before acked cell word end read last ended says =
     let T = told_since before in
     let here : order_end setup cell word (Finished acked ∷ T) ≡ Some end =
     ap (option_and_then (λ job. job_end setup job (Finished acked ∷ T))) (sym last) ∙ ended in
-    let found = order-end (is_write_turn (Finished acked ∷ T)) false (eqb (length (Finished acked ∷ T)) (2 * setup.passes)) None word end read
+    let found = order-end (is_write_turn (Finished acked ∷ T)) false (eqb (length (Finished acked ∷ T))
+    (2 * setup.passes)) None word end read
     refl here says in
     let none = found.1 in cc
 

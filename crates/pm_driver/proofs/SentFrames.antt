@@ -1,10 +1,10 @@
 -- A call of the bus, as the events of a life.
-use Rattle.std.proofs.Common.{◌≡◌, ℕ, Bool, true, false, not, cond, List, [], ◌∷◌, ◌++◌, Option, Some, None, refl, sym, ◌∙◌, ap, ap₂, subst}
+use Rattle.std.proofs.Common.{◌≡◌, ℕ, Bool, true, not, cond, List, [], ◌∷◌, Option, Some, None, refl, sym, ◌∙◌, ap, ap₂, subst}
 use Rattle.std.specs.Prelude.{IsSomeAnd}
 use Rattle.std.specs.Option.{option_or}
 use Rattle.pm_frame.specs.declared.message.Message.{Message}
 use Rattle.pm_frame.specs.Fault.{whole_answer}
-use Rattle.pm_frame.specs.Layout.{IsRequest, IsWrite, is_read_message, sent, with_pec}
+use Rattle.pm_frame.specs.Layout.{IsRequest, IsWrite, sent, with_pec}
 use Rattle.pm_device.specs.declared.ending.Ending.TheVariants.{Stop, Restart}
 use Rattle.pm_device.specs.Effect as device
 use Rattle.pm_device.specs.Held.{Held}
@@ -23,14 +23,14 @@ use Rattle.pm_world.specs.declared.cause.Cause.TheVariants.{WrongKind, NotBetray
 use Rattle.pm_world.specs.declared.event.Event.{Event}
 use Rattle.pm_world.specs.declared.event.Event.TheVariants.{Deliver, Exchange, Finish, Reading, RestartDevice}
 use Rattle.pm_world.specs.Laws.{LegalLivesAreFollowed}
-use Rattle.pm_world.specs.Legal.{frame_of, heard_bytes, heard_ending, ending_of, is_legal_hearing, is_legal_return, is_heard_whole, answer_in, back_bytes}
+use Rattle.pm_world.specs.Legal.{frame_of, heard_bytes, ending_of, is_legal_hearing, is_legal_return, is_heard_whole, answer_in, back_bytes}
 use Rattle.pm_world.specs.Life.{now}
 use Rattle.pm_world.specs.State.{State, Share, delivered, delivery_cause, end_by, event_cause, exchange_cause, exchanged, finish_cause, hears, rule, share_of, tells}
-use Rattle.pm_driver.specs.Acts.{Act, Call, Called, MayDo, Read, Wrote, told_of}
-use Rattle.pm_driver.specs.Bus.{IsAsked, IsSent, answer_of, held_after, held_by, is_beside, may_hear}
-use Rattle.pm_driver.specs.Lives.{Driven, EndsSo, EndsTold, Goes, IsLife, Leads, newest_tells}
+use Rattle.pm_driver.specs.Acts.{Call, Called, MayDo, Read, Wrote, told_of}
+use Rattle.pm_driver.specs.Bus.{answer_of, held_by, is_beside, may_hear}
+use Rattle.pm_driver.specs.Lives.{EndsSo, EndsTold, Goes, IsLife, Leads, newest_tells}
 use Rattle.pm_driver.specs.Steps.{FramesLead, IsCalled, StaysOpen}
-use Rattle.pm_driver.proofs.Grown.{IsGrown, beside-one, goes-on, grown, heard-one, of-life, quiet}
+use Rattle.pm_driver.proofs.Grown.{beside-one, goes-on, grown, heard-one, of-life, quiet}
 use Rattle.pm_driver.proofs.OpenJobs.{stays-open}
 
 -- a message that the host is sending, with its frame
@@ -139,7 +139,8 @@ exchange-free s request needed arrival back sends legal returned =
     let bytes : List ℕ → List ℕ = λ f. heard_bytes f arrival in
     let answer : Bool → List ℕ → List ℕ = λ b f. answer_in (reply_of s.device (bytes f) (ending_of (cond b Restart Stop) arrival)) in
     let heard : Bool → List ℕ → Bool = λ b f. is_legal_hearing f (bytes f) (ending_of (cond b Restart Stop) arrival) in
-    let came : Bool → List ℕ → ℕ → Bool = λ b f n. is_legal_return f n (is_heard_whole f (bytes f) (ending_of (cond b Restart Stop) arrival))
+    let came : Bool → List ℕ → ℕ → Bool = λ b f n. is_legal_return f n (is_heard_whole f (bytes f) (ending_of
+    (cond b Restart Stop) arrival))
     (answer b f) (back_bytes (answer b f) back) in
     ap (exchange_cause s arrival back) sends.sending
     ∙ (ap₂ (λ b f. option_or (rule (not b) WrongKind) (option_or (rule (not (heard b f)) NotBetrayed)
@@ -156,7 +157,8 @@ exchange-tells : (s : State) (request : List ℕ) (needed : ℕ) (arrival : Arri
 exchange-tells s request needed arrival back sends =
     let share : Bool → List ℕ → Share = λ b f. record {
       heard = Some (device.Hearing (heard_bytes f arrival) (ending_of (cond b Restart Stop) arrival));
-      told = Some (Got (back_bytes (answer_in (reply_of s.device (heard_bytes f arrival) (ending_of (cond b Restart Stop) arrival))) back));
+      told = Some (Got (back_bytes (answer_in (reply_of s.device (heard_bytes f arrival) (ending_of
+          (cond b Restart Stop) arrival))) back));
     } in
     ap (exchanged s arrival back) sends.sending ∙ ap₂ share sends.is.reads (request-frame sends.is)
 
@@ -174,12 +176,14 @@ answered : LegalLivesAreFollowed → {config : Config} {passes : ℕ} {before : 
     IsLife config passes before host held → Comes request needed held came arrival back new →
     Goes config passes before (Exchange arrival back ∷ []) (Called (Read request needed came) ∷ [])
     (end_by (step_of host (Got came))) (host_next host (Got came)) new
-answered laws {config = config} {passes = passes} {before = before} {host = host} {held = held} {new = new} request needed came arrival back sends is comes =
+answered laws {config = config} {passes = passes} {before = before} {host = host} {held = held} {new = new} request needed came arrival
+    back sends is comes =
     let s = now config passes before in
     let shown = of-life (λ h. SendsRequest h request needed) is sends in
     let hears_so : device.Event = device.Hearing (heard_bytes request arrival) (ending_of Restart arrival) in
     let share : Share = record { heard = Some hears_so; told = Some (Got came) } in
-    let returned = subst (λ d. is_legal_return request needed (is_heard_whole request (heard_bytes request arrival) (ending_of Restart arrival))
+    let returned = subst (λ d. is_legal_return request needed (is_heard_whole request (heard_bytes request arrival)
+    (ending_of Restart arrival))
     (answer_of d request arrival) (back_bytes (answer_of d request arrival) back) ≡ true) (sym is.held_is) comes.returned in
     let told : share_of s (Exchange arrival back) ≡ share = exchange-tells s request needed arrival back shown
     ∙ ap (λ (b : List ℕ). record { heard = Some hears_so; told = Some (Got b) })
@@ -200,7 +204,8 @@ pub record CallEvents (call : Call) (host : Summary) (old new : Held) : Type 0 w
       Goes config passes before events (Called call ∷ []) (end_by (step_of host (told_of call))) (host_next host (told_of call)) new
 
 -- there are such
-pub call-events : LegalLivesAreFollowed → (call : Call) (host : Summary) (old new : Held) → MayDo host (Called call) → IsCalled call old new →
+pub call-events : LegalLivesAreFollowed → (call : Call) (host : Summary) (old new : Held) → MayDo host (Called call) →
+    IsCalled call old new →
     CallEvents call host old new
 call-events laws (Wrote frame acked) host old new may is =
     let sends = sends-write host frame may in

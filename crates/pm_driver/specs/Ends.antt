@@ -1,13 +1,13 @@
 -- What the end of a job is worth at the moment when the call returns it: this project's own choice.
-use Rattle.std.specs.Prelude.{◌≡◌, ℕ, true, Some, IsSomeAnd}
+use Rattle.std.specs.Prelude.{◌≡◌, ℕ, IsSomeAnd}
 use Rattle.pm_table.specs.declared.cell.Cell.{Cell}
 use Rattle.pm_model.specs.Settings.{word_at}
 use Rattle.pm_device.specs.Held.{Held, shape_for}
 use Rattle.pm_host.specs.declared.job_end.JobEnd.{JobEnd}
-use Rattle.pm_host.specs.declared.job_end.JobEnd.TheVariants.{Done, Differs, Unknown, Learned}
+use Rattle.pm_host.specs.declared.job_end.JobEnd.TheVariants.{Done, Differs, Learned}
 use Rattle.pm_host.specs.declared.standing.Standing.TheVariants.{Confirmed}
 use Rattle.pm_host.specs.Summary.{Summary, standing_at, format_at}
-use Rattle.pm_host.specs.Transcript.{Job, Order, Check, Learn, Send}
+use Rattle.pm_host.specs.Transcript.{Job, Order, Check, Learn}
 
 -- the host calls the word confirmed, and the converter holds it
 abbrev pub Stands : Summary → Held → Cell → ℕ → Type 0

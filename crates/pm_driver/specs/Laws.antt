@@ -1,8 +1,8 @@
 -- The laws of a driver, over the definitions alone.
-use Rattle.std.specs.Prelude.{◌≡◌, ℕ, true, List, [], ◌∷◌, ◌++◌, Option, Some}
+use Rattle.std.specs.Prelude.{◌≡◌, ℕ, true, List, ◌++◌, Option, Some}
 use Rattle.pm_device.specs.declared.config.Config.{Config}
 use Rattle.pm_device.specs.Held.{Held}
-use Rattle.pm_device.specs.Start.{IsSound, start_of}
+use Rattle.pm_device.specs.Start.{IsSound}
 use Rattle.pm_device.specs.History as history
 use Rattle.pm_host.specs.declared.job_end.JobEnd.{JobEnd}
 use Rattle.pm_host.specs.Refusals.{IsSetup}

@@ -1,6 +1,6 @@
 -- What a driver's acts come to, over every life that may have led to where they began: this project's own choice.
 -- Lists are newest first.
-use Rattle.std.specs.Prelude.{◌≡◌, ℕ, Bool, true, false, List, [], ◌∷◌, ◌++◌, Option, Some, None}
+use Rattle.std.specs.Prelude.{◌≡◌, ℕ, Bool, true, false, List, ◌∷◌, ◌++◌, Option, Some, None}
 use Rattle.pm_device.specs.declared.config.Config.{Config}
 use Rattle.pm_device.specs.Held.{Held}
 use Rattle.pm_device.specs.Start.{IsSound}

@@ -1,16 +1,16 @@
 -- What sending one frame comes to, for the loop that sends them all.
-use Rattle.std.specs.Prelude.{◌≡◌, ℕ, true, List, [], ◌∷◌, Option, Some, None}
+use Rattle.std.specs.Prelude.{◌≡◌, true, [], ◌∷◌, Option, Some, None}
 use Rattle.pm_device.specs.Held.{Held}
 use Rattle.pm_host.specs.declared.job_end.JobEnd.{JobEnd}
 use Rattle.pm_host.specs.declared.step.Step.{Step}
-use Rattle.pm_host.specs.declared.step.Step.TheVariants.{Next, Ended}
+use Rattle.pm_host.specs.declared.step.Step.TheVariants.{Next}
 use Rattle.pm_host.specs.Refusals.{is_busy, job_fault}
 use Rattle.pm_host.specs.Summary.{Summary, next as host_next, step_of}
 use Rattle.pm_host.specs.Transcript.{Job, Accepted, Restarted}
 use Rattle.pm_world.specs.State.{end_by}
 use Rattle.pm_driver.specs.Acts.{Began, Call, Called, MayDo, Read, Renewed, Wrote, told_of}
 use Rattle.pm_driver.specs.Bus.{IsSent, IsAsked}
-use Rattle.pm_driver.specs.Lives.{Driven, Leads}
+use Rattle.pm_driver.specs.Lives.{Leads}
 
 -- how the job ended with a step
 abbrev pub end_in : Option Step → Option JobEnd

@@ -1,8 +1,4 @@
-use Rattle.std.proofs.Common.{◌≡◌, [], None, Some, true, refl, sym, ◌∙◌, ap, subst}
-use Rattle.pm_host.specs.declared.step.Step.TheVariants.{Next, Ended}
-use Rattle.pm_host.specs.Refusals.{is_busy}
-use Rattle.pm_driver.specs.Lives.{Leads}
-use Rattle.pm_driver.specs.Steps.{StaysOpen}
+use Rattle.std.proofs.Common.{[], None, Some, refl, ◌∙◌}
 use Rattle.pm_driver.proofs.Composed.{leads-nothing}
 use Rattle.pm_driver.proofs.frames.carry_out.Goals as goal
 
@@ -19,7 +15,8 @@ returns-in-None-clause-leads g c =
 
 pub frames-preserved : goal.frames-preserved
 frames-preserved g c = record {
-  leads = c.leads_compose.ensures [] [] None None _ _ _ c.frames.invariant.leads (rw c.in-Some-Next.field-0-is at c.in-Some-Next.ensures).leads;
+  leads = c.leads_compose.ensures [] [] None None _ _ _ c.frames.invariant.leads
+      (rw c.in-Some-Next.field-0-is at c.in-Some-Next.ensures).leads;
   some = (let open_now = (rw c.in-Some-Next.field-0-is at c.in-Some-Next.ensures).open in
       open_now ∙ (c.in-Some-Next.ensures.some ∙ c.frames.invariant.some));
   kept = c.in-Some-Next.ensures.kept ∙ c.frames.invariant.kept;

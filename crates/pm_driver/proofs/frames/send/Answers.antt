@@ -1,4 +1,4 @@
-use Rattle.std.proofs.Common.{◌≡◌, ℕ, List, [], None, Some, true, length, replicate, take, refl, sym, ◌∙◌, ap, subst}
+use Rattle.std.proofs.Common.{◌≡◌, ℕ, List, length, replicate, take, sym, subst}
 use Rattle.std.proofs.lemmas.List.{length-take-le}
 use Rattle.std.specs.Prelude.{IsSomeAnd}
 use Rattle.pm_frame.specs.Fault.{whole_answer}
@@ -43,5 +43,6 @@ returns-in-Request-clause-leads g c =
 pub returns-in-Request-clause-open : goal.returns-in-Request-clause-open
 returns-in-Request-clause-open g c =
     told-open (Read c.as_slice-in-Request.result.now 0 _) c.args.host.now c.told-step-in-Request.new.self c.told-step-in-Request.result
-    (busy-host (λ message. IsRequest c.args.host.now.setup.addr message c.in-Request.frame.now.items) c.args.host.now c.in-Request.ensures.1)
+    (busy-host (λ message. IsRequest c.args.host.now.setup.addr message c.in-Request.frame.now.items) c.args.host.now
+    c.in-Request.ensures.1)
     c.told-step-in-Request.ensures.after c.told-step-in-Request.ensures.step

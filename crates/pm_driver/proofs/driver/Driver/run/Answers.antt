@@ -1,4 +1,4 @@
-use Rattle.std.proofs.Common.{◌≡◌, [], None, Some, Ok, true, false, is_some, refl, sym, ◌∙◌, ap, subst}
+use Rattle.std.proofs.Common.{Ok, ◌∙◌, subst}
 use Rattle.pm_driver.specs.Driven.{Runs}
 use Rattle.pm_driver.specs.Lives.{Driven}
 use Rattle.pm_driver.proofs.BegunJobs.{begun-busy, job-lived, runs-so}
