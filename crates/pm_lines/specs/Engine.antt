@@ -43,6 +43,17 @@ pub record Run (R W : Type 0) : Type 0 where
   pub writer : Held W
   pub writer' : Held W
 
+-- the run of a call that was lent a reader and a writer
+abbrev pub over : {R W : Type 0} → (R → Option (List ℕ)) → Held R → Held R → (W → Option (List ℕ)) → Held W → Held W → Run R W
+over remaining reader reader' contents writer writer' = record {
+  remaining = remaining;
+  contents = contents;
+  reader = reader;
+  reader' = reader';
+  writer = writer;
+  writer' = writer';
+}
+
 module _ {T : Type 0} (engine : Engine T) (old new : Option (List ℕ)) where
   -- the reader gave all of its text, of which this one is made
   abbrev pub IsMade : List ℕ → T → Type 0

@@ -1,4 +1,4 @@
-ghost use Rattle.std.specs.Prelude.{◌≡◌, ◌↔◌, IsErrOf, IsTrue, IsFalse, MatchResult};
+ghost use Rattle.std.specs.Prelude.{◌≡◌, ◌↔◌, IsTrue, IsFalse, MatchResult};
 ghost use Rattle.pm_lines.specs.Streams.{BreaksOff, IsWholeText, max_text};
 
 use crate::fault::TextFault;
@@ -20,7 +20,8 @@ pub fn read_text<R: Read>(alloc: Global, source: &mut Source<R>) -> Result<Vec<u
     ensures reads { MatchResult result
         (λ text. IsWholeText (R.remaining source.old.inner) (R.remaining source.new.inner) text.items)
         (λ fault. BreaksOff (R.remaining source.old.inner) (R.remaining source.new.inner) fault) }
-    ensures failed { IsErrOf result TextFault.Read ↔ IsTrue source.new.failed }
+    ensures failed { MatchResult result (λ _. IsFalse source.new.failed)
+        (λ fault. IsTrue source.new.failed ↔ (fault ≡ TextFault.Read)) }
     ensures limit { MAX_TEXT ≡ max_text }
 {
     let mut text = Vec::new(alloc);

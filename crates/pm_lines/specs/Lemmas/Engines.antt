@@ -1,9 +1,9 @@
 -- How an engine ends that reads all of its text first, and writes nothing before.
-use Rattle.std.specs.Prelude.{◌≡◌, ◌⊎◌, ◌↔◌, ℕ, ◌<◌, Bool, true, false, List, length, Option, None, Result, Ok, Err, IsTrue, IsFalse, IfErr, OnOk, OnErr, is_err, refl}
+use Rattle.std.specs.Prelude.{◌≡◌, ◌⊎◌, ◌↔◌, ℕ, ◌<◌, Bool, true, false, List, length, Option, None, Ok, Err, IsTrue, IsFalse, refl}
 use Rattle.std.proofs.Common.{inl, inr, subst, sym}
 use Rattle.std.specs.Io.KnownBytes.{Appends}
 use Rattle.pm_lines.specs.Engine.{Engine, EngineEnds, IsLeft, IsMade, IsUnderWay, IsWithin, Refuses, Run}
-use Rattle.pm_lines.specs.Faults.{IsOfInput}
+use Rattle.pm_lines.specs.Faults.{IsOfInput, IsOfText}
 use Rattle.pm_lines.specs.Streams.{AppendsFront, BreaksOff, IsWholeText, max_text}
 use Rattle.pm_lines.specs.declared.fault.TextFault.{TextFault}
 use Rattle.pm_lines.specs.declared.fault.TextFault.TheVariants.{Syntax, BadHex, TooLong, Read, Write, Memory, Setup}
@@ -12,6 +12,22 @@ use Rattle.pm_lines.specs.declared.fault.TextFault.TheVariants.{Syntax, BadHex, 
 pub false_unless : (b : Bool) → (IsTrue b → ⊥) → IsFalse b
 false_unless true none = absurd (none refl)
 false_unless false none = refl
+
+-- a whole text as it is handed on
+pub as_handed : (old new : Option (List ℕ)) (text handed : List ℕ) → handed ≡ text → IsWholeText old new text
+    → IsWholeText old new handed
+as_handed old new text handed same whole =
+    let P : List ℕ → Type 0 = λ l. IsWholeText old new l in subst P (sym same) whole
+
+-- a text's own fault is one of what it asks for
+pub of_text : (fault : TextFault) → IsOfText fault → IsOfInput fault
+of_text (Syntax line) of = tt
+of_text (BadHex line) of = tt
+of_text TooLong of = absurd of
+of_text Read of = absurd of
+of_text Write of = absurd of
+of_text Memory of = tt
+of_text (Setup reason) of = absurd of
 
 module _ {R W T : Type 0} (engine : Engine T) (run : Run R W) (none : engine.early ≡ None) where
   -- the writer got nothing
@@ -74,15 +90,3 @@ module _ {R W T : Type 0} (engine : Engine T) (run : Run R W) where
       → IsFalse run.reader'.failed → IsTrue run.writer'.failed
       → AppendsFront (run.contents run.writer.inner) (run.contents run.writer'.inner) text → EngineEnds engine run (Err Write)
   cut_short text end made read failed front = (read, failed, text, inr (end, made), front)
-
-  -- either, by what came of the last write
-  pub put : (r : Result (Unit {0}) TextFault) (text : List ℕ) (end : T)
-      → IsMade engine (run.remaining run.reader.inner) (run.remaining run.reader'.inner) text end → IsFalse run.reader'.failed
-      → OnOk r (Appends (run.contents run.writer.inner) (run.contents run.writer'.inner) text)
-      → OnErr r (AppendsFront (run.contents run.writer.inner) (run.contents run.writer'.inner) text)
-      → run.writer'.failed ≡ is_err r → IfErr r (λ fault. fault ≡ Write)
-      → elim r as (λ _. Type 0) [ Ok done ↦ EngineEnds engine run (Ok end) | Err fault ↦ EngineEnds engine run (Err fault) ]
-  put (Ok done) text end made read all front failed of = written text end made read failed all
-  put (Err fault) text end made read all front failed of =
-      let P : TextFault → Type 0 = λ f. EngineEnds engine run (Err f) in
-      subst P (sym of) (cut_short text end made read failed front)

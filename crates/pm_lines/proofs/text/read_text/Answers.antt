@@ -29,3 +29,14 @@ returns-in_err-count-clause-reads g c =
     let short : length c.reads.text.items ≤ max_text = omega (arith, c.reads.invariant.short, c.reads.text.ok) in
     rw (p.1, p.2) (read_failed _ _ _ c.reads.text.items _ c.in_err-count.ensures.fault c.reads.invariant.given
     c.in_err-count.ensures.bytes short)
+
+pub returns-in_err-extend_from_slice-clause-failed : goal.returns-in_err-extend_from_slice-clause-failed
+returns-in_err-extend_from_slice-clause-failed g c =
+    let p = err_from_is_err_and c.from_residual-in_err-extend_from_slice.result c.from_residual-in_err-extend_from_slice.ensures.1 in
+    let sound = c.in_ok-count.ensures.failed in
+    rw (p.1, p.2) (λ t. absurd (cc (sound, t)), λ e. absurd (cc))
+
+pub returns-in_err-count-clause-failed : goal.returns-in_err-count-clause-failed
+returns-in_err-count-clause-failed g c =
+    let p = err_from_is_err_and c.from_residual.result c.from_residual.ensures.1 in
+    rw (p.1, p.2) (λ t. c.in_err-count.ensures.fault, λ e. c.in_err-count.ensures.failed)
