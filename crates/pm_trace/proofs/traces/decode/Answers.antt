@@ -8,12 +8,12 @@ use Rattle.pm_trace.proofs.traces.decode.Goals as goal
 pub returns-in_err-decode_pieces-clause-ends : goal.returns-in_err-decode_pieces-clause-ends
 returns-in_err-decode_pieces-clause-ends g c =
     let p = err_from_is_err_and c.from_residual.result c.from_residual.ensures.1 in
-    rw (p.1, p.2) c.in_err-decode_pieces.ensures.1
+    rw (p.1, p.2) c.in_err-decode_pieces.ensures.broken.1
 
 pub returns-in_err-put-clause-ends : goal.returns-in_err-put-clause-ends
 returns-in_err-put-clause-ends g c =
     let p = err_from_is_err_and c.from_residual-in_err-put.result c.from_residual-in_err-put.ensures.1 in
-    let (read, sound, input, written, at_end) = c.in_ok-decode_pieces.ensures in
+    let (read, sound, input, written, at_end) = c.in_ok-decode_pieces.ensures.ok in
     let old = c.decode_pieces.new.decoder in
     let none = sym c.taken.ensures ∙ c.if-taken-eq0.true in
     rw (p.1, p.2, c.in_err-put.ensures.fault) (text_cut (over g.R.Read.remaining c.args.reader.now c.decode_pieces.new.reader
@@ -24,7 +24,7 @@ returns-in_err-put-clause-ends g c =
 
 pub returns-then-taken-eq0-clause-ends : goal.returns-then-taken-eq0-clause-ends
 returns-then-taken-eq0-clause-ends g c =
-    let (read, sound, input, written, at_end) = c.in_ok-decode_pieces.ensures in
+    let (read, sound, input, written, at_end) = c.in_ok-decode_pieces.ensures.ok in
     let old = c.decode_pieces.new.decoder in
     let none = sym c.taken.ensures ∙ c.if-taken-eq0.true in
     decoded (over g.R.Read.remaining c.args.reader.now c.decode_pieces.new.reader
@@ -37,8 +37,8 @@ returns-then-taken-eq0-clause-ends g c =
 pub returns-in_err-text-clause-ends : goal.returns-in_err-text-clause-ends
 returns-in_err-text-clause-ends g c =
     let p = err_from_is_err_and c.from_residual-in_err-text.result c.from_residual-in_err-text.ensures.1 in
-    let (read, sound, input, written, at_end) = c.in_ok-decode_pieces.ensures in
-    rw (p.1, p.2, c.in_err-text.ensures) (unmade (over g.R.Read.remaining c.args.reader.now c.decode_pieces.new.reader
+    let (read, sound, input, written, at_end) = c.in_ok-decode_pieces.ensures.ok in
+    rw (p.1, p.2, c.in_err-text.ensures.fault) (unmade (over g.R.Read.remaining c.args.reader.now c.decode_pieces.new.reader
     g.W.Write.contents c.args.writer.now c.decode_pieces.new.writer) read sound
     (end_memory _ _ _ _ (g.W.Write.contents c.decode_pieces.new.writer.inner) input c.decode_pieces.new.decoder written
     (λ e. c.if-taken-eq0.false (c.taken.ensures ∙ e))))
@@ -46,7 +46,7 @@ returns-in_err-text-clause-ends g c =
 pub returns-in_err-put-2-clause-ends : goal.returns-in_err-put-2-clause-ends
 returns-in_err-put-2-clause-ends g c =
     let p = err_from_is_err_and c.from_residual-in_err-put-2.result c.from_residual-in_err-put-2.ensures.1 in
-    let (read, sound, input, written, at_end) = c.in_ok-decode_pieces.ensures in
+    let (read, sound, input, written, at_end) = c.in_ok-decode_pieces.ensures.ok in
     let old = c.decode_pieces.new.decoder in
     let shown : c.as_bytes.result.now ≡ string_bytes c.in_ok-text.text = c.as_bytes.ensures.value ∙ c.as_str.ensures.value in
     rw (p.1, p.2, c.in_err-put-2.ensures.fault) (text_cut (over g.R.Read.remaining c.args.reader.now c.decode_pieces.new.reader
@@ -56,7 +56,7 @@ returns-in_err-put-2-clause-ends g c =
 
 pub returns-clause-ends : goal.returns-clause-ends
 returns-clause-ends g c =
-    let (read, sound, input, written, at_end) = c.in_ok-decode_pieces.ensures in
+    let (read, sound, input, written, at_end) = c.in_ok-decode_pieces.ensures.ok in
     let old = c.decode_pieces.new.decoder in
     let shown : c.as_bytes.result.now ≡ string_bytes c.in_ok-text.text = c.as_bytes.ensures.value ∙ c.as_str.ensures.value in
     decoded (over g.R.Read.remaining c.args.reader.now c.decode_pieces.new.reader

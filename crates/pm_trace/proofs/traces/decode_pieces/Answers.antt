@@ -32,7 +32,7 @@ pub returns-in_err-is_whole-clause-broken : goal.returns-in_err-is_whole-clause-
 returns-in_err-is_whole-clause-broken g c =
     let p = err_from_is_err_and c.from_residual-in_err-is_whole.result c.from_residual-in_err-is_whole.ensures.1 in
     let (front, written) = c.reads.invariant.written in
-    rw (p.1, p.2, c.in_err-is_whole.ensures) (tt, unmade (over g.R.Read.remaining c.args.reader.now c.read.new.self
+    rw (p.1, p.2, c.in_err-is_whole.ensures.fault) (tt, unmade (over g.R.Read.remaining c.args.reader.now c.read.new.self
     g.W.Write.contents c.args.writer.now c.reads.writer) c.in_ok-count.ensures.failed c.reads.invariant.writes
     (put_memory _ _ _ _ _ (g.W.Write.contents c.reads.writer.inner) front
     (take c.in_ok-count.count c.read.new.buf) [] c.reads.decoder c.push_lines.new.decoder written
