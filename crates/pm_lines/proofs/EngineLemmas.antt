@@ -1,6 +1,6 @@
 -- How an engine ends follows from its input.
 use Rattle.std.proofs.Common.{◌≡◌, ◌∙◌, ℕ, ◌<◌, ◌≤◌, true, false, List, ◌++◌, length, length-append, append-nil, take, drop, take-append-drop}
-use Rattle.std.proofs.Common.{Option, Some, None, IfSome, Result, Ok, Err, refl, sym, ap, arith, ltb, subst}
+use Rattle.std.proofs.Common.{◌↔◌, Bool, IsFalse, IsTrue, true≢false, Option, Some, None, IfSome, Result, Ok, Err, refl, sym, ap, arith, ltb, subst}
 use Rattle.std.proofs.lemmas.Bool.Decides.{nat_tests}
 use Rattle.std.proofs.lemmas.List.{length-take, length-drop}
 use Rattle.std.specs.Io.KnownBytes.{Consumes, Keeps}
@@ -27,6 +27,10 @@ pub read_failed : (a b c : Option (List ℕ)) (front : List ℕ) (fault : TextFa
     → length front ≤ max_text → BreaksOff a c fault
 read_failed a b c front fault is given kept short =
     let P : TextFault → Type 0 = λ f. BreaksOff a c f in subst P (sym is) (front, short, Consumes-kept a b c front given kept)
+
+-- want of memory comes while no read has failed
+pub no_read : (failed : Bool) → IsFalse failed → IsTrue failed ↔ (Memory ≡ Read)
+no_read failed sound = (λ t. absurd (true≢false (sym t ∙ sound)), λ e. absurd (cc))
 
 module _ {T : Type 0} (engine : Engine T) where
   -- an input that is too long, and one that isn't

@@ -1,5 +1,5 @@
 -- How `decode` ends, by what was read and what was written.
-use Rattle.std.proofs.Common.{◌≡◌, ◌<◌, ◌≤◌, ◌++◌, ℕ, List, length, Ok, Err, IsTrue, IsFalse, ap, inl, inr, refl, sym}
+use Rattle.std.proofs.Common.{◌≡◌, ◌∙◌, ◌<◌, ◌≤◌, ◌++◌, true≢false, ℕ, List, length, Ok, Err, IsTrue, IsFalse, ap, inl, inr, refl, sym}
 use Rattle.std.specs.Io.KnownBytes.{Appends, Consumes}
 use Rattle.pm_lines.specs.Engine.{EngineEnds, Run}
 use Rattle.pm_lines.specs.Streams.{AppendsFront, IsWholeText, max_text}
@@ -19,7 +19,7 @@ module _ {R W : Type 0} (run : Run R W) where
       × Appends (run.contents run.writer.inner) (run.contents run.writer'.inner) (told_lines (said front))
       → EngineEnds decoding run (Err TooLong)
   too_long read sound (front, more, full, some, given, got) =
-      (sound, (λ t. absurd (cc (read, t)), λ e. absurd (cc)), front, (more, full, some, given), (told_lines (said front), refl, got))
+      (sound, (λ t. absurd (true≢false (sym t ∙ read)), λ e. absurd (cc)), front, (more, full, some, given), (told_lines (said front), refl, got))
 
   -- X4: the lines of what came before were
   pub unread : IsTrue run.reader'.failed → IsFalse run.writer'.failed → (front : List ℕ) → length front ≤ max_text
@@ -37,7 +37,7 @@ module _ {R W : Type 0} (run : Run R W) where
       × Appends (run.contents run.writer.inner) (run.contents run.writer'.inner) text
       → EngineEnds decoding run (Err Memory)
   unmade read sound (front, text, rest, some, given, split, got) =
-      (sound, (λ t. absurd (cc (read, t)), λ e. absurd (cc)), front, (some, tt, given), (text, (rest, split), got))
+      (sound, (λ t. absurd (true≢false (sym t ∙ read)), λ e. absurd (cc)), front, (some, tt, given), (text, (rest, split), got))
 
   -- X5: a prefix of the lines was written
   pub lines_cut : IsFalse run.reader'.failed → IsTrue run.writer'.failed

@@ -1,7 +1,7 @@
 use Rattle.std.proofs.Common.{◌<◌, ◌≤◌, ◌++◌, length, take, arith, length-append}
 use Rattle.std.proofs.KnownBytes.{Consumes-trans}
 use Rattle.std.proofs.lemmas.Result.{err_from_is_err_and}
-use Rattle.pm_lines.proofs.EngineLemmas.{parted, read_failed}
+use Rattle.pm_lines.proofs.EngineLemmas.{no_read, parted, read_failed}
 use Rattle.pm_lines.specs.Streams.{max_text}
 use Rattle.pm_lines.proofs.text.read_text.Goals as goal
 
@@ -20,8 +20,13 @@ returns-in_err-extend_from_slice-clause-reads g c =
     omega (arith, length-append c.reads.text.items more, c.in_ok-count.ensures.bound.1) in
     let short : length (c.reads.text.items ++ more) ≤ max_text =
     omega (arith, length-append c.reads.text.items more, c.in_ok-count.ensures.bound.1) in
-    rw (p.1, p.2) (c.reads.text.items
-    ++ more, some, short, Consumes-trans _ _ _ _ _ c.reads.invariant.given c.in_ok-count.ensures.bytes.0)
+    rw (p.1, p.2) (
+      c.reads.text.items
+          ++ more,
+      some,
+      short,
+      Consumes-trans _ _ _ _ _ c.reads.invariant.given c.in_ok-count.ensures.bytes.0,
+    )
 
 pub returns-in_err-count-clause-reads : goal.returns-in_err-count-clause-reads
 returns-in_err-count-clause-reads g c =
@@ -33,8 +38,7 @@ returns-in_err-count-clause-reads g c =
 pub returns-in_err-extend_from_slice-clause-failed : goal.returns-in_err-extend_from_slice-clause-failed
 returns-in_err-extend_from_slice-clause-failed g c =
     let p = err_from_is_err_and c.from_residual-in_err-extend_from_slice.result c.from_residual-in_err-extend_from_slice.ensures.1 in
-    let sound = c.in_ok-count.ensures.failed in
-    rw (p.1, p.2) (λ t. absurd (cc (sound, t)), λ e. absurd (cc))
+    rw (p.1, p.2) (no_read _ c.in_ok-count.ensures.failed)
 
 pub returns-in_err-count-clause-failed : goal.returns-in_err-count-clause-failed
 returns-in_err-count-clause-failed g c =

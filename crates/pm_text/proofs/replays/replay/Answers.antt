@@ -26,16 +26,22 @@ returns-in_err-put g c =
     let p = err_from_is_err_and c.from_residual-in_err-put.result c.from_residual-in_err-put.ensures.1 in
     let shown = c.as_bytes.ensures.value ∙ c.as_str.ensures.value in
     rw (p.1, p.2, c.in_err-put.ensures.fault) (cut_short replaying (over g.R.Read.remaining c.args.reader.now
-    c.read_text.new.source g.W.Write.contents c.args.writer.now c.put.new.self) c.as_bytes.result.now c.in_ok-text.end
-    (c.deref.result.now, as_handed _ _ _ _ c.deref.ensures.value c.in_ok-input.ensures.reads, c.in_ok-text.ensures.replayed
-    ∙ ap (λ t. Ok (t, c.in_ok-text.end)) (sym shown)) c.in_ok-input.ensures.failed c.in_err-put.ensures.failed
+    c.read_text.new.source g.W.Write.contents c.args.writer.now c.put.new.self) c.as_bytes.result.now c.in_ok-text.end (
+      c.deref.result.now,
+      as_handed _ _ _ _ c.deref.ensures.value c.in_ok-input.ensures.reads,
+      c.in_ok-text.ensures.replayed
+          ∙ ap (λ t. Ok (t, c.in_ok-text.end)) (sym shown),
+    ) c.in_ok-input.ensures.failed c.in_err-put.ensures.failed
     c.in_err-put.ensures.front)
 
 pub returns : goal.returns
 returns g c =
     let shown = c.as_bytes.ensures.value ∙ c.as_str.ensures.value in
     written replaying (over g.R.Read.remaining c.args.reader.now c.read_text.new.source g.W.Write.contents
-    c.args.writer.now c.put.new.self) c.as_bytes.result.now c.in_ok-text.end
-    (c.deref.result.now, as_handed _ _ _ _ c.deref.ensures.value c.in_ok-input.ensures.reads, c.in_ok-text.ensures.replayed
-    ∙ ap (λ t. Ok (t, c.in_ok-text.end)) (sym shown)) c.in_ok-input.ensures.failed c.in_ok-put.ensures.failed
+    c.args.writer.now c.put.new.self) c.as_bytes.result.now c.in_ok-text.end (
+      c.deref.result.now,
+      as_handed _ _ _ _ c.deref.ensures.value c.in_ok-input.ensures.reads,
+      c.in_ok-text.ensures.replayed
+          ∙ ap (λ t. Ok (t, c.in_ok-text.end)) (sym shown),
+    ) c.in_ok-input.ensures.failed c.in_ok-put.ensures.failed
     c.in_ok-put.ensures.all
