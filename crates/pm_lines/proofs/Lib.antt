@@ -1,7 +1,7 @@
 pub mod CutLemmas
+pub mod EngineLemmas
 pub mod Joins
 pub mod LineLemmas
 pub mod PairLemmas
 pub mod ReadingLemmas
 pub mod WordLemmas
-pub mod Writing

@@ -35,16 +35,6 @@ fault_setup Write = None
 fault_setup Memory = None
 fault_setup (Setup fault) = Some fault
 
--- the faults of a text that is read
-abbrev pub IsOfReading : TextFault → Type 0
-IsOfReading (Syntax line) = ⊥
-IsOfReading (BadHex line) = ⊥
-IsOfReading TooLong = ⊤
-IsOfReading Read = ⊤
-IsOfReading Write = ⊥
-IsOfReading Memory = ⊤
-IsOfReading (Setup fault) = ⊥
-
 -- the faults of a text as a whole
 abbrev pub IsOfText : TextFault → Type 0
 IsOfText (Syntax line) = ⊤
@@ -54,3 +44,13 @@ IsOfText Read = ⊥
 IsOfText Write = ⊥
 IsOfText Memory = ⊤
 IsOfText (Setup fault) = ⊥
+
+-- and those of what a text asks for
+abbrev pub IsOfInput : TextFault → Type 0
+IsOfInput (Syntax line) = ⊤
+IsOfInput (BadHex line) = ⊤
+IsOfInput TooLong = ⊥
+IsOfInput Read = ⊥
+IsOfInput Write = ⊥
+IsOfInput Memory = ⊤
+IsOfInput (Setup fault) = ⊤

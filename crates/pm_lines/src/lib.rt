@@ -1,7 +1,8 @@
 //! What every text of this project stands on, over any reader and any writer: a reader and a writer
 //! that are used until they fail, a whole text of at most 1 MiB, its lines that are not skipped, the
 //! words of a line, the numbers that words write and the bytes that they write in hexadecimal,
-//! numbers after a text, and the faults of a text with the words in which they are told.
+//! numbers after a text, the faults of a text with the words in which they are told, and what every engine
+//! promises that reads a text and writes one (`specs/Engine.antt`).
 //!
 //! What a text means is not here. A line or a word borrows the text that it stands in, and nothing
 //! takes memory for a word.
@@ -12,6 +13,7 @@ mod cut;
 mod digits;
 mod fault;
 mod hex_digit;
+mod laws;
 mod line;
 mod line_end;
 mod lines;
@@ -26,6 +28,7 @@ pub use cut::cut_at;
 pub use digits::{read_byte, read_i8, read_i16, read_i64, read_u8, read_word};
 pub use fault::TextFault;
 pub use hex_digit::{byte_of, is_digit, pair_of, spaced_pair};
+pub use laws::ends_follow_the_input;
 pub use line::Line;
 pub use line_end::with_line_end;
 pub use lines::{Lines, is_blank, without_carriage_return};

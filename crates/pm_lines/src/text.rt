@@ -1,7 +1,5 @@
-ghost use Rattle.std.specs.Prelude.{◌≡◌, ℕ, List, ◌<◌, ◌≤◌, ◌↔◌, length, IfOk, IfErr, IsErrOf, IsTrue, IsFalse};
-ghost use Rattle.std.specs.Io.KnownBytes.{Consumes};
-ghost use Rattle.pm_lines.specs.Streams.{IsWholeText, max_text};
-ghost use Rattle.pm_lines.specs.Faults.{IsOfReading};
+ghost use Rattle.std.specs.Prelude.{◌≡◌, ◌↔◌, IsTrue, IsFalse, MatchResult};
+ghost use Rattle.pm_lines.specs.Streams.{BreaksOff, IsWholeText, max_text};
 
 use crate::fault::TextFault;
 use crate::source::Source;
@@ -19,16 +17,11 @@ const CHUNK: usize = 4096;
 /// for the text, as it grows.
 pub fn read_text<R: Read>(alloc: Global, source: &mut Source<R>) -> Result<Vec<u8>, TextFault>
     requires { IsFalse source.old.failed }
-    ensures whole { IfOk result (λ text.
-        IsWholeText (R.remaining source.old.inner) (R.remaining source.new.inner) text.items) }
-    ensures too_long { IsErrOf result TextFault.TooLong → (front : List ℕ)
-        × (max_text < length front)
-        × Consumes (R.remaining source.old.inner) (R.remaining source.new.inner) front }
-    ensures memory { IsErrOf result TextFault.Memory → (front : List ℕ)
-        × (0 < length front) × (length front ≤ max_text)
-        × Consumes (R.remaining source.old.inner) (R.remaining source.new.inner) front }
-    ensures read { IsErrOf result TextFault.Read ↔ IsTrue source.new.failed }
-    ensures faults { IfErr result IsOfReading }
+    ensures reads { MatchResult result
+        (λ text. IsWholeText (R.remaining source.old.inner) (R.remaining source.new.inner) text.items)
+        (λ fault. BreaksOff (R.remaining source.old.inner) (R.remaining source.new.inner) fault) }
+    ensures failed { MatchResult result (λ _. IsFalse source.new.failed)
+        (λ fault. IsTrue source.new.failed ↔ (fault ≡ TextFault.Read)) }
     ensures limit { MAX_TEXT ≡ max_text }
 {
     let mut text = Vec::new(alloc);

@@ -27,11 +27,7 @@ pub fn refuse_memory<E: Write>(errors: &mut Sink<E>, program: &str) -> u8
 }
 
 /// Says that the arguments couldn't be had as texts: status 1 for want of memory, and 2 since they are none.
-pub fn refuse_arguments<E: Write>(
-    errors: &mut Sink<E>,
-    program: &str,
-    kind: io::ErrorKind,
-) -> u8
+pub fn refuse_arguments<E: Write>(errors: &mut Sink<E>, program: &str, kind: io::ErrorKind) -> u8
     requires { IsFalse errors.old.failed }
     ensures status { result ≡ no_words_status kind }
     ensures said { Says E.contents errors.old errors.new (program_line program.now (no_words kind)) }

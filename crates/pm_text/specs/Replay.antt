@@ -1,5 +1,5 @@
 -- What a replay results in: the report of the run of a text's scenario. This project's own choice.
-use Rattle.std.specs.Prelude.{⊤, ◌≡◌, ℕ, List, [], ◌∷◌, length, nat_lt, if◌then◌else◌, Option, Some, None, Result, Ok, Err}
+use Rattle.std.specs.Prelude.{◌≡◌, ℕ, List, [], ◌∷◌, length, Option, Some, None, Result, Ok, Err}
 use Rattle.pm_device.specs.declared.config.Config.{Config}
 use Rattle.pm_world.specs.Life.{now, taken_events}
 use Rattle.pm_world.specs.Setup.{setup_fault}
@@ -8,9 +8,9 @@ use Rattle.pm_world.specs.declared.event.Event.{Event}
 use Rattle.pm_world.specs.declared.cause.Cause.{Cause}
 use Rattle.pm_world.specs.declared.setup_fault.SetupFault.{SetupFault}
 use Rattle.pm_world.specs.declared.stop.Stop.{Stop}
-use Rattle.pm_lines.specs.Streams.{max_text}
+use Rattle.pm_lines.specs.Engine.{Engine}
 use Rattle.pm_lines.specs.declared.fault.TextFault.{TextFault}
-use Rattle.pm_lines.specs.declared.fault.TextFault.TheVariants.{Syntax, BadHex, TooLong, Read, Write, Memory, Setup}
+use Rattle.pm_lines.specs.declared.fault.TextFault.TheVariants.{Setup}
 use Rattle.pm_text.specs.Kinds.{form_of}
 use Rattle.pm_text.specs.Report.{report_text}
 use Rattle.pm_text.specs.ScenarioText.{scenario_of}
@@ -82,39 +82,6 @@ replay_of input = replay_by (scenario_of input)
 abbrev pub IsReplay : List ℕ → List ℕ → ReplayEnd → Type 0
 IsReplay input text end = replay_of input ≡ Ok (text, end)
 
--- no world is made of what the input's scenario asks for, for this reason
-abbrev pub RefusesSetup : List ℕ → SetupFault → Type 0
-RefusesSetup input fault = replay_of input ≡ Err (Setup fault)
-
--- ---- what is answered
-
--- how a replay ended, without its report
-abbrev pub end_alone : Result (List ℕ × ReplayEnd) TextFault → Result ReplayEnd TextFault
-end_alone (Ok told) = Ok told.1
-end_alone (Err fault) = Err fault
-
--- what an input alone decides: one that is too long is X3, whatever it holds
-unfoldable pub outcome_of : List ℕ → Result ReplayEnd TextFault
-outcome_of input = if nat_lt max_text (length input) then Err TooLong
-    else end_alone (replay_of input)
-
--- the reader, the writer and the memory served
-abbrev pub IsSettled : Result ReplayEnd TextFault → Type 0
-IsSettled (Ok end) = ⊤
-IsSettled (Err (Syntax line)) = ⊤
-IsSettled (Err (BadHex line)) = ⊤
-IsSettled (Err TooLong) = ⊤
-IsSettled (Err Read) = ⊥
-IsSettled (Err Write) = ⊥
-IsSettled (Err Memory) = ⊥
-IsSettled (Err (Setup fault)) = ⊤
-
--- the faults of a replay of a text that isn't too long
-abbrev pub IsOfReplay : TextFault → Type 0
-IsOfReplay (Syntax line) = ⊤
-IsOfReplay (BadHex line) = ⊤
-IsOfReplay TooLong = ⊥
-IsOfReplay Read = ⊥
-IsOfReplay Write = ⊥
-IsOfReplay Memory = ⊤
-IsOfReplay (Setup fault) = ⊤
+-- a replay as an engine: it writes its report whole, and nothing before
+abbrev pub replaying : Engine ReplayEnd
+replaying = record { whole = replay_of; early = None }

@@ -1,14 +1,11 @@
 //! Scenarios from a reader, and the report of what they come to, to a writer.
-ghost use Rattle.std.specs.Prelude.{◌≡◌, ◌≢◌, ◌⊎◌, ◌<◌, ◌≤◌, ◌↔◌, ℕ, List, length};
-ghost use Rattle.std.specs.Prelude.{Ok, Err, IfOk, IfErr, IfSome, IsErrOf, IsTrue, IsFalse, string_bytes};
+ghost use Rattle.std.specs.Prelude.{◌≡◌, ◌⊎◌, ◌<◌, ◌≤◌, length, Err, IfOk, IfErr, IsErrOf, IsFalse, string_bytes};
 ghost use Rattle.std.specs.Result.{result_err};
-ghost use Rattle.std.specs.Io.KnownBytes.{Appends, Consumes};
 ghost use Rattle.pm_world.specs.Setup.{setup_fault};
-ghost use Rattle.pm_world.specs.declared.setup_fault.SetupFault.{SetupFault as NoSetup};
-ghost use Rattle.pm_lines.specs.Streams.{AppendsFront, IsWholeText, max_text};
-ghost use Rattle.pm_text.specs.Replay.{IsOfReplay, IsReplay, IsSettled, RefusesSetup, end_by, outcome_of, replay_of, run_of as run_spec, taken_by};
-ghost use Rattle.pm_text.specs.ScenarioText.{scenario_of};
-ghost use Rattle.pm_text.specs.declared.replay_end.ReplayEnd.{ReplayEnd as Ending};
+ghost use Rattle.pm_lines.specs.Engine.{EngineEnds, over};
+ghost use Rattle.pm_lines.specs.Faults.{IsOfInput};
+ghost use Rattle.pm_lines.specs.Streams.{max_text};
+ghost use Rattle.pm_text.specs.Replay.{IsReplay, end_by, replay_of, replaying, run_of as run_spec, taken_by};
 
 use crate::ran::Ran;
 use crate::replay_end::ReplayEnd;
@@ -37,50 +34,10 @@ pub fn replay<R: Read, W: Write>(
 ) -> Result<ReplayEnd, TextFault>
     requires reader { IsFalse reader.old.failed }
     requires writer { IsFalse writer.old.failed }
-
-    // The reader was read to its end, and the report of the life that its text tells was written.
-    ensures ok { IfOk result (λ end. (input : List ℕ) × (text : List ℕ)
-        × IsWholeText (R.remaining reader.old.inner) (R.remaining reader.new.inner) input
-        × IsReplay input text end
-        × Appends (W.contents writer.old.inner) (W.contents writer.new.inner) text) }
-
-    // A faulty line is the first of all that the reader gave.
-    ensures syntax { (line : ℕ) → IsErrOf result (TextFault.Syntax line) → (input : List ℕ)
-        × IsWholeText (R.remaining reader.old.inner) (R.remaining reader.new.inner) input
-        × (scenario_of input ≡ Err (TextFault.Syntax line)) }
-    ensures bad_hex { (line : ℕ) → IsErrOf result (TextFault.BadHex line) → (input : List ℕ)
-        × IsWholeText (R.remaining reader.old.inner) (R.remaining reader.new.inner) input
-        × (scenario_of input ≡ Err (TextFault.BadHex line)) }
-
-    // No world is made of this scenario, for this reason.
-    ensures setup { (fault : NoSetup) → IsErrOf result (TextFault.Setup fault) → (input : List ℕ)
-        × IsWholeText (R.remaining reader.old.inner) (R.remaining reader.new.inner) input
-        × RefusesSetup input fault }
-
-    // The reader gave more than a text may have.
-    ensures too_long { IsErrOf result TextFault.TooLong → (front : List ℕ)
-        × (max_text < length front)
-        × Consumes (R.remaining reader.old.inner) (R.remaining reader.new.inner) front }
-
-    // Memory is wanted only where the reader gave bytes, and no more than a text may have.
-    ensures memory { IsErrOf result TextFault.Memory → (front : List ℕ)
-        × (0 < length front) × (length front ≤ max_text)
-        × Consumes (R.remaining reader.old.inner) (R.remaining reader.new.inner) front }
-
-    // A failed write leaves a prefix of the report, and not all of it.
-    ensures cut_short { IsErrOf result TextFault.Write → (input : List ℕ) × (text : List ℕ) × (end : Ending)
-        × IsWholeText (R.remaining reader.old.inner) (R.remaining reader.new.inner) input
-        × IsReplay input text end
-        × AppendsFront (W.contents writer.old.inner) (W.contents writer.new.inner) text }
-    ensures unwritten { IfErr result (λ fault. fault ≢ TextFault.Write → writer.new ≡ writer.old) }
-
-    // The streams say whether they failed.
-    ensures read { IsErrOf result TextFault.Read ↔ IsTrue reader.new.failed }
-    ensures write { IsErrOf result TextFault.Write ↔ IsTrue writer.new.failed }
-
-    // What comes of it follows from the bytes, however they are cut.
-    ensures same { IfSome (R.remaining reader.old.inner)
-        (λ input. IsSettled result → result ≡ outcome_of input) }
+    // The report is that of the life that the reader's text tells; X1 and X2 are the text's first faulty line, and
+    // X7 says why no world is made.
+    ensures { EngineEnds replaying
+        (over R.remaining reader.old reader.new W.contents writer.old writer.new) result }
 {
     let input = read_text(alloc, reader)?;
     let (text, end) = report_on(alloc, &input)?;
@@ -94,12 +51,8 @@ fn report_on(alloc: Global, input: &[u8]) -> Result<(String, ReplayEnd), TextFau
     ensures replayed { IfOk result (λ told. IsReplay input.now (string_bytes told.0) told.1) }
     ensures refused { IfErr result (λ fault. (fault ≡ TextFault.Memory)
         ⊎ (replay_of input.now ≡ Err fault)) }
-    ensures syntax { (line : ℕ) → IsErrOf result (TextFault.Syntax line) →
-        scenario_of input.now ≡ Err (TextFault.Syntax line) }
-    ensures bad_hex { (line : ℕ) → IsErrOf result (TextFault.BadHex line) →
-        scenario_of input.now ≡ Err (TextFault.BadHex line) }
     ensures memory { IsErrOf result TextFault.Memory → 0 < length input.now }
-    ensures faults { IfErr result IsOfReplay }
+    ensures faults { IfErr result IsOfInput }
 {
     let scenario = read_scenario(alloc, input)?;
     let run = run_of(&scenario)?;

@@ -1,39 +1,26 @@
 -- How a run ends, by what its calls did.
-use Rattle.std.proofs.Common.{◌≡◌, ◌≢◌, ◌∙◌, ◌++◌, ◌<◌, ◌≤◌, ◌↔◌, ◌⊎◌, ℕ, Bool, true, false, List, [], length, Option, Some, Result, Ok}
-use Rattle.std.proofs.Common.{Err, IsTrue, IsFalse, OnOk, OnErr, is_err, refl, sym, subst, inl, inr, append-nil, codes, arith}
-use Rattle.std.specs.Io.KnownBytes.{Appends, Consumes, Keeps}
+use Rattle.std.proofs.Common.{◌≡◌, ◌≢◌, ◌∙◌, ◌++◌, ◌↔◌, ◌⊎◌, ℕ, List, [], Option, Some, None, Result, Ok, Err, IsTrue, IsFalse, OnOk, OnErr, is_err}
+use Rattle.std.proofs.Common.{refl, sym, subst, inl, inr, append-nil, codes, arith}
+use Rattle.std.specs.Io.KnownBytes.{Appends, Keeps}
 use Rattle.std.proofs.KnownBytes.{Appends-kept}
 use Rattle.clap.specs.declared.error.kind.ErrorKind.{ErrorKind}
 use Rattle.clap.specs.declared.error.kind.ErrorKind.TheVariants.{OutOfMemory}
-use Rattle.pm_lines.specs.Streams.{AppendsFront, Held, IsWholeText, max_text}
-use Rattle.pm_lines.specs.declared.fault.TextFault.{TextFault}
-use Rattle.pm_lines.specs.declared.fault.TextFault.TheVariants.{Syntax, BadHex, TooLong, Read, Write, Memory, Setup}
 use Rattle.clap.specs.Kinds.{IsAmong}
 use Rattle.clap.specs.Words.{Text, fault_of}
 use Rattle.pm_num.specs.declared.fault.NumFault.{NumFault}
+use Rattle.pm_lines.specs.Engine.{Engine, EngineEnds, IsLeft, Refuses, over}
+use Rattle.pm_lines.specs.Streams.{AppendsFront, Held}
+use Rattle.pm_lines.specs.declared.fault.TextFault.{TextFault}
+use Rattle.pm_lines.specs.declared.fault.TextFault.TheVariants.{Syntax, BadHex, TooLong, Read, Write, Memory, Setup}
 use Rattle.pm_program.specs.Refusals.{Says}
 use Rattle.pm_tool.specs.Commandline.{pmb}
-use Rattle.pm_tool.specs.Execution.{End, Printed, CutShort, Refused, Broken, Misused, GaveFaulty, GaveMore, GaveSome, GaveText}
-use Rattle.pm_tool.specs.Execution.{TextEnds, HearRefuses, ReplayRefuses, DecodeBreaks, DecodeEnds, NumberEnds, NumberRefuses, UsageEnds}
-use Rattle.pm_tool.specs.Execution.{WordsEnd}
-use Rattle.pm_tool.specs.Execution.{IsDone, IsEnd, decode_status, refusal_line, text_refusal, wants_memory}
-use Rattle.pm_tool.specs.Outcome.{IsOfHear}
+use Rattle.pm_tool.specs.Execution.{End, EngineRuns, Printed, CutShort, Refused, Broken, Misused, NumberEnds, NumberRefuses, UsageEnds}
+use Rattle.pm_tool.specs.Execution.{IsDone, IsEnd, WordsEnd, refusal_line, text_refusal, wants_memory}
 use Rattle.pm_tool.specs.NumberFaults.{refusal_status, refusal_words}
 use Rattle.pm_tool.specs.NumberText.{IsCommandLineFault, IsNumberText, IsOfNumber, RefusesNumber}
 use Rattle.pm_tool.specs.declared.numbers.fault.NumberFault.{NumberFault}
 use Rattle.pm_tool.specs.declared.numbers.fault.NumberFault.TheVariants.{OneOf, Format, Word, Micro, Num, Text as OfText}
 use Rattle.pm_tool.specs.declared.numbers.question.Question.{Question}
-use Rattle.pm_world.specs.declared.setup_fault.SetupFault.{SetupFault}
-use Rattle.pm_trace.specs.Counts.{counts_of}
-use Rattle.pm_trace.specs.Decoding.{said as said_of}
-use Rattle.pm_trace.specs.Trace.{trace_of}
-use Rattle.pm_trace.specs.TraceText.{IsOfDecode, end_of, told_lines, trace_text}
-use Rattle.pm_trace.specs.declared.decode_end.DecodeEnd.{DecodeEnd}
-
--- a result that is no such error
-pub false_unless : (b : Bool) → (IsTrue b → ⊥) → IsFalse b
-false_unless true none = absurd (none refl)
-false_unless false none = refl
 
 module _ {E : Type 0} (err : E → Option (List ℕ)) where
   -- what one call to write came to
@@ -47,16 +34,6 @@ module _ {E : Type 0} (err : E → Option (List ℕ)) where
   pub said_as : (errors errors' : Held E) (words other : List ℕ) → words ≡ other
       → Says err errors errors' (refusal_line words) → Says err errors errors' (refusal_line other)
   said_as errors errors' words other same said = subst (λ w. Says err errors errors' (refusal_line w)) same said
-
--- a text's fault is that of a writer or another
-is_write : (fault : TextFault) → (fault ≡ Write) ⊎ (fault ≢ Write)
-is_write (Syntax line) = inr (λ e. cc)
-is_write (BadHex line) = inr (λ e. cc)
-is_write TooLong = inr (λ e. cc)
-is_write Read = inr (λ e. cc)
-is_write Write = inl refl
-is_write Memory = inr (λ e. cc)
-is_write (Setup reason) = inr (λ e. cc)
 
 -- ---- a run's streams
 
@@ -72,12 +49,6 @@ pub record Writers (W E : Type 0) : Type 0 where
 -- what they got, and the status, are those of an end
 abbrev pub Ends : {W E : Type 0} → Writers W E → ℕ → End → Type 0
 Ends w status end = IsEnd w.out w.err w.output w.output' w.errors w.errors' status end
-
--- its reader, before it and after it
-pub record Reader (R : Type 0) : Type 0 where
-  pub remaining : R → Option (List ℕ)
-  pub old : Held R
-  pub new : Held R
 
 -- a text that was written, and then handed on or not
 pub record Wrote {W E : Type 0} (w : Writers W E) (wanted status : ℕ) (text : List ℕ) : Type 0 where
@@ -112,121 +83,46 @@ module _ {W E : Type 0} (w : Writers W E) where
       → Says w.err w.errors w.errors' (refusal_line words) → Ends w status (Refused status words)
   refused status words same said = record { status_is = refl; printed = same; said = said }
 
-  -- ---- an engine that writes its whole text or refuses
+  -- ---- an engine
 
-  module _ {R : Type 0} (new : Held R) (Gives : ℕ → List ℕ → Type 0) (Refuses : TextFault → Type 0) where
-    -- it wrote its text
-    pub text_written : (wanted status : ℕ) (text : List ℕ) → Gives wanted text → IsFalse new.failed → Wrote w wanted status text
-        → (end : End) × TextEnds new Gives Refuses end × Ends w status end
-    text_written wanted status text gives sound wrote =
-        elim (ended wanted status text wrote) [
-          | inl e ↦ (Printed wanted text, (sound, gives), e)
-          | inr e ↦ (CutShort text, (sound, wanted, gives), e)
+  module _ {R T : Type 0} (engine : Engine T) (status_in : T → ℕ) (remaining : R → Option (List ℕ)) (old new : Held R) where
+    -- it wrote its text, which was handed on or not
+    pub engine_printed : (mid : Held W) (end : T) (wanted status : ℕ) → wanted ≡ status_in end
+        → EngineEnds engine (over remaining old new w.out w.output mid) (Ok end) → Keeps (w.out mid.inner) (w.out w.output'.inner)
+        → IsDone w.err w.output' w.errors w.errors' wanted status
+        → (e : End) × EngineRuns engine status_in remaining old new e × Ends w status e
+    engine_printed mid end wanted status same (read, sound, text, made, written) kept done =
+        elim (ended wanted status text (record { mid = mid; written = written; kept = kept; done = done })) [
+          | inl e ↦ (Printed wanted text, (read, end, same, made), e)
+          | inr e ↦ (CutShort text, (read, inr (end, made)), e)
         ]
 
-    -- what holds where it refuses
-    pub record TextRefusal (fault : TextFault) : Type 0 where
-      pub why : fault ≢ Write → Refuses fault
-      pub short : fault ≡ Write → (status : ℕ) × (text : List ℕ) × Gives status text
-          × AppendsFront (w.out w.output.inner) (w.out w.output'.inner) text
-      pub unwritten : fault ≢ Write → w.output' ≡ w.output
-      pub read : (fault ≡ Read) ↔ IsTrue new.failed
-      pub write : (fault ≡ Write) ↔ IsTrue w.output'.failed
-
-    -- it refused
-    pub text_refused : (fault : TextFault) → TextRefusal fault → Says w.err w.errors w.errors' (refusal_line (text_refusal fault))
-        → (end : End) × TextEnds new Gives Refuses end × Ends w 1 end
-    text_refused fault is said = elim (is_write fault) [ inl write ↦ failed write | inr other ↦ other_fault other ]
-      where
-        failed : fault ≡ Write → (end : End) × TextEnds new Gives Refuses end × Ends w 1 end
-        failed write =
-            let (status, text, gives, front) = is.short write in
-            let sound : IsFalse new.failed = false_unless new.failed (λ t. let e : Write ≡ Read = sym write ∙ is.read.1 t in cc) in
-            let line = subst (λ f. Says w.err w.errors w.errors' (refusal_line (text_refusal f))) write said in
-            (CutShort text, (sound, status, gives), cut text (is.write.0 write) front line)
-
-        other_fault : fault ≢ Write → (end : End) × TextEnds new Gives Refuses end × Ends w 1 end
-        other_fault other = (
-          Refused 1 (text_refusal fault),
-          (refl, fault, refl, (is.read.1, is.read.0), is.why other),
-          refused 1 (text_refusal fault)
-              (is.unwritten other) said,
-        )
-
-  -- ---- `decode`
-
-  module _ {R : Type 0} (r : Reader R) where
-    -- `decode` wrote the text of a trace
-    pub decoded : (wanted status : ℕ) (end : DecodeEnd) (input : List ℕ)
-        → IsWholeText (r.remaining r.old.inner) (r.remaining r.new.inner) input
-        → (wanted ≡ decode_status end) × (end ≡ end_of (counts_of (trace_of input))) × IsFalse r.new.failed
-        → Wrote w wanted status (trace_text input)
-        → (e : End) × DecodeEnds r.remaining r.old r.new e × Ends w status e
-    decoded wanted status end input whole (same, is, sound) wrote =
-        elim (ended wanted status (trace_text input) wrote) [
-          | inl e ↦ (Printed wanted (trace_text input), (sound, end, same, (input, whole, refl, is)), e)
-          | inr e ↦ (CutShort (trace_text input), (sound, (input, whole.given, inr (whole, refl))), e)
-        ]
-
-    -- what holds where `decode` breaks off
-    pub record DecodeRefusal (fault : TextFault) : Type 0 where
-      pub too_long : fault ≡ TooLong → (front : List ℕ) × (more : List ℕ) × (length front ≡ max_text) × (0 < length more)
-          × Consumes (r.remaining r.old.inner) (r.remaining r.new.inner) (front ++ more)
-          × Appends (w.out w.output.inner) (w.out w.output'.inner) (told_lines (said_of front))
-      pub failed : fault ≡ Read → (front : List ℕ) × (length front ≤ max_text)
-          × Consumes (r.remaining r.old.inner) (r.remaining r.new.inner) front
-          × Appends (w.out w.output.inner) (w.out w.output'.inner) (told_lines (said_of front))
-      pub short : fault ≡ Write → (front : List ℕ) × Consumes (r.remaining r.old.inner) (r.remaining r.new.inner) front
-          × (AppendsFront (w.out w.output.inner) (w.out w.output'.inner) (told_lines (said_of front))
-          ⊎ (IsWholeText (r.remaining r.old.inner) (r.remaining r.new.inner) front
-          × AppendsFront (w.out w.output.inner) (w.out w.output'.inner) (trace_text front)))
-      pub memory : fault ≡ Memory → (front : List ℕ) × (text : List ℕ) × (rest : List ℕ) × (0 < length front)
-          × Consumes (r.remaining r.old.inner) (r.remaining r.new.inner) front
-          × (told_lines (said_of front) ≡ text ++ rest) × Appends (w.out w.output.inner) (w.out w.output'.inner) text
-      pub of : IsOfDecode fault
-      pub read : (fault ≡ Read) ↔ IsTrue r.new.failed
-      pub write : (fault ≡ Write) ↔ IsTrue w.output'.failed
-
-    -- it broke off, with these lines told
-    broken : (fault : TextFault) → DecodeRefusal fault → fault ≢ Write → (text : List ℕ)
-        → DecodeBreaks (r.remaining r.old.inner) (r.remaining r.new.inner) text fault
-        → Appends (w.out w.output.inner) (w.out w.output'.inner) text
+    -- what is said, and what was told until then
+    broken : (fault : TextFault) → IsFalse w.output'.failed → IsTrue new.failed ↔ (fault ≡ Read) → (front : List ℕ)
+        → Refuses engine (remaining old.inner) (remaining new.inner) fault front
         → Says w.err w.errors w.errors' (refusal_line (text_refusal fault))
-        → (end : End) × DecodeEnds r.remaining r.old r.new end × Ends w 1 end
-    broken fault is other text breaks written said =
-        let sound = false_unless w.output'.failed (λ t. absurd (other (is.write.1 t))) in (
-          Broken text (text_refusal fault),
-          (fault, refl, (is.read.1, is.read.0), breaks),
-          record {
-            status_is = refl;
-            printed =
-                (sound, written);
-            said = said;
-          },
-        )
+        → (early : Option (List ℕ → List ℕ)) → engine.early ≡ early
+        → IsLeft engine (over remaining old new w.out w.output w.output') early fault front
+        → (e : End) × EngineRuns engine status_in remaining old new e × Ends w 1 e
+    broken fault sound failed front why said None none same =
+        (Refused 1 (text_refusal fault), (refl, none, fault, refl, failed, front, why), refused 1 (text_refusal fault) same said)
+    broken fault sound failed front why said (Some early) is (text, told, written) = (
+      Broken text (text_refusal fault),
+      (early, is, fault, refl, failed, front, why, told),
+      record { status_is = refl; printed = (sound, written); said = said },
+    )
 
-    -- `decode` broke off with its refusal, or its text was cut short where the writer failed
-    pub decode_broke : (fault : TextFault) → DecodeRefusal fault → Says w.err w.errors w.errors' (refusal_line (text_refusal fault))
-        → (end : End) × DecodeEnds r.remaining r.old r.new end × Ends w 1 end
-    decode_broke TooLong is said =
-        let (front, more, full, some, given, written) = is.too_long refl in
-        broken TooLong is (λ e. cc) (told_lines (said_of front)) (front, more, full, some, given, refl) written said
-    decode_broke Read is said =
-        let (front, within, given, written) = is.failed refl in
-        broken Read is (λ e. cc) (told_lines (said_of front)) (front, within, given, refl) written said
-    decode_broke Write is said =
-        let (front, given, which) = is.short refl in
-        let sound : IsFalse r.new.failed = false_unless r.new.failed (λ t. let e : Write ≡ Read = is.read.1 t in cc) in
-        elim which [
-          | inl lines ↦ (CutShort (told_lines (said_of front)), (sound, (front, given, inl refl)), cut _ (is.write.0 refl) lines said)
-          | inr whole ↦ (CutShort (trace_text front), (sound, (front, given, inr (whole.0, refl))), cut _ (is.write.0 refl) whole.1 said)
-        ]
-    decode_broke Memory is said =
-        let (front, text, rest, some, given, split, written) = is.memory refl in
-        broken Memory is (λ e. cc) text (front, rest, some, given, split) written said
-    decode_broke (Syntax line) is said = absurd is.of
-    decode_broke (BadHex line) is said = absurd is.of
-    decode_broke (Setup reason) is said = absurd is.of
+    -- it refused, or its text was cut short where the writer failed
+    pub engine_refused : (fault : TextFault) → EngineEnds engine (over remaining old new w.out w.output w.output') (Err fault)
+        → Says w.err w.errors w.errors' (refusal_line (text_refusal fault))
+        → (e : End) × EngineRuns engine status_in remaining old new e × Ends w 1 e
+    engine_refused Write (read, failed, text, under_way, front) said = (CutShort text, (read, under_way), cut text failed front said)
+    engine_refused (Syntax line) (sound, failed, front, why, left) said = broken _ sound failed front why said engine.early refl left
+    engine_refused (BadHex line) (sound, failed, front, why, left) said = broken _ sound failed front why said engine.early refl left
+    engine_refused (Setup reason) (sound, failed, front, why, left) said = broken _ sound failed front why said engine.early refl left
+    engine_refused TooLong (sound, failed, front, why, left) said = broken TooLong sound failed front why said engine.early refl left
+    engine_refused Read (sound, failed, front, why, left) said = broken Read sound failed front why said engine.early refl left
+    engine_refused Memory (sound, failed, front, why, left) said = broken Memory sound failed front why said engine.early refl left
 
   -- ---- `number`
 
@@ -275,40 +171,6 @@ module _ {W E : Type 0} (w : Writers W E) where
     number_refused (OfText TooLong) is = absurd is.of
     number_refused (OfText Read) is = absurd is.of
     number_refused (OfText (Setup reason)) is = absurd is.of
-
--- ---- why a text is refused, by what its engine ensures of each fault
-
-module _ (old new : Option (List ℕ)) where
-  -- why `hear` refuses, but for its writer's fault
-  pub hear_refuses : (fault : TextFault) → ((line : ℕ) → fault ≡ Syntax line → GaveText old new (Err (Syntax line)))
-      → ((line : ℕ) → fault ≡ BadHex line → GaveText old new (Err (BadHex line)))
-      → (fault ≡ TooLong → GaveMore old new) → (fault ≡ Memory → GaveSome old new) → IsOfHear fault → fault ≢ Write
-      → HearRefuses old new fault
-  hear_refuses (Syntax line) syntax bad_hex too_long memory of other = syntax line refl
-  hear_refuses (BadHex line) syntax bad_hex too_long memory of other = bad_hex line refl
-  hear_refuses TooLong syntax bad_hex too_long memory of other = too_long refl
-  hear_refuses Read syntax bad_hex too_long memory of other = tt
-  hear_refuses Write syntax bad_hex too_long memory of other = absurd (other refl)
-  hear_refuses Memory syntax bad_hex too_long memory of other = memory refl
-  hear_refuses (Setup reason) syntax bad_hex too_long memory of other = absurd of
-
-  -- what `replay` ensures of each fault
-  pub record ReplayClauses (fault : TextFault) : Type 0 where
-    pub syntax_line : (line : ℕ) → fault ≡ Syntax line → GaveFaulty old new (Syntax line)
-    pub bad_hex : (line : ℕ) → fault ≡ BadHex line → GaveFaulty old new (BadHex line)
-    pub setup : (reason : SetupFault) → fault ≡ Setup reason → ReplayRefuses old new (Setup reason)
-    pub too_long : fault ≡ TooLong → GaveMore old new
-    pub memory : fault ≡ Memory → GaveSome old new
-
-  -- and why `replay` does
-  pub replay_refuses : (fault : TextFault) → ReplayClauses fault → fault ≢ Write → ReplayRefuses old new fault
-  replay_refuses (Syntax line) is other = is.syntax_line line refl
-  replay_refuses (BadHex line) is other = is.bad_hex line refl
-  replay_refuses TooLong is other = is.too_long refl
-  replay_refuses Read is other = tt
-  replay_refuses Write is other = absurd (other refl)
-  replay_refuses Memory is other = is.memory refl
-  replay_refuses (Setup reason) is other = is.setup reason refl
 
 -- ---- the parser's faults
 

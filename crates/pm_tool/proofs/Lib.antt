@@ -2,10 +2,8 @@ pub mod EndLemmas
 pub mod GivenOptions
 pub mod Joins
 pub mod OneText
-pub mod OutcomeLemmas
 pub mod PartLemmas
 pub mod RangeLemmas
 pub mod RefusalLemmas
 pub mod ScriptLemmas
 pub mod SetupLemmas
-pub mod Writing

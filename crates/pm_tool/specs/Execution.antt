@@ -9,19 +9,16 @@ use Rattle.clap.specs.Words.{Text, fault_of, subcommand_of}
 use Rattle.clap.specs.declared.error.kind.ErrorKind.{ErrorKind}
 use Rattle.pm_lines.specs.Faults.{fault_line, fault_setup, fault_words}
 use Rattle.pm_lines.specs.Lines.{EndsLine}
-use Rattle.pm_lines.specs.Streams.{AppendsFront, Held, IsWholeText, max_text}
+use Rattle.pm_lines.specs.Engine.{Engine, IsMade, IsTold, IsUnderWay, Refuses}
+use Rattle.pm_lines.specs.Streams.{Held}
 use Rattle.pm_lines.specs.declared.fault.TextFault.{TextFault}
-use Rattle.pm_lines.specs.declared.fault.TextFault.TheVariants.{Syntax, BadHex, TooLong, Read, Write, Memory, Setup}
+use Rattle.pm_lines.specs.declared.fault.TextFault.TheVariants.{Read, Write, Memory}
 use Rattle.pm_world.specs.FaultWords.{setup_fault_text}
 use Rattle.pm_world.specs.declared.setup_fault.SetupFault.{SetupFault}
-use Rattle.pm_trace.specs.Counts.{counts_of}
-use Rattle.pm_trace.specs.Decoding.{said}
-use Rattle.pm_trace.specs.Trace.{trace_of}
-use Rattle.pm_trace.specs.TraceText.{end_of, told_lines, trace_text}
+use Rattle.pm_trace.specs.Outcome.{decoding}
 use Rattle.pm_trace.specs.declared.decode_end.DecodeEnd.{DecodeEnd}
 use Rattle.pm_trace.specs.declared.decode_end.DecodeEnd.TheVariants.{Clean, BadLines}
-use Rattle.pm_text.specs.ScenarioText.{scenario_of}
-use Rattle.pm_text.specs.Replay.{IsReplay, RefusesSetup}
+use Rattle.pm_text.specs.Replay.{replaying}
 use Rattle.pm_text.specs.declared.replay_end.ReplayEnd.{ReplayEnd}
 use Rattle.pm_text.specs.declared.replay_end.ReplayEnd.TheVariants.{Ran as AllTaken, Stopped}
 use Rattle.pm_program.specs.Refusals.{Says, no_words, no_words_status, program_line}
@@ -29,7 +26,7 @@ use Rattle.pm_program.specs.Usage.{usage_status}
 use Rattle.pm_tool.specs.Commandline.{Asks, pmb}
 use Rattle.pm_tool.specs.NumberFaults.{refusal_status, refusal_words}
 use Rattle.pm_tool.specs.NumberText.{IsNumberText, RefusesNumber}
-use Rattle.pm_tool.specs.Script.{printed_text}
+use Rattle.pm_tool.specs.Outcome.{hearing}
 use Rattle.pm_tool.specs.Question.{asked_by}
 use Rattle.pm_tool.specs.declared.commandline.choice.Chosen.{Chosen}
 use Rattle.pm_tool.specs.declared.commandline.choice.Chosen.TheVariants.{Hear, Replay, Decode, Number as NumberChosen}
@@ -107,124 +104,35 @@ abbrev pub text_refusal : TextFault → List ℕ
 text_refusal fault =
     fault_words fault ++ (line_words (fault_line fault) ++ reason_words (fault_setup fault))
 
--- more bytes came than a text may have, or some that memory was wanted for
-abbrev pub GaveMore : Option (List ℕ) → Option (List ℕ) → Type 0
-GaveMore old new = (front : List ℕ) × (max_text < length front) × Consumes old new front
-
-abbrev pub GaveSome : Option (List ℕ) → Option (List ℕ) → Type 0
-GaveSome old new =
-    (front : List ℕ) × (0 < length front) × (length front ≤ max_text) × Consumes old new front
-
--- how an engine ends that writes its whole text or refuses: what the reader gave makes this text,
--- with this status, or is refused so; the reader failed exactly where X4 is said
-abbrev pub TextEnds : {R : Type 0} → Held R → (ℕ → List ℕ → Type 0) → (TextFault → Type 0) → End → Type 0
-TextEnds new Gives Refuses (Printed status text) = IsFalse new.failed × Gives status text
-TextEnds new Gives Refuses (CutShort text) = IsFalse new.failed × (status : ℕ) × Gives status text
-TextEnds new Gives Refuses (Refused status words) = (status ≡ 1) × (fault : TextFault)
-    × (words ≡ text_refusal fault) × (IsTrue new.failed ↔ (fault ≡ Read)) × Refuses fault
-TextEnds new Gives Refuses (Broken text words) = ⊥
-TextEnds new Gives Refuses (Misused text) = ⊥
-
--- ---- `hear`
-
--- the reader gave a text of which this is the outcome
-abbrev pub GaveText : Option (List ℕ) → Option (List ℕ) → Result (List ℕ) TextFault → Type 0
-GaveText old new outcome = (input : List ℕ) × IsWholeText old new input × (printed_text input ≡ outcome)
-
--- why `hear` refuses, of what the reader gave: the first faulty line of a whole text; more bytes
--- than a text may have; a failed read; memory, which is wanted only for bytes that were read
-abbrev pub HearRefuses : Option (List ℕ) → Option (List ℕ) → TextFault → Type 0
-HearRefuses old new (Syntax line) = GaveText old new (Err (Syntax line))
-HearRefuses old new (BadHex line) = GaveText old new (Err (BadHex line))
-HearRefuses old new TooLong = GaveMore old new
-HearRefuses old new Read = ⊤
-HearRefuses old new Write = ⊥
-HearRefuses old new Memory = GaveSome old new
-HearRefuses old new (Setup fault) = ⊥
-
--- how `hear` ends
-abbrev pub HearEnds : {R : Type 0} → (R → Option (List ℕ)) → Held R → Held R → End → Type 0
-HearEnds remaining old new end = TextEnds new
-    (λ status text. (status ≡ 0) × GaveText (remaining old.inner) (remaining new.inner) (Ok text))
-    (HearRefuses (remaining old.inner) (remaining new.inner)) end
-
--- ---- `replay`
-
--- the reader gave a text, and this is the report of what its scenario results in
-abbrev pub GaveScenario : Option (List ℕ) → Option (List ℕ) → List ℕ → ReplayEnd → Type 0
-GaveScenario old new text end =
-    (input : List ℕ) × IsWholeText old new input × IsReplay input text end
-
--- the reader gave a text whose first faulty line this is
-abbrev pub GaveFaulty : Option (List ℕ) → Option (List ℕ) → TextFault → Type 0
-GaveFaulty old new fault =
-    (input : List ℕ) × IsWholeText old new input × (scenario_of input ≡ Err fault)
-
--- why `replay` refuses, of what the reader gave
-abbrev pub ReplayRefuses : Option (List ℕ) → Option (List ℕ) → TextFault → Type 0
-ReplayRefuses old new (Syntax line) = GaveFaulty old new (Syntax line)
-ReplayRefuses old new (BadHex line) = GaveFaulty old new (BadHex line)
-ReplayRefuses old new TooLong = GaveMore old new
-ReplayRefuses old new Read = ⊤
-ReplayRefuses old new Write = ⊥
-ReplayRefuses old new Memory = GaveSome old new
-ReplayRefuses old new (Setup fault) =
-    (input : List ℕ) × IsWholeText old new input × RefusesSetup input fault
+-- ---- the commands that read one text and write another
 
 -- a stopped replay has status 1
 abbrev pub replay_status : ReplayEnd → ℕ
 replay_status AllTaken = 0
 replay_status Stopped = 1
 
--- how `replay` ends
-abbrev pub ReplayEnds : {R : Type 0} → (R → Option (List ℕ)) → Held R → Held R → End → Type 0
-ReplayEnds remaining old new end = TextEnds new
-    (λ status text. (end : ReplayEnd) × (status ≡ replay_status end)
-    × GaveScenario (remaining old.inner) (remaining new.inner) text end)
-    (ReplayRefuses (remaining old.inner) (remaining new.inner)) end
-
--- ---- `decode`
-
 -- a trace with bad lines has status 1
 abbrev pub decode_status : DecodeEnd → ℕ
 decode_status Clean = 0
 decode_status BadLines = 1
 
--- the reader gave a trace, of which this is the text
-abbrev pub GaveTrace : Option (List ℕ) → Option (List ℕ) → List ℕ → DecodeEnd → Type 0
-GaveTrace old new text end = (input : List ℕ) × IsWholeText old new input
-    × (text ≡ trace_text input) × (end ≡ end_of (counts_of (trace_of input)))
-
--- why `decode` breaks off, and what it has told until then: more bytes than a trace may have, or a
--- failed read, and the lines that ended before; want of memory, where a byte was read, and a prefix of these
-abbrev pub DecodeBreaks : Option (List ℕ) → Option (List ℕ) → List ℕ → TextFault → Type 0
-DecodeBreaks old new text TooLong = (front : List ℕ) × (more : List ℕ) × (length front ≡ max_text)
-    × (0 < length more) × Consumes old new (front ++ more) × (text ≡ told_lines (said front))
-DecodeBreaks old new text Read = (front : List ℕ) × (length front ≤ max_text)
-    × Consumes old new front × (text ≡ told_lines (said front))
-DecodeBreaks old new text Memory = (front : List ℕ) × (rest : List ℕ) × (0 < length front)
-    × Consumes old new front × (told_lines (said front) ≡ text ++ rest)
-DecodeBreaks old new text (Syntax line) = ⊥
-DecodeBreaks old new text (BadHex line) = ⊥
-DecodeBreaks old new text Write = ⊥
-DecodeBreaks old new text (Setup fault) = ⊥
-
--- what was being written as the writer failed: lines that ended, or the whole of a trace's text
-abbrev pub DecodeWrites : Option (List ℕ) → Option (List ℕ) → List ℕ → Type 0
-DecodeWrites old new text = (front : List ℕ) × Consumes old new front
-    × ((text ≡ told_lines (said front)) ⊎ (IsWholeText old new front × (text ≡ trace_text front)))
-
--- how `decode` ends; the reader failed exactly where X4 is said
-abbrev pub DecodeEnds : {R : Type 0} → (R → Option (List ℕ)) → Held R → Held R → End → Type 0
-DecodeEnds remaining old new (Printed status text) = IsFalse new.failed × (end : DecodeEnd)
-    × (status ≡ decode_status end) × GaveTrace (remaining old.inner) (remaining new.inner) text end
-DecodeEnds remaining old new (CutShort text) = IsFalse new.failed
-    × DecodeWrites (remaining old.inner) (remaining new.inner) text
-DecodeEnds remaining old new (Refused status words) = ⊥
-DecodeEnds remaining old new (Broken text words) = (fault : TextFault)
-    × (words ≡ text_refusal fault) × (IsTrue new.failed ↔ (fault ≡ Read))
-    × DecodeBreaks (remaining old.inner) (remaining new.inner) text fault
-DecodeEnds remaining old new (Misused text) = ⊥
+-- How a run of an engine ends, whose ends have these statuses, by what its reader gave. Where it refuses, nothing
+-- was printed if it writes nothing early, and otherwise what was told until then. The reader failed exactly
+-- where X4 is said.
+abbrev pub EngineRuns : {R T : Type 0} → Engine T → (T → ℕ) → (R → Option (List ℕ)) → Held R → Held R → End → Type 0
+EngineRuns {T = T} engine status_in remaining old new (Printed status text) = IsFalse new.failed
+    × (end : T) × (status ≡ status_in end) × IsMade engine (remaining old.inner) (remaining new.inner) text end
+EngineRuns engine status_in remaining old new (CutShort text) = IsFalse new.failed
+    × IsUnderWay engine (remaining old.inner) (remaining new.inner) text
+EngineRuns engine status_in remaining old new (Refused status words) = (status ≡ 1) × (engine.early ≡ None)
+    × (fault : TextFault) × (words ≡ text_refusal fault) × (IsTrue new.failed ↔ (fault ≡ Read))
+    × (front : List ℕ) × Refuses engine (remaining old.inner) (remaining new.inner) fault front
+EngineRuns engine status_in remaining old new (Broken text words) = (early : List ℕ → List ℕ)
+    × (engine.early ≡ Some early)
+    × (fault : TextFault) × (words ≡ text_refusal fault) × (IsTrue new.failed ↔ (fault ≡ Read))
+    × (front : List ℕ) × Refuses engine (remaining old.inner) (remaining new.inner) fault front
+    × IsTold early fault front text
+EngineRuns engine status_in remaining old new (Misused text) = ⊥
 
 -- ---- `number`
 
@@ -248,9 +156,9 @@ NumberEnds asked (Misused text) = ⊥
 
 -- how the command that was chosen ends; `number` reads nothing
 abbrev pub ChoiceEnds : {R : Type 0} → (R → Option (List ℕ)) → Held R → Held R → Chosen → End → Type 0
-ChoiceEnds remaining old new Hear end = HearEnds remaining old new end
-ChoiceEnds remaining old new Replay end = ReplayEnds remaining old new end
-ChoiceEnds remaining old new Decode end = DecodeEnds remaining old new end
+ChoiceEnds remaining old new Hear end = EngineRuns hearing (λ _. 0) remaining old new end
+ChoiceEnds remaining old new Replay end = EngineRuns replaying replay_status remaining old new end
+ChoiceEnds remaining old new Decode end = EngineRuns decoding decode_status remaining old new end
 ChoiceEnds remaining old new (NumberChosen format word micro) end = (new ≡ old)
     × NumberEnds (asked_by format word micro) end
 

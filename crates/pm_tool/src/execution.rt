@@ -5,19 +5,18 @@ ghost use Rattle.std.specs.Vec.Iter.{into_iter_items};
 ghost use Rattle.clap.specs.Words.{kind_of};
 ghost use Rattle.pm_program.specs.Arguments.{arguments_of};
 ghost use Rattle.pm_program.specs.Refusals.{Says};
-ghost use Rattle.pm_tool.specs.Execution.{DecodeEnds, End, HearEnds, IsDone, IsEnd, NumberEnds, ReplayEnds, RunEnds, UsageEnds};
-ghost use Rattle.pm_tool.specs.Execution.{decode_status as status_of_decode, replay_status as status_of_replay};
+ghost use Rattle.pm_tool.specs.Execution.{End, EngineRuns, IsDone, IsEnd, NumberEnds, RunEnds, UsageEnds};
 ghost use Rattle.pm_tool.specs.Execution.{CutShort, Printed, refusal_line, text_refusal, wants_memory};
 ghost use Rattle.pm_tool.specs.Question.{asked_by};
 
 use crate::commandline::{Chosen, chosen};
 use crate::numbers::number;
 use crate::refusal::{NAME, say_fault};
-use crate::script::hear;
+use crate::text_commands::{Decoding, Hearing, Replaying, TextCommand};
 use pm_program::{
     Usage, misuse, refuse_arguments, refuse_memory, say, texts_of, usage_of, words_of,
 };
-use pm_text::{DecodeEnd, ReplayEnd, Sink, Source, TextFault, decode, replay};
+use pm_text::{Sink, Source, TextFault};
 use std::alloc::Global;
 use std::env::{self, Args, Env};
 use std::io::{self, Read, Write};
@@ -102,9 +101,9 @@ pub fn run<R: Read, W: Write, E: Write>(
         Err(kind) => return refuse_arguments(errors, NAME, kind),
     };
     match chosen(alloc, words) {
-        Ok(Chosen::Hear) => run_hear(alloc, input, output, errors),
-        Ok(Chosen::Replay) => run_replay(alloc, input, output, errors),
-        Ok(Chosen::Decode) => run_decode(alloc, input, output, errors),
+        Ok(Chosen::Hear) => run_engine(&Hearing, alloc, input, output, errors),
+        Ok(Chosen::Replay) => run_engine(&Replaying, alloc, input, output, errors),
+        Ok(Chosen::Decode) => run_engine(&Decoding, alloc, input, output, errors),
         Ok(
             Chosen::Number {
                 format,
@@ -116,8 +115,9 @@ pub fn run<R: Read, W: Write, E: Write>(
     }
 }
 
-// `pmb hear`.
-fn run_hear<R: Read, W: Write, E: Write>(
+// A command that reads one text and writes another.
+fn run_engine<G: TextCommand, R: Read, W: Write, E: Write>(
+    engine: &G,
     alloc: Global,
     input: &mut Source<R>,
     output: &mut Sink<W>,
@@ -126,49 +126,11 @@ fn run_hear<R: Read, W: Write, E: Write>(
     requires input { IsFalse input.old.failed }
     requires output { IsFalse output.old.failed }
     requires errors { IsFalse errors.old.failed }
-    ensures { (end : End) × HearEnds R.remaining input.old input.new end
+    ensures { (end : End) × EngineRuns G.engine G.status R.remaining input.old input.new end
         × IsEnd W.contents E.contents output.old output.new errors.old errors.new result end }
 {
-    match hear(alloc, input, output) {
-        Ok(()) => done(output, errors, 0),
-        Err(fault) => refuse_text(errors, &fault),
-    }
-}
-
-// `pmb replay`.
-fn run_replay<R: Read, W: Write, E: Write>(
-    alloc: Global,
-    input: &mut Source<R>,
-    output: &mut Sink<W>,
-    errors: &mut Sink<E>,
-) -> u8
-    requires input { IsFalse input.old.failed }
-    requires output { IsFalse output.old.failed }
-    requires errors { IsFalse errors.old.failed }
-    ensures { (end : End) × ReplayEnds R.remaining input.old input.new end
-        × IsEnd W.contents E.contents output.old output.new errors.old errors.new result end }
-{
-    match replay(alloc, input, output) {
-        Ok(end) => done(output, errors, replay_status(end)),
-        Err(fault) => refuse_text(errors, &fault),
-    }
-}
-
-// `pmb decode`.
-fn run_decode<R: Read, W: Write, E: Write>(
-    alloc: Global,
-    input: &mut Source<R>,
-    output: &mut Sink<W>,
-    errors: &mut Sink<E>,
-) -> u8
-    requires input { IsFalse input.old.failed }
-    requires output { IsFalse output.old.failed }
-    requires errors { IsFalse errors.old.failed }
-    ensures { (end : End) × DecodeEnds R.remaining input.old input.new end
-        × IsEnd W.contents E.contents output.old output.new errors.old errors.new result end }
-{
-    match decode(alloc, input, output) {
-        Ok(end) => done(output, errors, decode_status(end)),
+    match engine.run(alloc, input, output) {
+        Ok(end) => done(output, errors, engine.status_of(end)),
         Err(fault) => refuse_text(errors, &fault),
     }
 }
@@ -181,26 +143,6 @@ fn refuse_text<E: Write>(errors: &mut Sink<E>, fault: &TextFault) -> u8
 {
     say_fault(errors, fault);
     1
-}
-
-// The status of a replay that was reported: 1 where it stopped.
-fn replay_status(end: ReplayEnd) -> u8
-    ensures { result ≡ status_of_replay end }
-{
-    match end {
-        ReplayEnd::Ran => 0,
-        ReplayEnd::Stopped => 1,
-    }
-}
-
-// The status of a trace that was told whole: 1 where a line is bad.
-fn decode_status(end: DecodeEnd) -> u8
-    ensures { result ≡ status_of_decode end }
-{
-    match end {
-        DecodeEnd::Clean => 0,
-        DecodeEnd::BadLines => 1,
-    }
 }
 
 // The status of a run whose text was written whole: as wanted, once the writer handed the text on.

@@ -12,6 +12,7 @@ mod laws;
 mod numbers;
 mod refusal;
 mod script;
+mod text_commands;
 
 pub use commandline::{Chosen, chosen};
 pub use execution::{program, run};

@@ -1,15 +1,16 @@
 //! The frames of a text, as a converter hears them one after another.
-ghost use Rattle.std.specs.Prelude.{◌≡◌, ◌≢◌, ◌⊎◌, ◌<◌, ◌≤◌, ◌^◌, ◌+◌, ◌++◌, ◌↔◌, ℕ, List, length, is_err};
-ghost use Rattle.std.specs.Prelude.{Ok, Err, IfOk, IfErr, OnOk, OnErr, IsErrOf, IfSome, IsTrue, IsFalse};
-ghost use Rattle.std.specs.Io.KnownBytes.{Consumes, Appends};
+ghost use Rattle.std.specs.Prelude.{◌≡◌, ◌⊎◌, ◌<◌, ◌^◌, ◌+◌, ◌++◌, List, length, is_err};
+ghost use Rattle.std.specs.Prelude.{Ok, Err, IfOk, IfErr, OnOk, OnErr, IsErrOf, IsFalse};
+ghost use Rattle.std.specs.Io.KnownBytes.{Appends};
+ghost use Rattle.pm_lines.specs.Engine.{EngineEnds, over};
 ghost use Rattle.pm_lines.specs.Faults.{IsOfText};
 ghost use Rattle.pm_lines.specs.Lines.{unskipped_from};
-ghost use Rattle.pm_lines.specs.Streams.{IsWholeText, AppendsFront, max_text};
+ghost use Rattle.pm_lines.specs.Streams.{AppendsFront};
 ghost use Rattle.pm_device.specs.Effect.{Event};
 ghost use Rattle.pm_device.specs.History.{next, start_of};
 ghost use Rattle.pm_tool.specs.Base.{base};
 ghost use Rattle.pm_tool.specs.LineEvent.{event_of};
-ghost use Rattle.pm_tool.specs.Outcome.{outcome_of, IsOfHear, IsSettled};
+ghost use Rattle.pm_tool.specs.Outcome.{hearing, IsOfHear};
 ghost use Rattle.pm_tool.specs.ReplyText.{as_line};
 ghost use Rattle.pm_tool.specs.Script.{events_in, event_lines, event_words, held_after, output_at, output_lines, printed_text};
 
@@ -46,50 +47,15 @@ pub fn hear<R: Read, W: Write>(
 ) -> Result<(), TextFault>
     requires reader { IsFalse reader.old.failed }
     requires writer { IsFalse writer.old.failed }
-
-    // The reader was read to its end, and the text of all that it gave was written.
-    ensures ok { OnOk result ((input : List ℕ) × (text : List ℕ)
-        × IsWholeText (R.remaining reader.old.inner) (R.remaining reader.new.inner) input
-        × (printed_text input ≡ Ok text)
-        × Appends (W.contents writer.old.inner) (W.contents writer.new.inner) text) }
-
-    // A faulty line is the first of all that the reader gave.
-    ensures syntax { (line : ℕ) → IsErrOf result (TextFault.Syntax line) → (input : List ℕ)
-        × IsWholeText (R.remaining reader.old.inner) (R.remaining reader.new.inner) input
-        × (printed_text input ≡ Err (TextFault.Syntax line)) }
-    ensures bad_hex { (line : ℕ) → IsErrOf result (TextFault.BadHex line) → (input : List ℕ)
-        × IsWholeText (R.remaining reader.old.inner) (R.remaining reader.new.inner) input
-        × (printed_text input ≡ Err (TextFault.BadHex line)) }
-
-    // The reader gave more than a text may have.
-    ensures too_long { IsErrOf result TextFault.TooLong → (front : List ℕ)
-        × (max_text < length front)
-        × Consumes (R.remaining reader.old.inner) (R.remaining reader.new.inner) front }
-
-    // Memory is wanted only where the reader gave bytes, and no more than a text may have.
-    ensures memory { IsErrOf result TextFault.Memory → (front : List ℕ)
-        × (0 < length front) × (length front ≤ max_text)
-        × Consumes (R.remaining reader.old.inner) (R.remaining reader.new.inner) front }
-
-    // A failed write leaves a prefix of the text, and not all of it.
-    ensures cut_short { IsErrOf result TextFault.Write → (input : List ℕ) × (text : List ℕ)
-        × IsWholeText (R.remaining reader.old.inner) (R.remaining reader.new.inner) input
-        × (printed_text input ≡ Ok text)
-        × AppendsFront (W.contents writer.old.inner) (W.contents writer.new.inner) text }
-    ensures unwritten { IfErr result (λ fault. fault ≢ TextFault.Write → writer.new ≡ writer.old) }
-
-    // X7 never comes, and the streams say whether they failed.
+    // What is written is the text of the input's events. X7 never comes.
+    ensures ends { EngineEnds hearing
+        (over R.remaining reader.old reader.new W.contents writer.old writer.new) result }
     ensures faults { IfErr result IsOfHear }
-    ensures read { IsErrOf result TextFault.Read ↔ IsTrue reader.new.failed }
-    ensures write { IsErrOf result TextFault.Write ↔ IsTrue writer.new.failed }
-
-    // What comes of it follows from the bytes, however they are cut.
-    ensures same { IfSome (R.remaining reader.old.inner)
-        (λ input. IsSettled result → result ≡ outcome_of input) }
 {
     let input = read_text(alloc, reader)?;
     let (lines, converter) = answers_to(alloc, &input)?;
-    put_text(writer, &lines, &converter)
+    put_text(writer, &lines, &converter)?;
+    Ok(())
 }
 
 // The lines of a fresh converter's answers to a text, and the converter as it is then.

@@ -1,61 +1,64 @@
--- What the decoding of an input results in, by what its reader gave.
-use Rattle.std.proofs.Common.{◌≡◌, ℕ, ◌<◌, ◌≤◌, true, false, List, ◌++◌, length, length-append, append-nil, Option, Some, None, IfSome}
-use Rattle.std.proofs.Common.{Ok, Err, refl, sym, ap, ◌∙◌, arith, ltb}
-use Rattle.std.proofs.lemmas.Bool.Decides.{nat_tests}
-use Rattle.std.specs.Io.KnownBytes.{Consumes}
-use Rattle.pm_lines.specs.declared.fault.TextFault.{TextFault}
-use Rattle.pm_lines.specs.declared.fault.TextFault.TheVariants.{Syntax, BadHex, TooLong, Read, Write, Memory, Setup}
-use Rattle.pm_lines.specs.Streams.{max_text}
-use Rattle.pm_lines.specs.Streams.{IsWholeText}
+-- How `decode` ends, by what was read and what was written.
+use Rattle.std.proofs.Common.{◌≡◌, ◌∙◌, ◌<◌, ◌≤◌, ◌++◌, true≢false, ℕ, List, length, Ok, Err, IsTrue, IsFalse, ap, inl, inr, refl, sym}
+use Rattle.std.specs.Io.KnownBytes.{Appends, Consumes}
+use Rattle.pm_lines.specs.Engine.{EngineEnds, Run}
+use Rattle.pm_lines.specs.Streams.{AppendsFront, IsWholeText, max_text}
+use Rattle.pm_lines.specs.declared.fault.TextFault.TheVariants.{TooLong, Read, Write, Memory}
 use Rattle.pm_trace.specs.Counts.{counts_of}
-use Rattle.pm_trace.specs.Outcome.{outcome_of, IsSettled}
+use Rattle.pm_trace.specs.Decoding.{said}
+use Rattle.pm_trace.specs.Outcome.{decoding}
 use Rattle.pm_trace.specs.Trace.{trace_of}
-use Rattle.pm_trace.specs.TraceText.{end_of, IsOfDecode}
+use Rattle.pm_trace.specs.TraceText.{end_of, told_lines, trace_text}
 use Rattle.pm_trace.specs.declared.decode_end.DecodeEnd.{DecodeEnd}
 
--- an input that is too long, and one that isn't
-outcome-long : (input : List ℕ) → max_text < length input → outcome_of input ≡ Err TooLong
-unfolding outcome_of
-outcome-long input long = let over : ltb max_text (length input) ≡ true = grind (arith, nat_tests) in rw over refl
+module _ {R W : Type 0} (run : Run R W) where
+  -- X3: the lines of as much as a trace may have were told
+  pub too_long : IsFalse run.reader'.failed → IsFalse run.writer'.failed
+      → (front : List ℕ) × (more : List ℕ) × (length front ≡ max_text) × (0 < length more)
+      × Consumes (run.remaining run.reader.inner) (run.remaining run.reader'.inner) (front ++ more)
+      × Appends (run.contents run.writer.inner) (run.contents run.writer'.inner) (told_lines (said front))
+      → EngineEnds decoding run (Err TooLong)
+  too_long read sound (front, more, full, some, given, got) =
+      (sound, (λ t. absurd (true≢false (sym t ∙ read)), λ e. absurd (cc)), front, (more, full, some, given), (told_lines (said front), refl, got))
 
--- what an input decides that isn't too long
-outcome-short : (input : List ℕ) → length input ≤ max_text → outcome_of input ≡ Ok (end_of (counts_of (trace_of input)))
-unfolding outcome_of
-outcome-short input short = let within : ltb max_text (length input) ≡ false = grind (arith, nat_tests) in rw within refl
+  -- X4: the lines of what came before were
+  pub unread : IsTrue run.reader'.failed → IsFalse run.writer'.failed → (front : List ℕ) → length front ≤ max_text
+      → Consumes (run.remaining run.reader.inner) (run.remaining run.reader'.inner) front
+      → Appends (run.contents run.writer.inner) (run.contents run.writer'.inner) (told_lines (said front))
+      → EngineEnds decoding run (Err Read)
+  unread failed sound front short given got =
+      (sound, (λ t. refl, λ e. failed), front, (short, given), (told_lines (said front), refl, got))
 
--- an input that was read whole
-pub same-whole : (old new : Option (List ℕ)) (text : List ℕ) (end : DecodeEnd) → IsWholeText old new text
-    → end ≡ end_of (counts_of (trace_of text))
-    → IfSome old (λ input. IsSettled (Ok end) → Ok end ≡ outcome_of input)
-same-whole None new text end whole is = tt
-same-whole (Some input) None text end whole is = absurd whole.given
-same-whole (Some input) (Some rest) text end whole is = λ settled.
-    let same : input ≡ text = whole.given ∙ ap (λ r. text ++ r) whole.ended ∙ append-nil text in
-    ap Ok is ∙ sym (outcome-short text whole.short) ∙ ap outcome_of (sym same)
+  -- X6: some of the lines were
+  pub unmade : IsFalse run.reader'.failed → IsFalse run.writer'.failed
+      → (front : List ℕ) × (text : List ℕ) × (rest : List ℕ) × (0 < length front)
+      × Consumes (run.remaining run.reader.inner) (run.remaining run.reader'.inner) front
+      × (told_lines (said front) ≡ text ++ rest)
+      × Appends (run.contents run.writer.inner) (run.contents run.writer'.inner) text
+      → EngineEnds decoding run (Err Memory)
+  unmade read sound (front, text, rest, some, given, split, got) =
+      (sound, (λ t. absurd (true≢false (sym t ∙ read)), λ e. absurd (cc)), front, (some, tt, given), (text, (rest, split), got))
 
--- an input with more bytes than a text may have
-same-long : (old new : Option (List ℕ)) (front more : List ℕ) → length front ≡ max_text → 0 < length more → Consumes old new (front ++ more)
-    → IfSome old (λ input. IsSettled (Err TooLong) → Err TooLong ≡ outcome_of input)
-same-long None new front more many some given = tt
-same-long (Some input) None front more many some given = absurd given
-same-long (Some input) (Some rest) front more many some given = λ settled.
-    sym (outcome-long input (omega (arith, ap length given, length-append (front ++ more) rest, length-append front more)))
+  -- X5: a prefix of the lines was written
+  pub lines_cut : IsFalse run.reader'.failed → IsTrue run.writer'.failed
+      → (front : List ℕ) × Consumes (run.remaining run.reader.inner) (run.remaining run.reader'.inner) front
+      × AppendsFront (run.contents run.writer.inner) (run.contents run.writer'.inner) (told_lines (said front))
+      → EngineEnds decoding run (Err Write)
+  lines_cut read failed (front, given, short) =
+      (read, failed, told_lines (said front), inl (front, given, (λ front. told_lines (said front)), refl, refl), short)
 
--- a refusal that the streams or the memory decided
-unsettled : (old : Option (List ℕ)) (fault : TextFault) → (IsSettled (Err fault) → ⊥)
-    → IfSome old (λ input. IsSettled (Err fault) → Err fault ≡ outcome_of input)
-unsettled None fault open' = tt
-unsettled (Some input) fault open' = λ settled. absurd (open' settled)
+  -- or of the whole text
+  pub text_cut : IsFalse run.reader'.failed → IsTrue run.writer'.failed → (input : List ℕ)
+      → IsWholeText (run.remaining run.reader.inner) (run.remaining run.reader'.inner) input
+      → AppendsFront (run.contents run.writer.inner) (run.contents run.writer'.inner) (trace_text input)
+      → EngineEnds decoding run (Err Write)
+  text_cut read failed input whole short =
+      (read, failed, trace_text input, inr (end_of (counts_of (trace_of input)), (input, whole, refl)), short)
 
--- a refusal
-pub same-refused : (old new : Option (List ℕ)) (fault : TextFault) → IsOfDecode fault
-    → (fault ≡ TooLong → (front : List ℕ) × (more : List ℕ) × (length front ≡ max_text) × (0 < length more) × Consumes old new
-    (front ++ more))
-    → IfSome old (λ input. IsSettled (Err fault) → Err fault ≡ outcome_of input)
-same-refused old new (Syntax line) of long = absurd of
-same-refused old new (BadHex line) of long = absurd of
-same-refused old new TooLong of long = let (front, more, many, some, given) = long refl in same-long old new front more many some given
-same-refused old new Read of long = unsettled old Read (λ settled. settled)
-same-refused old new Write of long = unsettled old Write (λ settled. settled)
-same-refused old new Memory of long = unsettled old Memory (λ settled. settled)
-same-refused old new (Setup fault) of long = absurd of
+  -- all of it was written
+  pub decoded : IsFalse run.reader'.failed → IsFalse run.writer'.failed → (input : List ℕ) (end : DecodeEnd)
+      → IsWholeText (run.remaining run.reader.inner) (run.remaining run.reader'.inner) input
+      → Appends (run.contents run.writer.inner) (run.contents run.writer'.inner) (trace_text input)
+      → end ≡ end_of (counts_of (trace_of input)) → EngineEnds decoding run (Ok end)
+  decoded read sound input end whole got is =
+      (read, sound, trace_text input, (input, whole, ap (λ e. Ok (trace_text input, e)) (sym is)), got)

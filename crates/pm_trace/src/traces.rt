@@ -1,16 +1,14 @@
 //! Traces from a reader, and what they say, to a writer.
-ghost use Rattle.std.specs.Prelude.{◌≡◌, ◌⊎◌, ◌+◌, ◌<◌, ◌≤◌, ◌↔◌, ℕ, List, ◌++◌, length, drop};
-ghost use Rattle.std.specs.Prelude.{IfSome, IfOk, IfErr, OnOk, IsErrOf, IsTrue, IsFalse, string_bytes};
-ghost use Rattle.std.specs.Io.KnownBytes.{Appends, Consumes, IsAtEnd};
-ghost use Rattle.pm_trace.specs.declared.decoder.intake.Intake.{Intake};
+ghost use Rattle.std.specs.Prelude.{◌≡◌, ◌≤◌, ℕ, List, ◌++◌, length, drop};
+ghost use Rattle.std.specs.Prelude.{Err, IfOk, IfErr, OnOk, IsFalse, string_bytes};
+ghost use Rattle.std.specs.Io.KnownBytes.{IsAtEnd};
+ghost use Rattle.pm_lines.specs.Engine.{EngineEnds, over};
 ghost use Rattle.pm_lines.specs.Streams.{max_text};
-ghost use Rattle.pm_trace.specs.Counts.{counts_of};
-ghost use Rattle.pm_trace.specs.Decoding.{said, told, some_told, told_at_end, kept_at_end, IsFresh};
+ghost use Rattle.pm_trace.specs.Decoding.{some_told, told_at_end, kept_at_end, IsFresh};
+ghost use Rattle.pm_trace.specs.Outcome.{decoding};
+ghost use Rattle.pm_trace.specs.TraceText.{told_lines, counts_text, end_of, IsOfDecode};
 ghost use Rattle.pm_trace.specs.Written.{PushesFront, Written};
-ghost use Rattle.pm_lines.specs.Streams.{AppendsFront, IsWholeText};
-ghost use Rattle.pm_trace.specs.Outcome.{outcome_of, IsSettled};
-ghost use Rattle.pm_trace.specs.Trace.{trace_of};
-ghost use Rattle.pm_trace.specs.TraceText.{trace_text, told_lines, counts_text, end_of, IsOfDecode};
+ghost use Rattle.pm_trace.specs.declared.decoder.intake.Intake.{Intake};
 
 use crate::counts_text::push_counts;
 use crate::decode_end::DecodeEnd;
@@ -44,42 +42,10 @@ pub fn decode<R: Read, W: Write>(
 ) -> Result<DecodeEnd, TextFault>
     requires reader { IsFalse reader.old.failed }
     requires writer { IsFalse writer.old.failed }
-
-    // The reader was read to its end, and the text of all that it gave was written.
-    ensures ok { IfOk result (λ end. (input : List ℕ)
-        × IsWholeText (R.remaining reader.old.inner) (R.remaining reader.new.inner) input
-        × Appends (W.contents writer.old.inner) (W.contents writer.new.inner) (trace_text input)
-        × (end ≡ end_of (counts_of (trace_of input)))) }
-
-    // The reader gave more than a text may have, or failed: what ended before was written.
-    ensures too_long { IsErrOf result TextFault.TooLong → (front : List ℕ) × (more : List ℕ)
-        × (length front ≡ max_text) × (0 < length more)
-        × Consumes (R.remaining reader.old.inner) (R.remaining reader.new.inner) (front ++ more)
-        × Appends (W.contents writer.old.inner) (W.contents writer.new.inner) (told_lines (said front)) }
-    ensures cut { IsErrOf result TextFault.Read → (front : List ℕ) × (length front ≤ max_text)
-        × Consumes (R.remaining reader.old.inner) (R.remaining reader.new.inner) front
-        × Appends (W.contents writer.old.inner) (W.contents writer.new.inner) (told_lines (said front)) }
-
-    // A prefix of what the lines that were read say was written.
-    ensures write { IsErrOf result TextFault.Write → (front : List ℕ)
-        × Consumes (R.remaining reader.old.inner) (R.remaining reader.new.inner) front
-        × (AppendsFront (W.contents writer.old.inner) (W.contents writer.new.inner) (told_lines (said front))
-        ⊎ (IsWholeText (R.remaining reader.old.inner) (R.remaining reader.new.inner) front
-        × AppendsFront (W.contents writer.old.inner) (W.contents writer.new.inner) (trace_text front))) }
-    ensures memory { IsErrOf result TextFault.Memory → (front : List ℕ) × (text : List ℕ) × (rest : List ℕ)
-        × (0 < length front)
-        × Consumes (R.remaining reader.old.inner) (R.remaining reader.new.inner) front
-        × (told_lines (said front) ≡ text ++ rest)
-        × Appends (W.contents writer.old.inner) (W.contents writer.new.inner) text }
-
-    // What comes of it follows from the bytes, however they are cut.
-    ensures same { IfSome (R.remaining reader.old.inner)
-        (λ input. IsSettled result → result ≡ outcome_of input) }
-
-    // X1, X2 and X7 never come, and the streams say whether they failed.
+    // What is written is the trace's text. X1, X2 and X7 never come.
+    ensures ends { EngineEnds decoding
+        (over R.remaining reader.old reader.new W.contents writer.old writer.new) result }
     ensures faults { IfErr result IsOfDecode }
-    ensures reader_failed { IsErrOf result TextFault.Read ↔ IsTrue reader.new.failed }
-    ensures writer_failed { IsErrOf result TextFault.Write ↔ IsTrue writer.new.failed }
 {
     let mut decoder = Decoder::new(alloc);
     decode_pieces(alloc, reader, writer, &mut decoder)?;
@@ -103,28 +69,12 @@ fn decode_pieces<R: Read, W: Write>(
     requires reader { IsFalse reader.old.failed }
     requires writer { IsFalse writer.old.failed }
     requires fresh { IsFresh decoder.old }
-    ensures ok { OnOk result ((input : List ℕ)
+    ensures ok { OnOk result (IsFalse reader.new.failed × IsFalse writer.new.failed × (input : List ℕ)
         × Written (R.remaining reader.old.inner) (R.remaining reader.new.inner)
         (W.contents writer.old.inner) (W.contents writer.new.inner) input decoder.new
         × IsAtEnd (R.remaining reader.new.inner)) }
-    ensures too_long { IsErrOf result TextFault.TooLong → (front : List ℕ) × (more : List ℕ)
-        × (length front ≡ max_text) × (0 < length more)
-        × Consumes (R.remaining reader.old.inner) (R.remaining reader.new.inner) (front ++ more)
-        × Appends (W.contents writer.old.inner) (W.contents writer.new.inner) (told_lines (said front)) }
-    ensures cut { IsErrOf result TextFault.Read → (front : List ℕ) × (length front ≤ max_text)
-        × Consumes (R.remaining reader.old.inner) (R.remaining reader.new.inner) front
-        × Appends (W.contents writer.old.inner) (W.contents writer.new.inner) (told_lines (said front)) }
-    ensures write { IsErrOf result TextFault.Write → (front : List ℕ)
-        × Consumes (R.remaining reader.old.inner) (R.remaining reader.new.inner) front
-        × AppendsFront (W.contents writer.old.inner) (W.contents writer.new.inner) (told_lines (said front)) }
-    ensures memory { IsErrOf result TextFault.Memory → (front : List ℕ) × (text : List ℕ) × (rest : List ℕ)
-        × (0 < length front)
-        × Consumes (R.remaining reader.old.inner) (R.remaining reader.new.inner) front
-        × (told_lines (said front) ≡ text ++ rest)
-        × Appends (W.contents writer.old.inner) (W.contents writer.new.inner) text }
-    ensures faults { IfErr result IsOfDecode }
-    ensures reader_failed { IsErrOf result TextFault.Read ↔ IsTrue reader.new.failed }
-    ensures writer_failed { IsErrOf result TextFault.Write ↔ IsTrue writer.new.failed }
+    ensures broken { IfErr result (λ fault. IsOfDecode fault × EngineEnds decoding
+        (over R.remaining reader.old reader.new W.contents writer.old writer.new) (Err fault)) }
 {
     let mut text = String::new(alloc);
     let mut piece = [0u8; PIECE];

@@ -1,20 +1,46 @@
 use Rattle.std.proofs.Common.{◌<◌, ◌≤◌, ◌++◌, length, take, arith, length-append}
 use Rattle.std.proofs.KnownBytes.{Consumes-trans}
+use Rattle.std.proofs.lemmas.Result.{err_from_is_err_and}
+use Rattle.pm_lines.proofs.EngineLemmas.{no_read, parted, read_failed}
 use Rattle.pm_lines.specs.Streams.{max_text}
 use Rattle.pm_lines.proofs.text.read_text.Goals as goal
 
-pub returns-then-count-len-clause-too_long : goal.returns-then-count-len-clause-too_long
-returns-then-count-len-clause-too_long g c = λ _.
+pub returns-then-count-len-clause-reads : goal.returns-then-count-len-clause-reads
+returns-then-count-len-clause-reads g c =
     let more = take c.in_ok-count.count c.read.new.buf in
     let long : max_text < length (c.reads.text.items ++ more) =
     omega (arith, length-append c.reads.text.items more, c.in_ok-count.ensures.bound.1, c.reads.text.ok) in
-    (c.reads.text.items ++ more, long, Consumes-trans _ _ _ _ _ c.reads.invariant.given c.in_ok-count.ensures.bytes.0)
+    parted _ _ max_text (c.reads.text.items ++ more) long (Consumes-trans _ _ _ _ _ c.reads.invariant.given c.in_ok-count.ensures.bytes.0)
 
-pub returns-in_err-extend_from_slice-clause-memory : goal.returns-in_err-extend_from_slice-clause-memory
-returns-in_err-extend_from_slice-clause-memory g c = λ _.
+pub returns-in_err-extend_from_slice-clause-reads : goal.returns-in_err-extend_from_slice-clause-reads
+returns-in_err-extend_from_slice-clause-reads g c =
+    let p = err_from_is_err_and c.from_residual-in_err-extend_from_slice.result c.from_residual-in_err-extend_from_slice.ensures.1 in
     let more = take c.in_ok-count.count c.read.new.buf in
     let some : 0 < length (c.reads.text.items ++ more) =
     omega (arith, length-append c.reads.text.items more, c.in_ok-count.ensures.bound.1) in
     let short : length (c.reads.text.items ++ more) ≤ max_text =
     omega (arith, length-append c.reads.text.items more, c.in_ok-count.ensures.bound.1) in
-    (c.reads.text.items ++ more, some, short, Consumes-trans _ _ _ _ _ c.reads.invariant.given c.in_ok-count.ensures.bytes.0)
+    rw (p.1, p.2) (
+      c.reads.text.items
+          ++ more,
+      some,
+      short,
+      Consumes-trans _ _ _ _ _ c.reads.invariant.given c.in_ok-count.ensures.bytes.0,
+    )
+
+pub returns-in_err-count-clause-reads : goal.returns-in_err-count-clause-reads
+returns-in_err-count-clause-reads g c =
+    let p = err_from_is_err_and c.from_residual.result c.from_residual.ensures.1 in
+    let short : length c.reads.text.items ≤ max_text = omega (arith, c.reads.invariant.short, c.reads.text.ok) in
+    rw (p.1, p.2) (read_failed _ _ _ c.reads.text.items _ c.in_err-count.ensures.fault c.reads.invariant.given
+    c.in_err-count.ensures.bytes short)
+
+pub returns-in_err-extend_from_slice-clause-failed : goal.returns-in_err-extend_from_slice-clause-failed
+returns-in_err-extend_from_slice-clause-failed g c =
+    let p = err_from_is_err_and c.from_residual-in_err-extend_from_slice.result c.from_residual-in_err-extend_from_slice.ensures.1 in
+    rw (p.1, p.2) (no_read _ c.in_ok-count.ensures.failed)
+
+pub returns-in_err-count-clause-failed : goal.returns-in_err-count-clause-failed
+returns-in_err-count-clause-failed g c =
+    let p = err_from_is_err_and c.from_residual.result c.from_residual.ensures.1 in
+    rw (p.1, p.2) (λ t. c.in_err-count.ensures.fault, λ e. c.in_err-count.ensures.failed)

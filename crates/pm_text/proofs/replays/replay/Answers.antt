@@ -1,30 +1,47 @@
-use Rattle.std.proofs.Common.{◌∙◌, Ok, Err, ap, sym}
+use Rattle.std.proofs.Common.{◌≡◌, ◌∙◌, List, ℕ, Ok, Err, ⊎_elim, ap, inl, inr, refl, string_bytes, sym}
 use Rattle.std.proofs.lemmas.Result.{err_from_is_err_and}
-use Rattle.pm_text.proofs.OutcomeLemmas.{same-read, same-refused, same-reported}
-use Rattle.pm_text.specs.Replay.{replay_of}
+use Rattle.pm_lines.specs.Engine.{Run, over}
+use Rattle.pm_lines.specs.Lemmas.Engines.{as_handed, cut_short, unmade, unread, written}
+use Rattle.pm_text.specs.Replay.{replaying}
 use Rattle.pm_text.proofs.replays.replay.Goals as goal
 
-pub returns-in_err-input-clause-same : goal.returns-in_err-input-clause-same
-returns-in_err-input-clause-same g c =
+pub returns-in_err-input : goal.returns-in_err-input
+returns-in_err-input g c =
     let p = err_from_is_err_and c.from_residual.result c.from_residual.ensures.1 in
-    rw (p.1, p.2) (same-read _ _ _ c.in_err-input.ensures.faults (λ e. c.in_err-input.ensures.too_long (ap Err e)))
+    rw (p.1, p.2) (unread replaying (over g.R.Read.remaining c.args.reader.now c.read_text.new.source g.W.Write.contents
+    c.args.writer.now c.args.writer.now) refl _ c.in_err-input.ensures.reads c.in_err-input.ensures.failed
+    c.requires.writer refl)
 
-pub returns-in_err-text-clause-same : goal.returns-in_err-text-clause-same
-returns-in_err-text-clause-same g c =
+pub returns-in_err-text : goal.returns-in_err-text
+returns-in_err-text g c =
     let p = err_from_is_err_and c.from_residual-in_err-text.result c.from_residual-in_err-text.ensures.1 in
-    rw (p.1, p.2) (same-refused _ _ _ _ _ c.in_ok-input.ensures.whole c.deref.ensures.value c.in_err-text.ensures.refused)
+    rw (p.1, p.2) (unmade replaying (over g.R.Read.remaining c.args.reader.now c.read_text.new.source g.W.Write.contents
+    c.args.writer.now c.args.writer.now) refl c.deref.result.now _
+    (as_handed _ _ _ _ c.deref.ensures.value c.in_ok-input.ensures.reads) c.in_err-text.ensures.faults
+    c.in_err-text.ensures.refused (λ is. c.in_err-text.ensures.memory (ap Err is)) c.in_ok-input.ensures.failed
+    c.requires.writer refl)
 
-pub returns-clause-same : goal.returns-clause-same
-returns-clause-same g c =
-    same-reported _ _ _ _ _ c.in_ok-input.ensures.whole (ap replay_of (sym c.deref.ensures.value) ∙ c.in_ok-text.ensures.replayed)
+pub returns-in_err-put : goal.returns-in_err-put
+returns-in_err-put g c =
+    let p = err_from_is_err_and c.from_residual-in_err-put.result c.from_residual-in_err-put.ensures.1 in
+    let shown = c.as_bytes.ensures.value ∙ c.as_str.ensures.value in
+    rw (p.1, p.2, c.in_err-put.ensures.fault) (cut_short replaying (over g.R.Read.remaining c.args.reader.now
+    c.read_text.new.source g.W.Write.contents c.args.writer.now c.put.new.self) c.as_bytes.result.now c.in_ok-text.end (
+      c.deref.result.now,
+      as_handed _ _ _ _ c.deref.ensures.value c.in_ok-input.ensures.reads,
+      c.in_ok-text.ensures.replayed
+          ∙ ap (λ t. Ok (t, c.in_ok-text.end)) (sym shown),
+    ) c.in_ok-input.ensures.failed c.in_err-put.ensures.failed
+    c.in_err-put.ensures.front)
 
-pub returns-in_err-put-clause-cut_short : goal.returns-in_err-put-clause-cut_short
-returns-in_err-put-clause-cut_short g c = λ _.
-    let same = sym (c.as_bytes.ensures.value ∙ c.as_str.ensures.value) in (
-      c.in_ok-input.input.items,
-      c.as_bytes.result.now,
-      c.in_ok-text.end,
-      c.in_ok-input.ensures.whole,
-      ap replay_of (sym c.deref.ensures.value) ∙ c.in_ok-text.ensures.replayed ∙ ap (λ t. Ok (t, c.in_ok-text.end)) same,
-      c.in_err-put.ensures.front,
-    )
+pub returns : goal.returns
+returns g c =
+    let shown = c.as_bytes.ensures.value ∙ c.as_str.ensures.value in
+    written replaying (over g.R.Read.remaining c.args.reader.now c.read_text.new.source g.W.Write.contents
+    c.args.writer.now c.put.new.self) c.as_bytes.result.now c.in_ok-text.end (
+      c.deref.result.now,
+      as_handed _ _ _ _ c.deref.ensures.value c.in_ok-input.ensures.reads,
+      c.in_ok-text.ensures.replayed
+          ∙ ap (λ t. Ok (t, c.in_ok-text.end)) (sym shown),
+    ) c.in_ok-input.ensures.failed c.in_ok-put.ensures.failed
+    c.in_ok-put.ensures.all

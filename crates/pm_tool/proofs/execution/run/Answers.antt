@@ -1,6 +1,17 @@
+use Rattle.std.proofs.Common.{refl}
 use Rattle.clap.specs.Walk.{texts}
+use Rattle.pm_program.specs.Refusals.{no_words, no_words_status}
+use Rattle.pm_tool.specs.Execution.{Refused}
 use Rattle.pm_tool.proofs.EndLemmas.{usage_ends}
 use Rattle.pm_tool.proofs.execution.run.Goals as goal
+
+pub returns-in-Err : goal.returns-in-Err
+returns-in-Err g c =
+    let e = c.refuse_arguments.ensures in (
+      Refused (no_words_status c.in-Err.kind) (no_words c.in-Err.kind),
+      rw c.in-Err.is (refl, refl),
+      record { status_is = e.status; printed = refl; said = e.said },
+    )
 
 pub returns-in-Err-chosen : goal.returns-in-Err-chosen
 returns-in-Err-chosen g c =

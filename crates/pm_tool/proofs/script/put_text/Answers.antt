@@ -4,7 +4,8 @@ use Rattle.std.specs.Io.KnownBytes.{Appends}
 use Rattle.std.proofs.KnownBytes.{Appends-trans}
 use Rattle.pm_lines.specs.Streams.{AppendsFront}
 use Rattle.pm_tool.specs.Script.{output_at}
-use Rattle.pm_tool.proofs.Writing.{AppendsFront-first, AppendsFront-later, numbered-all, numbered-at, numbered-more, on_err}
+use Rattle.pm_lines.specs.Lemmas.Numbered.{numbered-all, numbered-at, numbered-more}
+use Rattle.pm_lines.specs.Lemmas.Writing.{AppendsFront-first, AppendsFront-later, on_err}
 use Rattle.pm_tool.proofs.script.put_text.Goals as goal
 
 pub returns-in_err-put-clause-front : goal.returns-in_err-put-clause-front
@@ -18,9 +19,13 @@ returns-in_err-put-2-clause-front g c =
     let short = subst (λ b. AppendsFront (g.W.Write.contents c.outputs.writer.inner)
     (g.W.Write.contents c.put-in-outputs.new.self.inner) b) c.line_at.ensures c.in_err-put-2.ensures.front in
     on_err c.from_residual-in_err-put-2.result _ (AppendsFront-later _ _ _ _ (output_at held i) (flat_map (output_at held) (drop (i + 1)
-    (range_with_len 0 n))) (c.outputs.invariant.written, short)
-    (ap (λ l. c.args.lines.now ++ l) (numbered-at (output_at held) n i (omega
-    (arith, c.outputs-test.true, c.count-output-end.ensures.count))) ∙ sym (append_assoc c.args.lines.now _ _)))
+    (range_with_len 0 n))) _ (record {
+      written = c.outputs.invariant.written;
+      short = short;
+      parts =
+          ap (λ l. c.args.lines.now ++ l) (numbered-at (output_at held) n i (omega
+          (arith, c.outputs-test.true, c.count-output-end.ensures.count))) ∙ sym (append_assoc c.args.lines.now _ _);
+    }))
 
 pub outputs-preserved : goal.outputs-preserved
 outputs-preserved g c =

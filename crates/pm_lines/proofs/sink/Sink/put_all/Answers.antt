@@ -1,4 +1,4 @@
-use Rattle.pm_lines.proofs.Writing.{AppendsFront-later, flat_map-at, on_err}
+use Rattle.pm_lines.specs.Lemmas.Writing.{AppendsFront-later, flat_map-at, on_err}
 use Rattle.pm_lines.proofs.sink.Sink.put_all.Goals as goal
 
 pub returns-in_err-put-clause-front : goal.returns-in_err-put-clause-front

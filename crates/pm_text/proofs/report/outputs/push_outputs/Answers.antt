@@ -1,6 +1,6 @@
 use Rattle.std.proofs.Common.{◌∙◌, ◌<◌, ◌++◌, ap, arith, append_assoc, rules, string_bytes}
 use Rattle.pm_text.specs.Report.{output_lines}
-use Rattle.pm_text.proofs.CountingLemmas.{numbered-all, numbered-more}
+use Rattle.pm_lines.specs.Lemmas.Numbered.{numbered-all, numbered-more}
 use Rattle.pm_text.proofs.report.outputs.push_outputs.Goals as goal
 
 pub loop-output-preserved : goal.loop-output-preserved

@@ -24,6 +24,13 @@ AppendsFront-later a b c before part later all is =
     ∙ sym (append_assoc before front (rest ++ later)) in
     (before ++ front, rest ++ later, whole, omega (arith, length-append rest later), Appends-trans a b c before front is.written appended)
 
+-- a prefix of the first of two parts
+pub AppendsFront-first : (old new : Option (List ℕ)) (part later : List ℕ) → AppendsFront old new part
+    → AppendsFront old new (part ++ later)
+AppendsFront-first old new part later short =
+    let (front, rest, split, some, appended) = short in
+    (front, rest ++ later, ap (λ p. p ++ later) split ∙ append_assoc front rest later, omega (arith, length-append rest later), appended)
+
 -- pieces one after another, at one of them
 pub flat_map-at : {X : Type 0} (f : X → List ℕ) (xs : List X) (i : ℕ) (d : X) → i < length xs
     → flat_map f xs ≡ flat_map f (take i xs) ++ (f (get_or xs i d) ++ flat_map f (drop (i + 1) xs))
