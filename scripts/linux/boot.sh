@@ -15,7 +15,7 @@ folder=$(realpath -m "$1"); shift
 trial=$(IFS=,; echo "$*")
 mkdir -p "$folder" || exit 2
 rm -f "$folder"/{i2c.sock,wire.sock,held,said,ended}
-python3 "$here/bench.py" "$folder" ${VCD:+--vcd} > "$folder/bench" 2>&1 &
+PM_LIBRARY=${PM_LIBRARY-} python3 "$here/bench.py" "$folder" ${VCD:+--vcd} > "$folder/bench" 2>&1 &
 bench=$! guest=
 end() {
     [ -z "$guest" ] || kill -KILL -- "-$guest" 2> /dev/null
@@ -36,7 +36,7 @@ TMPDIR=$memory setsid timeout -k 5 "${SECONDS_AT_MOST:-900}" "$CACHE/kernel/linu
     "virtio_uml.device=$folder/i2c.sock:34" "virtio_uml.device=$folder/wire.sock:41" \
     root=/dev/root rootfstype=hostfs rootflags=/ ro "init=$here/guest.sh" "uml_dir=$folder/uml/" \
     con=null con0=fd:0,fd:1 "ROOT=$(cd "$here/../.." && pwd)" "FOLDER=$folder" "CACHE=$CACHE" "TRIAL=$trial" \
-    "PMB=$PMB" "PMBHOST=$PMBHOST" "${WORKDIR:+WORKDIR=$WORKDIR}" > "$folder/console" 2>&1 < /dev/null &
+    "PMB=$PMB" "PMBHOST=$PMBHOST" > "$folder/console" 2>&1 < /dev/null &
 guest=$!
 wait "$guest"
 [ "$(cat "$folder/ended" 2> /dev/null)" = "status 0" ] && [ ! -s "$folder/bench" ]
