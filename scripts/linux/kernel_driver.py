@@ -122,6 +122,6 @@ def main(words):
         total = [sum(each) for each in zip(*counts.values())]
         wrong = " ".join(f"{counts[kind][1]:>4}" for kind in KINDS)
         shown = f"{total[3]} of {total[1]}" if reads_back else "-"
-        print(f"{path}|{'read back' if reads_back else ''}|{transfers}|{wrong}|{total[1]} of {total[0]}|"
+        print(f"{path}|{'behind' if reads_back else 'never'}|{transfers}|{wrong}|{total[1]} of {total[0]}|"
               f"{total[2]} of {total[1]}|{shown}", flush=True)
     return 0

@@ -1,10 +1,11 @@
 """The parts that stand behind the buses of the bench, each as a part of fake_i2c: it hears a frame and answers the
 bytes of an answer, [] where a write is acknowledged, None where the part doesn't acknowledge.
 
-    proved   the converter of the C library, which is proved (crates/pm_c): it has no store and no PAGE
-    plain    the plain model (scripts/plain)
-    ltc2972  the plain model with the registers that the kernel's driver of this name asks for
-    row N    the part of row N of bus_rows.JOBS; what it doesn't do by itself is done by the proved converter
+    proved      the converter of the C library, which is proved (crates/pm_c): it has no store and no PAGE
+    modes A B   the same with these VOUT_MODEs, as 14 40
+    row N       the part of row N of bus_rows.JOBS; what it doesn't do by itself is done by the proved converter
+    plain       the plain model (scripts/plain), which also stands in where there is no library or a row wants a store
+    ltc2972     the plain model with the registers that the kernel's driver of this name asks for
 """
 import collections.abc
 import ctypes
@@ -146,7 +147,8 @@ def made(words, loaded):
     if words == ["ltc2972"]:
         return Ltc2972(), Ltc2972.ADDRESS
     row = JOBS[int(words[1])] if words[0] == "row" else None
-    part = row.part() if row else fake_i2c.Part()
+    modes = tuple(int(word, 16) for word in words[1:]) if words[0] == "modes" else (0x14, 0x14)
+    part = row.part() if row else fake_i2c.Part(modes)
     if loaded and words != ["plain"] and not (row and STORES & set(row.words.split())):
         part.converter = Proved(loaded, part.converter)
     return part, int(row.address, 16) if row else part.converter.address
