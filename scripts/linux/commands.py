@@ -8,8 +8,9 @@ import os
 import re
 import subprocess
 
-from guest_bus import Bench, Tally, root_file
+from guest_bus import Bench, root_file
 from rows import bound, read
+from tally import Tally
 
 PLACE = "/run/commands"
 PROBE = "PEC yes, PAGE_PLUS yes, 2 outputs: 0 ULINEAR16 -12, 1 DIRECT 1 0 3\n"

@@ -15,8 +15,9 @@ import random
 import re
 
 import bus
-from guest_bus import Bench, Tally
+from guest_bus import Bench
 from i2c_dev import Kernel
+from tally import Tally
 
 KINDS = {"restart": "restart", "deaf": "not taken", "lost": "lost", "lostall": "lost, second way",
          "false": "falsely acknowledged", "damaged": "damaged", "cut": "cut answer", "half": "cut write",

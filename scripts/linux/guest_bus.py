@@ -1,15 +1,13 @@
-"""What a trial in the guest asks the bench, and how it counts."""
+"""What a trial in the guest asks the bench."""
 import ctypes
 import errno
 import fcntl
 import json
 import os
-import sys
 
-from i2c_dev import I2C_M_RD, I2C_RDWR, Kernel, Message, Messages
+from i2c_dev import I2C_M_RD, I2C_RDWR, Message, Messages
 
 BENCH, ROOM = 0x0A, 1024
-BUSES = {0: "i2c-virtio, short counts", 1: "errors over i2c-virtio", 5: "i2c-gpio, bit by bit"}
 FOLDER = os.environ.get("FOLDER", "")
 
 
@@ -40,32 +38,6 @@ class Bench:
         self.say(f"plan {mishaps}")
 
 
-class Tally:
-    """How many runs passed."""
-
-    def __init__(self):
-        self.passed = self.failed = 0
-
-    def tell(self, name, faults):
-        faults = list(faults)
-        self.passed += not faults
-        self.failed += bool(faults)
-        for fault in faults:
-            print(f"{name}: {fault}", flush=True)
-
-    def end(self):
-        print(f"{self.passed} passed, {self.failed} failed", flush=True)
-        return 1 if self.failed or not self.passed else 0
-
-
-class RealKernel(Kernel):
-    """The kernel's calls as bus.py makes them. Its jobs say bus N."""
-
-
 def root_file(*parts):
     return os.path.join(os.environ["ROOT"], *parts)
 
-
-def tell(*words):
-    print(*words, flush=True)
-    sys.stdout.flush()

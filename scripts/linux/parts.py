@@ -4,7 +4,8 @@ bytes of an answer, [] where a write is acknowledged, None where the part doesn'
     proved      the converter of the C library, which is proved (crates/pm_c): it has no store and no PAGE
     modes A B   the same with these VOUT_MODEs, as 14 40
     row N       the part of row N of bus_rows.JOBS; what it doesn't do by itself is done by the proved converter
-    plain       the plain model (scripts/plain), which also stands in where there is no library or a row wants a store
+    plain       the plain model (scripts/plain), which also stands in where there is no library, a row wants a store, or a
+                format that the converter refuses
     ltc2972     the plain model with the registers that the kernel's driver of this name asks for
 """
 import collections.abc
@@ -14,7 +15,7 @@ import os
 import fake_i2c
 from bus_rows import JOBS
 from plain.commands import START
-from plain.converter import COMMAND, PROTECT, REGISTERS
+from plain.converter import COMMAND, PROTECT, REGISTERS, setup_fault
 from plain.packets import TABLE, name_of, pec
 
 SILENT, TAKEN, ANSWERED = 0x81, 0x82, 0x83
@@ -149,7 +150,8 @@ def made(words, loaded):
     row = JOBS[int(words[1])] if words[0] == "row" else None
     modes = tuple(int(word, 16) for word in words[1:]) if words[0] == "modes" else (0x14, 0x14)
     part = row.part() if row else fake_i2c.Part(modes)
-    if loaded and words != ["plain"] and not (row and STORES & set(row.words.split())):
+    wants_plain = words == ["plain"] or row and STORES & set(row.words.split()) or setup_fault(part.converter.setup)
+    if loaded and not wants_plain:
         part.converter = Proved(loaded, part.converter)
     return part, int(row.address, 16) if row else part.converter.address
 

@@ -1,9 +1,4 @@
-# Sourced by run.sh and two_hosts.sh: their options, the build, and guests that do trials beside one another.
-#
-#   --cache FOLDER    the folder of kernel and modules, some 2 GB, ~/.cache/tizdret-linux where it isn't given
-#   --plain           the plain model behind the buses, and not the converter of the C library
-#   --archive FILE    that library, crates/pm_c/out/libpm_c.a where it isn't given
-#   --at-once N       how many guests run at once, 3 where it isn't given
+# Sourced by run.sh, which tells the options, and two_hosts.sh: the build, and guests that do trials beside one another.
 
 start() {
     cache=${HOME:-/tmp}/.cache/tizdret-linux is_plain= archive=$root/crates/pm_c/out/libpm_c.a at_once=3
