@@ -34,8 +34,8 @@ sys.path[:0] = [HERE, os.path.dirname(HERE)]
 import counted  # noqa: E402
 import parts  # noqa: E402
 import wire  # noqa: E402
+from counted import ERROR  # noqa: E402
 
-BENCH, ERROR = 0x0A, 0x0B
 SIGNALS = ("sigint", "sigterm", "group", "held")
 MOST_SECONDS = 20
 

@@ -1,5 +1,5 @@
-"""One run of bus.py, told by bus.py's trace and by the kernel's tracepoints: captures BUS. capture_to_trace.py must make
-the same packets of both. They stay in FOLDER, and so does the waveform of the bit-banged bus, for waveform.py.
+"""One run of bus.py, told by its trace and by the kernel's tracepoints: captures BUS. capture_to_trace.py must make the
+same packets of both. They stay in FOLDER, and so does the waveform of the bit-banged bus, for waveform.py.
 
 Over an adapter that stands on another the events of both are there, which --bus takes apart. Where the kernel repeats a
 transfer by itself, the tracepoints of its bus show it once, and those of the adapter below twice.

@@ -67,8 +67,7 @@ def exactly(text):
 def board(page):
     """From a board to a confirmed voltage, and what went over the wire."""
     page.bench.put("modes 14 40")
-    if page.bench.ask()["kind"] == "Proved" or page.bench.ask()["kind"] == "Converter":
-        page.tell("scripts/bus.py 1 58 probe", exactly(PROBE))
+    page.tell("scripts/bus.py 1 58 probe", exactly(PROBE), more=[] if PROBE.strip() in page.text else ["the page has another"])
     page.bench.put("proved")
     for words in TRACED[:2]:
         page.tell(words, "")

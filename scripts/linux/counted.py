@@ -7,6 +7,7 @@ import struct
 
 import vhost
 
+# Where the bench itself stands on the bus, and where it tells the error of the last failed transfer.
 BENCH, ERROR = 0x0A, 0x0B
 ZERO_LENGTH = 1 << 0
 READS = 2

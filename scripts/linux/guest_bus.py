@@ -5,9 +5,10 @@ import fcntl
 import json
 import os
 
+from counted import BENCH
 from i2c_dev import I2C_M_RD, I2C_RDWR, Message, Messages
 
-BENCH, ROOM = 0x0A, 1024
+ROOM = 1024
 FOLDER = os.environ.get("FOLDER", "")
 
 
@@ -40,4 +41,3 @@ class Bench:
 
 def root_file(*parts):
     return os.path.join(os.environ["ROOT"], *parts)
-

@@ -1,4 +1,4 @@
-"""The sharpest case, as a listing: one lost answer to a read of telemetry, and the next order of the kernel's regulators
+"""The sharpest case, as a listing of root's shell: one lost answer to a read of telemetry, and the next order of the kernel's regulators
 reaches the other output. The part is the model of two outputs that kernel_driver.py has. Last a line tells whether it
 was seen."""
 import os
@@ -19,14 +19,14 @@ def main(words):
 
     def shown(command):
         ran = subprocess.run(["bash", "-c", command], capture_output=True, text=True)
-        print(f"$ {command}")
+        print(f"# {command}")
         for line in [*ran.stdout.splitlines(), *ran.stderr.splitlines()]:
             print(line.removeprefix("bash: line 1: "))
         return ran.stdout
 
     def outputs():
         held = bench.ask()["held"]
-        print("# the part holds", ", ".join(f"{word * 1000 // PER_VOLT} mV at output {at}" for at, word in enumerate(held)))
+        print("-- the part holds", ", ".join(f"{word * 1000 // PER_VOLT} mV at output {at}" for at, word in enumerate(held)))
         return held
 
     bench.say("part ltc2972")
@@ -34,7 +34,7 @@ def main(words):
     shown(f"echo 1800000 > {BOARD}/set0; echo 1000000 > {BOARD}/set1; echo status $?")
     driver.settle()
     outputs()
-    print("# the answer to the next read of PAGE is lost")
+    print("-- the answer to the next read of PAGE is lost")
     bench.say("plan ok lost")
     shown(f"cat {telemetry}")
     shown(f"echo 3000000 > {BOARD}/set0; echo status $?")
