@@ -17,8 +17,14 @@ mkdir -p "$folder" || exit 2
 rm -f "$folder"/{i2c.sock,wire.sock,held,said,ended}
 PM_LIBRARY=${PM_LIBRARY-} python3 "$here/bench.py" "$folder" ${VCD:+--vcd} > "$folder/bench" 2>&1 &
 bench=$! guest=
+# User Mode Linux makes a session of its own, whose number it keeps in a file while it runs.
 end() {
-    [ -z "$guest" ] || kill -KILL -- "-$guest" 2> /dev/null
+    local session
+    if [ -n "$guest" ]; then
+        session=$(cat "$folder/uml/guest/pid" 2> /dev/null)
+        [ -z "$session" ] || kill -KILL -- "-$session" 2> /dev/null
+        kill "$guest" 2> /dev/null
+    fi
     kill "$bench" 2> /dev/null
     wait 2> /dev/null
     rm -rf "$folder/i2c.sock" "$folder/wire.sock" "$folder/held" "$folder/uml"
@@ -32,9 +38,9 @@ done
 [ -S "$folder/wire.sock" ] || { echo "boot.sh: the bench didn't start:" >&2; cat "$folder/bench" >&2; exit 2; }
 memory=$folder
 [ -w /dev/shm ] && memory=/dev/shm
-TMPDIR=$memory setsid timeout -k 5 "${SECONDS_AT_MOST:-900}" "$CACHE/kernel/linux" mem=192M quiet \
+TMPDIR=$memory timeout -k 5 "${SECONDS_AT_MOST:-900}" "$CACHE/kernel/linux" mem=192M quiet \
     "virtio_uml.device=$folder/i2c.sock:34" "virtio_uml.device=$folder/wire.sock:41" \
-    root=/dev/root rootfstype=hostfs rootflags=/ ro "init=$here/guest.sh" "uml_dir=$folder/uml/" \
+    root=/dev/root rootfstype=hostfs rootflags=/ ro "init=$here/guest.sh" "uml_dir=$folder/uml/" umid=guest \
     con=null con0=fd:0,fd:1 "ROOT=$(cd "$here/../.." && pwd)" "FOLDER=$folder" "CACHE=$CACHE" "TRIAL=$trial" \
     "PMB=$PMB" "PMBHOST=$PMBHOST" > "$folder/console" 2>&1 < /dev/null &
 guest=$!
