@@ -29,7 +29,9 @@ HEADS = {"sigrok": 0, "linux": 0, "saleae": 1}
 LONG, MOST_MEMORY = 20_000_000, 50_000
 CAPTURES = [("bus", "sigrok", "bus.trace"), ("bus", "linux", "bus.trace"), ("bus", "saleae", "bus.trace"),
             ("faults", "sigrok", "faults.trace"), ("faults", "saleae", "faults.trace"),
-            ("faults", "linux", "faults_of_linux.trace")]
+            ("faults", "linux", "faults_of_linux.trace"),
+            ("kernel", "sigrok", "kernel.trace"), ("kernel", "linux", "kernel_of_linux.trace")]
+# The waveforms, with the packets that those are drawn from that no bus made.
 DRAWN = [("bus", os.path.join(program.ROOT, "examples/bus.trace")), ("faults", os.path.join(FOLDER, "faults.bus"))]
 SALEAE = "type,ack,address,read,data\nstart,,,,\n"
 # Texts that are no captures, and why.
@@ -95,10 +97,11 @@ def stored(name):
 
 def waveform_faults():
     """The stored waveforms are those of the packets, and what sigrok-cli makes of them, where it is installed."""
-    for name, path in DRAWN:
-        with open(path, encoding="utf-8") as file:
-            if waveform(file.read()) != stored(f"{name}.vcd"):
-                yield f"{name}.vcd isn't drawn from {os.path.relpath(path, program.ROOT)}"
+    for name, path in (*DRAWN, ("kernel", None)):
+        if path:
+            with open(path, encoding="utf-8") as file:
+                if waveform(file.read()) != stored(f"{name}.vcd"):
+                    yield f"{name}.vcd isn't drawn from {os.path.relpath(path, program.ROOT)}"
         if shutil.which("sigrok-cli"):
             ran = subprocess.run(
                 ["sigrok-cli", "-I", "vcd", "-i", os.path.join(FOLDER, f"{name}.vcd"), "-P",
@@ -166,6 +169,23 @@ def bus_faults():
         ran = subprocess.run([READER, *words], input=both, capture_output=True, text=True)
         if ran.returncode != 1 or ran.stdout or "FORMAT" not in ran.stderr:
             yield f"{words} gives {ran.stdout!r}, {ran.stderr!r}"
+
+
+def kernel_faults():
+    """Of a run over a real kernel its tracepoints and its waveform tell the packets of bus.py's own trace; and where an
+    adapter stands on another, those of one bus do."""
+    sent = stored("kernel.bus").splitlines()
+    whole = [line for line in sent if not line.startswith("#")]
+    on_wire = [line.split(": ")[1] if line.startswith("#") else line for line in sent]
+    over = [line for line in stored("two_adapters.bus").splitlines() if not line.startswith("#")]
+    for name, form, bus, wanted in (("kernel", "linux", None, whole), ("kernel", "sigrok", None, on_wire),
+                                    ("two_adapters", "linux", 1, over)):
+        found = [line for line in read_back(form, stored(f"{name}.{form}"), 0x58, bus) if not line.startswith("#")]
+        if found != wanted:
+            yield f"{name}.{form} tells {found}, and bus.py {wanted}"
+    both = [line for line in read_back("linux", stored("two_adapters.linux"), 0x58) if not line.startswith("#")]
+    if any(both.count(line) < 2 * over.count(line) for line in over):
+        yield f"without --bus not each packet of two_adapters.linux is there for both adapters: {both}"
 
 
 def first_line_faults(form):
@@ -253,6 +273,7 @@ def checks(pmb):
     yield "other captures", other_faults()
     yield "counts of faults", count_faults(pmb)
     yield "one bus of several", bus_faults()
+    yield "captures of a kernel", kernel_faults()
     for form in HEADS:
         yield f"the first line of {form}", first_line_faults(form)
         yield f"the memory of {form}", memory_faults(form)

@@ -1,0 +1,116 @@
+"""The commands of docs/bus.md, word for word, over a bus of the guest: commands BUS.
+
+The page's bus is 1; over another its number stands in the commands in the place of that. A command that the page doesn't
+have is a fault. Beside them: frames_to_i2ctransfer.py with i2c-tools where transfers fail, and what the page says of a
+driver that holds the part.
+"""
+import os
+import re
+import subprocess
+
+from guest_bus import Bench, root_file
+from rows import bound, read
+from tally import Tally
+
+PLACE = "/run/commands"
+PROBE = "PEC yes, PAGE_PLUS yes, 2 outputs: 0 ULINEAR16 -12, 1 DIRECT 1 0 3\n"
+ORDER = "scripts/bus.py 1 58 --trace=bus.trace learn 0 + volts 0 VOUT_COMMAND 3300000 + state 0 VOUT_COMMAND"
+ORDERED = """learn 0: ended learned
+volts 0 VOUT_COMMAND 3300000: ended done
+state 0 VOUT_COMMAND: state confirmed 34CD possible 34CD
+"""
+FRAMES = r"printf 'B0 19 /\nB0 06 02 00 20 /\n' | scripts/frames_to_i2ctransfer.py 1"
+LEARNED = """1 58 page 0 VOUT_MODE read 14
+2 58 page 0 VOUT_COMMAND write 34CD
+3 58 page 0 VOUT_COMMAND read 34CD
+"""
+TRACED = "echo > /sys/kernel/tracing/trace", "echo 1 > /sys/kernel/tracing/events/i2c/enable", "cat /sys/kernel/tracing/trace"
+
+
+class Page:
+    """The page, its commands over a bus, and what they must print."""
+
+    def __init__(self, number):
+        self.number, self.bench, self.tally = number, Bench(number), Tally()
+        self.text = read(root_file("docs/bus.md"))
+        os.makedirs(PLACE, exist_ok=True)
+        os.chdir(PLACE)
+        os.symlink(root_file("scripts"), "scripts")
+        os.symlink(os.environ["PMB"], "pmb")
+
+    def command(self, words):
+        """A command of the page, for this bus."""
+        words = words.replace("bus.py 1 ", f"bus.py {self.number} ")
+        words = words.replace("frames_to_i2ctransfer.py 1", f"frames_to_i2ctransfer.py {self.number}")
+        return words.replace("1-0058", f"{self.number}-0058").replace("i2cdetect -F 1", f"i2cdetect -F {self.number}")
+
+    def run(self, words):
+        around = {**os.environ, "PATH": f"{PLACE}:{os.environ['PATH']}"}
+        return subprocess.run(["bash", "-c", self.command(words)], capture_output=True, text=True, env=around)
+
+    def tell(self, words, out, err="", status=0, more=(), on_page=True):
+        """Runs a command and compares; `more` are further things that are wrong."""
+        ran, faults = self.run(words), list(more)
+        if on_page and words not in self.text:
+            faults.append("docs/bus.md doesn't have it")
+        found = ran.returncode, ran.stdout, ran.stderr
+        if found[0] != status or not re.fullmatch(self.command(out), found[1]) or not re.fullmatch(self.command(err), found[2]):
+            faults.append(f"it gives {found}, not {(status, out, err)}")
+        self.tally.tell(f"bus {self.number}, {words}", faults)
+        return ran
+
+
+def exactly(text):
+    return re.escape(text)
+
+
+def board(page):
+    """From a board to a confirmed voltage, and what went over the wire."""
+    page.bench.put("modes 14 40")
+    page.tell("scripts/bus.py 1 58 probe", exactly(PROBE), more=[] if PROBE.strip() in page.text else ["the page has another"])
+    page.bench.put("proved")
+    for words in TRACED[:2]:
+        page.tell(words, "")
+    page.tell(ORDER, exactly(ORDERED), more=[] if page.command(ORDERED) in page.text else ["the page has another answer"])
+    page.tell("pmb decode < bus.trace", exactly(LEARNED) + "(count .*\n)*lines 3 accepted 3 faults 0 bad 0\n")
+    page.tell("grep failed bus.trace", "", status=1)
+    kernel = page.run(f"{TRACED[2]} | scripts/capture_to_trace.py linux --address=58 --bus={page.number}").stdout
+    sent = "".join(line for line in read("bus.trace").splitlines(True) if not line.startswith("#"))
+    page.tally.tell(f"bus {page.number}, the kernel's tracepoints", [] if kernel == sent else [f"{kernel!r}, not {sent!r}"])
+
+
+def frames(page):
+    """Frames that are written by hand, over i2c-tools."""
+    number = page.number
+    page.tell(FRAMES, f"i2ctransfer -y {number} w1@0x58 0x19 r2\ni2ctransfer -y {number} w4@0x58 0x06 0x02 0x00 0x20 r3\n")
+    decoded = exactly("1 58 CAPABILITY read 80\n2 58 page 0 VOUT_MODE read 14\n") + "(.*\n)*"
+    page.tell(f"{FRAMES} --run > part.trace; pmb decode < part.trace", decoded)
+    nobody = {0: "Warning: only 0/2 messages were sent"}.get(number, "Error: Sending messages failed: No such device or address")
+    page.tell(r"printf 'B2 19 /\n' | scripts/frames_to_i2ctransfer.py 1 --run", exactly(f"# failed: B2 19: {nobody}\n"),
+              status=1, on_page=False)
+    page.bench.put("proved", "lost")
+    lost = {0: "Warning: only 0/1 messages were sent", 1: "Error: Sending messages failed: Remote I/O error"}
+    said = lost.get(number, "Error: Sending messages failed: Input/output error")
+    page.tell(r"printf 'B0 03 5D\n' | scripts/frames_to_i2ctransfer.py 1 --run",
+              exactly(f"# failed: B0 03 5D: {said}\n"), status=1, on_page=False)
+
+
+def drivers(page):
+    """A driver that holds the part: it is refused, unbound, and the part is free."""
+    page.bench.put("proved")
+    held = exactly(f"bus.py: {page.number}-0058 is held by a driver of the kernel: unbind it, echo ") + ".*\n"
+    with bound(page.number, "58"):
+        page.tell("scripts/bus.py 1 58 probe", "", held, 2)
+        page.tell("scripts/bus.py 1 58 --force probe", "PEC yes.*\n", on_page=False)
+        busy = page.run(FRAMES + " --run").stdout
+        page.tally.tell("i2ctransfer beside a driver", [] if "busy" in busy else [busy])
+        page.tell("echo 1-0058 > /sys/bus/i2c/devices/1-0058/driver/unbind", "")
+        page.tell("scripts/bus.py 1 58 probe", "PEC yes.*\n")
+
+
+def main(words):
+    page = Page(int(words[0]))
+    board(page)
+    frames(page)
+    drivers(page)
+    return page.tally.end()

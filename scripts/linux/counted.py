@@ -1,0 +1,112 @@
+"""The back end of an i2c-virtio adapter: messages of I2C, and the mishaps of the bench for them.
+
+The driver of the kernel tells of a failed transfer by the number of messages that went, and by no error.
+"""
+import errno
+import struct
+
+import vhost
+
+# Where the bench itself stands on the bus, and where it tells the error of the last failed transfer.
+BENCH, ERROR = 0x0A, 0x0B
+ZERO_LENGTH = 1 << 0
+READS = 2
+FAILED = None
+
+
+class Message:
+    """A message: what is written, or how many bytes are read."""
+
+    def __init__(self, request):
+        address, _, flags = struct.unpack("<HHI", request.written[:8])
+        self.address = address >> 1
+        has_data = len(request.places) > 1
+        self.count = (request.places[0].length if has_data else 0) if flags & READS else None
+        self.written = list(request.written[8:])
+
+
+class Adapter(vhost.FrontEnd):
+    """The requests of an i2c-virtio adapter."""
+
+    features = vhost.BASE_FEATURES | ZERO_LENGTH
+
+    def __init__(self, connection, bench):
+        super().__init__(connection)
+        self.bench = bench
+
+    def carry_out(self, requests):
+        """Messages of one address that come together are one transfer. Those behind a failed one fail."""
+        messages = [Message(request) for request in requests]
+        results, start = [], 0
+        while start < len(messages):
+            end = start
+            while end < len(messages) and messages[end].address == messages[start].address:
+                end += 1
+            is_over = FAILED in results
+            results += [FAILED] * (end - start) if is_over else self.transfer(messages[start:end])
+            start = end
+        for request, result in zip(requests, results):
+            if result and len(request.places) > 1:
+                request.places[0].put(result)
+            request.places[-1].put([0 if result is not FAILED else 1])
+            yield 1 + (request.places[0].length if result is not FAILED and len(request.places) > 1 else 0)
+
+    def transfer(self, messages):
+        """For each message the bytes that came, or FAILED."""
+        bench, address = self.bench, messages[0].address
+        if address in (BENCH, ERROR):
+            return [bench.at_bench(address, each.written, each.count) for each in messages]
+        bench.error = errno.ENXIO
+        if address != bench.address:
+            return [FAILED] * len(messages)
+        if [each.count is None for each in messages] == [True]:
+            return [self.write(messages[0], bench.mishap())]
+        if [each.count is None for each in messages] == [True, False]:
+            return self.read(*messages, bench.mishap())
+        # A read alone: the address is acknowledged, and the lines stay high.
+        return [b"\xff" * each.count if each.count is not None else FAILED for each in messages]
+
+    def is_unheard(self, mishap):
+        """The transfer fails, and the part doesn't hear it."""
+        self.bench.error = {"hung": errno.ETIMEDOUT, "short0": errno.EIO, "short1": errno.EIO}.get(mishap, errno.ENXIO)
+        return mishap in ("deaf", "hung", "short0", "short1")
+
+    def write(self, message, mishap):
+        bench, frame = self.bench, [2 * message.address, *message.written]
+        if mishap == "false":
+            return b""
+        if self.is_unheard(mishap):
+            return FAILED
+        frame = frame[:-1] if mishap == "half" else frame
+        if mishap == "flip":
+            frame[-2] ^= 1
+        return FAILED if self.heard(frame, "stop", mishap) is None or mishap == "half" else b""
+
+    def read(self, sent, back, mishap):
+        bench = self.bench
+        if self.is_unheard(mishap) or mishap == "false":
+            return [b"" if mishap == "short1" else FAILED, FAILED]
+        answer = self.heard([2 * sent.address, *sent.written], "restart", mishap)
+        if answer is None:
+            is_first = mishap in ("lostall", "short0h") or bench.part.refusal == errno.ENXIO
+            return [FAILED if is_first else b"", FAILED]
+        if mishap == "empty":
+            return [b"", b""]
+        got = bytes([*answer[1:], *[0xFF] * back.count][:back.count])
+        if mishap == "damaged":
+            got = got[:-1] + bytes([got[-1] ^ 4])
+        return [b"", got[:-1] + b"\xff" if mishap == "cut" else got]
+
+    def heard(self, frame, ending, mishap):
+        """What the part answers, None also where that is lost. Where the kernel repeats a transfer by itself, this
+        adapter's transfer is repeated here, unless it is asked for errors: then it is told to try again."""
+        bench = self.bench
+        bench.error = errno.EIO if mishap == "short0h" else bench.part.refusal
+        if mishap == "twice":
+            bench.part.hear(frame, ending)
+            if bench.has_errors:
+                bench.plan.insert(0, "again")
+                bench.error = errno.EAGAIN
+                return None
+        answer = bench.part.hear(frame, ending)
+        return None if mishap in ("lost", "lostall", "short0h") else answer

@@ -1,0 +1,127 @@
+"""Eight orders by bus.py under every placement of one fault, and under drawn lists of two to four: faults BUS.
+
+The nine kinds: the part restarts; it doesn't take the frame; it takes the frame and the transfer fails, in two ways; an
+acknowledgement is false; an answer is damaged, or cut; a write is cut, or a bit of it is flipped. Each strikes each
+transfer of the orders once, with 1 and with 3 passes. On the wire a tenth comes to it: an answer to the second address
+that the kernel sends by itself. After each run the host is asked for both outputs and whether it saw a restart, and that
+is compared with what the part holds: a word ordered for one output must never stand at the other, and nothing that was
+said may be false. Both are counted; what isn't promised is counted too, and no fault: a word that was confirmed and went
+with a restart.
+"""
+import collections
+import contextlib
+import io
+import random
+import re
+
+import bus
+from guest_bus import Bench
+from i2c_dev import Kernel
+from tally import Tally
+
+KINDS = {"restart": "restart", "deaf": "not taken", "lost": "lost", "lostall": "lost, second way",
+         "false": "falsely acknowledged", "damaged": "damaged", "cut": "cut answer", "half": "cut write",
+         "flip": "flipped bit"}
+ON_WIRE = {"stale": "late answer"}
+OUTPUTS = (0, 1, 1, 0, 0, 1, 0, 1)
+WORDS = tuple(0x1200 + 0x200 * place for place in range(len(OUTPUTS)))
+START = 0x1000
+LISTS, SEED = 60, 7
+ORDERS = " + ".join(f"order {output} VOUT_COMMAND {word:04X}" for output, word in zip(OUTPUTS, WORDS))
+QUESTIONS = "state 0 VOUT_COMMAND + state 1 VOUT_COMMAND + seen"
+STATE = re.compile(r"state (?:confirmed (\w{4})|unknown) possible (any|.*)")
+
+
+class Run:
+    """One call of bus.py over the bus with a plan of mishaps, what it said, and what the part then holds."""
+
+    def __init__(self, bench, plan, passes, part="proved"):
+        bench.put(part, " ".join(plan))
+        out, err = io.StringIO(), io.StringIO()
+        words = [str(bench.number), "58", "--outputs=2", f"--passes={passes}", *f"{ORDERS} + {QUESTIONS}".split()]
+        with contextlib.redirect_stdout(out), contextlib.redirect_stderr(err):
+            self.status = bus.main(words, Kernel())
+        self.said = [line.partition(": ")[2] for line in out.getvalue().splitlines()]
+        told = bench.ask()
+        self.held, self.count, self.has_restarted = told["held"], told["count"], "restart" in plan
+        self.ends, self.answers = self.said[:-3], self.said[-3:]
+
+    def wrong_outputs(self):
+        """Words that were never ordered for the output that holds them."""
+        for output, word in enumerate(self.held):
+            allowed = {START} | {each for at, each in zip(OUTPUTS, WORDS) if at == output}
+            if word not in allowed:
+                yield f"output {output} holds {word:04X}"
+
+    def is_done(self):
+        return len(self.ends) == len(OUTPUTS) and set(self.ends) == {"ended done"}
+
+    def false_statements(self):
+        """What was said and isn't so. A restart since may have taken a confirmed word away: that isn't promised."""
+        for output, (answer, word) in enumerate(zip(self.answers, self.held)):
+            found = STATE.fullmatch(answer)
+            if not found:
+                yield f"{answer!r} of output {output}"
+                continue
+            confirmed, possible = found.groups()
+            if not self.has_restarted and confirmed and int(confirmed, 16) != word:
+                yield f"{confirmed} is confirmed of output {output}, which holds {word:04X}"
+            if not self.has_restarted and possible != "any" and f"{word:04X}" not in possible.split():
+                yield f"{possible} is possible of output {output}, which holds {word:04X}"
+        if self.answers[2:] not in (["seen no"], ["seen yes"]) or self.answers[2:] == ["seen yes"] and not self.has_restarted:
+            yield f"{self.answers[2:]} without a restart"
+        if (self.status == 0) != self.is_done():
+            yield f"status {self.status} with {self.ends}"
+        if self.is_done() and not self.has_restarted and self.held != [WORDS[6], WORDS[7]]:
+            yield f"all is done, and {self.held} are held"
+
+    def has_lost_word(self):
+        """A confirmed word went with a restart."""
+        found = [STATE.fullmatch(answer) for answer in self.answers[:2]]
+        return any(each and each[1] and int(each[1], 16) != word for each, word in zip(found, self.held))
+
+
+class Table:
+    """What the runs came to, kind by kind."""
+
+    def __init__(self, bench):
+        self.bench, self.tally, self.counts = bench, Tally(), collections.defaultdict(collections.Counter)
+
+    def run(self, name, plan, passes):
+        run, counts = Run(self.bench, plan, passes), self.counts[name]
+        wrong, false = list(run.wrong_outputs()), list(run.false_statements())
+        counts["runs"] += 1
+        counts["wrong output"] += bool(wrong)
+        counts["false"] += bool(false)
+        counts["all done"] += run.is_done()
+        counts["gone by a restart"] += run.has_restarted and run.has_lost_word()
+        counts["of these seen"] += run.has_restarted and run.has_lost_word() and run.answers[2] == "seen yes"
+        self.tally.tell(f"bus {self.bench.number}, {passes} passes, {' '.join(plan)}", [*wrong, *false])
+
+    def show(self):
+        columns = ("runs", "wrong output", "false", "all done", "gone by a restart", "of these seen")
+        print(f"{'fault':<32}{''.join(f'{each:>19}' for each in columns)}")
+        total = collections.Counter()
+        for name, counts in self.counts.items():
+            print(f"{name:<32}{''.join(f'{counts[each]:>19}' for each in columns)}")
+            total.update(counts)
+        print(f"{'all':<32}{''.join(f'{total[each]:>19}' for each in columns)}")
+
+
+def main(words):
+    bench = Bench(int(words[0]))
+    table, kinds = Table(bench), {**KINDS, **(ON_WIRE if bench.number == 5 else {})}
+    clean = Run(bench, [], 3)
+    print(f"bus {bench.number}: {clean.count} transfers, the part is {bench.ask()['kind']}", flush=True)
+    for passes in (1, 3):
+        for kind, name in kinds.items():
+            for place in range(clean.count):
+                table.run(f"{name}, {passes} pass{'es' * (passes > 1)}", ["ok"] * place + [kind], passes)
+    drawn = random.Random(SEED)
+    for _ in range(LISTS):
+        plan = ["ok"] * 24
+        for _ in range(drawn.choice((2, 3, 4))):
+            plan[drawn.randrange(clean.count)] = drawn.choice(list(kinds))
+        table.run("two to four, 3 passes", plan, 3)
+    table.show()
+    return table.tally.end()

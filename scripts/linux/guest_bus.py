@@ -1,0 +1,43 @@
+"""What a trial in the guest asks the bench."""
+import ctypes
+import errno
+import fcntl
+import json
+import os
+
+from counted import BENCH
+from i2c_dev import I2C_M_RD, I2C_RDWR, Message, Messages
+
+ROOM = 1024
+FOLDER = os.environ.get("FOLDER", "")
+
+
+class Bench:
+    """The bench behind the guest's buses, spoken to at its address of bus 0."""
+
+    def __init__(self, number):
+        self.number, self.file = number, os.open("/dev/i2c-0", os.O_RDWR)
+        self.say(f"adapter {'errno' if number == 1 else 'count'}")
+
+    def messages(self, message):
+        whole = Messages((Message * 1)(message), 1)
+        if fcntl.ioctl(self.file, I2C_RDWR, whole) != 1:
+            raise OSError(errno.EIO, "the bench doesn't answer")
+
+    def say(self, text):
+        sent = ctypes.create_string_buffer(text.encode("ascii"), len(text))
+        self.messages(Message(BENCH, 0, len(text), ctypes.addressof(sent)))
+
+    def ask(self):
+        back = ctypes.create_string_buffer(ROOM)
+        self.messages(Message(BENCH, I2C_M_RD, ROOM, ctypes.addressof(back)))
+        return json.loads(back.raw.rstrip(b"\0"))
+
+    def put(self, part, mishaps=""):
+        """A part as it is made, and mishaps for its transfers."""
+        self.say(f"part {part}")
+        self.say(f"plan {mishaps}")
+
+
+def root_file(*parts):
+    return os.path.join(os.environ["ROOT"], *parts)

@@ -1,0 +1,66 @@
+#!/usr/bin/env bash
+# Tries the scripts and the C example over a whole Linux: a kernel of Debian as an ordinary process (User Mode Linux), its
+# I2C core, i2c-dev, i2c-tools and PMBus drivers unchanged, and the model converter behind three kinds of adapter. It
+# needs no hardware, no root and no KVM.
+#
+#   scripts/linux/run.sh [OPTIONS]
+#
+#   --cache FOLDER    the folder of kernel and modules, some 2 GB, ~/.cache/tizdret-linux where it isn't given
+#   --archive FILE    the library with the proved converter, crates/pm_c/out/libpm_c.a where it isn't given
+#   --plain           the plain model behind the buses, and not the converter of that library
+#   --at-once N       how many guests run at once, 3 where it isn't given
+#
+# The kernel is built the first time, in some five minutes. Packages of Debian 12: linux-source-6.1 flex bison bc gcc make
+# xz-utils python3 i2c-tools, and sigrok-cli for the waveform. PMB and PMBHOST name other programs than the built ones.
+# Buses: 0 is i2c-virtio, whose failed transfers are short counts; 1 answers errors; 5 is bit-banged, i2c-gpio.
+#
+#   rows      every row of scripts/try_bus.py that is about bus.py, by bus.py as a process
+#   faults    eight orders under nine kinds of fault at each transfer, and 60 lists of two to four faults
+#   commands  the commands of docs/bus.md
+#   programs  examples/c/i2c_dev.c under each fault (with the library alone)
+#   captures  one run, told by bus.py's trace, the kernel's tracepoints and the waveform of the wires
+#   together  both hosts at once, a part that is unplugged, a bus.py that is killed
+#
+# What is wrong is printed, each trial's own last line, and last how many runs passed and failed in all.
+set -u
+case " $* " in *" --help "* | *" -h "*) sed -n '2,/^[^#]/s/^# \{0,1\}//p' "$0"; exit 0 ;; esac
+here=$(cd "$(dirname "$0")" && pwd)
+root=$(cd "$here/../.." && pwd)
+. "$here/start.sh"
+start "$@"
+command -v i2ctransfer > /dev/null || [ -x /usr/sbin/i2ctransfer ] || refuse "no i2ctransfer: install i2c-tools"
+began=$(date +%s)
+kinds="faults rows commands captures together"
+if [ -n "$PM_LIBRARY" ]; then
+    gcc -O2 -Wall -Wextra -Werror -I"$root/crates/pm_c/include" "$root/examples/c/i2c_dev.c" "$archive" \
+        -o "$CACHE/i2c_dev" || refuse "examples/c/i2c_dev.c doesn't build"
+    kinds="$kinds programs"
+fi
+names=()
+for kind in $kinds; do
+    # The bit by bit one takes longest: it begins first.
+    for bus in 5 0 1; do
+        names+=("$kind$bus")
+        VCD=$([ $kind$bus = captures5 ] && echo 1) trial $kind$bus $kind $bus
+    done
+done
+wait
+python3 "$here/waveform.py" "$work/captures5" > "$work/waveform" 2>&1
+passed=0 failed=0
+# count NAME FILE: what a trial said, and its last line's numbers.
+count() {
+    local last
+    last=$(grep -E '^[0-9]+ passed, [0-9]+ failed$' "$2" 2> /dev/null | tail -1)
+    grep -vE '^[0-9]+ passed, [0-9]+ failed$' "$2" 2> /dev/null
+    if [ -z "$last" ]; then last="0 passed, 1 failed"; why "$1"; fi
+    echo "$1: $last"
+    passed=$((passed + ${last%% *}))
+    last=${last#*, }
+    failed=$((failed + ${last%% *}))
+}
+for name in "${names[@]}"; do count "$name" "$work/$name/said"; done
+if command -v sigrok-cli > /dev/null; then count waveform "$work/waveform"; else cat "$work/waveform"; fi
+[ -z "${KEEP-}" ] || cp -r "$work" "$KEEP"
+echo "$(($(date +%s) - began)) s, $at_once guests at once"
+echo "$passed passed, $failed failed"
+[ "$failed" = 0 ]

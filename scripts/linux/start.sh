@@ -1,0 +1,52 @@
+# Sourced by run.sh, which tells the options, and two_hosts.sh: the build, and guests that do trials beside one another.
+
+start() {
+    cache=${HOME:-/tmp}/.cache/tizdret-linux is_plain= archive=$root/crates/pm_c/out/libpm_c.a at_once=3
+    while [ $# -gt 0 ]; do
+        case $1 in
+            --cache) cache=${2-}; shift ;;
+            --archive) archive=$(realpath -m "${2-}"); shift ;;
+            --at-once) at_once=${2-}; shift ;;
+            --plain) is_plain=1 ;;
+            *) refuse "$1: there are --cache FOLDER, --archive FILE, --at-once N and --plain; --help tells more" ;;
+        esac
+        shift || refuse "give a value behind the last option; --help tells more"
+    done
+    case $at_once in [1-9]) ;; *) refuse "--at-once $at_once: give a number from 1 to 9" ;; esac
+    command -v python3 > /dev/null || refuse "no python3: install it"
+    export PMB=${PMB-$root/crates/pmb/out/pmb} PMBHOST=${PMBHOST-$root/crates/pmbhost/out/pmbhost}
+    [ -x "$PMB" ] || refuse "no program at $PMB: build it by (cd crates/pmb && rt run -- replay < stdin), or set PMB to one"
+    [ -x "$PMBHOST" ] || refuse "no program at $PMBHOST: build it as docs/bus.md says, or set PMBHOST to one"
+    if [ -z "$is_plain" ] && [ ! -f "$archive" ]; then
+        refuse "no $archive: build it by (cd crates/pm_c && rt lib), or give --archive FILE, or --plain for the plain model"
+    fi
+    ARCHIVE=$archive "$here/build.sh" "$cache" || exit 2
+    CACHE=$(realpath "$cache") PM_LIBRARY=
+    [ -n "$is_plain" ] || PM_LIBRARY=$CACHE/libpm.so
+    export CACHE PM_LIBRARY
+    work=$(mktemp -d "$CACHE/run.XXXXXX") || exit 2
+    guests=()
+    trap end EXIT
+    trap 'exit 130' INT TERM HUP
+}
+
+refuse() { echo "$(basename "$0"): $1" >&2; exit 2; }
+
+# Each guest ends with its own trap; then the folder goes.
+end() {
+    local each
+    for each in "${guests[@]}"; do kill "$each" 2> /dev/null; done
+    wait
+    rm -rf "$work"
+}
+
+# trial NAME WORDS ..: a guest of its own, begun as soon as fewer than `at_once` run.
+trial() {
+    local name=$1; shift
+    while [ "$(jobs -rp | wc -l)" -ge "$at_once" ]; do wait -n; done
+    "$here/boot.sh" "$work/$name" "$@" > "$work/$name.boot" 2>&1 &
+    guests+=($!)
+}
+
+# why NAME: what a trial without a result left.
+why() { cat "$work/$1.boot" "$work/$1/bench" 2> /dev/null | tail -5; tail -5 "$work/$1/console" 2> /dev/null; }
