@@ -1,0 +1,9 @@
+ENTRY(reset)
+SECTIONS {
+    . = 0x40080000;
+    .text : { KEEP(*(.start)) *(.text*) *(.rodata*) }
+    .data : { *(.data*) }
+    .bss (NOLOAD) : { bss_start = .; *(.bss*) *(COMMON) . = ALIGN(16); bss_end = .; }
+    . = . + 0x4000;
+    stack_top = .;
+}

@@ -1,0 +1,5 @@
+/* Of the tests' own small library: scripts/c/bare/bare.c. */
+#ifndef BARE_STDIO_H
+#define BARE_STDIO_H
+int printf(const char *format, ...);
+#endif
