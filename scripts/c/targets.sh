@@ -35,7 +35,7 @@ trap 'rm -rf "$folder"' EXIT
 built=${built:-$folder/built}
 mkdir -p "$built"
 
-# mirror: the toolchain's folder by links, whose clang keeps the module that it is handed, and its words
+# mirror: the toolchain's folder by links, whose clang keeps the module that it compiles, and its words
 mirror() {
     local each
     mkdir -p "$folder/kit/bin" "$folder/kit/toolchain/bin"
@@ -49,7 +49,9 @@ mirror() {
     cp "$kit/bin/rt" "$kit/bin/rtlib.py" "$folder/kit/bin/"
     cat > "$folder/kit/toolchain/bin/clang" << END
 #!/usr/bin/env bash
-for each in "\$@"; do case \$each in *.bc) cp "\$each" '$folder/module.bc'; printf '%s\n' "\$@" > '$folder/module.words' ;; esac; done
+case " \$* " in *" -c "*) for each in "\$@"; do
+    case \$each in *.bc | *.ll) cp "\$each" '$folder/module.bc'; printf '%s\n' "\$@" > '$folder/module.words' ;; esac
+done ;; esac
 exec '$clang' "\$@"
 END
     chmod +x "$folder/kit/toolchain/bin/clang"
@@ -78,7 +80,7 @@ compile() {
         cp "$built/$name.a" "$folder/$name.a"
         [ -f "$built/$name.bc" ] || return 0
         module=$folder/$name.bc; cp "$built/$name.bc" "$module"
-        mapfile -t words < <(grep -vxE -- '-c|-o|module\.(bc|o)|-Werror|--sysroot=.*' "$built/$name.words")
+        mapfile -t words < <(grep -vxE -- '-c|-o|-Werror|--sysroot=.*|.*\.(bc|ll|o|s)' "$built/$name.words")
     else
         module=$folder/$name.ll
         read -ra words <<< "${flags[$name]} $plain"

@@ -81,18 +81,24 @@ core() {
     esac
 }
 
-# link_wasm NAME PROGRAM ARCHIVE FLAGS SOURCES ..: by the toolchain's own clang and linker
+# link_wasm NAME PROGRAM ARCHIVE FLAGS SOURCES ..: by the toolchain's own clang and linker. The archive for wasm64 can be
+# linked by the toolchain alone: there it is a module of its own, with the memory, of which the program has the upper half.
 link_wasm() {
     local name=$1 program=$2 archive=$3 more=$4 each objects=() steps=; shift 4
+    local size=1048576 words=("$archive")
+    if [ "$name" = wasm64 ]; then
+        "$kit/bin/rattle-link" --target wasm64-unknown-unknown --toolchain "$kit/toolchain" --memory $size --stack 65536 \
+            -o "$program.library" "$archive" || return 1
+        words=(--import-memory --initial-memory=$size --max-memory=$size --global-base=$((size / 2)) --no-stack-first --import-undefined)
+    fi
     [ "$name" = wasm32 ] && steps="-Dpm_host_finished=step_of_finished -Dpm_host_got=step_of_got"
     for each in "$@" $bare/bare.c $bare/wasm.c; do
         objects+=("$program.$(basename "$each").o")
         case $each in */wasm.c) steps= ;; esac
-        $clang "--target=$name-unknown-unknown" --no-default-config -O2 -nostdinc -I$bare/include $warn -DBARE_MEMORY $more $steps \
+        $clang "--target=$name-unknown-unknown" --no-default-config -O2 -nostdinc -I$bare/include $warn -DBARE_MEMORY -Dmain=bare_main $more $steps \
             -c "$each" -o "${objects[-1]}" || return 1
     done
-    (exec -a wasm-ld "$clang" -m "$name" --no-entry --export-if-defined=__main_argc_argv --export-if-defined=__original_main \
-        --export-if-defined=main -z stack-size=65536 "${objects[@]}" "$archive" -o "$program")
+    (exec -a wasm-ld "$clang" -m "$name" --no-entry --export=bare_main -z stack-size=65536 "${objects[@]}" "${words[@]}" -o "$program")
 }
 
 # run NAME PROGRAM WORDS ..: under the target's emulator, with more words for it
@@ -108,7 +114,7 @@ run() {
         cortex-m3) timeout 900 qemu-system-arm -M mps2-an385 $bus "$@" -kernel "$program" ;;
         cortex-m4*) timeout 900 qemu-system-arm -M mps2-an386 $bus "$@" -kernel "$program" ;;
         rv32imac) timeout 900 qemu-system-riscv32 -M virt -bios none $bus "$@" -kernel "$program" ;;
-        wasm64) timeout 900 node --no-warnings --experimental-wasm-memory64 $bare/run.mjs "$program" ;;
+        wasm64) timeout 900 node --no-warnings --experimental-wasm-memory64 $bare/run.mjs "$program" "$program.library" ;;
         wasm32) timeout 900 node --no-warnings $bare/run.mjs "$program" ;;
     esac
 }

@@ -1,6 +1,6 @@
-/* Console for WebAssembly, and what 32 bits lack there. C's own convention returns a struct of two numbers in memory, and
- * the library in one number, as on other processors: a caller in C goes by the two functions here, one in JavaScript
- * takes the number apart. */
+/* Console for WebAssembly, and the three functions on 128 bits that the library wants there. C's convention returns a
+ * struct of two numbers in memory, and the library rewritten to 32 bits in one number, as on the processor that it was
+ * made for: a caller in C goes by the two functions here, one in JavaScript takes the number apart. */
 #include "console.h"
 #include "pm.h"
 
@@ -15,6 +15,7 @@ void console_end(int status) {
     imported_end(status);
 }
 
+#ifdef __wasm32__
 uint32_t finished(pm_host *host, uint32_t acked) __asm__("pm_host_finished");
 uint32_t got(pm_host *host, const uint8_t *bytes, uint64_t count) __asm__("pm_host_got");
 
@@ -30,10 +31,9 @@ pm_step step_of_finished(pm_host *host, uint8_t acked) {
 pm_step step_of_got(pm_host *host, const uint8_t *bytes, uint64_t count) {
     return step_of(got(host, bytes, count));
 }
+#endif
 
-#ifdef __wasm32__
 typedef unsigned __int128 wide;
-typedef __int128 wide_signed;
 typedef union { struct { uint64_t low, high; } part; wide whole; } parts;
 
 wide __ashlti3(wide number, int by) {
@@ -58,4 +58,3 @@ wide __multi3(wide left, wide right) {
     to.part.high = a1 * b1 + (middle >> 32) + (other >> 32) + a.part.low * b.part.high + a.part.high * b.part.low;
     return to.whole;
 }
-#endif
