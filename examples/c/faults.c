@@ -36,7 +36,8 @@ static pm_desk start_desk(void) {
 static size_t damage(uint8_t *bytes, size_t count) {
     if (draw(2))
         return draw((unsigned)count);
-    bytes[draw((unsigned)count)] ^= (uint8_t)(1 + draw(255));
+    unsigned place = draw((unsigned)count);
+    bytes[place] ^= (uint8_t)(1 + draw(255));
     return count;
 }
 

@@ -32,12 +32,12 @@ struct Standing {
 }
 
 unsafe extern "C" {
-    fn pm_host_size() -> usize;
+    fn pm_host_size() -> u64;
     fn pm_host_new(host: &mut Host, address: u8, outputs: u8, passes: u8) -> u8;
     fn pm_host_order(host: &mut Host, output: u8, code: u8, word: u16) -> u8;
     fn pm_host_sending(host: &Host, sending: &mut Sending) -> u8;
     fn pm_host_finished(host: &mut Host, acked: u8) -> HostStep;
-    fn pm_host_got(host: &mut Host, bytes: *const u8, count: usize) -> HostStep;
+    fn pm_host_got(host: &mut Host, bytes: *const u8, count: u64) -> HostStep;
     fn pm_host_standing(host: &Host, output: u8, code: u8, standing: &mut Standing) -> u8;
 }
 
@@ -90,7 +90,7 @@ fn step_of(step: HostStep) -> Result<Step, Refused> {
 // and the library wants nothing else.
 impl Host {
     pub fn new(address: u8, outputs: u8, passes: u8) -> Result<Host, Refused> {
-        assert_eq!(unsafe { pm_host_size() }, size_of::<Host>());
+        assert_eq!(unsafe { pm_host_size() }, size_of::<Host>() as u64);
         let mut host = Host { held: [0; 963] };
         accepted(unsafe { pm_host_new(&mut host, address, outputs, passes) })?;
         Ok(host)
@@ -111,7 +111,7 @@ impl Host {
     }
 
     pub fn got(&mut self, bytes: &[u8]) -> Result<Step, Refused> {
-        step_of(unsafe { pm_host_got(self, bytes.as_ptr(), bytes.len()) })
+        step_of(unsafe { pm_host_got(self, bytes.as_ptr(), bytes.len() as u64) })
     }
 
     /// The confirmed word of a cell.

@@ -1,5 +1,5 @@
 /* The PMBus host core as a static library: a host that sets supply voltages over PMBus 1.3, packets and
- * numbers alone, and a model converter for a desk. Built for x86-64 and for nothing of 32 bits.
+ * numbers alone, and a model converter for a desk. One header for processors of 64 and of 32 bits.
  *
  * What each call answers and does is proved of the library (crates/pm_c). No prover reads this header: the
  * programs of examples/c compare its sizes and the numbers that they use.
@@ -8,7 +8,7 @@
  *   - each pointer is valid for what it points to, aligned for its type, and never null; with a count of
  *     0 the pointer to bytes may be any that isn't null;
  *   - what a call writes overlaps nothing else that it is given;
- *   - counts are in elements, and tell the truth;
+ *   - counts are in elements, uint64_t on every processor, and tell the truth;
  *   - one call at a time works on a host or a desk, and each call has PM_STACK bytes of stack, one of a
  *     desk PM_DESK_STACK.
  *
@@ -28,7 +28,6 @@
 #ifndef PM_H
 #define PM_H
 
-#include <stddef.h>
 #include <stdint.h>
 
 #ifdef __cplusplus
@@ -101,6 +100,9 @@ enum {
 /* A host, in memory of yours. Nothing in it is for callers. */
 typedef struct { uint16_t held[PM_HOST_SIZE / 2]; } pm_host;
 
+/* A compiler that pads it stops here: the sizes of an array aren't negative. */
+typedef char pm_host_has_its_size[sizeof(pm_host) == PM_HOST_SIZE ? 1 : -1];
+
 /* The frame that is to be sent now, or nothing. */
 enum { PM_NOTHING = 0, PM_WRITE = 1, PM_REQUEST = 2 };
 typedef struct {
@@ -145,7 +147,7 @@ typedef struct {
 } pm_format;
 
 /* The size and the version of a pm_host: compare them at start with PM_HOST_SIZE and PM_HOST_VERSION. */
-size_t pm_host_size(void);
+uint64_t pm_host_size(void);
 uint16_t pm_host_version(void);
 
 /* Makes a host, whatever stood in the memory, for the device at this address, 08h to 77h, which has this
@@ -189,7 +191,7 @@ pm_step pm_host_finished(pm_host *host, uint8_t acked);
 
 /* A request was sent, and these bytes came back, the read address first; 0 bytes where none came.
  * PM_NO_HOST, PM_OTHER_FRAME where no request is to be sent. */
-pm_step pm_host_got(pm_host *host, const uint8_t *bytes, size_t count);
+pm_step pm_host_got(pm_host *host, const uint8_t *bytes, uint64_t count);
 
 /* Drops the open job and all that is known of cells and formats. PM_NO_HOST. */
 uint8_t pm_host_restart(pm_host *host);
@@ -224,15 +226,15 @@ typedef struct {
 } pm_packet;
 
 /* The packet error code of bytes. */
-uint8_t pm_pec(const uint8_t *bytes, size_t count);
+uint8_t pm_pec(const uint8_t *bytes, uint64_t count);
 
 /* The bytes of a packet to a device. PM_NO_ADDRESS; PM_NO_PACKET where the numbers mean none, or the code
  * doesn't have this layout. */
 uint8_t pm_packet_write(uint8_t address, const pm_packet *packet, pm_sending *frame);
 
 /* What the bytes of a write, and of a request, to a device say. PM_NO_ADDRESS, F1 to F8. */
-uint8_t pm_packet_read_write(uint8_t address, const uint8_t *bytes, size_t count, pm_packet *packet);
-uint8_t pm_packet_read_request(uint8_t address, const uint8_t *bytes, size_t count, pm_packet *packet);
+uint8_t pm_packet_read_write(uint8_t address, const uint8_t *bytes, uint64_t count, pm_packet *packet);
+uint8_t pm_packet_read_request(uint8_t address, const uint8_t *bytes, uint64_t count, pm_packet *packet);
 
 /* ---- A converter on a desk ---- */
 
@@ -262,14 +264,14 @@ typedef struct {
 typedef struct { uint8_t length; uint8_t unused; uint8_t bytes[16]; } pm_reply;
 
 /* The size of a pm_desk: compare it at start with PM_DESK_SIZE. */
-size_t pm_desk_size(void);
+uint64_t pm_desk_size(void);
 
 /* It hears one frame, which a repeated start ends where `is_request` isn't 0, otherwise a stop. Answers
  * PM_SILENT, PM_TAKEN or PM_ANSWERED, or a refusal, K1 to K7, with which no word changes and the reply is
  * empty; PM_NO_CONVERTER, with which nothing changes. Only words of outputs that there are and WRITE_PROTECT
  * ever change in a pm_desk. */
 enum { PM_SILENT = 0x81, PM_TAKEN = 0x82, PM_ANSWERED = 0x83 };
-uint8_t pm_desk_hear(pm_desk *desk, const uint8_t *bytes, size_t count, uint8_t is_request, pm_reply *reply);
+uint8_t pm_desk_hear(pm_desk *desk, const uint8_t *bytes, uint64_t count, uint8_t is_request, pm_reply *reply);
 
 /* The word of a cell. PM_NO_CONVERTER, PM_NO_CELL, H4. */
 uint8_t pm_desk_word(const pm_desk *desk, uint8_t output, uint8_t code, uint16_t *word);

@@ -1,0 +1,15 @@
+/* The bus as the firmware sees it: two functions, which a driver for a board's I2C controller has. Frames have the
+ * address byte first, as the bus carries them; the PEC is data. */
+#ifndef BUS_H
+#define BUS_H
+
+#include <stdint.h>
+
+/* Writes a frame of `count` bytes, which a stop ends: 1 where every byte was acknowledged, otherwise 0. */
+uint8_t bus_write(const uint8_t *frame, unsigned count);
+
+/* Writes a request of `count` bytes, then after a repeated start reads: answer[0] is the read address byte, and after
+ * it come what the part sends, `wanted` bytes in all. How many are there in the end, 0 where the part didn't answer. */
+unsigned bus_read(const uint8_t *request, unsigned count, uint8_t *answer, unsigned wanted);
+
+#endif

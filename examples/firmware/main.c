@@ -1,0 +1,176 @@
+/* Firmware that sets two supply rails and looks after them. It learns the rails' formats, orders a voltage of each, and
+ * then checks them round by round: a rail that no longer holds its word is set again, and after a restart of the part
+ * all of them. Nothing here takes memory or knows the board: bus.h and console.h are what a board has to have. */
+#include "bus.h"
+#include "console.h"
+#include "pm.h"
+#include <string.h>
+
+enum { ADDRESS = 0x58, PASSES = 3, ROUNDS = 24, RAILS = 2, ATTEMPTS = 4 };
+
+typedef struct {
+    const char *name;
+    uint8_t output;
+    int64_t microvolts;
+} rail;
+
+static const rail rails[RAILS] = {{"core", 0, 900000}, {"io", 1, 3300000}};
+
+/* ---- What is said ---- */
+
+static void put_number(int64_t number) {
+    char digits[21];
+    unsigned at = sizeof digits - 1;
+    uint64_t rest = number < 0 ? 0 - (uint64_t)number : (uint64_t)number;
+    digits[at] = 0;
+    do
+        digits[--at] = (char)('0' + rest % 10);
+    while (rest /= 10);
+    if (number < 0)
+        digits[--at] = '-';
+    console_put(digits + at);
+}
+
+static void put_word(uint16_t word) {
+    char digits[5] = "";
+    for (int i = 3; i >= 0; i--, word >>= 4)
+        digits[i] = "0123456789ABCDEF"[word & 15];
+    console_put(digits);
+}
+
+static void say(const rail *of, const char *what) {
+    console_put(of->name);
+    console_put(what);
+}
+
+/* The word that the rail is known to hold, and its microvolts; or that none is known. */
+static void say_held(const pm_host *host, const rail *of) {
+    pm_standing standing = {0, 0};
+    pm_format format = {PM_NO_FORMAT, 0, 0, 0};
+    int64_t microvolts = 0;
+    pm_host_standing(host, of->output, PM_VOUT_COMMAND, &standing);
+    pm_host_format(host, of->output, &format);
+    if (standing.is_confirmed != 1 || pm_microvolts(&format, standing.word, &microvolts) != PM_OK) {
+        console_put("nothing that is known\n");
+        return;
+    }
+    put_word(standing.word);
+    console_put(", ");
+    put_number(microvolts);
+    console_put(" uV\n");
+}
+
+/* ---- The driver's loop ---- */
+
+/* Carries frames until the open job ends: how it ended, PM_UNKNOWN where none was open. */
+static pm_step carry_out(pm_host *host) {
+    pm_step step = {PM_UNKNOWN, 0};
+    pm_sending frame;
+    uint8_t answer[8];
+    while (pm_host_sending(host, &frame) == PM_OK && frame.kind != PM_NOTHING) {
+        if (frame.kind == PM_WRITE) {
+            step = pm_host_finished(host, bus_write(frame.bytes, frame.length));
+        } else {
+            memset(answer, 0, sizeof answer);
+            step = pm_host_got(host, answer, bus_read(frame.bytes, frame.length, answer, frame.answer));
+        }
+    }
+    return step;
+}
+
+/* ---- The rails ---- */
+
+static int learn(pm_host *host, const rail *of) {
+    for (int i = 0; i < ATTEMPTS; i++)
+        if (pm_host_learn(host, of->output) == PM_OK && carry_out(host).kind == PM_LEARNED)
+            return 1;
+    say(of, ": no format was learned\n");
+    return 0;
+}
+
+/* Orders the rail's voltage: 1 where its word was read back. */
+static int set_rail(pm_host *host, const rail *of) {
+    for (int i = 0; i < ATTEMPTS; i++) {
+        if (pm_host_order_micro(host, of->output, PM_VOUT_COMMAND, of->microvolts) != PM_OK) {
+            say(of, ": the order is refused\n");
+            return 0;
+        }
+        if (carry_out(host).kind == PM_DONE) {
+            say(of, ": set to ");
+            say_held(host, of);
+            return 1;
+        }
+    }
+    say(of, ": the order didn't end well\n");
+    return 0;
+}
+
+/* Learns and sets all rails, from nothing known. */
+static int set_all(pm_host *host) {
+    int are_set = 1;
+    pm_host_restart(host);
+    for (int i = 0; i < RAILS; i++)
+        are_set &= learn(host, &rails[i]) && set_rail(host, &rails[i]);
+    return are_set;
+}
+
+/* ---- The supervisor ---- */
+
+typedef enum { HOLDS, UNREAD, OTHER, RESTARTED } finding;
+
+/* Reads the rail back, and compares it with the word that its voltage is. */
+static finding check_rail(pm_host *host, const rail *of) {
+    pm_standing standing;
+    pm_format format;
+    uint16_t wanted;
+    if (pm_host_check(host, of->output, PM_VOUT_COMMAND) != PM_OK || carry_out(host).kind != PM_DONE)
+        return UNREAD;
+    if (pm_host_restart_seen(host) == 1)
+        return RESTARTED;
+    if (pm_host_standing(host, of->output, PM_VOUT_COMMAND, &standing) != PM_OK ||
+        pm_host_format(host, of->output, &format) != PM_OK ||
+        pm_nearest_word(&format, of->microvolts, &wanted) != PM_OK)
+        return UNREAD;
+    return standing.is_confirmed == 1 && standing.word == wanted ? HOLDS : OTHER;
+}
+
+/* One round over the rails: 1 where in the end each holds its word, as far as could be read. */
+static int supervise(pm_host *host, int round) {
+    int is_well = 1;
+    for (int i = 0; i < RAILS; i++) {
+        finding found = check_rail(host, &rails[i]);
+        if (found == HOLDS)
+            continue;
+        console_put("round ");
+        put_number(round);
+        console_put(", ");
+        if (found == RESTARTED) {
+            say(&rails[i], ": the part restarted, it holds ");
+            say_held(host, &rails[i]);
+            return set_all(host);
+        }
+        say(&rails[i], found == UNREAD ? ": no good answer\n" : ": it holds another word\n");
+        is_well &= found == OTHER && set_rail(host, &rails[i]);
+    }
+    return is_well;
+}
+
+int main(void) {
+    static pm_host host;
+    int is_well = 0;
+    if (pm_host_size() != sizeof host || pm_host_version() != PM_HOST_VERSION) {
+        console_put("the library is another than the header\n");
+        return 1;
+    }
+    if (pm_host_new(&host, ADDRESS, RAILS, PASSES) != PM_OK)
+        return 1;
+    is_well = set_all(&host);
+    for (int round = 1; round <= ROUNDS; round++)
+        is_well = supervise(&host, round);
+    for (int i = 0; i < RAILS; i++) {
+        say(&rails[i], ": holds ");
+        say_held(&host, &rails[i]);
+    }
+    console_put(is_well ? "all rails hold their words\n" : "not all rails are known to hold their words\n");
+    return !is_well;
+}

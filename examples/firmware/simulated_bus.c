@@ -1,0 +1,82 @@
+/* A bus that stands in for a board's, for the emulator: a model converter hears each frame, and now and then a frame is
+ * lost, cut or damaged, an answer is lost or damaged, a write is acknowledged that nobody took, and the part restarts.
+ * A driver for a board puts its I2C controller in the place of this file. */
+#include "bus.h"
+#include "console.h"
+#include "pm.h"
+#include <string.h>
+
+enum { RESTARTS_EACH = 37 };
+
+typedef enum { NONE, FRAME_LOST, FRAME_CUT, FRAME_DAMAGED, ANSWER_LOST, ANSWER_DAMAGED, FALSE_ACKNOWLEDGEMENT } fault;
+
+static pm_desk part;
+static unsigned transfers;
+
+static unsigned draw(unsigned below) {
+    static uint32_t drawn = 2463534242u;
+    drawn ^= drawn << 13;
+    drawn ^= drawn >> 17;
+    drawn ^= drawn << 5;
+    return (drawn >> 8) % below;
+}
+
+/* The part as it comes up: both outputs at 1 V, with 4.5 V as their most. */
+static void restart(void) {
+    static const pm_output output = {0x14, 0, 0x80, 0x1000, 0x4800, 0x1100, 0x0F00, 0x0000};
+    memset(&part, 0, sizeof part);
+    part.address = 0x58;
+    part.outputs = 2;
+    part.m = 1;
+    part.words[0] = part.words[1] = output;
+}
+
+/* What goes wrong with the next transfer: something in two of five. */
+static fault next_fault(void) {
+    if (transfers++ == 0)
+        restart();
+    if (transfers % RESTARTS_EACH == 0) {
+        restart();
+        console_put("  (the part restarts)\n");
+    }
+    return draw(5) < 2 ? (fault)(1 + draw(6)) : NONE;
+}
+
+static void damage(uint8_t *bytes, unsigned count) {
+    unsigned place = draw(count);
+    bytes[place] ^= (uint8_t)(1 + draw(255));
+}
+
+/* The part hears what is left of a frame. */
+static uint8_t hear(const uint8_t *frame, unsigned count, fault wrong, uint8_t is_request, pm_reply *reply) {
+    uint8_t left[16];
+    memset(reply, 0, sizeof *reply);
+    if (wrong == FRAME_LOST || count > sizeof left)
+        return PM_SILENT;
+    memcpy(left, frame, count);
+    if (wrong == FRAME_CUT)
+        count = draw(count);
+    if (wrong == FRAME_DAMAGED)
+        damage(left, count);
+    return pm_desk_hear(&part, left, count, is_request, reply);
+}
+
+uint8_t bus_write(const uint8_t *frame, unsigned count) {
+    fault wrong = next_fault();
+    pm_reply reply;
+    if (wrong == FALSE_ACKNOWLEDGEMENT)
+        return 1;
+    uint8_t is_taken = hear(frame, count, wrong, 0, &reply) == PM_TAKEN;
+    return wrong == ANSWER_LOST ? 0 : is_taken;
+}
+
+unsigned bus_read(const uint8_t *request, unsigned count, uint8_t *answer, unsigned wanted) {
+    fault wrong = next_fault();
+    pm_reply reply;
+    if (hear(request, count, wrong, 1, &reply) != PM_ANSWERED || reply.length > wanted || wrong == ANSWER_LOST)
+        return 0;
+    if (wrong == ANSWER_DAMAGED)
+        damage(reply.bytes, reply.length);
+    memcpy(answer, reply.bytes, reply.length);
+    return reply.length;
+}

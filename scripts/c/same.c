@@ -1,0 +1,383 @@
+/* Random calls of every export, damaged memory and refusals among them. Every answer and every byte that a call may
+ * write goes into two sums, so two builds that print the same line answered and wrote the same.
+ *
+ *     same [FIRST_SEED [SEEDS [STEPS]]]
+ *
+ * A line for each seed: how many calls were made, were taken, and ended a job; how many exports were called; the sums;
+ * and how many answers weren't widened with zeros, where the processor's calling convention asks that of the library. */
+#include "pm.h"
+#include <stdio.h>
+#include <stdlib.h>
+#include <string.h>
+
+#ifndef FIRST_SEED
+#define FIRST_SEED 1
+#endif
+#ifndef SEEDS
+#define SEEDS 1
+#endif
+#ifndef STEPS
+#define STEPS 300000
+#endif
+
+/* On 32-bit ARM, RISC-V and WebAssembly a callee widens a result of 8 or 16 bits to a register. Such a result is taken
+ * here by a second name, as a whole register. Elsewhere the upper bits are nobody's. */
+#if (defined __arm__ || defined __riscv || defined __wasm__)
+#define WIDENED 1
+uint32_t wide_pec(const uint8_t *bytes, uint64_t count) __asm__("pm_pec");
+uint32_t wide_version(void) __asm__("pm_host_version");
+uint32_t wide_restart_seen(const pm_host *host) __asm__("pm_host_restart_seen");
+uint32_t wide_check(pm_host *host, uint8_t output, uint8_t code) __asm__("pm_host_check");
+uint32_t wide_hear(pm_desk *desk, const uint8_t *bytes, uint64_t count, uint8_t is_request, pm_reply *reply)
+    __asm__("pm_desk_hear");
+uint32_t wide_word(const pm_format *format, int64_t microvolts, uint16_t *word) __asm__("pm_nearest_word");
+#else
+#define WIDENED 0
+#define wide_pec pm_pec
+#define wide_version pm_host_version
+#define wide_restart_seen pm_host_restart_seen
+#define wide_check pm_host_check
+#define wide_hear pm_desk_hear
+#define wide_word pm_nearest_word
+#endif
+
+enum { HOSTS = 4, HALVES = PM_HOST_SIZE / 2, GUARD = 4, ROOM = 320, EXPORTS = 28 };
+
+/* Hosts at addresses of each kind that two bytes may have, with guards around them: the last is damaged. */
+static uint16_t memory[HOSTS][GUARD + HALVES + GUARD];
+static struct { uint16_t before[3]; pm_desk desk; uint16_t after[3]; } kept;
+static uint8_t room[ROOM];
+
+/* What calls write, with guards. */
+static struct {
+    uint8_t a[3]; pm_sending sending; uint8_t b; pm_reply reply; uint16_t c; pm_words words; uint16_t d; pm_standing standing;
+    uint16_t e; pm_format format; uint16_t f; pm_packet packet; uint16_t g; uint16_t word; uint16_t h[4]; int64_t microvolts;
+    uint16_t i[4];
+} out;
+
+static uint64_t seed;
+static uint32_t sum, turned, calls, taken, ends, narrow, called;
+
+static uint32_t draw(uint32_t below) {
+    seed ^= seed << 13;
+    seed ^= seed >> 7;
+    seed ^= seed << 17;
+    return (uint32_t)(seed >> 32) % below;
+}
+
+static void add(uint32_t word) {
+    sum = (sum ^ word) * 0x01000193u;
+    turned = (turned << 5 | turned >> 27) + word;
+}
+
+static void add_halves(const uint16_t *halves, unsigned count) {
+    for (unsigned i = 0; i + 1 < count; i += 2)
+        add((uint32_t)halves[i] | (uint32_t)halves[i + 1] << 16);
+    if (count % 2)
+        add(halves[count - 1]);
+}
+
+static void add_bytes(const void *from, unsigned count) {
+    const uint8_t *bytes = (const uint8_t *)from;
+    for (unsigned i = 0; i < count; i++)
+        add(bytes[i]);
+}
+
+static uint16_t *halves_at(unsigned number) {
+    return memory[number] + 1 + number % GUARD;
+}
+
+static pm_host *host_at(unsigned number) {
+    return (pm_host *)halves_at(number);
+}
+
+/* An answer of export number `which`: a register's width where the library has to widen it. */
+static uint32_t heard(unsigned which, uint32_t answer, uint32_t most) {
+    calls++;
+    taken += answer == 0;
+    called |= 1u << which;
+    narrow += answer > most;
+    add(which << 24 ^ answer);
+    return answer & most;
+}
+
+static void wrote(const void *thing, unsigned count) {
+    add_bytes(thing, count);
+    if (draw(16) == 0)
+        add_bytes(&out, sizeof out);
+}
+
+static uint8_t draw_output(void) {
+    return (uint8_t)(draw(16) ? draw(3) : draw(256));
+}
+
+static uint8_t draw_code(void) {
+    static const uint8_t codes[] = {0x01, 0x10, 0x21, 0x24, 0x25, 0x26, 0x2B, 0x20, 0x03, 0x30, 0x8B, 0x7A};
+    unsigned kind = draw(16);
+    return (uint8_t)(kind == 0 ? draw(256) : kind < 12 ? codes[draw(7)] : codes[draw(sizeof codes)]);
+}
+
+static uint16_t draw_word(void) {
+    static const uint16_t words[] = {0x00, 0x80, 0x94, 0xB0, 0x20, 0x40, 0x34CD, 0x1000, 0xFFFF, 0x7FFF, 0x8000};
+    unsigned kind = draw(8);
+    return (uint16_t)(kind == 0 ? draw(65536) : kind < 3 ? 0x1000 + draw(20) : words[draw(sizeof words / sizeof *words)]);
+}
+
+static int64_t draw_microvolts(void) {
+    int64_t high = draw(65536), middle = draw(65536), low = draw(65536), sign = draw(2) ? 1 : -1;
+    switch (draw(6)) {
+    case 0: return sign * (1000000000000000 + (int64_t)draw(3) - 1);
+    case 1: return (int64_t)((uint64_t)high << 48 | (uint64_t)middle << 32 | (uint64_t)low << 16 | draw(65536));
+    case 2: return sign * (high << 24 | middle << 8 | (low & 255));
+    default: return (high << 16 | low) % 5000000;
+    }
+}
+
+static pm_format draw_format(void) {
+    pm_format format;
+    unsigned is_any = draw(8) == 0;
+    format.kind = (uint8_t)(is_any ? draw(256) : draw(3));
+    format.exponent = (int8_t)(is_any ? (int)draw(256) - 128 : (int)draw(30) - 15);
+    format.m = (int16_t)((int)draw(65536) - 32768);
+    format.b = (int16_t)((int)draw(65536) - 32768);
+    if (draw(4) == 0)
+        format.m = (int16_t)((int)draw(5) - 2);
+    return format;
+}
+
+static pm_packet draw_packet(void) {
+    pm_packet packet;
+    packet.kind = (uint8_t)(draw(16) ? 1 + draw(7) : draw(256));
+    packet.page = draw_output();
+    packet.code = draw_code();
+    packet.count = (uint8_t)(draw(16) ? draw(3) : draw(256));
+    packet.word = draw_word();
+    return packet;
+}
+
+static void damage(uint8_t *bytes, unsigned count) {
+    for (unsigned left = 1 + draw(3); left; left--) {
+        unsigned place = draw(count);
+        bytes[place] ^= (uint8_t)(1u << draw(8));
+    }
+}
+
+/* A converter: most times a sound one. */
+static void new_desk(void) {
+    static const uint8_t modes[] = {0x14, 0x17, 0x40, 0x1F, 0x0C};
+    uint8_t *bytes = (uint8_t *)&kept.desk;
+    for (unsigned i = 0; i < sizeof kept.desk; i++)
+        bytes[i] = (uint8_t)draw(256);
+    kept.desk.address = 0x58;
+    kept.desk.outputs = (uint8_t)(1 + draw(4));
+    kept.desk.r = (int8_t)((int)draw(7) - 3);
+    kept.desk.m = (int16_t)(1 + draw(300));
+    kept.desk.protect = 0;
+    for (unsigned i = 0; i < 8; i++) {
+        pm_output *output = &kept.desk.words[i];
+        output->mode = modes[draw(sizeof modes)];
+        output->operation = 0x80;
+        output->command = draw_word();
+    }
+    if (draw(8) == 0)
+        damage(bytes, sizeof kept.desk);
+}
+
+static void new_host(unsigned number) {
+    uint8_t address = (uint8_t)(draw(8) ? 0x58 : draw(256));
+    uint8_t outputs = (uint8_t)(draw(8) ? 1 + draw(8) : draw(256));
+    uint8_t passes = (uint8_t)(draw(8) ? 1 + draw(4) : draw(256));
+    heard(0, pm_host_new(host_at(number), address, outputs, passes), 255);
+}
+
+/* Begins a job; what stands in `host` goes into the sums with the caller. */
+static void begin(pm_host *host) {
+    uint8_t output = draw_output(), code = draw_code();
+    uint16_t word = draw_word();
+    int64_t microvolts = draw_microvolts();
+    switch (draw(10)) {
+    case 0: heard(1, pm_host_order_micro(host, output, code, microvolts), 255); break;
+    case 1: heard(2, wide_check(host, output, code), 255); break;
+    case 2: heard(3, pm_host_learn(host, output), 255); break;
+    case 3: heard(4, pm_host_clear(host, output), 255); break;
+    case 4: heard(5, pm_host_store(host), 255); break;
+    case 5: heard(6, pm_host_restore(host), 255); break;
+    default: heard(7, pm_host_order(host, output, code, word), 255); break;
+    }
+}
+
+/* The converter hears a frame, or what is left of it. */
+static unsigned hear(const uint8_t *bytes, unsigned count, unsigned is_request) {
+    uint8_t *at = room + draw(4);
+    memset(&out.reply, (int)draw(256), sizeof out.reply);
+    memmove(at, bytes, count);
+    if (draw(8) == 0 && count)
+        damage(at, count);
+    if (draw(12) == 0)
+        count = draw(count + 3);
+    unsigned answer = heard(8, wide_hear(&kept.desk, at, count, (uint8_t)(is_request ? 1 + draw(255) : 0), &out.reply), 255);
+    wrote(&out.reply, sizeof out.reply);
+    add_halves((const uint16_t *)&kept, sizeof kept / 2);
+    return answer;
+}
+
+static void told(unsigned which, pm_step step) {
+    heard(which, (uint32_t)step.kind << 8 ^ step.word, UINT32_MAX);
+    ends += step.kind > PM_NEXT && step.kind <= PM_LEARNED;
+}
+
+/* What is to be sent goes to the converter, and what comes of it to the host. */
+static void exchange(pm_host *host) {
+    unsigned fate = draw(10);
+    memset(&out.sending, (int)draw(256), sizeof out.sending);
+    heard(9, pm_host_sending(host, &out.sending), 255);
+    wrote(&out.sending, sizeof out.sending);
+    unsigned count = out.sending.length % (sizeof out.sending.bytes + 1), is_request = out.sending.kind == PM_REQUEST;
+    if (fate == 0)
+        is_request = !is_request;
+    unsigned answer = fate == 1 ? 0 : hear(out.sending.bytes, count, is_request);
+    if (!is_request) {
+        told(10, pm_host_finished(host, (uint8_t)(fate == 2 ? draw(256) : answer == PM_TAKEN ? 1 + draw(255) : 0)));
+        return;
+    }
+    uint8_t *at = room + draw(4);
+    count = out.reply.length % (sizeof out.reply.bytes + 1);
+    memcpy(at, out.reply.bytes, count);
+    if (fate == 3 && count)
+        damage(at, count);
+    if (fate == 4)
+        count = draw(ROOM - 4);
+    told(11, pm_host_got(host, at, fate == 5 ? 0 : count));
+}
+
+/* What is known. A call that only reads changes no host: that goes into the sums too. */
+static void ask(const pm_host *host) {
+    uint8_t output = draw_output(), code = draw_code();
+    memset(&out, (int)draw(256), sizeof out);
+    switch (draw(5)) {
+    case 0: heard(12, pm_host_standing(host, output, code, &out.standing), 255); break;
+    case 1: heard(13, pm_host_possible(host, output, code, &out.words), 255); break;
+    case 2: heard(14, pm_host_format(host, output, &out.format), 255); break;
+    case 3: heard(15, wide_restart_seen(host), 255); break;
+    default: heard(16, (uint32_t)pm_host_size() ^ wide_version() << 16 ^ (uint32_t)(pm_host_size() >> 32), UINT32_MAX);
+        heard(17, wide_version(), 65535); break;
+    }
+    add_bytes(&out, sizeof out);
+}
+
+static void numbers(void) {
+    pm_format format = draw_format();
+    uint16_t word = draw_word();
+    int64_t microvolts = draw_microvolts();
+    memset(&out, (int)draw(256), sizeof out);
+    if (draw(2))
+        heard(18, pm_microvolts(&format, word, &out.microvolts), 255);
+    else
+        heard(19, wide_word(&format, microvolts, &out.word), 255);
+    add_bytes(&out, sizeof out);
+}
+
+static void packets(void) {
+    pm_packet packet = draw_packet();
+    uint8_t address = (uint8_t)(draw(16) ? 0x58 : draw(256)), *at = room + draw(4);
+    memset(&out, (int)draw(256), sizeof out);
+    unsigned refused = heard(20, pm_packet_write(address, &packet, &out.sending), 255);
+    add_bytes(&out, sizeof out);
+    unsigned count = refused ? draw(ROOM - 4) : out.sending.length % (sizeof out.sending.bytes + 1);
+    if (!refused)
+        memcpy(at, out.sending.bytes, count);
+    if (draw(4) == 0 && count)
+        damage(at, count);
+    if (draw(8) == 0)
+        count = draw(24);
+    heard(21, wide_pec(at, count), 255);
+    if (draw(2))
+        heard(22, pm_packet_read_write(address, at, count, &out.packet), 255);
+    else
+        heard(23, pm_packet_read_request(address, at, count, &out.packet), 255);
+    add_bytes(&out, sizeof out);
+}
+
+static void desks(void) {
+    uint8_t output = draw_output(), code = draw_code();
+    unsigned count = draw(ROOM - 4), is_request = draw(2);
+    memset(&out, (int)draw(256), sizeof out);
+    switch (draw(8)) {
+    case 0: new_desk(); break;
+    case 1: heard(24, (uint32_t)pm_desk_size() ^ (uint32_t)(pm_desk_size() >> 32), UINT32_MAX); break;
+    case 2: hear(room, count, is_request); break;
+    case 3: case 4: heard(25, pm_desk_commanded(&kept.desk, output, &out.microvolts), 255); break;
+    default: heard(26, pm_desk_word(&kept.desk, output, code, &out.word), 255); break;
+    }
+    add_bytes(&out, sizeof out);
+}
+
+/* The last host's memory is damaged, or made of any bytes whatever. */
+static void damage_host(void) {
+    uint8_t *bytes = (uint8_t *)host_at(HOSTS - 1);
+    uint16_t *halves = halves_at(HOSTS - 1);
+    if (draw(40) == 0)
+        for (unsigned i = 2 * draw(3); i < HALVES; i++)
+            halves[i] = (uint16_t)draw(65536);
+    else if (draw(4) == 0)
+        damage(bytes, 96);
+    else
+        damage(bytes, PM_HOST_SIZE);
+}
+
+static void step(void) {
+    unsigned number = draw(HOSTS), kind = draw(100);
+    pm_host *host = host_at(number);
+    if (kind < 3)
+        new_host(number);
+    else if (kind < 4)
+        heard(27, pm_host_restart(host), 255);
+    else if (kind < 20)
+        begin(host);
+    else if (kind < 56)
+        exchange(host);
+    else if (kind < 70)
+        ask(host);
+    else if (kind < 78)
+        numbers();
+    else if (kind < 88)
+        packets();
+    else if (kind < 98)
+        desks();
+    else
+        damage_host();
+    if (kind < 56 || draw(8) == 0)
+        add_halves(memory[number], sizeof memory[number] / 2);
+}
+
+static int life(unsigned number, uint32_t steps) {
+    seed = 0x9E3779B97F4A7C15u ^ number;
+    sum = 0x811C9DC5u;
+    turned = calls = taken = ends = narrow = called = 0;
+    for (unsigned i = 0; i < 16; i++)
+        draw(2);
+    for (unsigned i = 0; i < ROOM; i++)
+        room[i] = (uint8_t)draw(256);
+    memset(memory, 0, sizeof memory);
+    memset(&kept, 0, sizeof kept);
+    memset(&out, 0, sizeof out);
+    new_desk();
+    for (uint32_t i = 0; i < steps; i++)
+        step();
+    unsigned exports = 0;
+    for (unsigned i = 0; i < EXPORTS; i++)
+        exports += called >> i & 1;
+    printf("seed %u: %u calls of %u exports, %u taken, %u ends, %08X %08X, %u not widened\n", number, (unsigned)calls, exports,
+           (unsigned)taken, (unsigned)ends, (unsigned)sum, (unsigned)turned, (unsigned)narrow);
+    return exports != EXPORTS || narrow != 0 || ends == 0;
+}
+
+int main(int count, char **words) {
+    unsigned first = count > 1 ? (unsigned)strtoul(words[1], NULL, 10) : FIRST_SEED;
+    unsigned seeds = count > 2 ? (unsigned)strtoul(words[2], NULL, 10) : SEEDS;
+    uint32_t steps = count > 3 ? (uint32_t)strtoul(words[3], NULL, 10) : STEPS;
+    int failed = 0;
+    for (unsigned i = 0; i < seeds; i++)
+        failed |= life(first + i, steps);
+    return failed;
+}

@@ -1,0 +1,63 @@
+#!/usr/bin/env python3
+"""The stack that a call of the library takes at most, by the compiler's own frames.
+
+    scripts/c/stack.py MODULE FRAMES [BYTES]
+
+MODULE is the library's module as text, after all passes over it, and FRAMES what -fstack-usage wrote of its compilation.
+BYTES is what a call itself takes beside the frames: 8 on x86-64, where it leaves a return address; 0 if left out. It
+prints the most of the calls of a host, numbers and packets, and the most of those of a desk. What the functions of the C
+library take that a processor's compiler calls (memcpy, a division) isn't in it. A cycle of calls, a frame that isn't
+fixed and a function with no frame are refused.
+"""
+import re
+import sys
+
+CALLS = re.compile(r'\bcall\b[^@]*@("[^"]+"|[\w.$]+)\(')
+DEFINES = re.compile(r'define (.*?)@("[^"]+"|[\w.$]+)\(')
+
+
+def read_frames(path):
+    frames = {}
+    for line in open(path, encoding="utf-8"):
+        name, size, kind = line.rstrip("\n").split("\t")
+        if kind != "static":
+            sys.exit(f"stack.py: a frame that isn't fixed: {name}")
+        frames[name.split(":", 1)[1]] = int(size)
+    return frames
+
+
+def read_calls(path):
+    """What each function calls, and which of them are exports."""
+    calls, exports, name = {}, [], None
+    for line in open(path, encoding="utf-8"):
+        found = DEFINES.match(line)
+        if found:
+            name = found[2].strip('"')
+            calls[name] = set()
+            if "internal" not in found[1] and "private" not in found[1]:
+                exports.append(name)
+        elif name:
+            calls[name].update(it.strip('"') for it in CALLS.findall(line))
+    return calls, exports
+
+
+def deepest(name, calls, frames, each, above=()):
+    if name in above:
+        sys.exit(f"stack.py: a cycle of calls through {name}")
+    if name not in frames:
+        sys.exit(f"stack.py: no frame of {name}")
+    below = [deepest(it, calls, frames, each, above + (name,)) for it in calls[name] if it in calls]
+    return each + frames[name] + max(below, default=0)
+
+
+def main():
+    if len(sys.argv) < 3:
+        sys.exit(__doc__)
+    frames, (calls, exports) = read_frames(sys.argv[2]), read_calls(sys.argv[1])
+    each = int(sys.argv[3]) if len(sys.argv) > 3 else 0
+    host = max(deepest(it, calls, frames, each) for it in exports if not it.startswith("pm_desk_"))
+    desk = max(deepest(it, calls, frames, each) for it in exports if it.startswith("pm_desk_"))
+    print(host, desk)
+
+
+main()

@@ -1,0 +1,223 @@
+#!/usr/bin/env bash
+# Builds the static library of crates/pm_c for each processor that it is tried on, with its programs; runs these under
+# emulators, compares what they write byte for byte with x86-64's, and prints a table.
+#
+#   scripts/c/targets.sh [--out FOLDER] [--built FOLDER] [--seeds N] [TARGET ..]
+#
+# TARGET is a name of the table; all if left out. The programs are an order and both ends under faults (examples/c), the
+# firmware (examples/firmware), and N seeds of scripts/c/same.c, 11 if left out. With --out, FOLDER gets for each target
+# an archive, the header and a line of facts. With --built the archives and modules of the toolchain are kept in a FOLDER,
+# and taken from there where it has them: else each call proves the library and builds it, four times.
+#
+# What the library is on other processors than x86-64, aarch64 Linux and wasm64 is tested, not proved. Says a line for
+# each comparison, what isn't on this machine, and last how many passed and failed.
+set -u
+case " $* " in *" --help "* | *" -h "*) sed -n '2,/^[^#]/s/^# \{0,1\}//p' "$0"; exit 0 ;; esac
+cd "$(dirname "$0")/../.."
+. scripts/c/targets_of.sh
+out='' built='' seeds=11
+while case ${1-} in --*) true ;; *) false ;; esac; do
+    case "$1 ${2:+.}" in
+        "--out ." | "--built .") mkdir -p "$2"; declare "${1#--}=$(realpath "$2")" ;;
+        "--seeds .") seeds=$2 ;;
+        *) echo "targets.sh: $1: give --out FOLDER, --built FOLDER, --seeds N and names of targets" >&2; exit 2 ;;
+    esac
+    shift 2
+done
+for each in "$@"; do
+    case " $names " in *" $each "*) ;; *) echo "targets.sh: no target $each: give some of $names" >&2; exit 2 ;; esac
+done
+command -v rt > /dev/null || { echo "targets.sh: the toolchain's rt isn't on this machine" >&2; exit 1; }
+kit=$(dirname "$(dirname "$(realpath "$(command -v rt)")")")
+clang=$kit/toolchain/bin/clang
+folder=$(mktemp -d)
+trap 'rm -rf "$folder"' EXIT
+built=${built:-$folder/built}
+mkdir -p "$built"
+
+# mirror: the toolchain's folder by links, whose clang keeps the module that it compiles, and its words
+mirror() {
+    local each
+    mkdir -p "$folder/kit/bin" "$folder/kit/toolchain/bin"
+    for each in "$kit"/*; do
+        case $(basename "$each") in bin | toolchain) ;; *) ln -s "$each" "$folder/kit/" ;; esac
+    done
+    ln -s "$kit"/bin/* "$folder/kit/bin/"
+    ln -s "$kit"/toolchain/lib "$folder/kit/toolchain/"
+    ln -s "$kit"/toolchain/bin/* "$folder/kit/toolchain/bin/"
+    rm "$folder/kit/bin/rt" "$folder/kit/bin/rtlib.py" "$folder/kit/toolchain/bin/clang"
+    cp "$kit/bin/rt" "$kit/bin/rtlib.py" "$folder/kit/bin/"
+    cat > "$folder/kit/toolchain/bin/clang" << END
+#!/usr/bin/env bash
+case " \$* " in *" -c "*) for each in "\$@"; do
+    case \$each in *.bc | *.ll) cp "\$each" '$folder/module.bc'; printf '%s\n' "\$@" > '$folder/module.words' ;; esac
+done ;; esac
+exec '$clang' "\$@"
+END
+    chmod +x "$folder/kit/toolchain/bin/clang"
+}
+
+# prove NAME WORDS ..: the archive that the toolchain builds, with its module, where it isn't there yet
+prove() {
+    local name=$1; shift
+    [ -f "$built/$name.a" ] && return
+    [ -d "$folder/kit" ] || mirror
+    rm -f "$folder"/module.*
+    if ! (cd crates/pm_c && "$folder/kit/bin/rt" lib "$@") > "$folder/log" 2>&1; then
+        tail -5 "$folder/log"; echo "targets.sh: the library isn't built for $name" >&2; exit 1
+    fi
+    if [ -f "$folder/module.bc" ]; then
+        cp "$folder/module.bc" "$built/$name.bc"
+        cp "$folder/module.words" "$built/$name.words"
+    fi
+    cp crates/pm_c/out/libpm_c.a "$built/$name.a"
+}
+
+# compile NAME: the module after all passes, the archive and the frames, all as text beside the archive
+compile() {
+    local name=$1 words=() module
+    if [ "${class[$name]}" = kit ]; then
+        cp "$built/$name.a" "$folder/$name.a"
+        [ -f "$built/$name.bc" ] || return 0
+        module=$folder/$name.bc; cp "$built/$name.bc" "$module"
+        mapfile -t words < <(grep -vxE -- '-c|-o|-Werror|--sysroot=.*|.*\.(bc|ll|o|s)' "$built/$name.words")
+    else
+        module=$folder/$name.ll
+        read -ra words <<< "${flags[$name]} $plain"
+        echo 'int x;' | $clang "${words[@]}" -x c - -S -emit-llvm -o "$folder/$name.like" &&
+            scripts/c/retarget.py --like "$folder/$name.like" --pointer "${pointer[$name]}" "$folder/module.text" "$module" || return 1
+        words+=(-x ir)
+    fi
+    $clang "${words[@]}" "$module" -S -emit-llvm -o "$folder/$name.passed" &&
+        $clang "${words[@]}" "$module" -c -fstack-usage -o "$folder/$name.o" || return 1
+    [ "${class[$name]}" = kit ] || "$kit/toolchain/bin/llvm-ar" rcs "$folder/$name.a" "$folder/$name.o"
+}
+
+# compared NAME WHAT FILE WANTED STATUS: a line for one output
+compared() {
+    if [ "$5" = 0 ] && cmp -s "$3" "$4"; then echo "$1 $2: ok"; else
+        echo "$1 $2: FAILED (status $5)"; head -4 "$3" "$folder/$1.log" | grep -v '^$'
+    fi
+}
+
+# program NAME WHAT WANTED FLAGS SOURCES ..: builds and runs one program and compares it; what is first becomes wanted
+program() {
+    local name=$1 what=$2 wanted=$3 more=$4 status; shift 4
+    : > "$folder/$name.$what"
+    if link "$name" "$folder/$name.$what.run" "$more" "$@" > "$folder/$name.log" 2>&1; then
+        run "$name" "$folder/$name.$what.run" > "$folder/$name.$what" 2>> "$folder/$name.log" < /dev/null
+        status=$?
+    else
+        status=build
+    fi
+    case $wanted in "$folder"/*) [ -f "$wanted" ] || cp "$folder/$name.$what" "$wanted" ;; esac
+    compared "$name" "$what" "$folder/$name.$what" "$wanted" "$status"
+}
+
+# instructions NAME: how many of the library's instructions an order takes
+instructions() {
+    local name=$1 count=() each
+    [ -n "${counter[$name]}" ] || { echo -; return; }
+    for each in 2 12; do
+        link "$name" "$folder/$name.orders" "-DORDERS=$each" scripts/c/orders.c > /dev/null 2>&1 || { echo -; return; }
+        run "$name" "$folder/$name.orders" -singlestep -d exec,nochain -D "$folder/$name.trace" > /dev/null 2>&1 || { echo -; return; }
+        count+=("$(awk '/^Trace/ && $NF != "main"' "$folder/$name.trace" | wc -l)")
+        rm "$folder/$name.trace"
+    done
+    echo $(((count[1] - count[0]) / 10))
+}
+
+# measured NAME: text of the archive, flash of an order alone, stack of a host's and of a desk's call, instructions
+measured() {
+    local name=$1 text order=- stack="- -"
+    text=$(size -t "$folder/$name.a" 2> /dev/null | awk 'END {print $1}')
+    case $name in wasm*) text=$(wc -c < "$folder/$name.o") ;; esac
+    if [ -n "${linker[$name]}" ] && [ -f "$folder/$name.passed" ]; then
+        ${linker[$name]} -r --gc-sections -u pm_host_new -u pm_host_order -u pm_host_sending -u pm_host_finished -u pm_host_got \
+            -u pm_host_standing "$folder/$name.a" -o "$folder/$name.alone" 2> /dev/null &&
+            order=$(size "$folder/$name.alone" | awk 'END {print $1}')
+    fi
+    if [ -f "$folder/$name.passed" ]; then
+        stack=$(scripts/c/stack.py "$folder/$name.passed" "$folder/$name.su" "${call[$name]-0}" 2>&1)
+    else
+        stack="- $(readelf -p .comment "$folder/$name.a" | grep -o 'stack-bytes=[0-9]*' | cut -d= -f2 | sort -n | tail -1)"
+    fi
+    echo "$text $order $stack $(instructions "$name")"
+}
+
+# within NAME: the stack is at most what the header promises
+within() {
+    local host desk most=() each
+    read -r _ _ host desk _ < "$folder/$1.measured"
+    for each in PM_STACK PM_DESK_STACK; do
+        most+=("$(sed -n "s/^#define $each \([0-9]*\)$/\1/p" crates/pm_c/include/pm.h)")
+    done
+    if [ "${host/#-/0}" -le "${most[0]}" ] 2> /dev/null && [ "$desk" -le "${most[1]}" ] 2> /dev/null; then
+        echo "$1 stack: ok"
+    else
+        echo "$1 stack: FAILED, $host of ${most[0]} and $desk of ${most[1]}"
+    fi
+}
+
+# target NAME: all of one target, its lines on standard output
+target() {
+    local name=$1
+    compile "$name" > "$folder/$name.log" 2>&1 || { echo "$name build: FAILED"; head -4 "$folder/$name.log"; return; }
+    program "$name" order examples/c/order.expected "" examples/c/order.c
+    program "$name" faults "$folder/faults.wanted" "" examples/c/faults.c
+    program "$name" firmware examples/firmware/console.expected "" examples/firmware/main.c examples/firmware/simulated_bus.c
+    program "$name" same "$folder/same.wanted" "-DSEEDS=$seeds" scripts/c/same.c
+    measured "$name" > "$folder/$name.measured"
+    within "$name"
+}
+
+# leave NAME: the archive, the header and the line of facts
+leave() {
+    local name=$1 text order host desk orders
+    read -r text order host desk orders < "$folder/$name.measured"
+    mkdir -p "$out/$name"
+    cp "$folder/$name.a" "$out/$name/libpm_c.a"
+    cp crates/pm_c/include/pm.h "$out/$name/"
+    echo "commit=$(git rev-parse HEAD) toolchain=$(rt version | tr ' ' '-') target=$name proof=${class[$name]} flags=$(tr ' ' ',' <<< "${flags[$name]}")" \
+        "text=$text order=$order stack-host=$host stack-desk=$desk instructions=$orders sha256=$(sha256sum "$folder/$name.a" | cut -d' ' -f1)" \
+        > "$out/$name/facts"
+}
+
+# table: what the page shows
+table() {
+    local name text order host desk orders
+    echo "| target | how | archive, bytes | an order alone | stack of a host's call | of a desk's | instructions of an order |"
+    echo "|---|---|---|---|---|---|---|"
+    for name in $names; do
+        [ -f "$folder/$name.measured" ] || continue
+        read -r text order host desk orders < "$folder/$name.measured"
+        echo "| ${title[$name]} | ${meaning[${class[$name]}]} | $text | $order | $host | $desk | $orders |"
+    done
+}
+
+prove x86-64-llvm
+prove aarch64-linux --target aarch64-unknown-linux-gnu
+prove wasm64 --target wasm64-unknown-unknown
+prove x86-64 --backend rattle
+$clang -x ir "$built/x86-64-llvm.bc" -S -emit-llvm -Xclang -disable-llvm-passes -o "$folder/module.text" 2> /dev/null
+target x86-64 > "$folder/x86-64.said"
+wanted_targets=()
+for each in $names; do
+    [ "$each" = x86-64 ] || case " ${*:-$names} " in *" $each "*) wanted_targets+=("$each") ;; esac
+done
+for each in "${wanted_targets[@]}"; do
+    lacking=$(lacks "$each")
+    if [ -n "$lacking" ]; then echo "$each: not on this machine: $lacking" > "$folder/$each.said"; continue; fi
+    while [ "$(jobs -rp | wc -l)" -ge "$(nproc)" ]; do wait -n; done
+    target "$each" > "$folder/$each.said" &
+done
+wait
+for each in $names; do
+    [ -f "$folder/$each.said" ] && cat "$folder/$each.said"
+    [ -n "$out" ] && [ -f "$folder/$each.measured" ] && leave "$each"
+done
+echo "the sums of $seeds seeds of x86-64: $(tail -1 "$folder/same.wanted")"
+table
+passed=$(cat "$folder"/*.said | grep -c ': ok$') failed=$(cat "$folder"/*.said | grep -c ': FAILED')
+echo "$passed passed, $failed failed"
+[ "$failed" = 0 ]
