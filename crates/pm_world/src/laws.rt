@@ -1,25 +1,220 @@
 //! The laws of a world over its whole life: each is the contract of a function that does nothing when it
 //! runs, but calls the laws that its proof rests on. A list of events is newest first.
 
-mod below;
-mod confirmed;
-mod damage;
-mod formats;
-mod honest;
-mod legal_lives;
-mod limits;
-mod lives;
-mod orders;
-mod possible;
-mod uncertainty;
+ghost use Rattle.pm_world.specs.Below.{Below};
+ghost use Rattle.pm_world.specs.Honest.{IsSpelled};
+ghost use Rattle.pm_world.specs.Laws.{BetrayedDamageIsLegal, BetrayedDamageIsTaken, ConfirmedSettingsAreHeld, FramesAreFew, HonestOrdersGoThrough, LearnedFormatsAreTrue, LegalLivesAreFollowed, LivesAreFollowed, LivesAreOrders, PossibleWordsAreExact, PossibleWordsAreHeld};
+ghost use Rattle.pm_world.specs.LimitLaws.{BandsAreExact, BandsAreHeld, LivesStayLimited};
+ghost use Rattle.std.specs.Prelude.{◌<◌, ◌^◌};
 
-pub use confirmed::confirmed_settings_are_held;
-pub use damage::{betrayed_damage_is_legal, betrayed_damage_is_taken};
-pub use formats::{learned_formats_are_true, spell};
-pub use honest::{frames_are_few, honest_orders_go_through};
-pub use legal_lives::legal_lives_are_followed;
-pub use limits::{bands_are_exact, bands_are_held, lives_stay_limited};
-pub use lives::lives_are_followed;
-pub use orders::lives_are_orders;
-pub use possible::possible_words_are_held;
-pub use uncertainty::possible_words_are_exact;
+use pm_device::{
+    Config, pasts_are_followed, reads_are_answered, words_have_an_origin, writes_reach_one_cell,
+};
+use pm_frame::{
+    answers_are_exact, betrayal_is_refused, bursts_are_betrayed, damage_is_betrayed,
+    damage_is_refused, requests_are_exact, writes_are_exact,
+};
+use pm_host::{
+    frames_are_named, jobs_are_bounded, open_restores_are_uncertain, possible_words_are_followed,
+    transcripts_are_followed,
+};
+use pm_model::{orders_stay_in_their_cells, settings_are_a_map};
+use pm_table::{cells_are_told_apart, cells_have_places, registers_are_in_the_table};
+
+/// What a world holds after its life, which the definitions find in what its ends lived through, is
+/// what one event after another makes of its start: of no event (`none`), and of one more (`more`).
+/// What the host was told is a transcript that might come (`told`). Events that are taken one after
+/// another from the start are the life's (`from_start`).
+pub fn lives_are_followed()
+    ensures { LivesAreFollowed }
+{
+    lower_laws();
+}
+
+/// A life whose events are legal, however many there are: what it comes to is what one event after another makes
+/// of its start (`none`, `more`), what the host was told is a transcript that might come (`told`), and all that is
+/// promised of a world's own life holds of it. The converter's words are those of a run of the order machine
+/// (`orders`), each cell's its own (`own`, `stored`), and each output commands the value of one of its own
+/// (`commanded`). No job sends more than twice as many frames as it has passes (`few`), and undisturbed orders go
+/// through (`through`). The formats that the host learned are the converter's (`agree`), and orders in microvolts those
+/// of the nearest word (`nearest`). Confirmed words are held (`confirmed`), what the host lists as possible has the
+/// converter's word (`possible`), no restart is seen that didn't happen (`seen`), and what is listed is exact
+/// (`witness`, `only`).
+pub fn legal_lives_are_followed()
+    ensures { LegalLivesAreFollowed }
+{
+    lower_laws();
+}
+
+/// However frames are delivered, lost, cut, damaged, repeated or falsely acknowledged, and whenever an
+/// end restarts: the converter's words, and those in its store, are those of a run of the order machine that
+/// retells the events (`orders`). So each cell has its start word, or the word of an order that was taken for
+/// that very cell (`own`), and so it has in the store (`stored`), and each output commands the value of one
+/// of its own words, cut to its own VOUT_MIN and VOUT_MAX (`commanded`).
+pub fn lives_are_orders()
+    ensures { LivesAreOrders }
+{
+    lower_laws();
+}
+
+/// However frames are delivered, lost, cut, damaged, repeated or falsely acknowledged, and whenever an
+/// end restarts: a word that the host calls confirmed is the one that the converter holds, unless the
+/// converter restarted since the host read the cell.
+pub fn confirmed_settings_are_held()
+    ensures { ConfirmedSettingsAreHeld }
+{
+    lower_laws();
+}
+
+/// However frames are delivered, lost, cut, damaged, repeated or falsely acknowledged, and whenever an
+/// end restarts: where the host lists the words that are possible for a cell, the converter's word is
+/// among them, unless the converter restarted since the host's last good answer for the cell (`held`).
+/// A good answer that the host didn't think possible comes only where the converter restarted since
+/// the answer before it for the same cell, so the host sees no restart that didn't happen (`seen`).
+pub fn possible_words_are_held()
+    ensures { PossibleWordsAreHeld }
+{
+    lower_laws();
+}
+
+/// What the host lists as possible is exactly what can be so, for all cells of all outputs together.
+///
+/// Let the converter not have restarted since the host did, and let no word but 00h have been ordered for
+/// WRITE_PROTECT or read from it since then, and no restore. Choose a word for each cell of each output, one
+/// that the host lists, or where it says that any is possible one that the cell accepts. Then some one list
+/// of events without a restart, in a new world with the same address, outputs, formats and passes, tells the
+/// host just what it was told since it started, and leaves all these words together. That list is named:
+/// each cell starts with the word that is due there, jobs and answers come as they came, and a write is
+/// delivered where its word is due after it (`witness`). Conversely, words that some such list leaves are
+/// all possible (`only`). A list is legal where nothing but the limit of events may be against it (`legal`).
+pub fn possible_words_are_exact()
+    ensures { PossibleWordsAreExact }
+{
+    lower_laws();
+}
+
+/// Where a host holds the format of an output's voltages, it is the converter's, and it holds what its
+/// last learn of that output found since its start (`agree`). An order in microvolts that is taken is
+/// the order of the nearest word in that format (`nearest`). The configuration's numbers are those
+/// that its bytes spell, as they are in a program.
+pub fn learned_formats_are_true()
+    ensures { LearnedFormatsAreTrue }
+{
+    lower_laws();
+}
+
+/// The numbers of a configuration are those that its bytes spell. It does nothing when it runs, and tells a caller
+/// that makes a converter by [`Converter::new`](pm_device::Converter::new) what a life asks of its configuration.
+pub fn spell(c: Config)
+    ensures { IsSpelled c }
+{
+    // The clauses of these calls are what is wanted.
+    let _ = c.coefficients.bytes();
+    for start in &c.starts {
+        spell_byte(start.mode);
+    }
+}
+
+// A byte is below 256.
+fn spell_byte(byte: u8)
+    ensures { byte < 2 ^ 8 }
+{}
+
+/// After each of the events that were taken, the last job has sent at most twice as many frames as a
+/// job has passes.
+pub fn frames_are_few()
+    ensures { FramesAreFew }
+{
+    lower_laws();
+}
+
+/// Among events that were taken, an order goes through where WRITE_PROTECT allows its code as it is
+/// accepted, its write is delivered whole at least once, whatever else is delivered of it, is then
+/// over, acknowledged or not, and is read back undisturbed: it took one write and one read, it is
+/// done, the cell's word is confirmed, and the converter holds it (`through`). Once its deliveries
+/// were taken, so are that end and that read, where the world has room for two more events (`taken`).
+pub fn honest_orders_go_through()
+    ensures { HonestOrdersGoThrough }
+{
+    lower_laws();
+}
+
+/// Where other bytes come in place of a write's frame, and what changed lies within eight neighbouring
+/// bits, or is one, two or three bits of at most 15 bytes, or an odd number of bits, they are a legal
+/// hearing, however they end (`heard`). Likewise where they come in place of the answer to the host's
+/// own request, they are a legal return (`came_back`). And where other bytes come in place of a request,
+/// changed within eight neighbouring bits and ended by a repeated start, whatever a converter answers
+/// to them is a legal return (`answered`).
+pub fn betrayed_damage_is_legal()
+    ensures { BetrayedDamageIsLegal }
+{
+    lower_laws();
+}
+
+/// So such damage stops no run: a world that isn't full takes the delivery of a write that is
+/// damaged so (`delivered`), the exchange of a whole request whose answer is (`exchanged`), and that of
+/// a request which is, whose answer comes back whole (`misheard`).
+pub fn betrayed_damage_is_taken()
+    ensures { BetrayedDamageIsTaken }
+{
+    lower_laws();
+    betrayed_damage_is_legal();
+}
+
+/// However frames are delivered, lost, cut, damaged, repeated or falsely acknowledged, and whenever an end
+/// restarts: where each start word of an output's voltages has a value within limits, and each word that was
+/// ordered for one, the output commands a voltage within them at each moment (`limited`). It commands no more than
+/// the most of all words of its VOUT_MAX, whatever else was ordered (`most`), and no less than the least of all
+/// words of its VOUT_MIN, where none of these is above one of VOUT_MAX (`least`). Orders that a guard lets through
+/// are such, where the start words are (`guarded`).
+pub fn lives_stay_limited()
+    ensures { LivesStayLimited }
+{
+    lower_laws();
+}
+
+/// However frames are delivered, lost, cut, damaged, repeated or falsely acknowledged, and whenever an end restarts:
+/// where the host gives a band for an output, what the converter commands there lies in it, unless that restarted
+/// since the good answers that the band rests on.
+pub fn bands_are_held()
+    ensures { BandsAreHeld }
+{
+    lower_laws();
+}
+
+/// No narrower band is true. Let the converter not have restarted since the host did, let no word but 00h have been
+/// ordered for WRITE_PROTECT or read from it since then, and no restore. Choose an end for each output. Then one
+/// life, which is named, tells the host just what it was told since it started, and leaves each output that has a
+/// band at the chosen end, as that very fraction, all at once.
+pub fn bands_are_exact()
+    ensures { BandsAreExact }
+{
+    lower_laws();
+}
+
+/// The laws of the crates below that those of this crate rest on.
+pub(crate) fn lower_laws()
+    ensures { Below }
+{
+    cells_are_told_apart();
+    cells_have_places();
+    registers_are_in_the_table();
+    writes_are_exact();
+    requests_are_exact();
+    answers_are_exact();
+    damage_is_refused();
+    betrayal_is_refused();
+    damage_is_betrayed();
+    bursts_are_betrayed();
+    settings_are_a_map();
+    orders_stay_in_their_cells();
+    pasts_are_followed();
+    words_have_an_origin();
+    writes_reach_one_cell();
+    reads_are_answered();
+    transcripts_are_followed();
+    jobs_are_bounded();
+    frames_are_named();
+    open_restores_are_uncertain();
+    possible_words_are_followed();
+}
