@@ -11,7 +11,8 @@ use std::process::Abort;
 // A band from one fraction to another, as numerators over a denominator.
 fn is_band(rt: &impl Abort, guard: &Guard, den: i128, least: i128, greatest: i128) {
     let same = match (band(guard), Frac::new(least, den), Frac::new(greatest, den)) {
-        (Some(found), Some(low), Some(high)) => found.0.same_value(&low) && found.1.same_value(&high),
+        (Some(found), Some(low), Some(high)) => found.0.same_value(&low)
+            && found.1.same_value(&high),
         _ => false,
     };
     is_true(rt, same, &(den, least, greatest));
@@ -55,10 +56,20 @@ fn a_band_is_what_the_words_can_command(rt: HostRuntime) {
     // A margin counts from the order of OPERATION on.
     read(&mut guard, Reg::MarginHigh, 13900);
     is_band(&rt, &guard, 4096, 13500, 13500);
-    equal(&rt, &refusal(&mut guard, Job::Order(first(Reg::Operation), 0xA8)), &None, &2);
+    equal(
+        &rt,
+        &refusal(&mut guard, Job::Order(first(Reg::Operation), 0xA8)),
+        &None,
+        &2,
+    );
     is_band(&rt, &guard, 4096, 13500, 13900);
     // An order that wasn't read back leaves both words.
-    equal(&rt, &refusal(&mut guard, Job::Order(first(Reg::VoutCommand), 13110)), &None, &3);
+    equal(
+        &rt,
+        &refusal(&mut guard, Job::Order(first(Reg::VoutCommand), 13110)),
+        &None,
+        &3,
+    );
     is_band(&rt, &guard, 4096, 13110, 13900);
 }
 
@@ -72,9 +83,19 @@ fn vout_max_wins_where_vout_min_is_above_it(rt: HostRuntime) {
     read(&mut guard, Reg::VoutMin, 14000);
     is_band(&rt, &guard, 4096, 13000, 13000);
     // VOUT_MIN may be lower too, which changes nothing, and VOUT_MAX may be higher than it.
-    equal(&rt, &refusal(&mut guard, Job::Order(first(Reg::VoutMin), 12000)), &None, &1);
+    equal(
+        &rt,
+        &refusal(&mut guard, Job::Order(first(Reg::VoutMin), 12000)),
+        &None,
+        &1,
+    );
     is_band(&rt, &guard, 4096, 13000, 13000);
-    equal(&rt, &refusal(&mut guard, Job::Order(first(Reg::VoutMax), 15000)), &None, &2);
+    equal(
+        &rt,
+        &refusal(&mut guard, Job::Order(first(Reg::VoutMax), 15000)),
+        &None,
+        &2,
+    );
     is_band(&rt, &guard, 4096, 13000, 14000);
 }
 

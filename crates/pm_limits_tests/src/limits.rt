@@ -28,7 +28,12 @@ static NEW: [(i64, i64, Option<LimitFault>); 9] = [
 #[test]
 fn limits_are_in_order_and_in_range(rt: HostRuntime) {
     for (least, most, wanted) in &NEW {
-        equal(&rt, &Limits::new(*least, *most).err(), wanted, &(least, most));
+        equal(
+            &rt,
+            &Limits::new(*least, *most).err(),
+            wanted,
+            &(least, most),
+        );
     }
 }
 
@@ -55,7 +60,12 @@ static NARROWED: [(i64, i64, Option<LimitFault>, (i64, i64)); 7] = [
 fn limits_are_narrowed_and_never_widened(rt: HostRuntime) {
     let mut guard = guard(3_200_000, 3_465_000);
     for (least, most, wanted, left) in &NARROWED {
-        equal(&rt, &guard.narrow(0, *least, *most).err(), wanted, &(least, most));
+        equal(
+            &rt,
+            &guard.narrow(0, *least, *most).err(),
+            wanted,
+            &(least, most),
+        );
         equal(&rt, &limits_of(&guard, 0), &Some(*left), &(least, most));
         equal(&rt, &limits_of(&guard, 1), &None, &(least, most));
     }
@@ -63,7 +73,12 @@ fn limits_are_narrowed_and_never_widened(rt: HostRuntime) {
     equal(&rt, &guard.narrow(2, i64::MAX, 0).err(), &absent, &1);
     equal(&rt, &guard.narrow(1, -5, 5).err(), &None, &2);
     equal(&rt, &limits_of(&guard, 1), &Some((-5, 5)), &3);
-    equal(&rt, &limits_of(&guard, 0), &Some((3_250_000, 3_400_000)), &4);
+    equal(
+        &rt,
+        &limits_of(&guard, 0),
+        &Some((3_250_000, 3_400_000)),
+        &4,
+    );
     equal(&rt, &limits_of(&guard, 255), &None, &5);
 }
 
@@ -74,7 +89,12 @@ fn a_narrowing_holds_from_then_on(rt: HostRuntime) {
     let job = Job::Order(first(Reg::VoutCommand), 14192);
     equal(&rt, &refusal(&mut guard, job), &None, &1);
     equal(&rt, &guard.narrow(0, 3_200_000, 3_400_000).err(), &None, &2);
-    equal(&rt, &refusal(&mut guard, job), &Some(LimitFault::AboveLimit), &3);
+    equal(
+        &rt,
+        &refusal(&mut guard, job),
+        &Some(LimitFault::AboveLimit),
+        &3,
+    );
 }
 
 // The example of the root, word for word.

@@ -26,8 +26,9 @@ const TOO_LARGE: Option<LimitFault> = Some(LimitFault::Host(HostFault::Num(NumFa
 
 const LEAST: Option<LimitFault> = Some(LimitFault::Host(HostFault::Num(NumFault::BelowLeast)));
 
-const GREATEST: Option<LimitFault> =
-    Some(LimitFault::Host(HostFault::Num(NumFault::AboveGreatest)));
+const GREATEST: Option<LimitFault> = Some(LimitFault::Host(HostFault::Num(
+    NumFault::AboveGreatest,
+)));
 
 const LIMITED: Option<LimitFault> = Some(LimitFault::FormatUnknown);
 
@@ -175,9 +176,24 @@ fn the_first_that_applies_refuses(rt: HostRuntime) {
     goes(&rt, &mut guard, &NUMBERS);
     let _ = guard.order(first(Reg::VoutCommand), 13200);
     let busy = Some(LimitFault::Host(HostFault::Busy));
-    equal(&rt, &guard.order(first(Reg::VoutCommand), 0).err(), &busy, &1);
-    equal(&rt, &guard.order_micro(first(Reg::VoutCommand), i64::MAX).err(), &busy, &2);
-    equal(&rt, &guard.order(Cell::Out(7, Reg::Operation), 0x80).err(), &busy, &3);
+    equal(
+        &rt,
+        &guard.order(first(Reg::VoutCommand), 0).err(),
+        &busy,
+        &1,
+    );
+    equal(
+        &rt,
+        &guard.order_micro(first(Reg::VoutCommand), i64::MAX).err(),
+        &busy,
+        &2,
+    );
+    equal(
+        &rt,
+        &guard.order(Cell::Out(7, Reg::Operation), 0x80).err(),
+        &busy,
+        &3,
+    );
 }
 
 #[test]
@@ -186,11 +202,31 @@ fn the_limits_come_before_room(rt: HostRuntime) {
     learn(&mut guard, 0, LINEAR, &[]);
     read(&mut guard, Reg::VoutCommand, 13200);
     for word in 13201..13216 {
-        equal(&rt, &refusal(&mut guard, job(Word(Reg::VoutCommand, word))), &None, &word);
+        equal(
+            &rt,
+            &refusal(&mut guard, job(Word(Reg::VoutCommand, word))),
+            &None,
+            &word,
+        );
     }
-    equal(&rt, &refusal(&mut guard, job(Word(Reg::VoutCommand, 13216))), &FULL, &1);
-    equal(&rt, &refusal(&mut guard, job(Word(Reg::VoutCommand, 13107))), &BELOW, &2);
-    equal(&rt, &refusal(&mut guard, job(Micro(Reg::VoutCommand, 3_400_000))), &FULL, &3);
+    equal(
+        &rt,
+        &refusal(&mut guard, job(Word(Reg::VoutCommand, 13216))),
+        &FULL,
+        &1,
+    );
+    equal(
+        &rt,
+        &refusal(&mut guard, job(Word(Reg::VoutCommand, 13107))),
+        &BELOW,
+        &2,
+    );
+    equal(
+        &rt,
+        &refusal(&mut guard, job(Micro(Reg::VoutCommand, 3_400_000))),
+        &FULL,
+        &3,
+    );
 }
 
 // Nothing was read but the format; then VOUT_COMMAND, and limits that lie farther out than the guard's.
