@@ -1,5 +1,5 @@
 -- What a converter hears of a frame, and what comes back.
-use Rattle.std.proofs.Common.{◌≡◌, ◌<◌, ◌≤◌, ℕ, Bool, true, false, ◌||◌, ◌&&◌, List, [], ◌∷◌, ◌++◌, length, take, drop, refl, sym, ◌∙◌, ap, ap₂, subst}
+use Rattle.std.proofs.Common.{◌≡◌, ◌≤◌, ℕ, Bool, true, false, ◌||◌, ◌&&◌, List, [], ◌∷◌, ◌++◌, length, take, refl, sym, ◌∙◌, ap, ap₂}
 use Rattle.std.specs.Prelude.{bytes_eq, nat_lt}
 use Rattle.std.proofs.lemmas.Bool.{lt-ltb}
 use Rattle.pm_frame.specs.Betrayal.{is_betrayed}
@@ -126,9 +126,9 @@ came-back request bytes given came ending way so whole needed old new h came_so 
       beside_before = tt;
       legal = hears-legal h;
       returned = sym (ap₂ (λ w g. is_legal_return request needed w g came) whole_so (hears-given h)
-      ∙ ap (is_legal_return request needed (is_heard_whole request (heard_bytes request way) (ending_of Restart way))
-      (answer_of old request way))
-      (sym came_is)) ∙ legal;
+          ∙ ap (is_legal_return request needed (is_heard_whole request (heard_bytes request way) (ending_of Restart way))
+          (answer_of old request way))
+          (sym came_is)) ∙ legal;
       came_is = came_is;
       after = hears-after h;
     }

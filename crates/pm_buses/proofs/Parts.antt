@@ -7,8 +7,8 @@ use Rattle.pm_device.specs.History.{next as device_next}
 use Rattle.pm_world.specs.declared.event.Event.{Event}
 use Rattle.pm_world.specs.declared.event.Event.TheVariants.{Reading, RestartDevice}
 use Rattle.pm_world.specs.Legal.{back_bytes, ending_of, heard_bytes, is_heard_whole, is_legal_return}
-use Rattle.pm_driver.specs.Bus.{AreAll, IsAsked, IsSent, answer_of, held_after, held_by, is_beside, may_hear}
-use Rattle.pm_buses.specs.Disturbed.{IsDisturbed, PartsCompose}
+use Rattle.pm_driver.specs.Bus.{AreAll, answer_of, held_after, held_by, is_beside, may_hear}
+use Rattle.pm_buses.specs.Disturbed.{PartsCompose}
 
 -- events and more of them
 held-append : (frame : List ℕ) (held : Held) (second first : List Event) →
@@ -51,10 +51,10 @@ parts-compose = record {
         beside_before = all-append is_beside is.before one.events is.beside_before one.beside;
         legal = is.legal;
         returned = subst (λ h. is_legal_return request needed
-        (is_heard_whole request (heard_bytes request is.arrival) (ending_of Restart is.arrival))
-        (answer_of h request is.arrival) (back_bytes (answer_of h request is.arrival) is.back) ≡ true) same is.returned;
+            (is_heard_whole request (heard_bytes request is.arrival) (ending_of Restart is.arrival))
+            (answer_of h request is.arrival) (back_bytes (answer_of h request is.arrival) is.back) ≡ true) same is.returned;
         came_is = subst (λ h. back_bytes (answer_of h request is.arrival) is.back ≡ came) same is.came_is;
         after = subst (λ h. device_next h (device.Hearing (heard_bytes request is.arrival) (ending_of Restart is.arrival)) ≡ third)
-        same is.after;
+            same is.after;
       };
 }

@@ -1,5 +1,5 @@
 -- A bus over a bus, which tries a write again that wasn't acknowledged: this project's own choice.
-use Rattle.std.specs.Prelude.{ℕ, ◌⊎◌, Bool, false, List}
+use Rattle.std.specs.Prelude.{◌⊎◌, false}
 use Rattle.pm_driver.specs.Acts.{Call, Wrote, Read}
 
 -- One call of such a bus, by the calls of the bus below: a write is one write or, where that wasn't acknowledged,

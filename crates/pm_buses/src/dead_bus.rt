@@ -1,4 +1,4 @@
-use crate::converter_end::{lose_request};
+use crate::converter_end::lose_request;
 use pm_device::Converter;
 use pm_driver::Bus;
 

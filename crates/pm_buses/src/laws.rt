@@ -4,5 +4,4 @@ ghost use Rattle.pm_buses.specs.Disturbed.{PartsCompose};
 /// the bus before a write and before a request.
 pub fn parts_compose()
     ensures { PartsCompose }
-{
-}
+{}

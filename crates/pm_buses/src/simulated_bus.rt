@@ -44,21 +44,29 @@ impl<'a> Bus for SimulatedBus<'a> {
         // Hands its law to the prover.
         parts_compose();
         let Some((fault, plan)) = self.plan.split_first() else {
-            return ask(&mut self.device, request, &Arrival::Whole, &Back::Whole, answer);
+            return ask(
+                &mut self.device,
+                request,
+                &Arrival::Whole,
+                &Back::Whole,
+                answer,
+            );
         };
         self.plan = plan;
         disturb(&mut self.device, fault.restarts);
-        ask(&mut self.device, request, &fault.request, &fault.back, answer)
+        ask(
+            &mut self.device,
+            request,
+            &fault.request,
+            &fault.back,
+            answer,
+        )
     }
 }
 
 /// A driver of a new host and a new converter of this configuration, over a simulated bus with this plan. `None` where
 /// the configuration, or the number of passes, is refused.
-pub fn driver_over<'a>(
-    c: Config,
-    passes: u8,
-    plan: &'a [Fault],
-) -> Option<Driver<SimulatedBus<'a>>>
+pub fn driver_over<'a>(c: Config, passes: u8, plan: &'a [Fault]) -> Option<Driver<SimulatedBus<'a>>>
     ensures host { IfSome result (λ driver. driver.host ≡ start (setup_of c passes)) }
     ensures device { IfSome result (λ driver. driver.bus.device ≡ start_of c) }
 {

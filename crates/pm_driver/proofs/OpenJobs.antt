@@ -1,5 +1,6 @@
 -- A job stays open until it ends.
-use Rattle.std.proofs.Common.{◌≡◌, ℕ, Bool, true, false, cond, eqb, ◌+◌, List, Option, Some, None, Result, Ok, Err, refl, is_some, option_map}
+use Rattle.std.proofs.Common.{◌≡◌, ℕ, Bool, true, false, cond, eqb, ◌+◌, List, Option, Some, None, Result, Ok, Err, refl, is_some}
+use Rattle.std.proofs.Common.{option_map}
 use Rattle.std.specs.Prelude.{IsSomeAnd}
 use Rattle.std.specs.Result.{result_ok}
 use Rattle.pm_num.specs.AnyFormat.{Shape, InUlinear16}
@@ -22,7 +23,8 @@ use Rattle.pm_host.specs.Answers.{good_payload, good_word, word_in}
 use Rattle.pm_host.specs.Marks.{Good}
 use Rattle.pm_host.specs.Question.{question_message}
 use Rattle.pm_host.specs.Refusals.{is_busy}
-use Rattle.pm_host.specs.Summary.{Change, Summary, answer_taken, answered, asked, ends, finished, goes_on, idle, learned, marked, mode_taken, read_back}
+use Rattle.pm_host.specs.Summary.{Change, Summary, answer_taken, answered, asked, ends, finished, goes_on, idle, learned, marked}
+use Rattle.pm_host.specs.Summary.{mode_taken, read_back}
 use Rattle.pm_host.specs.Summary.{next as host_next, sending_in, sends, stage_message, step_of, writes}
 use Rattle.pm_driver.specs.Acts.{Call, Read, Wrote, told_of}
 

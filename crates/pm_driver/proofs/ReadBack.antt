@@ -1,5 +1,6 @@
 -- The good answer with which an order or a check ended, by the transcript.
-use Rattle.std.proofs.Common.{◌≡◌, ◌<◌, ◌⊎◌, inl, inr, ℕ, suc, Bool, true, false, not, cond, eqb, arith, ◌*◌, ◌/◌, ◌%◌, List, ◌∷◌, length, Option, Some, None, is_none, is_some, option_map, refl, sym, ◌∙◌, ap, subst}
+use Rattle.std.proofs.Common.{◌≡◌, ◌<◌, ◌⊎◌, inl, inr, ℕ, suc, Bool, true, false, not, cond, eqb, arith, ◌*◌, ◌/◌, ◌%◌, List, ◌∷◌}
+use Rattle.std.proofs.Common.{length, Option, Some, None, is_none, is_some, option_map, refl, sym, ◌∙◌, ap, subst}
 use Rattle.std.specs.Option.{option_map_or, option_and_then}
 use Rattle.std.proofs.lemmas.Bool.{eqb-true}
 use Rattle.pm_table.specs.declared.cell.Cell.{Cell}
@@ -15,7 +16,9 @@ use Rattle.pm_host.specs.Now.{AreTold, job_stage, now as host_now, stage_of}
 use Rattle.pm_host.specs.Refusals.{IsSetup, sends_read}
 use Rattle.pm_host.specs.Sound.{IsStage}
 use Rattle.pm_host.specs.Summary.{sending_in}
-use Rattle.pm_host.specs.Transcript.{Setup, Job, Order, Check, Entry, Finished, Got, Learn, check_end, coefficients_tries, mode_told, end_of, is_write_turn, job_end, job_message, last_end, last_job, open_job, order_end, sending_of, told_since}
+use Rattle.pm_host.specs.Transcript.{Setup, Job, Order, Check, Entry, Finished, Got, Learn, check_end, coefficients_tries, mode_told}
+use Rattle.pm_host.specs.Transcript.{end_of, is_write_turn, job_end, job_message, last_end, last_job, open_job, order_end, sending_of}
+use Rattle.pm_host.specs.Transcript.{told_since}
 use Rattle.pm_frame.specs.declared.message.Message.{Message}
 use Rattle.pm_frame.specs.Layout.{is_read_message}
 

@@ -25,7 +25,8 @@ use Rattle.pm_world.specs.declared.event.Event.TheVariants.{Deliver, Exchange, F
 use Rattle.pm_world.specs.Laws.{LegalLivesAreFollowed}
 use Rattle.pm_world.specs.Legal.{frame_of, heard_bytes, ending_of, is_legal_hearing, is_legal_return, is_heard_whole, answer_in, back_bytes}
 use Rattle.pm_world.specs.Life.{now}
-use Rattle.pm_world.specs.State.{State, Share, delivered, delivery_cause, end_by, event_cause, exchange_cause, exchanged, finish_cause, hears, rule, share_of, tells}
+use Rattle.pm_world.specs.State.{State, Share, delivered, delivery_cause, end_by, event_cause, exchange_cause, exchanged, finish_cause}
+use Rattle.pm_world.specs.State.{hears, rule, share_of, tells}
 use Rattle.pm_driver.specs.Acts.{Call, Called, MayDo, Read, Wrote, told_of}
 use Rattle.pm_driver.specs.Bus.{answer_of, held_by, is_beside, may_hear}
 use Rattle.pm_driver.specs.Lives.{EndsSo, EndsTold, Goes, IsLife, Leads, newest_tells}

@@ -8,8 +8,9 @@ pub trait Bus {
     /// What the converter holds.
     ghost held: { Self → Held };
 
-    /// From this bus a call, with what it answers, leads to that one. It is any relation that an implementor has of
-    /// its calls, also one that always holds; so nobody but a call can have it, and it takes no memory.
+    /// From this bus a call, with what it answers, leads to that one. An implementor says what it likes of its calls, and
+    /// remembers none. The loop is proved for each bus, so it can have this of two buses by a call alone: it makes each
+    /// call that its contract names, once, and no other.
     ghost gives: { Self → Call → Self → Type 0 };
 
     /// Sends a packet and then a stop. Whether every byte was acknowledged, which nobody trusts.

@@ -1,4 +1,4 @@
-use Rattle.std.proofs.Common.{◌≡◌, ℕ, List, drop, length, take, sym, ◌∙◌, ap, subst}
+use Rattle.std.proofs.Common.{drop, length, sym, ◌∙◌, ap, subst}
 use Rattle.pm_world.specs.Legal.{answer_in}
 use Rattle.pm_driver.specs.Bus.{IsAsked}
 use Rattle.pm_buses.proofs.Heard.{Hears, came-back, lost-back, put-in}
