@@ -50,5 +50,5 @@ rm -f "$cache/libpm.so"
 if [ -f "$archive" ]; then
     quiet gcc -shared -Wl,--whole-archive "$archive" -Wl,--no-whole-archive -o "$cache/libpm.so"
 fi
-echo "kernel $(make -s -C "$source" O="$kernel" kernelrelease), $(find "$cache/modules" -name '*.ko' | wc -l) modules, converter:" \
-    "$([ -f "$cache/libpm.so" ] && echo "proved, $archive" || echo "plain model, no $archive")"
+echo "kernel $(make -s -C "$source" O="$kernel" kernelrelease), $(find "$cache/modules" -name '*.ko' | wc -l) modules," \
+    "$([ -f "$cache/libpm.so" ] && echo "the C library" || echo "no C library")"

@@ -1,7 +1,7 @@
 # Sourced by run.sh, which tells the options, and two_hosts.sh: the build, and guests that do trials beside one another.
 
 start() {
-    cache=${HOME:-/tmp}/.cache/tizdret-linux is_plain= archive=$root/crates/pm_c/out/libpm_c.a at_once=3
+    cache=${HOME:-/tmp}/.cache/pmbus-linux is_plain= archive=$root/crates/pm_c/out/libpm_c.a at_once=3
     while [ $# -gt 0 ]; do
         case $1 in
             --cache) cache=${2-}; shift ;;

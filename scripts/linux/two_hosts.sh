@@ -7,7 +7,7 @@
 #
 # The options are those of run.sh. The part is a model of two outputs with the registers that the driver asks for, and
 # the faults are chosen: these are no failure rates of boards. The last line tells how many lines of the table and of the
-# listing are as results/two_hosts.txt has them.
+# listing are as scripts/linux/results/two_hosts.txt has them.
 set -u
 case " $* " in *" --help "* | *" -h "*) sed -n '2,/^[^#]/s/^# \{0,1\}//p' "$0"; exit 0 ;; esac
 here=$(cd "$(dirname "$0")" && pwd)
@@ -40,8 +40,8 @@ cat "$work/table"
 for each in limit regulator polled ours sharpest; do
     [ "$(cat "$work/$each/ended" 2> /dev/null)" = "status 0" ] || why $each
 done
-passed=$(grep -cxFf "$here/results/two_hosts.txt" "$work/table")
-failed=$(($(wc -l < "$work/table") - passed))
-grep -vxFf "$here/results/two_hosts.txt" "$work/table" | sed 's/^/not as before: /'
+sed 's/^/not as before: /' <(grep -vxFf "$here/results/two_hosts.txt" "$work/table") | tee "$work/others"
+failed=$(wc -l < "$work/others") passed=$(wc -l < "$work/table")
+passed=$((passed - failed))
 echo "$passed passed, $failed failed"
 [ "$failed" = 0 ]
