@@ -2,10 +2,11 @@
 # Builds the static library of crates/pm_c and, with each compiler of this machine, the programs of
 # examples/c and examples/rust over it; runs them and compares what they write.
 #
-#   scripts/c/run.sh [--archive FILE] [JOBS]
+#   scripts/c/run.sh [--archive FILE [--llvm FILE]] [JOBS]
 #
-# JOBS is how many jobs both ends live through, 20000 if left out. With --archive that file is taken and
-# nothing is built. Programs of gcc and clang are run once more with their sanitizers, where they have them.
+# JOBS is how many jobs both ends live through, 20000 if left out. With --archive that file is taken, with --llvm that
+# one as LLVM's, and nothing is built. Random calls of every export (scripts/c/same.c) over the archive of Rattle's own
+# compiler and over LLVM's answer and write the same. Programs of gcc and clang are run once more with their sanitizers, where they have them.
 # The order over a Linux bus runs over a stand-in for the kernel, with all that a user or a bus does wrong, and
 # so does scripts/bus.py, if pmbhost is built or PMBHOST names one. The stack that the archive says it needs must
 # be what the header promises. Says a line for each program, what isn't on this machine, and last how many passed
@@ -13,12 +14,16 @@
 set -u
 case " $* " in *" --help "* | *" -h "*) sed -n '2,/^[^#]/s/^# \{0,1\}//p' "$0"; exit 0 ;; esac
 cd "$(dirname "$0")/../.."
-archive=
+archive='' llvm=''
 if [ "${1-}" = --archive ]; then archive=$(realpath "$2"); shift 2; fi
+if [ "${1-}" = --llvm ]; then llvm=$(realpath "$2"); shift 2; fi
 jobs=${1-20000}
 folder=$(mktemp -d)
 trap 'rm -rf "$folder"' EXIT
 if [ -z "$archive" ]; then
+    (cd crates/pm_c && rt lib --backend llvm > "$folder/log" 2>&1) || { tail -20 "$folder/log"; exit 1; }
+    llvm=$folder/llvm.a
+    cp crates/pm_c/out/libpm_c.a "$llvm"
     (cd crates/pm_c && rt lib --backend rattle > "$folder/log" 2>&1) || { tail -20 "$folder/log"; exit 1; }
     grep -o 'frame-bytes=[0-9]* stack-bytes=[0-9]*' "$folder/log"
     archive=$(realpath crates/pm_c/out/libpm_c.a)
@@ -172,7 +177,9 @@ mkdir "$folder/objects"
 for object in "$folder"/objects/*; do bound "$object"; done
 host=${PMBHOST-$PWD/crates/pmbhost/out/pmbhost}
 bus_script
+[ -n "$llvm" ] || echo "LLVM's archive: give --llvm FILE to compare it too"
 printf 'first' > "$folder/faults.wanted"
+printf 'first' > "$folder/same.wanted"
 wraps="-Wl,--wrap=open,--wrap=ioctl,--wrap=close"
 for each in gcc clang g++ clang++; do
     command -v $each > /dev/null || { echo "$each: not on this machine"; continue; }
@@ -196,6 +203,13 @@ for each in gcc clang g++ clang++; do
             "$folder/program" "$jobs" > "$folder/faults.wanted" && cat "$folder/faults.wanted"
         fi
         program "$name both ends" "$folder/faults.wanted" "$compiler" examples/c/faults.c $rest -- "$jobs"
+        # So do random calls over the archive of either compiler.
+        if [ "$(cat "$folder/same.wanted")" = first ]; then
+            $compiler -Icrates/pm_c/include scripts/c/same.c $rest "$archive" -o "$folder/program" > "$folder/log" 2>&1
+            "$folder/program" 1 2 > "$folder/same.wanted" && cat "$folder/same.wanted"
+        fi
+        program "$name random calls" "$folder/same.wanted" "$compiler" scripts/c/same.c $rest -- 1 2
+        [ -z "$llvm" ] || archive=$llvm program "$name random calls, LLVM" "$folder/same.wanted" "$compiler" scripts/c/same.c $rest -- 1 2
         case $each in gcc | clang)
             bus_program "$name" "$compiler" ;;
         esac

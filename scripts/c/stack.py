@@ -51,8 +51,11 @@ def deepest(name, calls, frames, each, above=()):
 
 
 def main():
+    if {"-h", "--help"} & set(sys.argv):
+        print(__doc__.strip())
+        return
     if len(sys.argv) < 3:
-        sys.exit(__doc__)
+        sys.exit("stack.py: give MODULE FRAMES [BYTES]; --help says more")
     frames, (calls, exports) = read_frames(sys.argv[2]), read_calls(sys.argv[1])
     each = int(sys.argv[3]) if len(sys.argv) > 3 else 0
     host = max(deepest(it, calls, frames, each) for it in exports if not it.startswith("pm_desk_"))

@@ -116,6 +116,9 @@ def refusal(module, like):
 
 
 def main():
+    if {"-h", "--help"} & set(sys.argv):
+        print(__doc__.strip())
+        return 0
     failed, text = [], rewritten(MODULE, processor(LIKE), 4)
     for what, wanted in REWRITTEN:
         if text.count(wanted) != 1:
