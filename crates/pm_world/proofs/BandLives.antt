@@ -1,37 +1,35 @@
 -- What a converter commands lies in the band that its host gives, and each end of the band is met.
-use Rattle.std.proofs.Common.{◌≡◌, ◌≢◌, ℕ, suc, ◌<◌, ◌^◌, ◌==◌, Bool, true, false, cond, ◌||◌, List, [], ◌∷◌, ◌++◌, length, reverse, filter, not, Option, Some, None, refl, sym, ◌∙◌, ap, ap₂, subst, arith}
+use Rattle.std.proofs.Common.{◌≡◌, ◌≢◌, ℕ, ◌<◌, ◌==◌, Bool, true, false, cond, ◌||◌, List, [], ◌∷◌, length, reverse, Option, Some, None, refl, sym, ◌∙◌, ap, subst, arith}
 use Rattle.std.proofs.Common.{option_map}
-use Rattle.std.specs.List.{list_any}
 use Rattle.pm_num.specs.AnyFormat.{Shape, shape_value}
 use Rattle.pm_num.specs.Ratio.{Ratio}
 use Rattle.pm_table.specs.declared.cell.Cell.{Cell}
-use Rattle.pm_table.specs.declared.cell.Cell.TheVariants.{Out, Protect}
+use Rattle.pm_table.specs.declared.cell.Cell.TheVariants.{Out}
 use Rattle.pm_table.specs.declared.reg.Reg.{Reg}
 use Rattle.pm_table.specs.declared.reg.Reg.TheVariants.{Operation}
-use Rattle.pm_table.specs.Cell.{IsCell, is_operation, is_output_cell, is_voltage, same_cell}
+use Rattle.pm_table.specs.Cell.{is_operation, is_output_cell, is_voltage, same_cell}
 use Rattle.pm_model.specs.Commanded.{commanded}
 use Rattle.pm_model.specs.Settings.{word_at}
 use Rattle.pm_device.specs.declared.config.Config.{Config}
-use Rattle.pm_device.specs.Held.{shape_for, value_for}
+use Rattle.pm_device.specs.Held.{shape_for}
 use Rattle.pm_host.specs.declared.possible.Possible.{Possible}
 use Rattle.pm_host.specs.declared.possible.Possible.TheVariants.{Any, Words}
 use Rattle.pm_host.specs.Marks.{Mark, Put, Good, Restored, Restart, marks}
 use Rattle.pm_host.specs.Possible.{is_listed, is_possible, once, possible_from, possible_of, words_since}
-use Rattle.pm_host.specs.Summary.{Summary, format_at, possible_at}
+use Rattle.pm_host.specs.Summary.{format_at}
 use Rattle.pm_host.specs.Transcript.{Entry}
 use Rattle.std.proofs.lemmas.List.{length-reverse}
 use Rattle.std.proofs.lemmas.Bool.Decides.{nat_tests}
 use Rattle.pm_limits.specs.declared.band.Band.{Band}
 use Rattle.pm_limits.specs.declared.side.Side.{Side}
 use Rattle.pm_limits.specs.declared.side.Side.TheVariants.{Lowest, Highest}
-use Rattle.pm_limits.specs.Band.{InBand, Known, band_at, band_with, decides, end_choice, end_with, known_of, operations, reach, side_end, word_end}
+use Rattle.pm_limits.specs.Band.{InBand, Known, band_at, band_with, decides, end_choice, end_with, known_of, operations, reach, side_end}
 use Rattle.pm_limits.specs.Ends.{end_of, farthest_of}
 use Rattle.pm_limits.specs.Lemmas.Bands.{band-held, band-reached}
 use Rattle.pm_limits.specs.Lemmas.Farthest.{farthest_of-is}
 use Rattle.pm_world.specs.Bands.{AreShort, BandStands, end_choices}
 use Rattle.pm_world.specs.Below.{Below}
 use Rattle.pm_world.specs.declared.event.Event.{Event}
-use Rattle.pm_world.specs.Confirmed.{restarted_since}
 use Rattle.pm_world.specs.Honest.{IsSpelled}
 use Rattle.pm_world.specs.Life.{life, now}
 use Rattle.pm_world.specs.Limited.{commands}

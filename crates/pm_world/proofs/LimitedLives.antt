@@ -1,6 +1,6 @@
 -- An output commands a voltage within limits where each of its own words lies within them.
-use Rattle.std.proofs.Common.{◌≡◌, ◌≢◌, inl, inr, ℕ, ◌<◌, ℤ, pos, Bool, true, false, cond, ◌&&◌, ◌||◌, List, [], ◌∷◌, ◌++◌, Option, Some, None, Result, Ok, Err, refl, sym, ◌∙◌, ap, subst, append_assoc}
-use Rattle.std.proofs.Common.{is_some, is_none, option_map, option_and_then}
+use Rattle.std.proofs.Common.{◌≡◌, ◌≢◌, inl, inr, ℕ, ◌<◌, ℤ, pos, Bool, true, false, cond, ◌&&◌, ◌||◌, List, [], ◌∷◌, ◌++◌, Option, Some, None, Ok, Err, refl, sym, ◌∙◌, ap, subst, append_assoc}
+use Rattle.std.proofs.Common.{is_some, is_none, option_and_then}
 use Rattle.std.specs.Prelude.{slice_index_or, IsSomeAnd}
 use Rattle.std.specs.Option.{option_map_or}
 use Rattle.std.specs.Ordering.{int_eq}
@@ -9,7 +9,7 @@ use Rattle.pm_num.specs.AnyFormat.{Shape, InUlinear16, InDirect, shape_value}
 use Rattle.pm_num.specs.declared.fault.NumFault.TheVariants.{ZeroSlope, ExponentRange}
 use Rattle.pm_num.specs.Lemmas.Slope.{direct-has_den}
 use Rattle.pm_num.specs.Lemmas.Unsigned.{lower-positive}
-use Rattle.pm_num.specs.Ratio.{Ratio, AtMost, is_above, micros}
+use Rattle.pm_num.specs.Ratio.{Ratio, AtMost, is_above}
 use Rattle.pm_table.specs.declared.cell.Cell.{Cell}
 use Rattle.pm_table.specs.declared.cell.Cell.TheVariants.{Out}
 use Rattle.pm_table.specs.declared.coefficients.Coefficients.{Coefficients}
@@ -17,21 +17,19 @@ use Rattle.pm_table.specs.declared.reg.Reg.{Reg}
 use Rattle.pm_table.specs.declared.reg.Reg.TheVariants.{VoutMax, VoutMin}
 use Rattle.pm_table.specs.declared.vout_mode.VoutMode.{VoutMode}
 use Rattle.pm_table.specs.declared.vout_mode.VoutMode.TheVariants.{Linear, Direct}
-use Rattle.pm_table.specs.declared.fault.TableFault.{TableFault}
 use Rattle.pm_table.specs.Cell.{is_voltage}
 use Rattle.pm_table.specs.Format.{is_decimal, shape_in}
 use Rattle.pm_table.specs.VoutMode.{mode_of}
 use Rattle.pm_model.specs.Commanded.{commanded, limited, selected_register}
 use Rattle.pm_model.specs.declared.pending_job.PendingJob.TheVariants as pending
-use Rattle.pm_model.specs.OrderMachine.{Step, Accept, End, Back}
+use Rattle.pm_model.specs.OrderMachine.{Accept, End}
 use Rattle.pm_device.specs.declared.config.Config.{Config}
-use Rattle.pm_device.specs.Held.{mode_for, shape_for, shape_made, value_for}
-use Rattle.pm_device.specs.Start.{IsSound, start_word}
+use Rattle.pm_device.specs.Held.{mode_for, shape_for, value_for}
+use Rattle.pm_device.specs.Start.{IsSound}
 use Rattle.pm_host.specs.declared.command.Command.TheVariants.{StoreUserAll, RestoreUserAll}
 use Rattle.pm_host.specs.declared.job.Job.{Job}
 use Rattle.pm_host.specs.Jobs.{accepted_job}
-use Rattle.pm_host.specs.Refusals.{IsSetup}
-use Rattle.pm_host.specs.Summary.{Summary, format_at}
+use Rattle.pm_host.specs.Summary.{format_at}
 use Rattle.pm_host.specs.Transcript as host
 use Rattle.pm_limits.specs.Band.{HasDens}
 use Rattle.pm_limits.specs.Bounds.{Bounds, IsWithin}
@@ -47,7 +45,7 @@ use Rattle.pm_world.specs.Honest.{IsSpelled}
 use Rattle.pm_world.specs.Job.{asked_by}
 use Rattle.pm_world.specs.Life.{now}
 use Rattle.pm_world.specs.Limited.{AreGuarded, MaxAtMost, MinAtLeast, OwnWithin, StartsWithin, StaysLimited, commands}
-use Rattle.pm_world.specs.Retelling.{CommandsOwn, IsOwnWord, WasOrdered, accepts, open_pending, pending_of, told, told_beside}
+use Rattle.pm_world.specs.Retelling.{CommandsOwn, IsOwnWord, accepts, open_pending, pending_of, told, told_beside}
 use Rattle.pm_world.specs.State.{asked}
 use Rattle.pm_world.proofs.LearnedLives.{formats-agree}
 use Rattle.pm_world.proofs.Lives.{IsLived, lived-before, now-config}

@@ -1,6 +1,5 @@
 -- What the band of an output is worth over a life: this project's own choice. Lists are newest first.
 use Rattle.std.specs.Prelude.{◌≡◌, ◌≢◌, ◌<◌, ◌^◌, ℕ, true, false, List}
-use Rattle.pm_table.specs.declared.cell.Cell.{Cell}
 use Rattle.pm_table.specs.declared.cell.Cell.TheVariants.{Out, Protect}
 use Rattle.pm_table.specs.declared.reg.Reg.{Reg}
 use Rattle.pm_model.specs.Settings.{Words, word_at}
