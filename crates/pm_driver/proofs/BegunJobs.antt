@@ -221,7 +221,7 @@ begun-free s asked begun is h = subst (λ o. option_and_then (job_fault s) o ≡
 
 -- where a driver leads that carries a job out which its host began
 job-leads : {B : Type 0} (gives : B → Call → B → Type 0) (held : B → Held) → JobsLead gives held → LeadsCompose gives held →
-    (asked : Job) (end : JobEnd) (old new : Driven B) (middle : Summary) → Begins old.host asked (Ok tt) middle →
+    (asked : Job) (end : JobEnd) (old new : Driven B) (middle : Summary) → Begins {X = Unit {0}} old.host asked (Ok tt) middle →
     Leads gives held [] (Some end) (record { host = middle; bus = old.bus }) new →
     IsSomeAnd (accepted_job old.host asked) (λ begun. Leads gives held (Began begun ∷ []) (Some end) old new)
 job-leads gives held jobs compose asked end old new middle begins leads = go (accepted_job old.host asked) refl begins.ok where
@@ -238,7 +238,7 @@ job-leads gives held jobs compose asked end old new middle begins leads = go (ac
 -- so there is a life
 pub job-lived : {B : Type 0} (gives : B → Call → B → Type 0) (held : B → Held) → JobsLead gives held → LeadsCompose gives held →
     (asked : Job) (end : JobEnd) (old new : Driven B) (middle : Summary) → HasLife old.host (held old.bus) →
-    Begins old.host asked (Ok tt) middle →
+    Begins {X = Unit {0}} old.host asked (Ok tt) middle →
     Leads gives held [] (Some end) (record { host = middle; bus = old.bus }) new → HasLife new.host (held new.bus)
 job-lived gives held jobs compose asked end old new middle has begins leads =
     go (accepted_job old.host asked) (job-leads gives held jobs compose asked end old new middle begins leads) where
@@ -251,7 +251,7 @@ job-lived gives held jobs compose asked end old new middle has begins leads =
 pub runs-so : EndsAreTrue → {B : Type 0} (gives : B → Call → B → Type 0) (held : B → Held) → JobsLead gives held →
     LeadsCompose gives held →
     (asked : Job) (end : JobEnd) (old new : Driven B) (middle : Summary) → HasLife old.host (held old.bus) →
-    Begins old.host asked (Ok tt) middle →
+    Begins {X = Unit {0}} old.host asked (Ok tt) middle →
     Leads gives held [] (Some end) (record { host = middle; bus = old.bus }) new → frames_left new.host ≡ 0 →
     new.host.setup ≡ middle.setup →
     Runs gives held asked old (Ok end) new
@@ -271,7 +271,7 @@ runs-so law gives held jobs compose asked end old new middle has begins leads ov
       go (Some begun) is = leads-say law gives held begun end old new has is
 
 -- a job that began is open
-pub begun-busy : (s after : Summary) (asked : Job) → Begins s asked (Ok tt) after → is_busy after ≡ true
+pub begun-busy : (s after : Summary) (asked : Job) → Begins {X = Unit {0}} s asked (Ok tt) after → is_busy after ≡ true
 unfolding host_next
 begun-busy s after asked begins = go (accepted_job s asked) begins.ok where
   busy : (begun : host.Job) → is_busy (host_next s (host.Accepted begun)) ≡ true

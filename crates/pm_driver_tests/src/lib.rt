@@ -5,3 +5,5 @@
 mod checks;
 #[cfg(test)]
 mod driver;
+#[cfg(test)]
+mod example;

@@ -1,3 +1,4 @@
+-- What the parser met is what is chosen, and where it finds a fault the call refuses.
 use Rattle.std.proofs.Common.{◌≡◌, ◌∙◌, ℕ, false, true≢false, eqb, eq-eqb, ap, get_or, refl, sym, subst, [], ◌∷◌, List, Result, Ok, Err}
 use Rattle.std.proofs.Common.{IfOk, IsErrAnd, IsSomeAnd, Option, Some, codes, ⊎_elim, map, unwrap_or}
 use Rattle.clap.specs.Words.{FailsBy, HasKind, Kinds, Row, Text, fault_of, subcommand_of}

@@ -1,3 +1,4 @@
+-- What the loop over the pieces of a trace keeps, and what each way out of it comes to.
 use Rattle.std.proofs.Common.{◌≡◌, ◌∙◌, refl, [], ◌++◌, true, false, take, arith, string_bytes, rules}
 use Rattle.std.proofs.KnownBytes.{Consumes-kept}
 use Rattle.std.proofs.lemmas.List.{length-take}
