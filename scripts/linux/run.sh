@@ -11,7 +11,8 @@
 #   --at-once N       how many guests run at once, 3 where it isn't given
 #
 # The kernel is built the first time, in some five minutes. Packages of Debian 12: linux-source-6.1 flex bison bc gcc make
-# xz-utils python3 i2c-tools, and sigrok-cli for the waveform. PMB and PMBHOST name other programs than the built ones.
+# xz-utils python3 i2c-tools, and sigrok-cli for the waveform. PMB and PMBHOST name other programs than the built ones,
+# KEEP a folder for what the guests left.
 # Buses: 0 is i2c-virtio, whose failed transfers are short counts; 1 answers errors; 5 is bit-banged, i2c-gpio.
 #
 #   rows      every row of scripts/try_bus.py that is about bus.py, by bus.py as a process
