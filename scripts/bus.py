@@ -79,9 +79,12 @@ def interruptible():
 
 
 def complain(words):
-    """A line on standard error. Nobody is left to tell where that fails."""
-    with contextlib.suppress(OSError):
+    """A line on standard error. Nobody is left to tell where that fails; what is left of it is dropped, or Python would
+    end with a status of its own."""
+    try:
         print(f"bus.py: {words}", file=sys.stderr, flush=True)
+    except OSError:
+        standard_streams.drop(2)
 
 
 def frame_of(answer):

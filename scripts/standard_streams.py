@@ -32,10 +32,15 @@ def write(line):
     try:
         print(line, flush=True)
     except OSError as fault:
-        nothing = os.open(os.devnull, os.O_WRONLY)
-        os.dup2(nothing, 1)
-        os.close(nothing)
+        drop(1)
         raise NoStream(f"standard output: {fault.strerror}") from fault
+
+
+def drop(number):
+    """What is left to be written into a stream goes nowhere."""
+    nothing = os.open(os.devnull, os.O_WRONLY)
+    os.dup2(nothing, number)
+    os.close(nothing)
 
 
 def read():

@@ -109,7 +109,7 @@ class Trial:
     def process(self, row):
         """A run as a process of its own, in a shell's words where they are given."""
         command = f'"$@" {row.redirections}'
-        around = {**os.environ, **dict(row.around)}
+        around = {name: it for name, it in os.environ.items() if name != "PYTHONUNBUFFERED"} | dict(row.around)
         words = [sys.executable, "-c", RUNNER, SCRIPTS, row.mishaps, "7", "58", *row.words.split()]
         ran = subprocess.run(["bash", "-c", command, "bash", *words], capture_output=True, text=True, env=around,
                              cwd=self.folder, start_new_session=True)
