@@ -2,6 +2,7 @@
 
 use pm_frame::{FrameFault, Message, Payload, read_write, write_part};
 
+#[tactic(auto, unfolding(pm_table::specs::Commands::line_of))]
 fn taken() -> Result<Message, FrameFault> {
     let written = Message::PagePlusWrite {
         page: 0,
