@@ -133,7 +133,7 @@ def table_faults(found):
 def name_faults(name, found):
     """The files that a page names, and links."""
     links = [it for it in re.findall(r"\]\(([^)#]+)\)", found) if "://" not in it]
-    files = [it for it in FILE.findall(found) if not it.startswith((BUILT, "crates/NAME", "crates/X", "attacks/NAME"))]
+    files = [it for it in FILE.findall(found) if not it.startswith(("../", BUILT, "crates/NAME", "crates/X", "attacks/NAME"))]
     places = [os.path.join(os.path.dirname(name), it) for it in links] + files
     for place in places:
         if not os.path.exists(os.path.join(program.ROOT, place)) and "/out" not in place:
@@ -145,10 +145,10 @@ def name_faults(name, found):
 def source_words():
     """The words of the sources, of the scripts, and of the names of planted bugs."""
     words = set()
-    for form in "crates/*/src/**/*.rt", "crates/*/specs/**/*.antt", "crates/*/must-fail/*", "attacks/**/*", "scripts/**/*.py":
+    for form in "crates/*/src/**/*.rt", "crates/*/specs/**/*.antt", "crates/*/must-fail/*", "attacks/**/*", "scripts/**/*.py", "crates/*/include/*.h":
         for path in glob.glob(os.path.join(program.ROOT, form), recursive=True):
             words.add(os.path.basename(path).partition(".")[0])
-            if path.endswith((".rt", ".antt", ".py")):
+            if path.endswith((".rt", ".antt", ".py", ".h")):
                 with open(path, encoding="utf-8") as file:
                     words.update(re.findall(r"\w+", file.read()))
     with open(os.path.join(program.ROOT, "crates.txt"), encoding="utf-8") as file:
