@@ -15,10 +15,10 @@ use std::marker::Model;
 /// The bits of STATUS_CML that are latched.
 #[derive(Debug, Drop)]
 pub(crate) struct CmlLatches {
-    command: bool,
-    data: bool,
-    pec: bool,
-    other_communication: bool,
+    pub(crate) command: bool,
+    pub(crate) data: bool,
+    pub(crate) pec: bool,
+    pub(crate) other_communication: bool,
 }
 
 impl Model for CmlLatches {

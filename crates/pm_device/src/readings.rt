@@ -8,10 +8,10 @@ use std::marker::Model;
 /// and of a temperature.
 #[derive(Debug, Drop)]
 pub(crate) struct Readings {
-    vout: [u16; 8],
-    iout: [u16; 8],
-    vin: u16,
-    temperature: u16,
+    pub(crate) vout: [u16; 8],
+    pub(crate) iout: [u16; 8],
+    pub(crate) vin: u16,
+    pub(crate) temperature: u16,
 }
 
 impl Model for Readings {
