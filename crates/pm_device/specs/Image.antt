@@ -1,13 +1,15 @@
 -- The image of a converter: plain numbers in a caller's memory, and what they mean. This project's own choice.
-use Rattle.std.specs.Prelude.{ℕ, Bool, ◌&&◌, ◌==◌, nat_lt, is_none, if◌then◌else◌, List, map, slice_index, Option, Some, None}
+use Rattle.std.specs.Prelude.{ℕ, Bool, ◌&&◌, ◌==◌, nat_lt, is_none, is_some, if◌then◌else◌, List, map, slice_index, Option, Some, None}
 use Rattle.pm_table.specs.declared.cell.Cell.TheVariants.{Protect}
 use Rattle.pm_table.specs.Cell.{register_number}
-use Rattle.pm_model.specs.Settings.{are_accepted, word_at}
+use Rattle.pm_model.specs.Settings.{settings_in, word_at}
 use Rattle.pm_device.specs.declared.config.Config.{Config}
 use Rattle.pm_device.specs.declared.output_start.OutputStart.{OutputStart}
 use Rattle.pm_device.specs.declared.image.Image.{Image}
 use Rattle.pm_device.specs.declared.image.ConfigImage.{ConfigImage}
+use Rattle.pm_device.specs.declared.image.LatchesImage.{LatchesImage}
 use Rattle.pm_device.specs.declared.image.OutputImage.{OutputImage}
+use Rattle.pm_device.specs.declared.image.ReadingsImage.{ReadingsImage}
 use Rattle.pm_device.specs.Held.{CmlFaults, Held, Measured}
 use Rattle.pm_device.specs.Start.{config_fault, start_of}
 
@@ -29,7 +31,7 @@ config_held image = record {
   coefficients = record { m = image.m; b = image.b; r = image.r };
 }
 
-abbrev pub readings_held : Image → Measured
+abbrev pub readings_held : ReadingsImage → Measured
 readings_held image = record {
   vout = image.vout;
   iout = image.iout;
@@ -37,8 +39,8 @@ readings_held image = record {
   temperature = image.temperature;
 }
 
-abbrev pub faults_held : Image → CmlFaults
-faults_held image = record {
+abbrev pub latches_held : LatchesImage → CmlFaults
+latches_held image = record {
   command = is_set image.command;
   «data» = is_set image.unsupported;
   pec = is_set image.pec;
@@ -52,9 +54,9 @@ held image = record {
   words = image.words;
   store = image.store;
   page = image.page;
-  readings = readings_held image;
+  readings = readings_held image.readings;
   cut = map is_set image.cut;
-  faults = faults_held image;
+  faults = latches_held image.latches;
 }
 
 -- the bytes 'CT' and the number of this layout, which an image of another layout lacks
@@ -68,12 +70,12 @@ image_version = 1
 abbrev pub is_current : Image → Bool
 is_current image = image.mark == image_mark && image.version == image_version
 
--- a converter may hold this: its configuration isn't refused, its cells and those of its store accept their words,
--- WRITE_PROTECT has its start word in the store, and PAGE names an output that is there
+-- a converter may hold this: its configuration isn't refused, its cells and those of its store are settings of as
+-- many outputs, the store has WRITE_PROTECT's start word, and PAGE names an output that is there
 abbrev pub may_hold : Held → Bool
 may_hold h = is_none (config_fault h.config)
-    && (are_accepted h.config.count h.words && are_accepted h.config.count h.store)
-    && (word_at h.store Protect == h.config.protect && nat_lt h.page h.config.count)
+    && ((is_some (settings_in h.config.count h.words) && is_some (settings_in h.config.count h.store))
+    && (word_at h.store Protect == h.config.protect && nat_lt h.page h.config.count))
 
 -- the converter whose image it is
 unfoldable pub device_of : Image → Option Held

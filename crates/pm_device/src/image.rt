@@ -1,7 +1,7 @@
 //! A converter in memory that a caller keeps who isn't Rattle: plain numbers, and what they mean.
 
 ghost use Rattle.std.specs.Prelude.{◌≡◌, map, None};
-ghost use Rattle.pm_device.specs.Image.{config_held, device_of, start_held};
+ghost use Rattle.pm_device.specs.Image.{config_held, device_of, is_current, is_set, start_held};
 
 use crate::config::Config;
 use crate::output_start::OutputStart;
@@ -117,8 +117,36 @@ impl ConfigImage {
     }
 }
 
+/// What is latched of STATUS_CML, as plain numbers. A bit is latched where its number is 1.
+#[repr(C)]
+#[derive(Clone, Copy, Debug)]
+pub struct LatchesImage {
+    /// Bit 7, an unsupported command.
+    pub command: u8,
+    /// Bit 6, unsupported data.
+    pub unsupported: u8,
+    /// Bit 5, a wrong packet error code.
+    pub pec: u8,
+    /// Bit 1, another communication fault.
+    pub communication: u8,
+}
+
+/// The words that READ codes answer.
+#[repr(C)]
+#[derive(Clone, Copy, Debug)]
+pub struct ReadingsImage {
+    /// READ_VIN.
+    pub vin: u16,
+    /// READ_TEMPERATURE_1.
+    pub temperature: u16,
+    /// READ_VOUT of each output.
+    pub vout: [u16; 8],
+    /// READ_IOUT of each output.
+    pub iout: [u16; 8],
+}
+
 /// A converter in memory that a caller keeps who isn't Rattle. It has no padding, holds no address of memory, and
-/// may be copied. A flag is set where it is 1.
+/// may be copied.
 #[repr(C)]
 #[derive(Clone, Copy, Debug)]
 pub struct Image {
@@ -132,28 +160,37 @@ pub struct Image {
     pub page: u8,
     /// No meaning.
     pub unused: u8,
-    /// Bit 7 of STATUS_CML is latched.
-    pub command: u8,
-    /// Bit 6 of it is latched.
-    pub unsupported: u8,
-    /// Bit 5 of it is latched.
-    pub pec: u8,
-    /// Bit 1 of it is latched.
-    pub communication: u8,
-    /// Bit 3 of each output's STATUS_VOUT is latched.
+    /// What is latched of STATUS_CML.
+    pub latches: LatchesImage,
+    /// Bit 3 of each output's STATUS_VOUT is latched where this is 1.
     pub cut: [u8; 8],
-    /// What READ_VIN answers.
-    pub vin: u16,
-    /// What READ_TEMPERATURE_1 answers.
-    pub temperature: u16,
-    /// What READ_VOUT answers of each output.
-    pub vout: [u16; 8],
-    /// What READ_IOUT answers of each output.
-    pub iout: [u16; 8],
+    /// The readings.
+    pub readings: ReadingsImage,
     /// The word of each cell, at its place.
     pub words: [u16; Cell::PLACES],
     /// The word of each cell in the store, and for WRITE_PROTECT its start word.
     pub store: [u16; Cell::PLACES],
+}
+
+/// The flag of a bit.
+pub(crate) fn flag(bit: bool) -> u8
+    ensures { is_set result ≡ bit }
+{
+    if bit { 1 } else { 0 }
+}
+
+/// The bits that flags are.
+pub(crate) fn bits_in(flags: &[u8; 8]) -> [bool; 8]
+    ensures { result ≡ map is_set flags.now }
+{
+    flags.map(|flag| flag == 1)
+}
+
+/// The flags of bits.
+pub(crate) fn flags_of(bits: &[bool; 8]) -> [u8; 8]
+    ensures { map is_set result ≡ bits.now }
+{
+    bits.map(|bit| flag(bit))
 }
 
 impl Image {
@@ -162,6 +199,13 @@ impl Image {
 
     /// The number of this layout.
     pub const VERSION: u16 = 1;
+
+    // Whether the image has this layout.
+    pub(crate) fn is_current(&self) -> bool
+        ensures { result ≡ is_current self.now }
+    {
+        self.mark == Image::MARK && self.version == Image::VERSION
+    }
 
     /// Zeros, which are the image of no converter.
     #[tactic(auto, unfolding(crate::specs::Image::device_of))]
@@ -188,15 +232,19 @@ impl Image {
             },
             page: 0,
             unused: 0,
-            command: 0,
-            unsupported: 0,
-            pec: 0,
-            communication: 0,
+            latches: LatchesImage {
+                command: 0,
+                unsupported: 0,
+                pec: 0,
+                communication: 0,
+            },
             cut: [0; 8],
-            vin: 0,
-            temperature: 0,
-            vout: [0; 8],
-            iout: [0; 8],
+            readings: ReadingsImage {
+                vin: 0,
+                temperature: 0,
+                vout: [0; 8],
+                iout: [0; 8],
+            },
             words: [0; Cell::PLACES],
             store: [0; Cell::PLACES],
         }
