@@ -38,11 +38,11 @@ enum {
     PM_PART_OK = 0,
     PM_PART_NO_OUTPUT = 0x04,   /* H4: the output isn't there */
     PM_PART_TOO_LARGE = 0x15,   /* N5: beyond 10^15 microvolts in size */
-    PM_V1_OUTPUT_COUNT = 0x21,  /* a number of outputs other than 1 to 8 */
-    PM_V2_BAD_START = 0x22,     /* OPERATION or WRITE_PROTECT doesn't accept its start word */
-    PM_V3_ADDRESS = 0x23,       /* an address outside 08h to 77h */
-    PM_V4_BAD_MODE = 0x24,      /* a VOUT_MODE that is neither ULINEAR16 nor DIRECT */
-    PM_V5_COEFFICIENTS = 0x25,  /* some output is DIRECT, and m is 0 or r outside -12 to 12 */
+    PM_V1_OUTPUT_COUNT = 0x51,  /* a number of outputs other than 1 to 8 */
+    PM_V2_BAD_START = 0x52,     /* OPERATION or WRITE_PROTECT doesn't accept its start word */
+    PM_V3_ADDRESS = 0x53,       /* an address outside 08h to 77h */
+    PM_V4_BAD_MODE = 0x54,      /* a VOUT_MODE that is neither ULINEAR16 nor DIRECT */
+    PM_V5_COEFFICIENTS = 0x55,  /* some output is DIRECT, and m is 0 or r outside -12 to 12 */
     PM_PART_NO_CELL = 0xE1,     /* the command code is no cell's, or of no cell that is stored */
     PM_NO_PART = 0xE5,          /* the memory holds no part */
     PM_NO_READING = 0xE6        /* the command code is no reading's */

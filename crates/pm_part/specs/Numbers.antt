@@ -1,5 +1,5 @@
 -- The numbers that calls answer, of which no two mean two things: 0 where nothing is refused; what a part makes of a
--- frame, from 81h on; a refusal, of which H4 is 4, N1 to N5 are 11h to 15h, V1 to V5 21h to 25h and K1 to K7 41h to
+-- frame, from 81h on; a refusal, of which H4 is 4, N1 to N5 are 11h to 15h, V1 to V5 51h to 55h and K1 to K7 41h to
 -- 47h, and what only a caller in C can ask wrongly is E0h to E6h. This project's own choice.
 use Rattle.std.specs.Prelude.{ℕ, ◌||◌, nat_lt, if◌then◌else◌, Option, Some, None}
 use Rattle.pm_num.specs.declared.fault.NumFault.{NumFault}
@@ -45,11 +45,11 @@ num_number AboveGreatest = 0x14
 num_number TooLarge = 0x15
 
 abbrev pub config_number : ConfigFault → ℕ
-config_number OutputCount = 0x21
-config_number (BadStart cell) = 0x22
-config_number Address = 0x23
-config_number (BadMode output fault) = 0x24
-config_number (BadCoefficients fault) = 0x25
+config_number OutputCount = 0x51
+config_number (BadStart cell) = 0x52
+config_number Address = 0x53
+config_number (BadMode output fault) = 0x54
+config_number (BadCoefficients fault) = 0x55
 
 abbrev pub device_number : DeviceFault → ℕ
 device_number (Frame fault) = 0x41

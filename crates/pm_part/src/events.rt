@@ -25,7 +25,7 @@ pub extern "C" fn pm_part_size() -> usize
     size_of::<Image>()
 }
 
-/// Makes a part of a configuration, whatever stood in the memory: as a converter starts. V1 to V5 as 21h to 25h, and
+/// Makes a part of a configuration, whatever stood in the memory: as a converter starts. V1 to V5 as 51h to 55h, and
 /// then nothing changes.
 #[unsafe(no_mangle)]
 pub extern "C" fn pm_part_new(part: &mut Image, config: &ConfigImage) -> u8

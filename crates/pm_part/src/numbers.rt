@@ -52,11 +52,11 @@ pub fn of_config(fault: ConfigFault) -> u8
     ensures some { result ≢ 0 }
 {
     match fault {
-        ConfigFault::OutputCount => 0x21,
-        ConfigFault::BadStart(_) => 0x22,
-        ConfigFault::Address => 0x23,
-        ConfigFault::BadMode(..) => 0x24,
-        ConfigFault::BadCoefficients(_) => 0x25,
+        ConfigFault::OutputCount => 0x51,
+        ConfigFault::BadStart(_) => 0x52,
+        ConfigFault::Address => 0x53,
+        ConfigFault::BadMode(..) => 0x54,
+        ConfigFault::BadCoefficients(_) => 0x55,
     }
 }
 

@@ -107,7 +107,7 @@ fn readings_are_set(rt: HostRuntime) {
 }
 
 // Why no part is made, by the first rule that applies.
-static REFUSED: [(u8, u8); 5] = [(0, 0x21), (1, 0x22), (2, 0x23), (3, 0x24), (4, 0x25)];
+static REFUSED: [(u8, u8); 5] = [(0, 0x51), (1, 0x52), (2, 0x53), (3, 0x54), (4, 0x55)];
 
 // A configuration with one or more faults: each has those that come after it too.
 fn faulty(change: u8) -> ConfigImage {
