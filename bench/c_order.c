@@ -71,8 +71,6 @@ int main(void) {
     pm_host host;
     pm_sending frame;
     pm_words words;
-    pm_desk desk = {0x58, 2, 0, 0, 1, 0, 0, {{0x14, 0, 0x80, 0x1000, 0x4000, 0x1100, 0x0F00, 0}, {0x14, 0, 0x80, 0x1000, 0x4000, 0x1100, 0x0F00, 0}}};
-    pm_reply reply;
     long done = 0;
     memcpy(both, request, 5);
     for (int i = 0; i < 2; i++) {
@@ -106,6 +104,5 @@ int main(void) {
     DEEPEST("order_micro", pm_host_order_micro(&host, 0, PM_VOUT_COMMAND, 3300000));
     DEEPEST("possible", pm_host_possible(&host, 0, PM_VOUT_COMMAND, &words));
     DEEPEST("restart", pm_host_restart(&host));
-    DEEPEST("desk_hear", pm_desk_hear(&desk, request, 5, 1, &reply));
     return 0;
 }

@@ -3,6 +3,7 @@
  * confirmed, and those of them that the converter doesn't hold, which the guarantees rule out while it
  * didn't restart. Damage here changes one byte, which the PEC always betrays. */
 #include "pm.h"
+#include "pm_part.h"
 #include <stdio.h>
 #include <stdlib.h>
 #include <string.h>
@@ -20,17 +21,20 @@ static unsigned draw(unsigned below) {
     return (unsigned)((seed >> 11) % below);
 }
 
-static pm_desk start_desk(void) {
-    pm_desk desk;
-    memset(&desk, 0, sizeof desk);
-    desk.address = 0x58;
-    desk.outputs = OUTPUTS;
-    desk.m = 1;
+static pm_part new_part(void) {
+    pm_part part;
+    pm_part_config config;
+    memset(&config, 0, sizeof config);
+    config.address = 0x58;
+    config.outputs = OUTPUTS;
+    config.m = 1;
     for (int i = 0; i < OUTPUTS; i++) {
-        pm_output output = {0x14, 0, 0x80, 0x1000, 0x4000, 0x1100, 0x0F00, 0x0000};
-        desk.words[i] = output;
+        pm_part_output output = {0x14, 0, 0x80, 0x1000, 0x4000, 0x1100, 0x0F00, 0x0000};
+        config.starts[i] = output;
     }
-    return desk;
+    memset(&part, 0, sizeof part);
+    pm_part_new(&part, &config);
+    return part;
 }
 
 static size_t damage(uint8_t *bytes, size_t count) {
@@ -42,9 +46,9 @@ static size_t damage(uint8_t *bytes, size_t count) {
 }
 
 /* What becomes of the frame that is to be sent. */
-static pm_step exchange(pm_host *host, pm_desk *desk) {
+static pm_step exchange(pm_host *host, pm_part *part) {
     pm_sending frame;
-    pm_reply reply = {0, 0, {0}};
+    pm_part_reply reply = {0, 0, {0}};
     pm_host_sending(host, &frame);
     size_t count = frame.length;
     unsigned fate = draw(8);
@@ -52,11 +56,11 @@ static pm_step exchange(pm_host *host, pm_desk *desk) {
         count = damage(frame.bytes, count);
     int heard = fate != 1;
     if (frame.kind == PM_WRITE) {
-        int taken = heard && pm_desk_hear(desk, frame.bytes, count, 0, &reply) == PM_TAKEN;
+        int taken = heard && pm_part_hear(part, frame.bytes, count, 0, &reply) == PM_HEARD_TAKEN;
         return pm_host_finished(host, fate == 2 ? !taken : taken);
     }
     if (heard)
-        pm_desk_hear(desk, frame.bytes, count, 1, &reply);
+        pm_part_hear(part, frame.bytes, count, 1, &reply);
     count = reply.length;
     if (fate == 3 && count)
         count = damage(reply.bytes, count);
@@ -81,16 +85,16 @@ int main(int count, char **words) {
     long jobs = count > 1 ? atol(words[1]) : 20000;
     long confirmed = 0, wrong = 0, unlisted = 0, done = 0, ended = 0;
     pm_host host;
-    pm_desk desk = start_desk();
+    pm_part part = new_part();
     int restarted = 0;
-    if (pm_desk_size() != sizeof desk || PM_DESK_SIZE != sizeof desk)
+    if (pm_part_size() != sizeof part || pm_host_size() != sizeof host)
         return 1;
     pm_host_new(&host, 0x58, OUTPUTS, 3);
     for (long job = 0; job < jobs; job++) {
         pm_sending frame;
         begin(&host);
         for (pm_host_sending(&host, &frame); frame.kind != PM_NOTHING; pm_host_sending(&host, &frame)) {
-            pm_step step = exchange(&host, &desk);
+            pm_step step = exchange(&host, &part);
             done += step.kind == PM_DONE;
             ended += step.kind != PM_NEXT;
         }
@@ -101,7 +105,7 @@ int main(int count, char **words) {
                 uint16_t held;
                 pm_host_standing(&host, output, codes[i], &standing);
                 pm_host_possible(&host, output, codes[i], &words_held);
-                pm_desk_word(&desk, output, codes[i], &held);
+                pm_part_word(&part, output, codes[i], &held);
                 int listed = words_held.count == 0;
                 for (int at = 0; at < words_held.count; at++)
                     listed |= words_held.words[at] == held;
@@ -110,7 +114,7 @@ int main(int count, char **words) {
                 unlisted += !listed && !restarted;
             }
         if (draw(200) == 0) {
-            desk = start_desk();
+            pm_part_restart(&part);
             restarted = 1;
         }
         if (restarted && draw(20) == 0) {

@@ -13,7 +13,7 @@
  *
  * /dev/i2c-2 is held by a driver of the kernel, /dev/i2c-3 may not be opened, /dev/i2c-4 is no bus, and there
  * are no others. Of a transfer that went well it answers the number of messages, as a kernel does. */
-#include "pm.h"
+#include "pm_part.h"
 #include <errno.h>
 #include <fcntl.h>
 #include <linux/i2c-dev.h>
@@ -25,7 +25,8 @@
 
 enum { FIRST_FILE = 76 };
 
-static pm_desk desk = {0x58, 1, 0, 0, 1, 0, 0, {{0x14, 0, 0x80, 0x1000, 0x4000, 0x1100, 0x0F00, 0x0000}}};
+static const pm_part_config config = {0x58, 1, 0, 0, 1, 0, 0, {{0x14, 0, 0x80, 0x1000, 0x4000, 0x1100, 0x0F00, 0x0000}}};
+static pm_part part;
 
 static int fails(int error) {
     errno = error;
@@ -52,19 +53,22 @@ static int is_mishap(int place, const char *name) {
 }
 
 /* Lets the converter hear the messages. Whether it answers, or takes the write. */
-static int heard(const struct i2c_msg *messages, int reads, pm_reply *reply) {
+static int heard(const struct i2c_msg *messages, int reads, pm_part_reply *reply) {
+    uint8_t page;
     uint8_t frame[32] = {(uint8_t)(messages[0].addr << 1)};
     if (messages[0].len > 31)
         return 0;
     memcpy(frame + 1, messages[0].buf, messages[0].len);
-    uint8_t answer = pm_desk_hear(&desk, frame, messages[0].len + 1u, (uint8_t)reads, reply);
-    return reads ? answer == PM_ANSWERED && reply->length == messages[1].len + 1 : answer == PM_TAKEN;
+    if (pm_part_page(&part, &page) == PM_NO_PART)
+        pm_part_new(&part, &config);
+    uint8_t answer = pm_part_hear(&part, frame, messages[0].len + 1u, (uint8_t)reads, reply);
+    return reads ? answer == PM_HEARD_ANSWERED && reply->length == messages[1].len + 1 : answer == PM_HEARD_TAKEN;
 }
 
 static int transfer(const struct i2c_rdwr_ioctl_data *whole) {
     static int place;
     int at = place++, reads = whole->nmsgs == 2;
-    pm_reply reply = {0, 0, {0}};
+    pm_part_reply reply = {0, 0, {0}};
     if (is_mishap(at, "deaf"))
         return fails(ENXIO);
     if (is_mishap(at, "short0") || is_mishap(at, "short1") || (is_mishap(at, "false") && !reads))

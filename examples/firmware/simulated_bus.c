@@ -3,14 +3,14 @@
  * A driver for a board puts its I2C controller in the place of this file. */
 #include "bus.h"
 #include "console.h"
-#include "pm.h"
+#include "pm_part.h"
 #include <string.h>
 
 enum { RESTARTS_EACH = 37 };
 
 typedef enum { NONE, FRAME_LOST, FRAME_CUT, FRAME_DAMAGED, ANSWER_LOST, ANSWER_DAMAGED, FALSE_ACKNOWLEDGEMENT } fault;
 
-static pm_desk part;
+static pm_part part;
 static unsigned transfers;
 
 static unsigned draw(unsigned below) {
@@ -21,22 +21,24 @@ static unsigned draw(unsigned below) {
     return (drawn >> 8) % below;
 }
 
-/* The part as it comes up: both outputs at 1 V, with 4.5 V as their most. */
-static void restart(void) {
-    static const pm_output output = {0x14, 0, 0x80, 0x1000, 0x4800, 0x1100, 0x0F00, 0x0000};
-    memset(&part, 0, sizeof part);
-    part.address = 0x58;
-    part.outputs = 2;
-    part.m = 1;
-    part.words[0] = part.words[1] = output;
+/* The part as it is made: both outputs at 1 V, with 4.5 V as their most. */
+static void make(void) {
+    static const pm_part_output output = {0x14, 0, 0x80, 0x1000, 0x4800, 0x1100, 0x0F00, 0x0000};
+    pm_part_config config;
+    memset(&config, 0, sizeof config);
+    config.address = 0x58;
+    config.outputs = 2;
+    config.m = 1;
+    config.starts[0] = config.starts[1] = output;
+    pm_part_new(&part, &config);
 }
 
 /* What goes wrong with the next transfer: something in two of five. */
 static fault next_fault(void) {
     if (transfers++ == 0)
-        restart();
+        make();
     if (transfers % RESTARTS_EACH == 0) {
-        restart();
+        pm_part_restart(&part);
         console_put("  (the part restarts)\n");
     }
     return draw(5) < 2 ? (fault)(1 + draw(6)) : NONE;
@@ -48,32 +50,32 @@ static void damage(uint8_t *bytes, unsigned count) {
 }
 
 /* The part hears what is left of a frame. */
-static uint8_t hear(const uint8_t *frame, unsigned count, fault wrong, uint8_t is_request, pm_reply *reply) {
+static uint8_t hear(const uint8_t *frame, unsigned count, fault wrong, uint8_t is_request, pm_part_reply *reply) {
     uint8_t left[16];
     memset(reply, 0, sizeof *reply);
     if (wrong == FRAME_LOST || count > sizeof left)
-        return PM_SILENT;
+        return PM_HEARD_SILENT;
     memcpy(left, frame, count);
     if (wrong == FRAME_CUT)
         count = draw(count);
     if (wrong == FRAME_DAMAGED)
         damage(left, count);
-    return pm_desk_hear(&part, left, count, is_request, reply);
+    return pm_part_hear(&part, left, count, is_request, reply);
 }
 
 uint8_t bus_write(const uint8_t *frame, unsigned count) {
     fault wrong = next_fault();
-    pm_reply reply;
+    pm_part_reply reply;
     if (wrong == FALSE_ACKNOWLEDGEMENT)
         return 1;
-    uint8_t is_taken = hear(frame, count, wrong, 0, &reply) == PM_TAKEN;
+    uint8_t is_taken = hear(frame, count, wrong, 0, &reply) == PM_HEARD_TAKEN;
     return wrong == ANSWER_LOST ? 0 : is_taken;
 }
 
 unsigned bus_read(const uint8_t *request, unsigned count, uint8_t *answer, unsigned wanted) {
     fault wrong = next_fault();
-    pm_reply reply;
-    if (hear(request, count, wrong, 1, &reply) != PM_ANSWERED || reply.length > wanted || wrong == ANSWER_LOST)
+    pm_part_reply reply;
+    if (hear(request, count, wrong, 1, &reply) != PM_HEARD_ANSWERED || reply.length > wanted || wrong == ANSWER_LOST)
         return 0;
     if (wrong == ANSWER_DAMAGED)
         damage(reply.bytes, reply.length);

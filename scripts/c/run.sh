@@ -1,12 +1,13 @@
 #!/usr/bin/env bash
-# Builds the static library of crates/pm_c and, with each compiler of this machine, the programs of
-# examples/c and examples/rust over it; runs them and compares what they write.
+# Builds the static libraries of crates/pm_c and crates/pm_part and, with each compiler of this machine, the programs of
+# examples/c and examples/rust over them; runs them and compares what they write.
 #
-#   scripts/c/run.sh [--archive FILE [--llvm FILE]] [JOBS]
+#   scripts/c/run.sh [--built FOLDER] [JOBS]
 #
-# JOBS is how many jobs both ends live through, 20000 if left out. With --archive that file is taken, with --llvm that
-# one as LLVM's, and nothing is built. Random calls of every export (scripts/c/same.c) over the archive of Rattle's own
-# compiler and over LLVM's answer and write the same. Programs of gcc and clang are run once more with their sanitizers, where they have them.
+# JOBS is how many jobs both ends live through, 20000 if left out. With --built the archives of that folder are taken,
+# and nothing is built: libpm_c.a and libpm_part.a of Rattle's own compiler, and llvm_pm_c.a and llvm_pm_part.a of LLVM, if
+# they are there. Random calls of every export (scripts/c/same.c) over the archives of Rattle's own compiler and over
+# LLVM's answer and write the same. Programs of gcc and clang are run once more with their sanitizers, where they have them.
 # The order over a Linux bus runs over a stand-in for the kernel, with all that a user or a bus does wrong, and
 # so does scripts/bus.py, if pmbhost is built or PMBHOST names one. The stack that the archive says it needs must
 # be what the header promises. Says a line for each program, what isn't on this machine, and last how many passed
@@ -14,20 +15,24 @@
 set -u
 case " $* " in *" --help "* | *" -h "*) sed -n '2,/^[^#]/s/^# \{0,1\}//p' "$0"; exit 0 ;; esac
 cd "$(dirname "$0")/../.."
-archive='' llvm=''
-if [ "${1-}" = --archive ]; then archive=$(realpath "$2"); shift 2; fi
-if [ "${1-}" = --llvm ]; then llvm=$(realpath "$2"); shift 2; fi
+built=''
+if [ "${1-}" = --built ]; then built=$(realpath "$2"); shift 2; fi
 jobs=${1-20000}
 folder=$(mktemp -d)
 trap 'rm -rf "$folder"' EXIT
-if [ -z "$archive" ]; then
-    (cd crates/pm_c && rt lib --backend llvm > "$folder/log" 2>&1) || { tail -20 "$folder/log"; exit 1; }
-    llvm=$folder/llvm.a
-    cp crates/pm_c/out/libpm_c.a "$llvm"
-    (cd crates/pm_c && rt lib --backend rattle > "$folder/log" 2>&1) || { tail -20 "$folder/log"; exit 1; }
-    grep -o 'frame-bytes=[0-9]* stack-bytes=[0-9]*' "$folder/log"
-    archive=$(realpath crates/pm_c/out/libpm_c.a)
+if [ -z "$built" ]; then
+    built=$folder/built
+    mkdir "$built"
+    for each in pm_c pm_part; do
+        (cd crates/$each && rt lib --backend llvm > "$folder/log" 2>&1) || { tail -20 "$folder/log"; exit 1; }
+        cp crates/$each/out/lib$each.a "$built/llvm_$each.a"
+        (cd crates/$each && rt lib --backend rattle > "$folder/log" 2>&1) || { tail -20 "$folder/log"; exit 1; }
+        echo "$each $(grep -o 'frame-bytes=[0-9]* stack-bytes=[0-9]*' "$folder/log")"
+        cp crates/$each/out/lib$each.a "$built/"
+    done
 fi
+archives=("$built/libpm_c.a" "$built/libpm_part.a") llvm=()
+[ -f "$built/llvm_pm_c.a" ] && [ -f "$built/llvm_pm_part.a" ] && llvm=("$built/llvm_pm_c.a" "$built/llvm_pm_part.a")
 passed=0 failed=0
 
 # told NAME STATUS: the line of a program, whose output is in $folder/out and wanted in $folder/wanted
@@ -42,9 +47,9 @@ told() {
 # bound OBJECT: the stack that it says it needs is at most what the header promises
 bound() {
     local most=PM_STACK needed promised
-    if nm "$1" | grep -q ' T pm_desk_'; then most=PM_DESK_STACK; fi
+    if nm "$1" | grep -q ' T pm_part_'; then most=PM_PART_STACK; fi
     needed=$(readelf -p .comment "$1" | grep -o 'stack-bytes=[0-9]*' | cut -d= -f2)
-    promised=$(sed -n "s/^#define $most \([0-9]*\)$/\1/p" crates/pm_c/include/pm.h)
+    promised=$(sed -n "s/^#define $most \([0-9]*\)$/\1/p" crates/pm_c/include/pm.h crates/pm_part/include/pm_part.h)
     if [ "${needed:-none}" != none ] && [ "$needed" -le "$promised" ]; then
         passed=$((passed + 1)); echo "$(basename "$1") stack: ok, $needed of $most, $promised"
     else
@@ -149,7 +154,7 @@ bus_script() {
     if ! command -v python3 > /dev/null || ! command -v gcc > /dev/null || ! command -v "$host" > /dev/null; then
         echo "scripts/bus.py: no python3, no gcc or no pmbhost here"; return
     fi
-    if ! gcc -O2 -Wall -Wextra -Werror -shared -fPIC -Icrates/pm_c/include scripts/c/preload.c "$archive" \
+    if ! gcc -O2 -Wall -Wextra -Werror -shared -fPIC $headers scripts/c/preload.c "${archives[@]}" \
         -o "$folder/preload.so" -ldl > "$folder/log" 2>&1; then
         told "scripts/bus.py" build; return
     fi
@@ -164,20 +169,23 @@ program() {
     while [ "$1" != -- ]; do sources+=("$1"); shift; done
     shift
     cp "$wanted" "$folder/wanted"; : > "$folder/out"
-    if ! $compiler -Icrates/pm_c/include "${sources[@]}" "$archive" -o "$folder/program" > "$folder/log" 2>&1; then
+    if ! $compiler $headers "${sources[@]}" "${archives[@]}" -o "$folder/program" > "$folder/log" 2>&1; then
         told "$name" build; return
     fi
     timeout 300 "$folder/program" "$@" > "$folder/out" 2> "$folder/log"
     told "$name" $?
 }
 
-size -t "$archive" | awk 'END {print "archive: " $1 " bytes of text"}'
 mkdir "$folder/objects"
-(cd "$folder/objects" && ar x "$archive")
+for each in "${archives[@]}"; do
+    size -t "$each" | awk -v name="$(basename "$each")" 'END {print name ": " $1 " bytes of text"}'
+    (cd "$folder/objects" && ar x "$each")
+done
+headers="-Icrates/pm_c/include -Icrates/pm_part/include"
 for object in "$folder"/objects/*; do bound "$object"; done
 host=${PMBHOST-$PWD/crates/pmbhost/out/pmbhost}
 bus_script
-[ -n "$llvm" ] || echo "LLVM's archive: give --llvm FILE to compare it too"
+[ ${#llvm[@]} != 0 ] || echo "LLVM's archives: --built FOLDER has none to compare"
 printf 'first' > "$folder/faults.wanted"
 printf 'first' > "$folder/same.wanted"
 wraps="-Wl,--wrap=open,--wrap=ioctl,--wrap=close"
@@ -199,17 +207,21 @@ for each in gcc clang g++ clang++; do
         program "$name order" examples/c/order.expected "$compiler" examples/c/order.c $rest -- 
         # All programs of both ends write one line, whoever compiled them.
         if [ "$(cat "$folder/faults.wanted")" = first ]; then
-            $compiler -Icrates/pm_c/include examples/c/faults.c $rest "$archive" -o "$folder/program" > "$folder/log" 2>&1
+            $compiler $headers examples/c/faults.c $rest "${archives[@]}" -o "$folder/program" > "$folder/log" 2>&1
             "$folder/program" "$jobs" > "$folder/faults.wanted" && cat "$folder/faults.wanted"
         fi
         program "$name both ends" "$folder/faults.wanted" "$compiler" examples/c/faults.c $rest -- "$jobs"
         # So do random calls over the archive of either compiler.
         if [ "$(cat "$folder/same.wanted")" = first ]; then
-            $compiler -Icrates/pm_c/include scripts/c/same.c $rest "$archive" -o "$folder/program" > "$folder/log" 2>&1
+            $compiler $headers scripts/c/same.c $rest "${archives[@]}" -o "$folder/program" > "$folder/log" 2>&1
             "$folder/program" 1 2 > "$folder/same.wanted" && cat "$folder/same.wanted"
         fi
         program "$name random calls" "$folder/same.wanted" "$compiler" scripts/c/same.c $rest -- 1 2
-        [ -z "$llvm" ] || archive=$llvm program "$name random calls, LLVM" "$folder/same.wanted" "$compiler" scripts/c/same.c $rest -- 1 2
+        if [ ${#llvm[@]} != 0 ]; then
+            kept=("${archives[@]}"); archives=("${llvm[@]}")
+            program "$name random calls, LLVM" "$folder/same.wanted" "$compiler" scripts/c/same.c $rest -- 1 2
+            archives=("${kept[@]}")
+        fi
         case $each in gcc | clang)
             bus_program "$name" "$compiler" ;;
         esac
@@ -217,7 +229,7 @@ for each in gcc clang g++ clang++; do
 done
 if command -v rustc > /dev/null; then
     cp examples/c/order.expected "$folder/wanted"; : > "$folder/out"
-    if rustc --edition 2024 -D warnings -A dead_code -O examples/rust/order.rs -C link-arg="$(realpath "$archive")" \
+    if rustc --edition 2024 -D warnings -A dead_code -O examples/rust/order.rs -C link-arg="${archives[0]}" \
         -o "$folder/program" > "$folder/log" 2>&1; then
         "$folder/program" > "$folder/out" 2> "$folder/log"; told "rustc order" $?
     else

@@ -6,6 +6,7 @@
  * A line for each seed: how many calls were made, were taken, and ended a job; how many exports were called; the sums;
  * and how many answers weren't widened with zeros, where the processor's calling convention asks that of the library. */
 #include "pm.h"
+#include "pm_part.h"
 #include <stdio.h>
 #include <stdlib.h>
 #include <string.h>
@@ -28,8 +29,8 @@ uint32_t wide_pec(const uint8_t *bytes, uint64_t count) __asm__("pm_pec");
 uint32_t wide_version(void) __asm__("pm_host_version");
 uint32_t wide_restart_seen(const pm_host *host) __asm__("pm_host_restart_seen");
 uint32_t wide_check(pm_host *host, uint8_t output, uint8_t code) __asm__("pm_host_check");
-uint32_t wide_hear(pm_desk *desk, const uint8_t *bytes, uint64_t count, uint8_t is_request, pm_reply *reply)
-    __asm__("pm_desk_hear");
+uint32_t wide_hear(pm_part *part, const uint8_t *bytes, uint64_t count, uint8_t is_request, pm_part_reply *reply)
+    __asm__("pm_part_hear");
 uint32_t wide_word(const pm_format *format, int64_t microvolts, uint16_t *word) __asm__("pm_nearest_word");
 #else
 #define WIDENED 0
@@ -37,26 +38,27 @@ uint32_t wide_word(const pm_format *format, int64_t microvolts, uint16_t *word) 
 #define wide_version pm_host_version
 #define wide_restart_seen pm_host_restart_seen
 #define wide_check pm_host_check
-#define wide_hear pm_desk_hear
+#define wide_hear pm_part_hear
 #define wide_word pm_nearest_word
 #endif
 
-enum { HOSTS = 4, HALVES = PM_HOST_SIZE / 2, GUARD = 4, ROOM = 320, EXPORTS = 28 };
+enum { HOSTS = 4, HALVES = PM_HOST_SIZE / 2, GUARD = 4, ROOM = 320, EXPORTS = 38 };
 
 /* Hosts at addresses of each kind that two bytes may have, with guards around them: the last is damaged. */
 static uint16_t memory[HOSTS][GUARD + HALVES + GUARD];
-static struct { uint16_t before[3]; pm_desk desk; uint16_t after[3]; } kept;
+static struct { uint16_t before[3]; pm_part part; uint16_t after[3]; } kept;
 static uint8_t room[ROOM];
 
 /* What calls write, with guards. */
 static struct {
-    uint8_t a[3]; pm_sending sending; uint8_t b; pm_reply reply; uint16_t c; pm_words words; uint16_t d; pm_standing standing;
+    uint8_t a[3]; pm_sending sending; uint8_t b; pm_part_reply reply; uint16_t c; pm_words words; uint16_t d; pm_standing standing;
     uint16_t e; pm_format format; uint16_t f; pm_packet packet; uint16_t g; uint16_t word; uint16_t h[4]; int64_t microvolts;
     uint16_t i[4];
 } out;
 
 static uint64_t seed;
-static uint32_t sum, turned, calls, taken, ends, narrow, called;
+static uint32_t sum, turned, calls, taken, ends, narrow;
+static uint64_t called;
 
 static uint32_t draw(uint32_t below) {
     seed ^= seed << 13;
@@ -95,7 +97,7 @@ static pm_host *host_at(unsigned number) {
 static uint32_t heard(unsigned which, uint32_t answer, uint32_t most) {
     calls++;
     taken += answer == 0;
-    called |= 1u << which;
+    called |= (uint64_t)1 << which;
     narrow += answer > most;
     add(which << 24 ^ answer);
     return answer & most;
@@ -162,25 +164,29 @@ static void damage(uint8_t *bytes, unsigned count) {
     }
 }
 
-/* A converter: most times a sound one. */
-static void new_desk(void) {
+/* A part: most times of a sound configuration. */
+static void new_part(void) {
     static const uint8_t modes[] = {0x14, 0x17, 0x40, 0x1F, 0x0C};
-    uint8_t *bytes = (uint8_t *)&kept.desk;
-    for (unsigned i = 0; i < sizeof kept.desk; i++)
+    pm_part_config config;
+    uint8_t *bytes = (uint8_t *)&config;
+    for (unsigned i = 0; i < sizeof config; i++)
         bytes[i] = (uint8_t)draw(256);
-    kept.desk.address = 0x58;
-    kept.desk.outputs = (uint8_t)(1 + draw(4));
-    kept.desk.r = (int8_t)((int)draw(7) - 3);
-    kept.desk.m = (int16_t)(1 + draw(300));
-    kept.desk.protect = 0;
+    config.address = 0x58;
+    config.outputs = (uint8_t)(1 + draw(4));
+    config.r = (int8_t)((int)draw(7) - 3);
+    config.m = (int16_t)(1 + draw(300));
+    config.protect = 0;
     for (unsigned i = 0; i < 8; i++) {
-        pm_output *output = &kept.desk.words[i];
+        pm_part_output *output = &config.starts[i];
         output->mode = modes[draw(sizeof modes)];
         output->operation = 0x80;
         output->command = draw_word();
     }
     if (draw(8) == 0)
-        damage(bytes, sizeof kept.desk);
+        damage(bytes, sizeof config);
+    heard(24, pm_part_new(&kept.part, &config), 255);
+    if (draw(8) == 0)
+        damage((uint8_t *)&kept.part, sizeof kept.part);
 }
 
 static void new_host(unsigned number) {
@@ -215,7 +221,7 @@ static unsigned hear(const uint8_t *bytes, unsigned count, unsigned is_request) 
         damage(at, count);
     if (draw(12) == 0)
         count = draw(count + 3);
-    unsigned answer = heard(8, wide_hear(&kept.desk, at, count, (uint8_t)(is_request ? 1 + draw(255) : 0), &out.reply), 255);
+    unsigned answer = heard(8, wide_hear(&kept.part, at, count, (uint8_t)(is_request ? 1 + draw(255) : 0), &out.reply), 255);
     wrote(&out.reply, sizeof out.reply);
     add_halves((const uint16_t *)&kept, sizeof kept / 2);
     return answer;
@@ -237,7 +243,7 @@ static void exchange(pm_host *host) {
         is_request = !is_request;
     unsigned answer = fate == 1 ? 0 : hear(out.sending.bytes, count, is_request);
     if (!is_request) {
-        told(10, pm_host_finished(host, (uint8_t)(fate == 2 ? draw(256) : answer == PM_TAKEN ? 1 + draw(255) : 0)));
+        told(10, pm_host_finished(host, (uint8_t)(fate == 2 ? draw(256) : answer == PM_HEARD_TAKEN ? 1 + draw(255) : 0)));
         return;
     }
     uint8_t *at = room + draw(4);
@@ -298,18 +304,30 @@ static void packets(void) {
     add_bytes(&out, sizeof out);
 }
 
-static void desks(void) {
-    uint8_t output = draw_output(), code = draw_code();
+static void parts(void) {
+    uint8_t output = draw_output(), code = draw_code(), small = (uint8_t)draw(256);
     unsigned count = draw(ROOM - 4), is_request = draw(2);
+    pm_part *part = &kept.part;
     memset(&out, (int)draw(256), sizeof out);
-    switch (draw(8)) {
-    case 0: new_desk(); break;
-    case 1: heard(24, (uint32_t)pm_desk_size() ^ (uint32_t)(pm_desk_size() >> 32), UINT32_MAX); break;
+    switch (draw(16)) {
+    case 0: new_part(); break;
+    case 1: heard(25, (uint32_t)pm_part_size() ^ (uint32_t)(pm_part_size() >> 32), UINT32_MAX); break;
     case 2: hear(room, count, is_request); break;
-    case 3: case 4: heard(25, pm_desk_commanded(&kept.desk, output, &out.microvolts), 255); break;
-    default: heard(26, pm_desk_word(&kept.desk, output, code, &out.word), 255); break;
+    case 3: case 4: heard(26, pm_part_commanded(part, output, &out.microvolts), 255); break;
+    case 5: heard(28, pm_part_stored(part, output, code, &out.word), 255); break;
+    case 6: heard(29, pm_part_page(part, &small), 255); break;
+    case 7: heard(30, pm_part_is_on(part, output, &small), 255); break;
+    case 8: heard(31, pm_part_status_byte(part, output, &small), 255); break;
+    case 9: heard(32, pm_part_status_word(part, output, &out.word), 255); break;
+    case 10: heard(33, pm_part_status_vout(part, output, &small), 255); break;
+    case 11: heard(34, pm_part_status_cml(part, &small), 255); break;
+    case 12: heard(35, pm_part_restart(part), 255); break;
+    case 13: heard(36, pm_part_set_reading(part, output, (uint8_t)(draw(4) ? 0x88 + draw(6) : draw(256)), draw_word()), 255); break;
+    default: heard(37, pm_part_word(part, output, code, &out.word), 255); break;
     }
+    add(small);
     add_bytes(&out, sizeof out);
+    add_halves((const uint16_t *)&kept, sizeof kept / 2);
 }
 
 /* The last host's memory is damaged, or made of any bytes whatever. */
@@ -343,7 +361,7 @@ static void step(void) {
     else if (kind < 88)
         packets();
     else if (kind < 98)
-        desks();
+        parts();
     else
         damage_host();
     if (kind < 56 || draw(8) == 0)
@@ -361,12 +379,12 @@ static int life(unsigned number, uint32_t steps) {
     memset(memory, 0, sizeof memory);
     memset(&kept, 0, sizeof kept);
     memset(&out, 0, sizeof out);
-    new_desk();
+    new_part();
     for (uint32_t i = 0; i < steps; i++)
         step();
     unsigned exports = 0;
     for (unsigned i = 0; i < EXPORTS; i++)
-        exports += called >> i & 1;
+        exports += (unsigned)(called >> i & 1);
     printf("seed %u: %u calls of %u exports, %u taken, %u ends, %08X %08X, %u not widened\n", number, (unsigned)calls, exports,
            (unsigned)taken, (unsigned)ends, (unsigned)sum, (unsigned)turned, (unsigned)narrow);
     return exports != EXPORTS || narrow != 0 || ends == 0;

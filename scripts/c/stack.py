@@ -5,8 +5,8 @@
 
 MODULE is the library's module as text, after all passes over it, and FRAMES what -fstack-usage wrote of its compilation.
 BYTES is what a call itself takes beside the frames: 8 on x86-64, where it leaves a return address; 0 if left out. It
-prints the most of the calls of a host, numbers and packets, and the most of those of a desk. What the functions of the C
-library take that a processor's compiler calls (memcpy, a division) isn't in it. A cycle of calls, a frame that isn't
+prints the most of the library's calls. What the functions of the C library take that a processor's compiler calls
+(memcpy, a division) isn't in it. A cycle of calls, a frame that isn't
 fixed and a function with no frame are refused.
 """
 import re
@@ -58,9 +58,7 @@ def main():
         sys.exit("stack.py: give MODULE FRAMES [BYTES]; --help says more")
     frames, (calls, exports) = read_frames(sys.argv[2]), read_calls(sys.argv[1])
     each = int(sys.argv[3]) if len(sys.argv) > 3 else 0
-    host = max(deepest(it, calls, frames, each) for it in exports if not it.startswith("pm_desk_"))
-    desk = max(deepest(it, calls, frames, each) for it in exports if it.startswith("pm_desk_"))
-    print(host, desk)
+    print(max(deepest(it, calls, frames, each) for it in exports))
 
 
 main()

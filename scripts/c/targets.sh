@@ -1,15 +1,15 @@
 #!/usr/bin/env bash
-# Builds the static library of crates/pm_c for each processor that it is tried on, with its programs; runs these under
-# emulators, compares what they write byte for byte with x86-64's, and prints a table.
+# Builds the static libraries of crates/pm_c and crates/pm_part for each processor that they are tried on, with their
+# programs; runs these under emulators, compares what they write byte for byte with x86-64's, and prints a table.
 #
 #   scripts/c/targets.sh [--out FOLDER] [--built FOLDER] [--seeds N] [TARGET ..]
 #
 # TARGET is a name of the table; all if left out. The programs are an order and both ends under faults (examples/c), the
 # firmware (examples/firmware), and N seeds of scripts/c/same.c, 11 if left out. With --out, FOLDER gets for each target
-# an archive, the header and a line of facts. With --built the archives and modules of the toolchain are kept in a FOLDER,
-# and taken from there where it has them: else each call proves the library and builds it, four times.
+# the archives, the headers and a line of facts. With --built the archives and modules of the toolchain are kept in a FOLDER,
+# and taken from there where it has them: else each call proves both libraries and builds them, four times.
 #
-# What the library is on other processors than x86-64, aarch64 Linux and wasm64 is tested, not proved. Says a line for
+# What a library is on other processors than x86-64, aarch64 Linux and wasm64 is tested, not proved. Says a line for
 # each comparison, what isn't on this machine, and last how many passed and failed.
 set -u
 case " $* " in *" --help "* | *" -h "*) sed -n '2,/^[^#]/s/^# \{0,1\}//p' "$0"; exit 0 ;; esac
@@ -57,40 +57,45 @@ END
     chmod +x "$folder/kit/toolchain/bin/clang"
 }
 
-# prove NAME WORDS ..: the archive that the toolchain builds, with its module, where it isn't there yet
+# prove NAME WORDS ..: the archives that the toolchain builds, with their modules, where they aren't there yet; what is the
+# part's is NAME.part
 prove() {
-    local name=$1; shift
-    [ -f "$built/$name.a" ] && return
-    [ -d "$folder/kit" ] || mirror
-    rm -f "$folder"/module.*
-    if ! (cd crates/pm_c && "$folder/kit/bin/rt" lib "$@") > "$folder/log" 2>&1; then
-        tail -5 "$folder/log"; echo "targets.sh: the library isn't built for $name" >&2; exit 1
-    fi
-    if [ -f "$folder/module.bc" ]; then
-        cp "$folder/module.bc" "$built/$name.bc"
-        cp "$folder/module.words" "$built/$name.words"
-    fi
-    cp crates/pm_c/out/libpm_c.a "$built/$name.a"
+    local name=$1 crate kept; shift
+    for crate in pm_c pm_part; do
+        kept=$built/$name; [ $crate = pm_part ] && kept=$kept.part
+        [ -f "$kept.a" ] && continue
+        [ -d "$folder/kit" ] || mirror
+        rm -f "$folder"/module.bc "$folder"/module.words
+        if ! (cd crates/$crate && "$folder/kit/bin/rt" lib "$@") > "$folder/log" 2>&1; then
+            tail -5 "$folder/log"; echo "targets.sh: $crate isn't built for $name" >&2; exit 1
+        fi
+        if [ -f "$folder/module.bc" ]; then
+            cp "$folder/module.bc" "$kept.bc"
+            cp "$folder/module.words" "$kept.words"
+        fi
+        cp crates/$crate/out/lib$crate.a "$kept.a"
+    done
 }
 
-# compile NAME: the module after all passes, the archive and the frames, all as text beside the archive
+# compile NAME PART: the module after all passes, the archive and the frames, all as text beside the archive; PART is
+# empty, or .part
 compile() {
-    local name=$1 words=() module
+    local name=$1 of=$1$2 words=() module
     if [ "${class[$name]}" = kit ]; then
-        cp "$built/$name.a" "$folder/$name.a"
-        [ -f "$built/$name.bc" ] || return 0
-        module=$folder/$name.bc; cp "$built/$name.bc" "$module"
-        mapfile -t words < <(grep -vxE -- '-c|-o|-Werror|--sysroot=.*|.*\.(bc|ll|o|s)' "$built/$name.words")
+        cp "$built/$of.a" "$folder/$of.a"
+        [ -f "$built/$of.bc" ] || return 0
+        module=$folder/$of.bc; cp "$built/$of.bc" "$module"
+        mapfile -t words < <(grep -vxE -- '-c|-o|-Werror|--sysroot=.*|.*\.(bc|ll|o|s)' "$built/$of.words")
     else
-        module=$folder/$name.ll
+        module=$folder/$of.ll
         read -ra words <<< "${flags[$name]} $plain"
-        echo 'int x;' | $clang "${words[@]}" -x c - -S -emit-llvm -o "$folder/$name.like" &&
-            scripts/c/retarget.py --like "$folder/$name.like" --pointer "${pointer[$name]}" "$folder/module.text" "$module" || return 1
+        echo 'int x;' | $clang "${words[@]}" -x c - -S -emit-llvm -o "$folder/$of.like" &&
+            scripts/c/retarget.py --like "$folder/$of.like" --pointer "${pointer[$name]}" "$folder/module$2.text" "$module" || return 1
         words+=(-x ir)
     fi
-    $clang "${words[@]}" "$module" -S -emit-llvm -o "$folder/$name.passed" &&
-        $clang "${words[@]}" "$module" -c -fstack-usage -o "$folder/$name.o" || return 1
-    [ "${class[$name]}" = kit ] || "$kit/toolchain/bin/llvm-ar" rcs "$folder/$name.a" "$folder/$name.o"
+    $clang "${words[@]}" "$module" -S -emit-llvm -o "$folder/$of.passed" &&
+        $clang "${words[@]}" "$module" -c -fstack-usage -o "$folder/$of.o" || return 1
+    [ "${class[$name]}" = kit ] || "$kit/toolchain/bin/llvm-ar" rcs "$folder/$of.a" "$folder/$of.o"
 }
 
 # compared NAME WHAT FILE WANTED STATUS: a line for one output
@@ -127,9 +132,18 @@ instructions() {
     echo $(((count[1] - count[0]) / 10))
 }
 
-# measured NAME: text of the archive, flash of an order alone, stack of a host's and of a desk's call, instructions
+# deepest NAME: the stack of a call, by the frames, or as the archive says of itself
+deepest() {
+    if [ -f "$folder/$1.passed" ]; then
+        scripts/c/stack.py "$folder/$1.passed" "$folder/$1.su" "${call[${1%.part}]-0}" 2>&1
+    else
+        readelf -p .comment "$folder/$1.a" | grep -o 'stack-bytes=[0-9]*' | cut -d= -f2 | sort -n | tail -1
+    fi
+}
+
+# measured NAME: text of the host's archive, flash of an order alone, stack of a host's and of a part's call, instructions
 measured() {
-    local name=$1 text order=- stack="- -"
+    local name=$1 text order=-
     text=$(size -t "$folder/$name.a" 2> /dev/null | awk 'END {print $1}')
     case $name in wasm*) text=$(wc -c < "$folder/$name.o") ;; esac
     if [ -n "${linker[$name]}" ] && [ -f "$folder/$name.passed" ]; then
@@ -137,32 +151,28 @@ measured() {
             -u pm_host_standing "$folder/$name.a" -o "$folder/$name.alone" 2> /dev/null &&
             order=$(size "$folder/$name.alone" | awk 'END {print $1}')
     fi
-    if [ -f "$folder/$name.passed" ]; then
-        stack=$(scripts/c/stack.py "$folder/$name.passed" "$folder/$name.su" "${call[$name]-0}" 2>&1)
-    else
-        stack="- $(readelf -p .comment "$folder/$name.a" | grep -o 'stack-bytes=[0-9]*' | cut -d= -f2 | sort -n | tail -1)"
-    fi
-    echo "$text $order $stack $(instructions "$name")"
+    echo "$text $order $(deepest "$name") $(deepest "$name.part") $(instructions "$name")"
 }
 
 # within NAME: the stack is at most what the header promises
 within() {
-    local host desk most=() each
-    read -r _ _ host desk _ < "$folder/$1.measured"
-    for each in PM_STACK PM_DESK_STACK; do
-        most+=("$(sed -n "s/^#define $each \([0-9]*\)$/\1/p" crates/pm_c/include/pm.h)")
+    local host part most=() each
+    read -r _ _ host part _ < "$folder/$1.measured"
+    for each in PM_STACK PM_PART_STACK; do
+        most+=("$(sed -n "s/^#define $each \([0-9]*\)$/\1/p" crates/pm_c/include/pm.h crates/pm_part/include/pm_part.h)")
     done
-    if [ "${host/#-/0}" -le "${most[0]}" ] 2> /dev/null && [ "$desk" -le "${most[1]}" ] 2> /dev/null; then
+    if [ "$host" -le "${most[0]}" ] 2> /dev/null && [ "$part" -le "${most[1]}" ] 2> /dev/null; then
         echo "$1 stack: ok"
     else
-        echo "$1 stack: FAILED, $host of ${most[0]} and $desk of ${most[1]}"
+        echo "$1 stack: FAILED, $host of ${most[0]} and $part of ${most[1]}"
     fi
 }
 
 # target NAME: all of one target, its lines on standard output
 target() {
     local name=$1
-    compile "$name" > "$folder/$name.log" 2>&1 || { echo "$name build: FAILED"; head -4 "$folder/$name.log"; return; }
+    { compile "$name" "" && compile "$name" .part; } > "$folder/$name.log" 2>&1 ||
+        { echo "$name build: FAILED"; head -4 "$folder/$name.log"; return; }
     program "$name" order examples/c/order.expected "" examples/c/order.c
     program "$name" faults "$folder/faults.wanted" "" examples/c/faults.c
     program "$name" firmware examples/firmware/console.expected "" examples/firmware/main.c examples/firmware/simulated_bus.c
@@ -171,27 +181,29 @@ target() {
     within "$name"
 }
 
-# leave NAME: the archive, the header and the line of facts
+# leave NAME: the archives, the headers and the line of facts
 leave() {
-    local name=$1 text order host desk orders
-    read -r text order host desk orders < "$folder/$name.measured"
+    local name=$1 text order host part orders
+    read -r text order host part orders < "$folder/$name.measured"
     mkdir -p "$out/$name"
     cp "$folder/$name.a" "$out/$name/libpm_c.a"
-    cp crates/pm_c/include/pm.h "$out/$name/"
+    cp "$folder/$name.part.a" "$out/$name/libpm_part.a"
+    cp crates/pm_c/include/pm.h crates/pm_part/include/pm_part.h "$out/$name/"
     echo "commit=$(git rev-parse HEAD) toolchain=$(rt version | tr ' ' '-') target=$name proof=${class[$name]} flags=$(tr ' ' ',' <<< "${flags[$name]}")" \
-        "text=$text order=$order stack-host=$host stack-desk=$desk instructions=$orders sha256=$(sha256sum "$folder/$name.a" | cut -d' ' -f1)" \
+        "text=$text order=$order stack-host=$host stack-part=$part instructions=$orders sha256=$(sha256sum "$folder/$name.a" | cut -d' ' -f1)" \
+        "sha256-part=$(sha256sum "$folder/$name.part.a" | cut -d' ' -f1)" \
         > "$out/$name/facts"
 }
 
 # table: what the page shows
 table() {
-    local name text order host desk orders
-    echo "| target | how | archive, bytes | an order alone | stack of a host's call | of a desk's | instructions of an order |"
+    local name text order host part orders
+    echo "| target | how | host's archive, bytes | an order alone | stack of a host's call | of a part's | instructions of an order |"
     echo "|---|---|---|---|---|---|---|"
     for name in $names; do
         [ -f "$folder/$name.measured" ] || continue
-        read -r text order host desk orders < "$folder/$name.measured"
-        echo "| ${title[$name]} | ${meaning[${class[$name]}]} | $text | $order | $host | $desk | $orders |"
+        read -r text order host part orders < "$folder/$name.measured"
+        echo "| ${title[$name]} | ${meaning[${class[$name]}]} | $text | $order | $host | $part | $orders |"
     done
 }
 
@@ -199,7 +211,9 @@ prove x86-64-llvm
 prove aarch64-linux --target aarch64-unknown-linux-gnu
 prove wasm64 --target wasm64-unknown-unknown
 prove x86-64 --backend rattle
-$clang -x ir "$built/x86-64-llvm.bc" -S -emit-llvm -Xclang -disable-llvm-passes -o "$folder/module.text" 2> /dev/null
+for each in "" .part; do
+    $clang -x ir "$built/x86-64-llvm$each.bc" -S -emit-llvm -Xclang -disable-llvm-passes -o "$folder/module$each.text" 2> /dev/null
+done
 target x86-64 > "$folder/x86-64.said"
 wanted_targets=()
 for each in $names; do

@@ -46,25 +46,25 @@ lacks() {
     done
 }
 picolibc=/usr/lib/picolibc/riscv64-unknown-elf/picolibc.specs
-warn="-Wall -Wextra -Werror -Icrates/pm_c/include -Iexamples/firmware"
+warn="-Wall -Wextra -Werror -Icrates/pm_c/include -Icrates/pm_part/include -Iexamples/firmware"
 bare=scripts/c/bare
 
-# link NAME PROGRAM FLAGS SOURCES ..: a program over the target's archive
+# link NAME PROGRAM FLAGS SOURCES ..: a program over the target's archives
 link() {
-    local name=$1 program=$2 more=$3 archive=$folder/$1.a; shift 3
+    local name=$1 program=$2 more=$3 archives=("$folder/$1.a" "$folder/$1.part.a"); shift 3
     case $name in
-        x86-64*) gcc -O2 -static $warn $more "$@" $(hosted "$@") "$archive" -o "$program" ;;
-        aarch64-linux) aarch64-linux-gnu-gcc -O2 -static $warn $more "$@" $(hosted "$@") "$archive" -o "$program" ;;
-        riscv64-linux) riscv64-linux-gnu-gcc -O2 -static $warn $more "$@" $(hosted "$@") "$archive" -o "$program" ;;
-        arm-linux) arm-linux-gnueabihf-gcc -O2 -static $warn $more "$@" $(hosted "$@") "$archive" -o "$program" ;;
+        x86-64*) gcc -O2 -static $warn $more "$@" $(hosted "$@") "${archives[@]}" -o "$program" ;;
+        aarch64-linux) aarch64-linux-gnu-gcc -O2 -static $warn $more "$@" $(hosted "$@") "${archives[@]}" -o "$program" ;;
+        riscv64-linux) riscv64-linux-gnu-gcc -O2 -static $warn $more "$@" $(hosted "$@") "${archives[@]}" -o "$program" ;;
+        arm-linux) arm-linux-gnueabihf-gcc -O2 -static $warn $more "$@" $(hosted "$@") "${archives[@]}" -o "$program" ;;
         cortex-m*) arm-none-eabi-gcc $(core "$name") $warn -Os -ffunction-sections -nostartfiles -Wl,--gc-sections $more \
-            -T examples/firmware/cortex_m.ld "$@" examples/firmware/cortex_m.c $bare/bare.c "$archive" -o "$program" ;;
+            -T examples/firmware/cortex_m.ld "$@" examples/firmware/cortex_m.c $bare/bare.c "${archives[@]}" -o "$program" ;;
         rv32imac) riscv64-unknown-elf-gcc --specs=$picolibc -march=rv32imac -mabi=ilp32 $warn -Os -ffunction-sections -nostartfiles \
-            -Wl,--gc-sections $more -T examples/firmware/rv32.ld "$@" examples/firmware/rv32.c $bare/bare.c "$archive" -o "$program" ;;
+            -Wl,--gc-sections $more -T examples/firmware/rv32.ld "$@" examples/firmware/rv32.c $bare/bare.c "${archives[@]}" -o "$program" ;;
         aarch64-none) aarch64-linux-gnu-gcc -march=armv8-a+nofp+nosimd -mgeneral-regs-only -mstrict-align -Os -ffreestanding -nostdinc \
             -I$bare/include $warn -fno-stack-protector -fno-pic -no-pie -static -nostdlib -DBARE_MEMORY $more -T $bare/aarch64.ld "$@" \
-            $bare/aarch64.c $bare/bare.c "$archive" -o "$program" ;;
-        wasm*) link_wasm "$name" "$program" "$archive" "$more" "$@" ;;
+            $bare/aarch64.c $bare/bare.c "${archives[@]}" -o "$program" ;;
+        wasm*) link_wasm "$name" "$program" "$more" "$@" ;;
     esac
 }
 
@@ -81,14 +81,17 @@ core() {
     esac
 }
 
-# link_wasm NAME PROGRAM ARCHIVE FLAGS SOURCES ..: by the toolchain's own clang and linker. The archive for wasm64 can be
-# linked by the toolchain alone: there it is a module of its own, with the memory, of which the program has the upper half.
+# link_wasm NAME PROGRAM FLAGS SOURCES ..: by the toolchain's own clang and linker. The archives for wasm64 can be linked by
+# the toolchain alone: there they are one module of their own, with the memory, of which the program has the upper half.
 link_wasm() {
-    local name=$1 program=$2 archive=$3 more=$4 each objects=() steps=; shift 4
-    local size=1048576 words=("$archive")
+    local name=$1 program=$2 more=$3 each objects=() steps=; shift 3
+    local size=1048576 words=("$folder/$name.a" "$folder/$name.part.a")
     if [ "$name" = wasm64 ]; then
+        rm -rf "$program.objects" "$program.both.a"; mkdir "$program.objects"
+        for each in "${words[@]}"; do (cd "$program.objects" && "$kit/toolchain/bin/llvm-ar" x "$each") || return 1; done
+        "$kit/toolchain/bin/llvm-ar" rcs "$program.both.a" "$program.objects"/* || return 1
         "$kit/bin/rattle-link" --target wasm64-unknown-unknown --toolchain "$kit/toolchain" --memory $size --stack 65536 \
-            -o "$program.library" "$archive" || return 1
+            -o "$program.library" "$program.both.a" || return 1
         words=(--import-memory --initial-memory=$size --max-memory=$size --global-base=$((size / 2)) --no-stack-first --import-undefined)
     fi
     [ "$name" = wasm32 ] && steps="-Dpm_host_finished=step_of_finished -Dpm_host_got=step_of_got"

@@ -9,7 +9,7 @@
 # bits by itself, so pm_pec is made to answer twice its answer first, which does: widened it is only another answer.
 set -u
 case " $* " in *" --help "* | *" -h "*) sed -n '2,/^[^#]/s/^# \{0,1\}//p' "$0"; exit 0 ;; esac
-[ -f "${1-}/x86-64.a" ] && [ -f "$1/x86-64-llvm.bc" ] || { echo "try_same.sh: give the folder that targets.sh --built left" >&2; exit 2; }
+[ -f "${1-}/x86-64.part.a" ] && [ -f "$1/x86-64-llvm.part.bc" ] || { echo "try_same.sh: give the folder that targets.sh --built left" >&2; exit 2; }
 built=$(realpath "$1")
 cd "$(dirname "$0")/../.."
 . scripts/c/targets_of.sh
@@ -36,7 +36,7 @@ line() {
         python3 -B "$folder/retarget.py" --like "$folder/like" --pointer "${pointer[$name]}" "$folder/planted.text" "$folder/module.ll" &&
         "$clang" "${words[@]}" -x ir "$folder/module.ll" -c -o "$folder/$name.o" &&
         rm -f "$folder/$name.a" && "$kit/toolchain/bin/llvm-ar" rcs "$folder/$name.a" "$folder/$name.o" || { echo build; return; }
-    warn="-I$folder/include -Iexamples/firmware"
+    warn="-I$folder/include -Icrates/pm_part/include -Iexamples/firmware"
     link "$name" "$folder/$name.run" -DSTEPS=20000 scripts/c/same.c > "$folder/log" 2>&1 || { echo build; return; }
     run "$name" "$folder/$name.run" 2>&1 < /dev/null | tail -1
 }
@@ -46,13 +46,24 @@ says() {
     if [ "$3" = 0 ]; then passed=$((passed + 1)); echo "$1 $2: ok"; else failed=$((failed + 1)); echo "$1 $2: FAILED"; fi
 }
 
+# part NAME: the archive of the part, in which nothing is planted
+part() {
+    local name=$1 words; read -ra words <<< "${flags[$name]} $plain"
+    echo 'int x;' | "$clang" "${words[@]}" -x c - -S -emit-llvm -o "$folder/like" &&
+        scripts/c/retarget.py --like "$folder/like" --pointer "${pointer[$name]}" "$folder/part.text" "$folder/part.ll" &&
+        "$clang" "${words[@]}" -x ir "$folder/part.ll" -c -o "$folder/$name.part.o" &&
+        "$kit/toolchain/bin/llvm-ar" rcs "$folder/$name.part.a" "$folder/$name.part.o"
+}
+
 "$clang" -x ir "$built/x86-64-llvm.bc" -S -emit-llvm -Xclang -disable-llvm-passes -o "$folder/module.text" 2> /dev/null
-cp "$built/x86-64.a" "$folder/"
+"$clang" -x ir "$built/x86-64-llvm.part.bc" -S -emit-llvm -Xclang -disable-llvm-passes -o "$folder/part.text" 2> /dev/null
+cp "$built/x86-64.a" "$built/x86-64.part.a" "$folder/"
 link x86-64 "$folder/wanted.run" -DSTEPS=20000 scripts/c/same.c
 wanted=$("$folder/wanted.run")
 for name in cortex-m4 rv32imac; do
     lacking=$(lacks "$name")
     if [ -n "$lacking" ]; then echo "$name: not on this machine: $lacking"; continue; fi
+    part $name || { echo "$name: FAILED, the part isn't built"; failed=$((failed + 1)); continue; }
     [ "$(line $name nothing)" = "$wanted" ]; says $name nothing $?
     for planted in struct count; do
         found=$(line $name $planted)

@@ -5,7 +5,7 @@
 #   scripts/linux/build.sh CACHE
 #
 # CACHE is a folder outside of the repository, which gets 2 GB: source, kernel, modules. Some five minutes the first
-# time, on two cores; JOBS=4 takes four. ARCHIVE names another libpm_c.a than crates/pm_c/out/libpm_c.a.
+# time, on two cores; JOBS=4 takes four. PART names another libpm_part.a than crates/pm_part/out/libpm_part.a.
 # Packages of Debian 12: linux-source-6.1 flex bison bc gcc make xz-utils.
 set -u
 case " $* " in *" --help "* | *" -h "*) sed -n '2,/^[^#]/s/^# \{0,1\}//p' "$0"; exit 0 ;; esac
@@ -45,10 +45,10 @@ for each in "$here"/modules/*; do
     cmp -s "$each" "$cache/modules/$(basename "$each")" || cp "$each" "$cache/modules/"
 done
 quiet make -C "$source" O="$kernel" M="$cache/modules" modules
-archive=${ARCHIVE-$root/crates/pm_c/out/libpm_c.a}
+part=${PART-$root/crates/pm_part/out/libpm_part.a}
 rm -f "$cache/libpm.so"
-if [ -f "$archive" ]; then
-    quiet gcc -shared -Wl,--whole-archive "$archive" -Wl,--no-whole-archive -o "$cache/libpm.so"
+if [ -f "$part" ]; then
+    quiet gcc -shared -Wl,--whole-archive "$part" -Wl,--no-whole-archive -o "$cache/libpm.so"
 fi
 echo "kernel $(make -s -C "$source" O="$kernel" kernelrelease), $(find "$cache/modules" -name '*.ko' | wc -l) modules," \
-    "$([ -f "$cache/libpm.so" ] && echo "the C library" || echo "no C library")"
+    "$([ -f "$cache/libpm.so" ] && echo "the part" || echo "no part")"

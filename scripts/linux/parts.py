@@ -1,11 +1,11 @@
 """The parts that stand behind the buses of the bench, each as a part of fake_i2c: it hears a frame and answers the
 bytes of an answer, [] where a write is acknowledged, None where the part doesn't acknowledge.
 
-    proved      the converter of the C library, which is proved (crates/pm_c): it has no store and no PAGE
+    proved      the part of the C library, which is proved (crates/pm_part)
     modes A B   the same with these VOUT_MODEs, as 14 40
     row N       the part of row N of bus_rows.JOBS; what it doesn't do by itself is done by the proved converter
-    plain       the plain model (scripts/plain), which also stands in where there is no library, a row wants a store, or a
-                format that the converter refuses
+    plain       the plain model (scripts/plain), which also stands in where there is no library, or a format that the
+                part refuses
     ltc2972     the plain model with the registers that the kernel's driver of this name asks for
 """
 import collections.abc
@@ -20,78 +20,82 @@ from plain.packets import TABLE, name_of, pec
 
 SILENT, TAKEN, ANSWERED = 0x81, 0x82, 0x83
 MOST_PAST = 200
-# Rows with one of these words want a store, which the converter of the C library doesn't have.
-STORES = {"store", "restore"}
 
 
 class Output(ctypes.Structure):
-    """pm_output of pm.h."""
+    """pm_part_output of pm_part.h."""
     _fields_ = [("mode", ctypes.c_uint8), ("unused", ctypes.c_uint8)]
     _fields_ += [(name_of(code), ctypes.c_uint16) for code in REGISTERS]
 
 
-class Desk(ctypes.Structure):
-    """pm_desk of pm.h."""
+class Config(ctypes.Structure):
+    """pm_part_config of pm_part.h."""
     _fields_ = [("address", ctypes.c_uint8), ("outputs", ctypes.c_uint8), ("r", ctypes.c_int8), ("unused", ctypes.c_uint8),
-                ("m", ctypes.c_int16), ("b", ctypes.c_int16), ("protect", ctypes.c_uint16), ("words", Output * 8)]
+                ("m", ctypes.c_int16), ("b", ctypes.c_int16), ("protect", ctypes.c_uint16), ("starts", Output * 8)]
 
 
 class Reply(ctypes.Structure):
-    """pm_reply of pm.h."""
+    """pm_part_reply of pm_part.h."""
     _fields_ = [("length", ctypes.c_uint8), ("unused", ctypes.c_uint8), ("bytes", ctypes.c_uint8 * 16)]
 
 
 class Cells(collections.abc.MutableMapping):
-    """The words of a desk's cells, as those of the plain model stand in a dictionary."""
+    """The words of a part's cells, as those of the plain model stand in a dictionary: a cell is set by a write."""
 
-    def __init__(self, desk):
-        self.desk = desk
+    def __init__(self, part):
+        self.part = part
 
     def __getitem__(self, cell):
-        return self.desk.protect if cell == PROTECT else getattr(self.desk.words[cell[0]], name_of(cell[1]))
+        word = ctypes.c_uint16()
+        self.part.library.pm_part_word(self.part.memory, cell[0] or 0, cell[1], ctypes.byref(word))
+        return word.value
 
     def __setitem__(self, cell, word):
-        if cell == PROTECT:
-            self.desk.protect = word
-        else:
-            setattr(self.desk.words[cell[0]], name_of(cell[1]), word)
+        carried = [word & 0xFF] if cell[1] in (0x01, 0x10) else [word & 0xFF, word >> 8]
+        head = [2 * self.part.address, 0x10] if cell == PROTECT else [2 * self.part.address, 0x05, 2 + len(carried), *cell]
+        self.part.hear([*head, *carried, pec([*head, *carried])], "stop")
 
     def __delitem__(self, cell):
         raise TypeError("a cell stays")
 
     def __iter__(self):
         yield PROTECT
-        for output in range(self.desk.outputs):
+        for output in self.part.outputs:
             yield from ((output, register) for register in REGISTERS)
 
     def __len__(self):
-        return 1 + self.desk.outputs * len(REGISTERS)
+        return 1 + len(self.part.outputs) * len(REGISTERS)
 
 
 class Proved:
-    """The converter of the C library, in the place of a plain one, whose setup it takes."""
-
-    page = 0
+    """The part of the C library, in the place of a plain one, whose setup it takes."""
 
     def __init__(self, library, plain):
         self.library, self.address, self.outputs, self.setup = library, plain.address, plain.outputs, plain.setup
-        if library.pm_desk_size() != ctypes.sizeof(Desk):
-            raise ValueError("the library's pm_desk has another size than that of pm.h")
-        self.restart()
-
-    def restart(self):
         m, b, r = self.setup["coefficients"]
-        self.desk = Desk(self.address, len(self.outputs), r, 0, m, b, self.setup["protect"])
+        config = Config(self.address, len(self.outputs), r, 0, m, b, self.setup["protect"])
         for at in range(8):
             mode, words = self.setup["outputs"][at] if at in self.outputs else (0x14, START)
-            self.desk.words[at] = Output(mode, 0, *(words[code] for code in REGISTERS))
-        self.cells = Cells(self.desk)
+            config.starts[at] = Output(mode, 0, *(words[code] for code in REGISTERS))
+        library.pm_part_size.restype = ctypes.c_uint64
+        self.memory = (ctypes.c_uint16 * (library.pm_part_size() // 2))()
+        library.pm_part_new(self.memory, ctypes.byref(config))
+        self.cells = Cells(self)
+
+    @property
+    def page(self):
+        page = ctypes.c_uint8()
+        self.library.pm_part_page(self.memory, ctypes.byref(page))
+        return page.value
+
+    def restart(self):
+        self.library.pm_part_restart(self.memory)
 
     def hear(self, frame, ending):
         """The reply, in the words of the plain model."""
         reply = Reply()
-        said = self.library.pm_desk_hear(ctypes.byref(self.desk), bytes(frame), ctypes.c_size_t(len(frame)),
-                                         int(ending == "restart"), ctypes.byref(reply)) & 0xFF
+        said = self.library.pm_part_hear(self.memory, bytes(frame), ctypes.c_uint64(len(frame)), int(ending == "restart"),
+                                         ctypes.byref(reply)) & 0xFF
         if said == ANSWERED:
             return list(reply.bytes[:reply.length])
         return {SILENT: "silent", TAKEN: "taken"}.get(said, f"{said:02X}")
@@ -150,7 +154,7 @@ def made(words, loaded):
     row = JOBS[int(words[1])] if words[0] == "row" else None
     modes = tuple(int(word, 16) for word in words[1:]) if words[0] == "modes" else (0x14, 0x14)
     part = row.part() if row else fake_i2c.Part(modes)
-    wants_plain = words == ["plain"] or row and STORES & set(row.words.split()) or setup_fault(part.converter.setup)
+    wants_plain = words == ["plain"] or setup_fault(part.converter.setup)
     if loaded and not wants_plain:
         part.converter = Proved(loaded, part.converter)
     return part, int(row.address, 16) if row else part.converter.address

@@ -6,7 +6,8 @@
 #   scripts/linux/run.sh [OPTIONS]
 #
 #   --cache FOLDER    the folder of kernel and modules, some 2 GB, ~/.cache/pmbus-linux where it isn't given
-#   --archive FILE    the library with the proved converter, crates/pm_c/out/libpm_c.a where it isn't given
+#   --archive FILE    the library with the host, crates/pm_c/out/libpm_c.a where it isn't given
+#   --part FILE       the library with the proved converter, crates/pm_part/out/libpm_part.a where it isn't given
 #   --plain           the plain model behind the buses, and not the converter of that library
 #   --at-once N       how many guests run at once, 3 where it isn't given
 #

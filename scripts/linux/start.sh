@@ -1,14 +1,16 @@
 # Sourced by run.sh, which tells the options, and two_hosts.sh: the build, and guests that do trials beside one another.
 
 start() {
-    cache=${HOME:-/tmp}/.cache/pmbus-linux is_plain= archive=$root/crates/pm_c/out/libpm_c.a at_once=3
+    cache=${HOME:-/tmp}/.cache/pmbus-linux is_plain= at_once=3
+    archive=$root/crates/pm_c/out/libpm_c.a part=$root/crates/pm_part/out/libpm_part.a
     while [ $# -gt 0 ]; do
         case $1 in
             --cache) cache=${2-}; shift ;;
             --archive) archive=$(realpath -m "${2-}"); shift ;;
+            --part) part=$(realpath -m "${2-}"); shift ;;
             --at-once) at_once=${2-}; shift ;;
             --plain) is_plain=1 ;;
-            *) refuse "$1: there are --cache FOLDER, --archive FILE, --at-once N and --plain; --help tells more" ;;
+            *) refuse "$1: there are --cache FOLDER, --archive FILE, --part FILE, --at-once N and --plain; --help tells more" ;;
         esac
         shift || refuse "give a value behind the last option; --help tells more"
     done
@@ -20,7 +22,10 @@ start() {
     if [ -z "$is_plain" ] && [ ! -f "$archive" ]; then
         refuse "no $archive: build it by (cd crates/pm_c && rt lib), or give --archive FILE, or --plain for the plain model"
     fi
-    ARCHIVE=$archive "$here/build.sh" "$cache" || exit 2
+    if [ -z "$is_plain" ] && [ ! -f "$part" ]; then
+        refuse "no $part: build it by (cd crates/pm_part && rt lib), or give --part FILE, or --plain for the plain model"
+    fi
+    PART=$part "$here/build.sh" "$cache" || exit 2
     CACHE=$(realpath "$cache") PM_LIBRARY=
     [ -n "$is_plain" ] || PM_LIBRARY=$CACHE/libpm.so
     export CACHE PM_LIBRARY

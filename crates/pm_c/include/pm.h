@@ -1,5 +1,6 @@
-/* The PMBus host core as a static library: a host that sets supply voltages over PMBus 1.3, packets and
- * numbers alone, and a model converter for a desk. One header for processors of 64 and of 32 bits.
+/* The PMBus host core as a static library: a host that sets supply voltages over PMBus 1.3, and packets and
+ * numbers alone. One header for processors of 64 and of 32 bits. A model converter to try firmware against is a library
+ * of its own, pm_part.h.
  *
  * What each call answers and does is proved of the library (crates/pm_c). No prover reads this header: the
  * programs of examples/c compare its sizes and the numbers that they use.
@@ -9,8 +10,7 @@
  *     0 the pointer to bytes may be any that isn't null;
  *   - what a call writes overlaps nothing else that it is given;
  *   - counts are in elements, uint64_t on every processor, and tell the truth;
- *   - one call at a time works on a host or a desk, and each call has PM_STACK bytes of stack, one of a
- *     desk PM_DESK_STACK.
+ *   - one call at a time works on a host, and each call has PM_STACK bytes of stack.
  *
  * The library takes no memory, keeps nothing between calls, calls nothing and never blocks.
  *
@@ -34,19 +34,15 @@
 extern "C" {
 #endif
 
-/* The version of a host's layout, sizes in bytes, and the stack that a call takes at most. On x86-64
- * bench/c_order.sh measured 2,096 bytes of pm_desk_hear and at most 393 of the calls of a host; the archive's
- * own bound, the stack-bytes in its section .comment, is 2,192. By the frames of LLVM, over all processors that
- * scripts/c/targets.sh tries, a call of a host takes at most 1,040, of a desk 3,080. */
+/* The version of a host's layout, its size in bytes, and the stack that a call takes at most. On x86-64
+ * bench/c_order.sh measured at most 393 bytes of the calls of a host. By the frames of LLVM, over all processors that
+ * scripts/c/targets.sh tries, a call takes at most 1,040. */
 #define PM_HOST_VERSION 3
 #define PM_HOST_SIZE 1926
-#define PM_DESK_SIZE 122
 #define PM_STACK 1280
-#define PM_DESK_STACK 4096
 
-/* What a call answers: 0, or why it is refused. A refused call changes nothing, but for two: pm_host_sending
- * then writes PM_NOTHING, and pm_desk_hear with K1 to K7 empties the reply. pm_pec, pm_host_restart_seen and
- * pm_desk_hear answer something else: each says what, and what pm_desk_hear answers is no number of these. */
+/* What a call answers: 0, or why it is refused. A refused call changes nothing, but for one: pm_host_sending
+ * then writes PM_NOTHING. pm_pec and pm_host_restart_seen answer something else: each says what. */
 enum {
     PM_OK = 0,
     PM_H1_OUTPUT_COUNT = 0x01,    /* a number of outputs other than 1 to 8 */
@@ -66,7 +62,6 @@ enum {
     PM_OTHER_FRAME = 0xE2,        /* no frame of this kind is being sent */
     PM_NO_ADDRESS = 0xE3,         /* no address from 08h to 77h */
     PM_NO_PACKET = 0xE4,          /* no packet has these numbers */
-    PM_NO_CONVERTER = 0xE5,       /* the memory holds no converter */
     PM_F1_NOT_OURS = 0x31,        /* F1 to F8: what is wrong with the bytes of a packet */
     PM_F2_SHORT = 0x32,
     PM_F3_LONG = 0x33,
@@ -74,14 +69,7 @@ enum {
     PM_F5_WRONG_PEC = 0x35,
     PM_F6_UNKNOWN_CODE = 0x36,
     PM_F7_WRONG_DIRECTION = 0x37,
-    PM_F8_NESTED = 0x38,
-    PM_K1_FRAME = 0x41,           /* K1 to K7: why the converter refuses a frame */
-    PM_K2_UNSUPPORTED_CODE = 0x42,
-    PM_K3_UNSUPPORTED_DATA = 0x43,
-    PM_K4_BAD_PAGE = 0x44,
-    PM_K5_PROTECTED = 0x45,
-    PM_K6_NESTED = 0x46,
-    PM_K7_READ_ONLY = 0x47
+    PM_F8_NESTED = 0x38
 };
 
 /* The cells: an output and one of these command codes; with WRITE_PROTECT, which is the device's, the
@@ -236,50 +224,6 @@ uint8_t pm_packet_write(uint8_t address, const pm_packet *packet, pm_sending *fr
 /* What the bytes of a write, and of a request, to a device say. PM_NO_ADDRESS, F1 to F8. */
 uint8_t pm_packet_read_write(uint8_t address, const uint8_t *bytes, uint64_t count, pm_packet *packet);
 uint8_t pm_packet_read_request(uint8_t address, const uint8_t *bytes, uint64_t count, pm_packet *packet);
-
-/* ---- A converter on a desk ---- */
-
-/* An output's VOUT_MODE and the words of its registers. */
-typedef struct {
-    uint8_t mode;
-    uint8_t unused;
-    uint16_t operation, command, max, high, low, min;
-} pm_output;
-
-/* A model converter: fill it in, and it is made. Its words change as it hears writes; nothing else is
- * kept between calls: PAGE is 0, each reading is 0 and no status is latched. It has no user store:
- * STORE_USER_ALL and RESTORE_USER_ALL are taken, and change no word. For a restart put back the words that
- * it began with. */
-typedef struct {
-    uint8_t address; /* 08h to 77h */
-    uint8_t outputs; /* 1 to 8 */
-    int8_t r;        /* the coefficients of each output with VOUT_MODE 40h */
-    uint8_t unused;
-    int16_t m, b;
-    uint16_t protect; /* WRITE_PROTECT */
-    pm_output words[8];
-} pm_desk;
-
-/* What it answers to a request: 0 bytes where it answers none. `unused` and the bytes after the answer stay as
- * they were. */
-typedef struct { uint8_t length; uint8_t unused; uint8_t bytes[16]; } pm_reply;
-
-/* The size of a pm_desk: compare it at start with PM_DESK_SIZE. */
-uint64_t pm_desk_size(void);
-
-/* It hears one frame, which a repeated start ends where `is_request` isn't 0, otherwise a stop. Answers
- * PM_SILENT, PM_TAKEN or PM_ANSWERED, or a refusal, K1 to K7, with which no word changes and the reply is
- * empty; PM_NO_CONVERTER, with which nothing changes. Only words of outputs that there are and WRITE_PROTECT
- * ever change in a pm_desk. */
-enum { PM_SILENT = 0x81, PM_TAKEN = 0x82, PM_ANSWERED = 0x83 };
-uint8_t pm_desk_hear(pm_desk *desk, const uint8_t *bytes, uint64_t count, uint8_t is_request, pm_reply *reply);
-
-/* The word of a cell. PM_NO_CONVERTER, PM_NO_CELL, H4. */
-uint8_t pm_desk_word(const pm_desk *desk, uint8_t output, uint8_t code, uint16_t *word);
-
-/* The whole microvolts that an output commands, rounded down. PM_NO_CONVERTER, H4, N5 exactly where what it
- * commands is beyond 10^15 microvolts in size. */
-uint8_t pm_desk_commanded(const pm_desk *desk, uint8_t output, int64_t *microvolts);
 
 #ifdef __cplusplus
 }

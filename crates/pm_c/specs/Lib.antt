@@ -1,5 +1,4 @@
 -- What the crate promises.
-pub mod Desk
 pub mod Host
 pub mod Numbers
 pub mod Packets

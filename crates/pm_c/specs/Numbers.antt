@@ -1,6 +1,6 @@
 -- The numbers that calls answer, of which no two mean two things: 0 where nothing is refused; a refusal,
 -- of which H1 to H7 are 1 to 7, N1 to N5 are 11h to 15h, and what only a caller in C can ask wrongly is
--- E0h to E5h; and what a converter on a desk makes of a frame, from 81h on. This project's own choice.
+-- E0h to E4h. This project's own choice.
 use Rattle.std.specs.Prelude.{ℕ, Option, Some, None}
 use Rattle.pm_num.specs.declared.fault.NumFault.{NumFault}
 use Rattle.pm_num.specs.declared.fault.NumFault.TheVariants.{ZeroSlope, ExponentRange, BelowLeast, AboveGreatest, TooLarge}
@@ -30,20 +30,6 @@ no_address = 0xE3
 -- the numbers mean no packet that there is
 abbrev pub no_packet : ℕ
 no_packet = 0xE4
-
--- the memory holds no converter
-abbrev pub no_converter : ℕ
-no_converter = 0xE5
-
--- a converter stays silent, takes a write, or answers a read
-abbrev pub silent : ℕ
-silent = 0x81
-
-abbrev pub taken : ℕ
-taken = 0x82
-
-abbrev pub answered : ℕ
-answered = 0x83
 
 abbrev pub num_number : NumFault → ℕ
 num_number ZeroSlope = 0x11

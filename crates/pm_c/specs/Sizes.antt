@@ -23,11 +23,3 @@ format_size = 2 + 2 * word_size
 -- whether a restart was seen
 abbrev pub host_size : ℕ
 host_size = 2 * word_size + 4 + stage_size + 8 * format_size + places * cell_size + word_size
-
--- an output of a converter: two bytes and a word for each register
-abbrev pub output_size : ℕ
-output_size = 2 + register_count * word_size
-
--- a converter: four bytes and three words, and the outputs
-abbrev pub desk_size : ℕ
-desk_size = 4 + 3 * word_size + 8 * output_size

@@ -1,19 +1,16 @@
-//! The host core for callers in C: a static library, whose header is `include/pm.h`. It has the host, a
-//! model converter for a desk, and packets and numbers alone.
+//! The host core for callers in C: a static library, whose header is `include/pm.h`. It has the host, and packets
+//! and numbers alone. A converter to try firmware against is the library `pm_part`.
 //!
 //! A host lives in the caller's memory, as plain numbers that are worked on in place. No call wants
 //! anything of what is in that memory: a call of a host asks first whether a host is there, and refuses
 //! where none is. The library takes no memory, keeps nothing between calls and calls nothing.
 #![tactic(auto)]
 
-mod desk;
 mod host;
 mod host_step;
 mod known;
 mod numbers;
-mod output_words;
 mod packet;
-mod reply_image;
 mod sending;
 mod sending_image;
 #[cfg(test)]

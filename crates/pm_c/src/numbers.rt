@@ -2,11 +2,9 @@
 
 ghost use Rattle.std.specs.Prelude.{◌≡◌, ◌≢◌};
 ghost use Rattle.std.specs.Result.{result_err};
-ghost use Rattle.pm_c.specs.Desk.{device_number};
 ghost use Rattle.pm_c.specs.Numbers.{host_number, num_number, outcome as spec_outcome};
 ghost use Rattle.pm_c.specs.Packets.{frame_number};
 
-use pm_device::DeviceFault;
 use pm_frame::FrameFault;
 use pm_host::HostFault;
 use pm_num::NumFault;
@@ -28,18 +26,6 @@ pub const NO_ADDRESS: u8 = 0xE3;
 
 /// The numbers mean no packet that there is.
 pub const NO_PACKET: u8 = 0xE4;
-
-/// The memory holds no converter.
-pub const NO_CONVERTER: u8 = 0xE5;
-
-/// A converter is silent: the frame is for another device.
-pub const SILENT: u8 = 0x81;
-
-/// A converter took a write.
-pub const TAKEN: u8 = 0x82;
-
-/// A converter answers a read.
-pub const ANSWERED: u8 = 0x83;
 
 /// H4, the output isn't there.
 pub const NO_OUTPUT: u8 = 4;
@@ -99,20 +85,5 @@ pub fn of_frame(fault: FrameFault) -> u8
         FrameFault::UnknownCode(_) => 0x36,
         FrameFault::WrongDirection(_) => 0x37,
         FrameFault::Nested(_) => 0x38,
-    }
-}
-
-/// The number of a converter's fault.
-pub fn of_device(fault: DeviceFault) -> u8
-    ensures { result ≡ device_number fault }
-{
-    match fault {
-        DeviceFault::Frame(_) => 0x41,
-        DeviceFault::UnsupportedCode => 0x42,
-        DeviceFault::UnsupportedData => 0x43,
-        DeviceFault::BadPage => 0x44,
-        DeviceFault::Protected => 0x45,
-        DeviceFault::Nested => 0x46,
-        DeviceFault::ReadOnly => 0x47,
     }
 }

@@ -1,6 +1,5 @@
 mod calls;
 mod checks;
-mod desk;
 
 use self::calls::{
     PACKET, check, clear, finished, format, got, host, learn, microvolts, nearest, new, order,
@@ -8,14 +7,13 @@ use self::calls::{
     shown, standing, store, written,
 };
 use self::checks::{equal, is_true};
-use crate::desk::pm_desk_size;
 use crate::host::{pm_host_size, pm_host_version};
 use crate::packet::pm_pec;
 use pm_host::{FormatImage, Image, WordsImage};
 
 #[test]
 fn sizes_are_those_of_the_header(rt: HostRuntime) {
-    equal(&rt, &(pm_host_size(), pm_desk_size()), &(1926, 122), &1);
+    equal(&rt, &pm_host_size(), &1926, &1);
     equal(&rt, &pm_host_version(), &3, &2);
 }
 
