@@ -8,6 +8,7 @@ use Rattle.pm_table.specs.declared.cell.Cell.TheVariants.{Out, Protect}
 use Rattle.pm_table.specs.Cell.{cell_at, cell_accepts, is_output_cell, same_cell, IsCell}
 use Rattle.pm_table.specs.Codes as command
 use Rattle.pm_table.specs.Laws.{CellsAreToldApart}
+use Rattle.pm_table.specs.Lemmas.{IsCell-eight}
 use Rattle.pm_frame.specs.Fault.{write_fault}
 use Rattle.pm_frame.specs.Laws.{WritesAreExact}
 use Rattle.pm_frame.specs.Layout.{AreBytes, IsWrite}
@@ -61,11 +62,6 @@ put-names code output word number cell e =
     first false false false true h = cc
     first false false false false h =
         last (eqb code command.store_user_all) (eqb code command.restore_user_all) (cell_at code output) h
-
--- a cell of fewer outputs is one of eight
-pub cell-of_eight : (count : ℕ) (cell : Cell) → count ≤ 8 → IsCell count cell → IsCell 8 cell
-cell-of_eight count (Out output register) few here = omega (arith, few, here)
-cell-of_eight count Protect few here = tt
 
 -- bytes without a fault are a write of what they say by their places
 written-message : WritesAreExact → (addr : ℕ) (bytes : List ℕ) → AreBytes bytes → write_fault addr bytes ≡ None →
@@ -224,14 +220,14 @@ module _ (map : SettingsAreAMap) (told : CellsAreToldApart) where
       IsCount config → AreHeard past → IsCell config.count cell → HasOrigin config past cell (word_at (kept config past).words cell)
   unfolding HasOrigin kept loaded_word
   kept-origin exact config [] cell count heard here =
-      inl (start-at config cell (cell-of_eight config.count cell count.few here))
+      inl (start-at config cell (IsCell-eight config.count cell count.few here))
   kept-origin exact config (event ∷ past) cell count heard here =
       let before = kept config past in
       outcome-word before (outcome_of config before event) cell (HasOrigin config (event ∷ past) cell)
-      (kept-full map config past, cell-of_eight config.count cell count.few here)
+      (kept-full map config past, IsCell-eight config.count cell count.few here)
       (λ other word e.
       let can = outcome-can config before event (Put other word) e (kept-page config past count.some) in (
-        cell-of_eight config.count other count.few can.0,
+        IsCell-eight config.count other count.few can.0,
         λ same. inr (subst (λ c. WasCarried config (event ∷ past) c word) same (carried-event exact config past event other word heard e)),
       ))
       (λ unbroken. origin-later config past event cell (word_at before.words cell) unbroken
@@ -253,18 +249,18 @@ module _ (map : SettingsAreAMap) (told : CellsAreToldApart) where
   unfolding kept
   kept-ever exact config [] cell count heard here =
       let start : IsEverHad config [] cell (word_at (start_words config) cell) =
-      inl (start-at config cell (cell-of_eight config.count cell count.few here)) in (start, start)
+      inl (start-at config cell (IsCell-eight config.count cell count.few here)) in (start, start)
   kept-ever exact config (event ∷ past) cell count heard here =
       let before = kept config past in
       let outcome = outcome_of config before event in
-      let facts : AreFull before × IsCell 8 cell = (kept-full map config past, cell-of_eight config.count cell count.few here) in
+      let facts : AreFull before × IsCell 8 cell = (kept-full map config past, IsCell-eight config.count cell count.few here) in
       let both = kept-ever exact config past cell count (heard-before event past heard) here in
       let words = later-had config past event cell (word_at before.words cell) both.0 in
       let store = later-had config past event cell (word_at before.store cell) both.1 in (
         outcome-word before outcome cell (IsEverHad config (event ∷ past) cell) facts
             (λ other word e.
             let can = outcome-can config before event (Put other word) e (kept-page config past count.some) in (
-              cell-of_eight config.count other count.few can.0,
+              IsCell-eight config.count other count.few can.0,
               λ same. inr (subst (λ c. WasEverCarried config (event ∷ past) c word) same
                   (carried-event exact config past event other word heard e).frame),
             ))
@@ -298,7 +294,7 @@ module _ (map : SettingsAreAMap) (told : CellsAreToldApart) where
   pub now-stored : (config : Config) (past : List Event) (cell : Cell) → config.count ≤ 8 → IsCell config.count cell →
       word_at (now config past).store cell ≡ stored_word config past cell
   unfolding now
-  now-stored config past cell few here = kept-stored config past cell (cell-of_eight config.count cell few here)
+  now-stored config past cell few here = kept-stored config past cell (IsCell-eight config.count cell few here)
 
   -- each cell accepts its word, and the one in the store
   kept-accepted : (config : Config) (past : List Event) (cell : Cell) → IsSound config → IsCell config.count cell →
@@ -308,16 +304,16 @@ module _ (map : SettingsAreAMap) (told : CellsAreToldApart) where
   kept-accepted config [] cell sound here =
       let start =
       subst (λ w. cell_accepts cell w ≡ true)
-      (sym (start-at config cell (cell-of_eight config.count cell sound.few here))) (sound.starts cell here) in (start, start)
+      (sym (start-at config cell (IsCell-eight config.count cell sound.few here))) (sound.starts cell here) in (start, start)
   kept-accepted config (event ∷ past) cell sound here =
       let before = kept config past in
       let outcome = outcome_of config before event in
-      let facts : AreFull before × IsCell 8 cell = (kept-full map config past, cell-of_eight config.count cell sound.few here) in
+      let facts : AreFull before × IsCell 8 cell = (kept-full map config past, IsCell-eight config.count cell sound.few here) in
       let both = kept-accepted config past cell sound here in (
         outcome-word before outcome cell (λ w. cell_accepts cell w ≡ true) facts
             (λ other word e.
             let can = outcome-can config before event (Put other word) e (kept-page config past sound.some) in (
-              cell-of_eight config.count other sound.few can.0,
+              IsCell-eight config.count other sound.few can.0,
               λ same. subst (λ c. cell_accepts c word ≡ true) same can.1,
             ))
             (λ unbroken. both.0) (λ loaded. both.1),

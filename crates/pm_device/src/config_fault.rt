@@ -3,25 +3,25 @@ ghost use Rattle.pm_device.specs.Start.{outputs};
 
 use pm_num::NumFault;
 use pm_table::{Cell, TableFault};
+use std::fmt;
 use thiserror::Error;
 
 /// Why no converter is made from a configuration: the first that applies, in the order of these.
 #[derive(Clone, Copy, Debug, PartialEq, Eq, Error)]
+#[error("{words}", words = self.words())]
 pub enum ConfigFault {
     /// V1: the count of outputs isn't 1 to 8.
-    #[error("a number of outputs outside 1 to 8")]
     OutputCount,
     /// V2: the cell doesn't accept its start word.
-    #[error("a start word that its cell doesn't accept")]
+    #[error("{words}{place} {name}", words = self.words(), place = Place(self.output()), name = .0.name())]
     BadStart(Cell),
     /// V3: the address isn't 08h to 77h.
-    #[error("a reserved address")]
     Address,
     /// V4: the output has a VOUT_MODE outside this project's profile.
-    #[error("an unsupported mode of output {0}: {1}")]
+    #[error("{words} {0} {1}", words = self.words())]
     BadMode(u8, TableFault),
     /// V5: an output is DIRECT, and the coefficients are no format.
-    #[error("unsupported coefficients: {0}")]
+    #[error("{words} {0}", words = self.words())]
     BadCoefficients(NumFault),
 }
 
@@ -65,6 +65,18 @@ impl ConfigFault {
             ConfigFault::BadMode(_, fault) => Some(fault.words()),
             ConfigFault::BadCoefficients(fault) => Some(fault.words()),
             ConfigFault::OutputCount | ConfigFault::Address => None,
+        }
+    }
+}
+
+// An output as it stands behind the words of a fault, where the fault has one.
+struct Place(Option<u8>);
+
+impl fmt::Display for Place {
+    fn fmt<W: fmt::Write>(&self, f: &mut fmt::Formatter<W>) -> fmt::Result {
+        match self.0 {
+            Some(output) => write!(f, " {output}"),
+            None => Ok(()),
         }
     }
 }

@@ -9,10 +9,6 @@ use Rattle.pm_table.specs.Cell.{IsCell, cell_in, place_of, places, same_cell}
 use Rattle.pm_table.specs.Laws.{CellsHavePlaces}
 use Rattle.pm_host.specs.Cells.{table}
 
--- a cell is the same as itself
-pub same_cell_itself : (cell : Cell) → same_cell cell cell ≡ true
-same_cell_itself = search rules
-
 -- the cell of another place is another cell
 other_place : (cell : Cell) (place : ℕ) → place < places → (place ≡ place_of cell → ⊥) → same_cell cell (cell_in place) ≡ false
 other_place = search rules

@@ -30,10 +30,6 @@ IsJob setup (Some (Check cell)) = IsCell setup.outputs cell
 IsJob setup (Some (Learn output)) = output < setup.outputs
 IsJob setup (Some (Send sent)) = is_command setup.outputs sent ≡ true
 
--- a cell of a host's setup is one of eight outputs
-pub IsCell-eight : (outputs : ℕ) (cell : Cell) → outputs ≤ 8 → IsCell outputs cell → IsCell 8 cell
-IsCell-eight = search rules
-
 -- marks of cells that there are
 abbrev pub AreMarks : List Mark → Type 0
 AreMarks [] = Unit {0}

@@ -123,10 +123,6 @@ counted s = record s { taken = s.taken + 1 }
 unfoldable pub next : State → Event → State
 next s event = counted (shared s (share_of s event))
 
--- a rule names its cause where it applies
-abbrev pub rule : Bool → Cause → Option Cause
-rule applies cause = if applies then Some cause else None
-
 -- S4 where the host refuses
 abbrev pub refused : Option HostFault → Option Cause
 refused fault = option_map (λ f. Refuses f) fault
