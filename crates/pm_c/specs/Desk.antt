@@ -7,14 +7,13 @@ use Rattle.pm_table.specs.declared.cell.Cell.TheVariants.{Out, Protect}
 use Rattle.pm_table.specs.Cell.{is_cell, register_number, registers}
 use Rattle.pm_device.specs.declared.config.Config.{Config}
 use Rattle.pm_device.specs.declared.output_start.OutputStart.{OutputStart}
-use Rattle.pm_device.specs.declared.fault.DeviceFault.{DeviceFault}
-use Rattle.pm_device.specs.declared.fault.DeviceFault.TheVariants.{Frame, UnsupportedCode, UnsupportedData, BadPage, Protected, Nested, ReadOnly}
 use Rattle.pm_device.specs.declared.heard.Heard.{Heard}
 use Rattle.pm_device.specs.declared.heard.Heard.TheVariants.{Silent, Taken, Answer, Refused}
 use Rattle.pm_device.specs.declared.ending.Ending.{Ending}
 use Rattle.pm_device.specs.declared.ending.Ending.TheVariants.{Stop, Restart}
 use Rattle.pm_device.specs.Held.{Held, value_for}
 use Rattle.pm_device.specs.Effect.{Event}
+use Rattle.pm_device.specs.FaultWords.{device_fault_number}
 use Rattle.pm_device.specs.History.{next, start_of}
 use Rattle.pm_device.specs.Start.{config_fault, start_of as start_with}
 use Rattle.pm_host.specs.declared.fault.HostFault.TheVariants.{UnknownOutput}
@@ -24,7 +23,8 @@ use Rattle.pm_num.specs.Ratio.{Ratio}
 use Rattle.pm_c.specs.declared.desk.Desk.{Desk}
 use Rattle.pm_c.specs.declared.output_words.OutputWords.{OutputWords}
 use Rattle.pm_c.specs.declared.reply_image.ReplyImage.{ReplyImage}
-use Rattle.pm_c.specs.Numbers.{accepted, no_cell, no_converter, host_number, silent, taken, answered}
+use Rattle.pm_c.specs.Numbers.{accepted, no_cell, no_converter, silent, taken, answered}
+use Rattle.pm_host.specs.FaultWords.{host_fault_number}
 use Rattle.pm_c.specs.Voltages.{floor_number}
 
 -- an output's mode and words
@@ -47,22 +47,12 @@ abbrev pub desk_of : Desk → Option Held
 desk_of desk =
     if is_none (config_fault (desk_config desk)) then Some (start_of (desk_config desk)) else None
 
--- K1 to K7 are 41h to 47h
-abbrev pub device_number : DeviceFault → ℕ
-device_number (Frame fault) = 0x41
-device_number UnsupportedCode = 0x42
-device_number UnsupportedData = 0x43
-device_number BadPage = 0x44
-device_number Protected = 0x45
-device_number Nested = 0x46
-device_number ReadOnly = 0x47
-
 -- what it answers
 abbrev pub heard_number : Heard → ℕ
 heard_number Silent = silent
 heard_number Taken = taken
 heard_number (Answer frame) = answered
-heard_number (Refused fault) = device_number fault
+heard_number (Refused fault) = device_fault_number fault
 
 abbrev pub desk_number : Option Heard → ℕ
 desk_number None = no_converter
@@ -93,7 +83,7 @@ abbrev pub asked_number : Option Held → Option Cell → ℕ
 asked_number None cell = no_converter
 asked_number (Some held) None = no_cell
 asked_number (Some held) (Some cell) =
-    if is_cell held.config.count cell then accepted else host_number UnknownOutput
+    if is_cell held.config.count cell then accepted else host_fault_number UnknownOutput
 
 abbrev pub IsWord : Option Held → Option Cell → ℕ → Type 0
 IsWord (Some held) (Some cell) word = word ≡ word_at held.words cell
@@ -108,7 +98,7 @@ abbrev pub commanded_number : Option Held → ℕ → ℕ
 commanded_number None output = no_converter
 commanded_number (Some held) output =
     if nat_lt output held.config.count then floor_number (commanded_now held output)
-    else host_number UnknownOutput
+    else host_fault_number UnknownOutput
 
 -- nothing, where no output is
 abbrev pub no_output : OutputWords

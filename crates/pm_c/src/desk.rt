@@ -9,11 +9,12 @@ ghost use Rattle.pm_c.specs.Desk.{asked_number, commanded_now, commanded_number,
 ghost use Rattle.pm_c.specs.Sizes.{desk_size};
 ghost use Rattle.pm_c.specs.Voltages.{IsFloor};
 
-use crate::numbers::{ACCEPTED, NO_CELL, NO_CONVERTER, NO_OUTPUT};
+use crate::numbers::{ACCEPTED, NO_CELL, NO_CONVERTER};
 use crate::output_words::OutputWords;
 use crate::reply_image::ReplyImage;
 use crate::voltages::put_floor;
 use pm_device::{Config, Converter, Ending, OutputStart};
+use pm_host::HostFault;
 use pm_table::{Cell, Code, Coefficients, Reg, cell_of};
 use std::array::from_fn;
 use std::mem::size_of;
@@ -163,7 +164,7 @@ pub extern "C" fn pm_desk_word(desk: &Desk, output: u8, code: u8, word: &mut u16
         return NO_CELL;
     };
     if !cell.is_there(converter.count()) {
-        return NO_OUTPUT;
+        return HostFault::UnknownOutput.number();
     }
     *word = converter.word(cell);
     ACCEPTED
@@ -182,7 +183,7 @@ pub extern "C" fn pm_desk_commanded(desk: &Desk, output: u8, microvolts: &mut i6
         return NO_CONVERTER;
     };
     if converter.count() <= output {
-        return NO_OUTPUT;
+        return HostFault::UnknownOutput.number();
     }
     put_floor(&converter.commanded(output), microvolts)
 }

@@ -1,15 +1,10 @@
 //! The numbers that calls answer.
 
-ghost use Rattle.std.specs.Prelude.{◌≡◌, ◌≢◌};
+ghost use Rattle.std.specs.Prelude.{◌≡◌};
 ghost use Rattle.std.specs.Result.{result_err};
-ghost use Rattle.pm_c.specs.Desk.{device_number};
-ghost use Rattle.pm_c.specs.Numbers.{host_number, num_number, outcome as spec_outcome};
-ghost use Rattle.pm_c.specs.Packets.{frame_number};
+ghost use Rattle.pm_c.specs.Numbers.{outcome as spec_outcome};
 
-use pm_device::DeviceFault;
-use pm_frame::FrameFault;
 use pm_host::HostFault;
-use pm_num::NumFault;
 
 /// Nothing is refused.
 pub const ACCEPTED: u8 = 0;
@@ -41,78 +36,12 @@ pub const TAKEN: u8 = 0x82;
 /// A converter answers a read.
 pub const ANSWERED: u8 = 0x83;
 
-/// H4, the output isn't there.
-pub const NO_OUTPUT: u8 = 4;
-
-/// The number of a fault of a number.
-pub fn of_number(fault: NumFault) -> u8
-    ensures number { result ≡ num_number fault }
-    ensures some { result ≢ 0 }
-{
-    match fault {
-        NumFault::ZeroSlope => 0x11,
-        NumFault::ExponentRange => 0x12,
-        NumFault::BelowLeast => 0x13,
-        NumFault::AboveGreatest => 0x14,
-        NumFault::TooLarge => 0x15,
-    }
-}
-
-/// The number of a host's fault.
-pub fn of_host(fault: HostFault) -> u8
-    ensures number { result ≡ host_number fault }
-    ensures some { result ≢ 0 }
-{
-    match fault {
-        HostFault::OutputCount => 1,
-        HostFault::Passes => 2,
-        HostFault::Busy => 3,
-        HostFault::UnknownOutput => 4,
-        HostFault::BadWord => 5,
-        HostFault::TooUncertain => 6,
-        HostFault::FormatUnknown => 7,
-        HostFault::Num(fault) => of_number(fault),
-    }
-}
-
 /// What a call answers that a host refused with this fault, or accepted.
 pub fn number_of(outcome: Result<(), HostFault>) -> u8
     ensures { result ≡ spec_outcome (result_err outcome) }
 {
     match outcome {
         Ok(()) => ACCEPTED,
-        Err(fault) => of_host(fault),
-    }
-}
-
-/// The number of a frame's fault.
-pub fn of_frame(fault: FrameFault) -> u8
-    ensures number { result ≡ frame_number fault }
-    ensures some { result ≢ 0 }
-{
-    match fault {
-        FrameFault::NotOurs => 0x31,
-        FrameFault::Short(_) => 0x32,
-        FrameFault::Long(_) => 0x33,
-        FrameFault::WrongCount(_) => 0x34,
-        FrameFault::WrongPec(_) => 0x35,
-        FrameFault::UnknownCode(_) => 0x36,
-        FrameFault::WrongDirection(_) => 0x37,
-        FrameFault::Nested(_) => 0x38,
-    }
-}
-
-/// The number of a converter's fault.
-pub fn of_device(fault: DeviceFault) -> u8
-    ensures { result ≡ device_number fault }
-{
-    match fault {
-        DeviceFault::Frame(_) => 0x41,
-        DeviceFault::UnsupportedCode => 0x42,
-        DeviceFault::UnsupportedData => 0x43,
-        DeviceFault::BadPage => 0x44,
-        DeviceFault::Protected => 0x45,
-        DeviceFault::Nested => 0x46,
-        DeviceFault::ReadOnly => 0x47,
+        Err(fault) => fault.number(),
     }
 }

@@ -1,7 +1,7 @@
 ghost use Rattle.std.specs.Prelude.{◌≡◌};
 ghost use Rattle.pm_c.specs.Desk.{heard_number, HasReply};
 
-use crate::numbers::{ANSWERED, SILENT, TAKEN, of_device};
+use crate::numbers::{ANSWERED, SILENT, TAKEN};
 use crate::sending_image::copy_frame;
 use pm_device::Heard;
 
@@ -31,7 +31,7 @@ impl ReplyImage {
                 self.length = copy_frame(&mut self.bytes, &frame);
                 ANSWERED
             }
-            Heard::Refused(fault) => of_device(fault),
+            Heard::Refused(fault) => fault.number(),
         }
     }
 }

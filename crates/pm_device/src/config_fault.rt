@@ -70,6 +70,7 @@ impl ConfigFault {
 }
 
 // An output as it stands behind the words of a fault, where the fault has one.
+#[derive(Clone, Copy)]
 struct Place(Option<u8>);
 
 impl fmt::Display for Place {

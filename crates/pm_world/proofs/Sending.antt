@@ -9,6 +9,7 @@ use Rattle.pm_table.specs.declared.cell.Cell.TheVariants.{Out, Protect}
 use Rattle.pm_table.specs.Cell.{cell_accepts, cell_code, is_protection, register_code, IsCell, same_cell}
 use Rattle.pm_table.specs.Codes as command
 use Rattle.pm_table.specs.Commands.{line_of}
+pub use Rattle.pm_table.specs.Lemmas.{same_cell-itself, IsCell-eight as eight}
 use Rattle.pm_table.specs.Protection.{is_allowed}
 use Rattle.pm_frame.specs.declared.message.Message.{Message}
 use Rattle.pm_frame.specs.Layout.{fits_layout, is_read_message}
@@ -46,11 +47,6 @@ protect-allowed : (word : ℕ) → is_protection word ≡ true → is_allowed wo
 unfolding line_of
 protect-allowed word h = four (eqb word 0x00) (eqb word 0x20) (eqb word 0x40) (eqb word 0x80) h
 
--- a cell is itself by the test
-pub same_cell-itself : (cell : Cell) → same_cell cell cell ≡ true
-same_cell-itself (Out output register) = rw (eq-eqb output output refl, eq-eqb (register_code register) (register_code register) refl) refl
-same_cell-itself Protect = refl
-
 -- after a write the cell has its word, and its code stays allowed
 wrote-held : Below → (words : Words) (cell : Cell) (word : ℕ) → AreWords words → IsCell 8 cell →
     word_at (with_word words cell word) cell ≡ word
@@ -67,11 +63,6 @@ wrote-allowed laws words (Out output register) word are there accepted allowed =
 wrote-allowed laws words Protect word are there accepted allowed =
     ap (λ p. is_allowed p (cell_code Protect)) (laws.settings_are_a_map.read words Protect Protect word are tt tt)
     ∙ protect-allowed word accepted
-
--- a cell that exists is one of eight outputs
-pub eight : (count : ℕ) (cell : Cell) → count ≤ 8 → IsCell count cell → IsCell 8 cell
-eight count (Out output register) few there = omega (arith, few, there)
-eight count Protect few there = tt
 
 -- the write of a cell fits its layout
 pub write-fits : Below → (setup : host.Setup) (cell : Cell) (word : ℕ) → IsCell setup.outputs cell → cell_accepts cell word ≡ true →
