@@ -40,12 +40,7 @@ static TEXT_FAULTS: [(TextFault, &str, Option<u64>, &str); 12] = [
         Some(3),
         "X2 BadHex line 3",
     ),
-    (
-        TextFault::TooLong,
-        "X3 TooLong",
-        None,
-        "X3 TooLong",
-    ),
+    (TextFault::TooLong, "X3 TooLong", None, "X3 TooLong"),
     (TextFault::Read, "X4 Read", None, "X4 Read"),
     (TextFault::Write, "X5 Write", None, "X5 Write"),
     (TextFault::Memory, "X6 Memory", None, "X6 Memory"),

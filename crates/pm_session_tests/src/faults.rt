@@ -11,10 +11,7 @@ static START: [(StartFault, &str); 4] = [
     (StartFault::Address, "bad address"),
     (StartFault::Outputs, "bad outputs"),
     (StartFault::Passes, "bad passes"),
-    (
-        StartFault::Host(HostFault::OutputCount),
-        "H1 OutputCount",
-    ),
+    (StartFault::Host(HostFault::OutputCount), "H1 OutputCount"),
 ];
 
 static REFUSALS: [(Refusal, &str); 6] = [
@@ -22,14 +19,8 @@ static REFUSALS: [(Refusal, &str); 6] = [
     (Refusal::BadHex, "X2 BadHex"),
     (Refusal::TooLong, "X3 TooLong"),
     (Refusal::NothingSent, "S2 NothingSent"),
-    (
-        Refusal::WrongKind,
-        "S3 WrongKind",
-    ),
-    (
-        Refusal::Host(HostFault::Busy),
-        "H3 Busy",
-    ),
+    (Refusal::WrongKind, "S3 WrongKind"),
+    (Refusal::Host(HostFault::Busy), "H3 Busy"),
 ];
 
 // Each fault of a table is told by its text.

@@ -37,10 +37,7 @@ static DEVICE: [(DeviceFault, &str); 10] = [
 ];
 
 static CONFIG: [(ConfigFault, &str); 10] = [
-    (
-        ConfigFault::OutputCount,
-        "V1 OutputCount",
-    ),
+    (ConfigFault::OutputCount, "V1 OutputCount"),
     (
         ConfigFault::BadStart(Cell::Out(0, Reg::Operation)),
         "V2 BadStart 0 OPERATION",
@@ -77,41 +74,23 @@ static CONFIG: [(ConfigFault, &str); 10] = [
 ];
 
 static HOST: [(HostFault, &str); 10] = [
-    (
-        HostFault::OutputCount,
-        "H1 OutputCount",
-    ),
+    (HostFault::OutputCount, "H1 OutputCount"),
     (HostFault::Passes, "H2 Passes"),
     (HostFault::Busy, "H3 Busy"),
     (HostFault::UnknownOutput, "H4 UnknownOutput"),
-    (
-        HostFault::BadWord,
-        "H5 BadWord",
-    ),
+    (HostFault::BadWord, "H5 BadWord"),
     (HostFault::TooUncertain, "H6 TooUncertain"),
     (HostFault::FormatUnknown, "H7 FormatUnknown"),
-    (
-        HostFault::Num(NumFault::BelowLeast),
-        "N3 BelowLeast",
-    ),
-    (
-        HostFault::Num(NumFault::AboveGreatest),
-        "N4 AboveGreatest",
-    ),
+    (HostFault::Num(NumFault::BelowLeast), "N3 BelowLeast"),
+    (HostFault::Num(NumFault::AboveGreatest), "N4 AboveGreatest"),
     (HostFault::Num(NumFault::TooLarge), "N5 TooLarge"),
 ];
 
 static CAUSES: [(Cause, &str); 6] = [
-    (
-        Cause::NotBetrayed,
-        "S1 NotBetrayed",
-    ),
+    (Cause::NotBetrayed, "S1 NotBetrayed"),
     (Cause::NothingSent, "S2 NothingSent"),
     (Cause::WrongKind, "S3 WrongKind"),
-    (
-        Cause::Host(HostFault::Busy),
-        "S4 Host H3 Busy",
-    ),
+    (Cause::Host(HostFault::Busy), "S4 Host H3 Busy"),
     (
         Cause::Host(HostFault::Num(NumFault::TooLarge)),
         "S4 Host N5 TooLarge",
@@ -120,18 +99,12 @@ static CAUSES: [(Cause, &str); 6] = [
 ];
 
 static SETUP: [(SetupFault, &str); 3] = [
-    (
-        SetupFault::Device(ConfigFault::Address),
-        "V3 Address",
-    ),
+    (SetupFault::Device(ConfigFault::Address), "V3 Address"),
     (
         SetupFault::Device(ConfigFault::BadCoefficients(NumFault::ZeroSlope)),
         "V5 BadCoefficients N1 ZeroSlope",
     ),
-    (
-        SetupFault::Host(HostFault::Passes),
-        "H2 Passes",
-    ),
+    (SetupFault::Host(HostFault::Passes), "H2 Passes"),
 ];
 
 // Each fault of a table is told by its text.
