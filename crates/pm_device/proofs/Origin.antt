@@ -1,6 +1,7 @@
 -- Where the words of the cells come from, over a converter's whole past.
 use Rattle.std.proofs.Common.{◌≡◌, ◌⊎◌, inl, inr, ℕ, ◌≤◌, Bool, true, false, cond, eqb, ◌&&◌, Option, Some, None, List, [], ◌∷◌, refl, sym}
 use Rattle.std.proofs.Common.{◌∙◌, ap, subst, arith}
+use Rattle.std.proofs.Math.Bool.{and-false}
 use Rattle.std.proofs.lemmas.Bool.{cond-true, cond-false}
 use Rattle.std.specs.Option.{option_map}
 use Rattle.pm_table.specs.declared.cell.Cell.{Cell}
@@ -153,11 +154,6 @@ heard-before (Hearing bytes ending) past heard = heard.1
 heard-before Restarted past heard = heard
 heard-before (Reading output code word) past heard = heard.1
 
--- a bit beside one that isn't set
-and-fails : (b : Bool) → (b && false) ≡ false
-and-fails true = refl
-and-fails false = refl
-
 -- a word is the one that the cell was last loaded with, or one that was carried for it
 HasOrigin : Config → List Event → Cell → ℕ → Type 0
 HasOrigin config past cell word = (word ≡ loaded_word config past cell) ⊎ WasCarried config past cell word
@@ -191,12 +187,12 @@ module _ (map : SettingsAreAMap) (told : CellsAreToldApart) where
       P (word_at (kept_by before outcome).words cell)
   outcome-word before (Heard (Takes (Put other word))) cell P (full, there) put holds loaded =
       let puts = put other word refl in
-      put-word before.words other cell word P (full.words, puts.0, there) puts.1 (holds (and-fails (is_output_cell cell)))
+      put-word before.words other cell word P (full.words, puts.0, there) puts.1 (holds (and-false (is_output_cell cell)))
   outcome-word before (Heard (Takes Restore)) (Out output register) P (full, there) put holds loaded =
       subst P (sym (map.outputs before.words before.store output register full.store there)) (loaded refl)
   outcome-word before (Heard (Takes Restore)) Protect P (full, there) put holds loaded =
       subst P (sym (map.protect before.words before.store full.store)) (holds refl)
-  outcome-word before (Heard (Takes act)) cell P facts put holds loaded = holds (and-fails (is_output_cell cell))
+  outcome-word before (Heard (Takes act)) cell P facts put holds loaded = holds (and-false (is_output_cell cell))
   outcome-word before Restarts cell P facts put holds loaded = loaded refl
   outcome-word before _ cell P facts put holds loaded = holds refl
 
@@ -207,7 +203,7 @@ module _ (map : SettingsAreAMap) (told : CellsAreToldApart) where
   outcome-stored before (Heard (Takes Store)) (Out output register) (full, there) =
       map.outputs before.store before.words output register full.words there
   outcome-stored before (Heard (Takes Store)) Protect (full, there) = map.protect before.store before.words full.words
-  outcome-stored before (Heard (Takes act)) cell facts = sym (cond-false _ _ _ (and-fails (is_output_cell cell)))
+  outcome-stored before (Heard (Takes act)) cell facts = sym (cond-false _ _ _ (and-false (is_output_cell cell)))
   outcome-stored before _ cell facts = refl
 
   -- a cell's word as a converter starts

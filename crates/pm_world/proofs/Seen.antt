@@ -4,7 +4,7 @@ use Rattle.std.proofs.Common.{refl, sym, ◌∙◌, ap, subst}
 use Rattle.std.specs.Prelude.{option_to_list}
 use Rattle.std.specs.List.{list_any}
 use Rattle.std.specs.Option.{option_map_or}
-use Rattle.std.proofs.lemmas.Bool.{and_parts, cases_Bool, not-true, true≢false, false≢true}
+use Rattle.std.proofs.lemmas.Bool.{and_parts, cases_Bool, not-true, or_right, true≢false, false≢true}
 use Rattle.std.proofs.lemmas.Option.{none-some, same_Some}
 use Rattle.pm_table.specs.declared.cell.Cell.{Cell}
 use Rattle.pm_table.specs.Cell.{IsCell, same_cell}
@@ -37,11 +37,6 @@ use Rattle.pm_world.proofs.Unread.{listed-read, restart-told}
 or-one : (a b : Bool) → (a || b) ≡ true → (a ≡ true) ⊎ (b ≡ true)
 or-one true b h = inl refl
 or-one false b h = inr h
-
--- the last of two
-or-last : (a b : Bool) → b ≡ true → (a || b) ≡ true
-or-last true b h = refl
-or-last false b h = h
 
 -- the other case of a choice
 cond-off : (a b : Bool) → cond a false b ≡ true → (a ≡ false) × (b ≡ true)
@@ -263,7 +258,7 @@ life-seen laws config passes (event ∷ before) lived seen =
         elim (told-seen laws
         (share_of (now config passes before) event).told
         (knows laws config passes before (earlier lived)) after) [
-          | inl seen ↦ (let o = older seen in (o.0, o.1, here o.0 e (or-last _ _ o.2)))
+          | inl seen ↦ (let o = older seen in (o.0, o.1, here o.0 e (or_right _ _ o.2)))
           | inr by ↦ newest e by
         ]
 
@@ -295,7 +290,7 @@ unfolding restarted_between restarted_since_host
 between-started config passes cell [] between = cc
 between-started config passes cell (event ∷ before) between =
     let running = cond-off (restarts_host event) _ between in
-    rw running.0 (or-last (restarts_converter event) (restarted_since_host before)
+    rw running.0 (or_right (restarts_converter event) (restarted_since_host before)
     (elim (or-one (reads_cell config passes cell before event &&
     (has_read config passes cell before && restarted_since config passes cell before)) (restarted_between config passes cell before)
     running.1) [

@@ -34,18 +34,10 @@ use Rattle.pm_world.proofs.Frames.{heard_ending-write}
 use Rattle.pm_world.proofs.Hearings.{CanTake, is_write, whole-write, legal-write, write-kind}
 use Rattle.pm_world.proofs.Causes.{or-none, rule-none, not-false}
 
--- a word that WRITE_PROTECT may hold allows its own code
-four : (a b c d : Bool) → (a || b || c || d) ≡ true → cond d true (cond c true (cond b true (cond a true false))) ≡ true
-four a b c true h = refl
-four a b true false h = refl
-four a true false false h = refl
-four true false false false h = refl
-four false false false false h = cc
-
--- so the cell of WRITE_PROTECT may be written again
+-- whatever word WRITE_PROTECT may hold, its own code may be written
 protect-allowed : (word : ℕ) → is_protection word ≡ true → is_allowed word command.write_protect ≡ true
 unfolding line_of
-protect-allowed word h = four (eqb word 0x00) (eqb word 0x20) (eqb word 0x40) (eqb word 0x80) h
+protect-allowed word h = h
 
 -- after a write the cell has its word, and its code stays allowed
 wrote-held : Below → (words : Words) (cell : Cell) (word : ℕ) → AreWords words → IsCell 8 cell →
