@@ -1,11 +1,9 @@
 -- What follows where a rule of a frame doesn't apply, and where it's the first one that does.
-use Rattle.std.proofs.Common.{◌≡◌, ℕ, ◌-◌, ◌<◌, ◌≤◌, Bool, true, false, not, eqb, Option, Some, None, List, [], ◌∷◌, ◌++◌, length}
+use Rattle.std.proofs.Common.{◌≡◌, ℕ, ◌-◌, ◌<◌, ◌≤◌, true, false, not, eqb, None, List, [], ◌∷◌, ◌++◌, length}
 use Rattle.std.proofs.Common.{length-append, take, get_or, refl, sym, ◌∙◌, ap, arith}
 use Rattle.std.proofs.lemmas.Bool.{eq-eqb, ne_eqb, eqb-true, not-false, or_parts, or_from, not_from_true, le-ltb, ltb-false}
 use Rattle.std.proofs.lemmas.List.{take-append-le, get_or-append_right, take_all}
-use Rattle.std.specs.Option.{option_or}
 use Rattle.pm_frame.specs.declared.direction.Direction.{Direction}
-use Rattle.pm_frame.specs.declared.fault.FrameFault.{FrameFault}
 use Rattle.pm_frame.specs.declared.fault.FrameFault.TheVariants.{NotOurs, Short, Long, WrongPec, UnknownCode, WrongDirection, Nested}
 use Rattle.pm_frame.specs.Fault.{address_fault, opening_fault, length_fault, pec_fault, codes_of, carried_fault, plain_fault}
 use Rattle.pm_table.specs.Rules.{rule}
