@@ -1,5 +1,5 @@
 -- Cells, their places, and lists with an element for each place.
-use Rattle.std.proofs.Common.{◌≡◌, ℕ, ◌<◌, true, false, length, get_or, set, replicate, sym, ap, ◌∙◌}
+use Rattle.std.proofs.Common.{◌≡◌, ℕ, ◌<◌, false, length, get_or, set, replicate, sym, ap, ◌∙◌}
 use Rattle.std.proofs.Common.{inl, inr, arith, rules}
 use Rattle.std.proofs.lemmas.List.{same_lists, length-set, get_or-set_same, get_or-set_other, length-replicate, get_or-replicate}
 use Rattle.std.proofs.lemmas.List.FromFn.{length-map-range_with_len, get_or-map-range_with_len}

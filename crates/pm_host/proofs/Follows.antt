@@ -4,7 +4,6 @@ use Rattle.std.proofs.Common.{Option, Some, None, is_none, option_map, option_an
 use Rattle.std.specs.Option.{option_or}
 use Rattle.std.specs.List.{range_with_len}
 use Rattle.pm_num.specs.AnyFormat.{Shape}
-use Rattle.pm_table.specs.declared.cell.Cell.{Cell}
 use Rattle.pm_table.specs.Cell.{cell_accepts, IsCell}
 use Rattle.pm_table.specs.Laws.{CellsHavePlaces}
 use Rattle.pm_host.specs.declared.stage.Stage.{Stage}

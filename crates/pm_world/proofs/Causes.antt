@@ -1,7 +1,7 @@
 -- Why an event is taken, and the job that it asks for.
-use Rattle.std.proofs.Common.{◌≡◌, ℕ, ℤ, Bool, true, false, not, Option, Some, None, refl, ap, subst}
+use Rattle.std.proofs.Common.{◌≡◌, ℕ, ℤ, Bool, false, Option, Some, None, refl, ap, subst}
 use Rattle.std.specs.Prelude.{nat_le, option_map, IsSome}
-use Rattle.std.specs.Option.{option_or, option_and_then, option_map_or}
+use Rattle.std.specs.Option.{option_and_then, option_map_or}
 pub use Rattle.std.proofs.lemmas.Bool.{not-false}
 use Rattle.std.proofs.lemmas.Option.{same_Some}
 use Rattle.pm_table.specs.declared.cell.Cell.{Cell}
@@ -16,7 +16,6 @@ use Rattle.pm_host.specs.Summary.{Summary, format_at}
 use Rattle.pm_host.specs.Transcript as host
 use Rattle.pm_world.specs.declared.event.Event.{Event}
 use Rattle.pm_world.specs.declared.event.Event.TheVariants.{Deliver, Exchange, Finish, OrderMicro, RestartDevice}
-use Rattle.pm_world.specs.declared.cause.Cause.{Cause}
 use Rattle.pm_world.specs.declared.cause.Cause.TheVariants.{Full}
 use Rattle.pm_world.specs.Confirmed.{restarts_converter}
 use Rattle.pm_world.specs.Job.{asked_by, refusal_of}

@@ -11,7 +11,6 @@ use Rattle.pm_table.specs.declared.reg.Reg.{Reg}
 use Rattle.pm_table.specs.declared.cell.Cell.{Cell}
 use Rattle.pm_table.specs.declared.cell.Cell.TheVariants.{Out, Protect}
 use Rattle.pm_table.specs.Cell.{cell_accepts, cell_code, register_code, IsCell}
-use Rattle.pm_table.specs.Codes as command
 use Rattle.pm_table.specs.Commands.{Line, is_ever_written, is_written, line_of}
 use Rattle.pm_table.specs.Protection.{is_allowed, lets_write}
 use Rattle.pm_table.specs.declared.protection.Protection.{Protection}
