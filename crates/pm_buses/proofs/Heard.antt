@@ -1,7 +1,7 @@
 -- What a converter hears of a frame, and what comes back.
-use Rattle.std.proofs.Common.{◌≡◌, ◌≤◌, ℕ, Bool, true, false, ◌||◌, ◌&&◌, List, [], ◌∷◌, ◌++◌, length, take, refl, sym, ◌∙◌, ap, ap₂}
+use Rattle.std.proofs.Common.{◌≡◌, ◌≤◌, ℕ, Bool, true, ◌||◌, ◌&&◌, List, [], ◌∷◌, ◌++◌, length, take, refl, sym, ◌∙◌, ap, ap₂}
 use Rattle.std.specs.Prelude.{bytes_eq, nat_lt}
-use Rattle.std.proofs.lemmas.Bool.{lt-ltb}
+use Rattle.std.proofs.lemmas.Bool.{lt-ltb, or_right}
 use Rattle.pm_frame.specs.Betrayal.{is_betrayed}
 use Rattle.pm_device.specs.declared.ending.Ending.{Ending}
 use Rattle.pm_device.specs.declared.ending.Ending.TheVariants.{Restart, Stop}
@@ -40,11 +40,6 @@ delivered packet bytes ending way old new bytes_are ending_is legal after = reco
 pub lost : (packet : List ℕ) (held : Held) → IsSent packet held held
 lost packet held = record { events = []; may = tt; after = refl }
 
--- of two, the second
-or-second : (one other : Bool) → other ≡ true → (one || other) ≡ true
-or-second true other h = refl
-or-second false other h = h
-
 -- no bytes are heard legally, and come back legally
 none-heard : (request : List ℕ) → is_legal_hearing request [] Stop ≡ true
 unfolding is_legal_hearing
@@ -54,7 +49,7 @@ none-heard (byte ∷ rest) = refl
 none-back : (request answer : List ℕ) (needed : ℕ) (whole : Bool) → 1 ≤ needed → is_legal_return request needed whole answer [] ≡ true
 unfolding is_legal_return
 none-back request answer needed whole some =
-    or-second (whole && bytes_eq [] answer) (nat_lt 0 needed || is_betrayed request [])
+    or_right (whole && bytes_eq [] answer) (nat_lt 0 needed || is_betrayed request [])
     (ap (λ b. b || is_betrayed request []) (lt-ltb 0 needed some))
 
 -- a request is lost

@@ -23,7 +23,8 @@ use Rattle.pm_host.specs.Summary.{Summary, next, step_of, sending_in, possible_a
 use Rattle.pm_host.specs.Transcript.{Entry, Accepted}
 use Rattle.pm_c.specs.declared.host_step.HostStep.{HostStep}
 use Rattle.pm_c.specs.declared.sending_image.SendingImage.{SendingImage}
-use Rattle.pm_c.specs.Numbers.{accepted, no_host, no_cell, other_frame, no_address, outcome, host_number}
+use Rattle.pm_c.specs.Numbers.{accepted, no_host, no_cell, other_frame, no_address, outcome}
+use Rattle.pm_host.specs.FaultWords.{host_fault_number}
 
 -- a host is made
 abbrev pub new_number : ℕ → ℕ → ℕ → ℕ
@@ -116,7 +117,7 @@ abbrev pub cell_number : Option Summary → Option Cell → ℕ
 cell_number None cell = no_host
 cell_number (Some s) None = no_cell
 cell_number (Some s) (Some cell) =
-    if is_cell s.setup.outputs cell then accepted else host_number UnknownOutput
+    if is_cell s.setup.outputs cell then accepted else host_fault_number UnknownOutput
 
 -- what is said of a cell: 1 where its word is confirmed, otherwise 0, whatever the memory has there
 abbrev pub IsStanding : Option Summary → Option Cell → StandingImage → Type 0

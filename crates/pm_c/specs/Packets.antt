@@ -2,11 +2,11 @@
 use Rattle.std.specs.Prelude.{ℕ, nat_lt, if◌then◌else◌, ◌==◌, Option, Some, None}
 use Rattle.std.specs.Option.{option_map, option_map_or}
 use Rattle.pm_frame.specs.declared.fault.FrameFault.{FrameFault}
-use Rattle.pm_frame.specs.declared.fault.FrameFault.TheVariants.{NotOurs, Short, Long, WrongCount, WrongPec, UnknownCode, WrongDirection, Nested}
 use Rattle.pm_frame.specs.declared.message.Message.{Message}
 use Rattle.pm_frame.specs.declared.message.Message.TheVariants.{SendByte, WriteByte, WriteWord, PagePlusWrite, ReadCommand, PagePlusRead, ReadCoefficients}
 use Rattle.pm_frame.specs.declared.payload.Payload.{Payload}
 use Rattle.pm_frame.specs.declared.payload.Payload.TheVariants.{Empty, Byte, Word}
+use Rattle.pm_frame.specs.FaultWords.{frame_fault_number}
 use Rattle.pm_frame.specs.Layout.{fits_layout}
 use Rattle.pm_host.specs.Refusals.{is_within}
 use Rattle.pm_c.specs.declared.packet.Packet.{Packet}
@@ -42,19 +42,8 @@ written_number address message =
     then option_map_or (λ m. if fits_layout m then accepted else no_packet) message no_packet
     else no_address
 
--- F1 to F8 are 31h to 38h
-abbrev pub frame_number : FrameFault → ℕ
-frame_number NotOurs = 0x31
-frame_number (Short place) = 0x32
-frame_number (Long place) = 0x33
-frame_number (WrongCount place) = 0x34
-frame_number (WrongPec place) = 0x35
-frame_number (UnknownCode place) = 0x36
-frame_number (WrongDirection place) = 0x37
-frame_number (Nested place) = 0x38
-
 -- a packet is read: it is refused with this fault, or it isn't
 abbrev pub read_number : ℕ → Option FrameFault → ℕ
 read_number address fault =
-    if is_within 0x08 0x77 address then option_map_or frame_number fault accepted
+    if is_within 0x08 0x77 address then option_map_or frame_fault_number fault accepted
     else no_address

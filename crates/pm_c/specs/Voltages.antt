@@ -8,11 +8,13 @@ use Rattle.pm_host.specs.Refusals.{range_fault}
 use Rattle.pm_host.specs.declared.format_image.FormatImage.{FormatImage}
 use Rattle.pm_host.specs.Image.{format_held}
 use Rattle.pm_host.specs.Summary.{Summary}
-use Rattle.pm_c.specs.Numbers.{accepted, no_host, host_number, num_number, outcome}
+use Rattle.pm_c.specs.Numbers.{accepted, no_host, outcome}
+use Rattle.pm_num.specs.FaultWords.{num_fault_number}
+use Rattle.pm_host.specs.FaultWords.{host_fault_number}
 
 -- H7 where there is no format, then N5, N3 and N4
 abbrev pub word_number : Option Shape → ℤ → ℕ
-word_number None x = host_number FormatUnknown
+word_number None x = host_fault_number FormatUnknown
 word_number (Some shape) x = outcome (range_fault shape x)
 
 -- this many whole microvolts are the most that aren't above the value
@@ -26,11 +28,11 @@ is_far value = is_above value (micros (pos (10 ^ 15))) || is_above (micros (neg_
 
 -- the whole microvolts of a value are asked: N5 where it is that far
 abbrev pub floor_number : Ratio → ℕ
-floor_number value = if is_far value then num_number TooLarge else accepted
+floor_number value = if is_far value then num_fault_number TooLarge else accepted
 
 -- those of a word: H7 where there is no format
 abbrev pub value_number : Option Shape → ℕ → ℕ
-value_number None word = host_number FormatUnknown
+value_number None word = host_fault_number FormatUnknown
 value_number (Some shape) word = floor_number (shape_value shape word)
 
 -- the numbers mean the format that is known; of kind 0 where none is, whatever the memory has there
@@ -41,4 +43,4 @@ IsFormat known format = (format_held format ≡ known) × (known ≡ None → fo
 abbrev pub output_number : Option Summary → ℕ → ℕ
 output_number None output = no_host
 output_number (Some s) output =
-    if nat_lt output s.setup.outputs then accepted else host_number UnknownOutput
+    if nat_lt output s.setup.outputs then accepted else host_fault_number UnknownOutput

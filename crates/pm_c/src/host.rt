@@ -8,7 +8,7 @@ ghost use Rattle.pm_host.specs.Transcript.{Setup, Restarted};
 ghost use Rattle.pm_c.specs.Sizes.{host_size};
 ghost use Rattle.pm_c.specs.Host.{new_number, memory_number, after, BeginsJob};
 
-use crate::numbers::{ACCEPTED, NO_ADDRESS, NO_CELL, NO_HOST, number_of, of_host};
+use crate::numbers::{ACCEPTED, NO_ADDRESS, NO_CELL, NO_HOST, number_of};
 use pm_host::{Command, Image, Job};
 use pm_table::{Code, address_ok, cell_of};
 use std::mem::size_of;
@@ -59,7 +59,7 @@ fn begin(host: &mut Image, job: Option<Job>) -> u8
             host.write_stage(Some(stage));
             ACCEPTED
         }
-        Err(fault) => of_host(fault),
+        Err(fault) => fault.number(),
     }
 }
 

@@ -5,7 +5,7 @@ ghost use Rattle.pm_table.specs.Cell.{cell_at};
 ghost use Rattle.pm_host.specs.Image.{host_of, standing_held, words_held};
 ghost use Rattle.pm_c.specs.Host.{cell_number, IsStanding, IsPossible, seen_number};
 
-use crate::numbers::{ACCEPTED, NO_CELL, NO_HOST, of_host};
+use crate::numbers::{ACCEPTED, NO_CELL, NO_HOST};
 use pm_host::{HostFault, Image, StandingImage, WordsImage};
 use pm_table::{Code, cell_of};
 
@@ -28,7 +28,7 @@ pub extern "C" fn pm_host_standing(
         return NO_CELL;
     };
     if !cell.is_there(host.state.outputs) {
-        return of_host(HostFault::UnknownOutput);
+        return HostFault::UnknownOutput.number();
     }
     *standing = flagged(host.state.known.standing(cell));
     ACCEPTED
@@ -63,7 +63,7 @@ pub extern "C" fn pm_host_possible(host: &Image, output: u8, code: u8, words: &m
         return NO_CELL;
     };
     if !cell.is_there(host.state.outputs) {
-        return of_host(HostFault::UnknownOutput);
+        return HostFault::UnknownOutput.number();
     }
     *words = counted(host.state.known.possible(cell));
     ACCEPTED

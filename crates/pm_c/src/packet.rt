@@ -7,7 +7,7 @@ ghost use Rattle.pm_frame.specs.Pec.{pec_of};
 ghost use Rattle.pm_c.specs.Host.{IsSending};
 ghost use Rattle.pm_c.specs.Packets.{packet_message, payload_in, read_number, written_number};
 
-use crate::numbers::{ACCEPTED, NO_ADDRESS, NO_PACKET, of_frame};
+use crate::numbers::{ACCEPTED, NO_ADDRESS, NO_PACKET};
 use crate::sending_image::SendingImage;
 use pm_frame::{Message, Payload, fits, pec, read_request, read_write};
 use pm_table::address_ok;
@@ -157,7 +157,7 @@ pub extern "C" fn pm_packet_read_write(address: u8, bytes: &[u8], packet: &mut P
             *packet = packet_of(view.message());
             ACCEPTED
         }
-        Err(fault) => of_frame(fault),
+        Err(fault) => fault.number(),
     }
 }
 
@@ -177,6 +177,6 @@ pub extern "C" fn pm_packet_read_request(address: u8, bytes: &[u8], packet: &mut
             *packet = packet_of(view.message());
             ACCEPTED
         }
-        Err(fault) => of_frame(fault),
+        Err(fault) => fault.number(),
     }
 }

@@ -8,7 +8,7 @@ ghost use Rattle.pm_host.specs.Image.{format_held, host_of};
 ghost use Rattle.pm_host.specs.Summary.{format_at};
 ghost use Rattle.pm_c.specs.Voltages.{floor_number, is_far as spec_is_far, output_number, value_number, word_number, IsFloor, IsFormat};
 
-use crate::numbers::{ACCEPTED, NO_HOST, of_host, of_number};
+use crate::numbers::{ACCEPTED, NO_HOST};
 use pm_host::{FormatImage, HostFault, Image, nearest_word};
 use pm_num::{Frac, NumFault, NumFormat};
 
@@ -30,7 +30,7 @@ pub extern "C" fn pm_host_format(host: &Image, output: u8, format: &mut FormatIm
         return NO_HOST;
     }
     if host.state.outputs <= output {
-        return of_host(HostFault::UnknownOutput);
+        return HostFault::UnknownOutput.number();
     }
     *format = kinded(host.state.format(output));
     ACCEPTED
@@ -62,7 +62,7 @@ pub extern "C" fn pm_microvolts(format: &FormatImage, word: u16, microvolts: &mu
     ensures refused { result ≢ 0 → microvolts.new ≡ microvolts.old }
 {
     let Some(format) = format.format() else {
-        return of_host(HostFault::FormatUnknown);
+        return HostFault::FormatUnknown.number();
     };
     put_floor(&format.value_of(word), microvolts)
 }
@@ -75,7 +75,7 @@ pub(crate) fn put_floor(value: &Frac, microvolts: &mut i64) -> u8
     ensures refused { result ≢ 0 → microvolts.new ≡ microvolts.old }
 {
     if is_far(value) {
-        return of_number(NumFault::TooLarge);
+        return NumFault::TooLarge.number();
     }
     *microvolts = value.floor_micro() as i64;
     ACCEPTED
@@ -100,13 +100,13 @@ pub extern "C" fn pm_nearest_word(format: &FormatImage, microvolts: i64, word: &
     ensures refused { result ≢ 0 → word.new ≡ word.old }
 {
     let Some(format) = format.format() else {
-        return of_host(HostFault::FormatUnknown);
+        return HostFault::FormatUnknown.number();
     };
     match nearest_word(&format, microvolts) {
         Ok(found) => {
             *word = found;
             ACCEPTED
         }
-        Err(fault) => of_host(fault),
+        Err(fault) => fault.number(),
     }
 }

@@ -1,13 +1,13 @@
 -- The codes of the device, which act and answer alike whatever output a page names.
 use Rattle.std.proofs.Common.{◌≡◌, ◌≢◌, ℕ, ◌<◌, Bool, true, false, cond, eqb, not, ◌||◌, is_some, List, Option, Some, None, refl, sym, ◌∙◌}
 use Rattle.std.proofs.Common.{ap, subst}
-use Rattle.std.proofs.lemmas.Bool.{lt-ltb}
+use Rattle.std.proofs.lemmas.Bool.{lt-ltb, or_parts}
 use Rattle.std.specs.Option.{option_map, option_map_or}
 use Rattle.pm_table.specs.declared.cell.Cell.TheVariants.{Out, Protect}
 use Rattle.pm_table.specs.declared.reg.Reg.{Reg}
 use Rattle.pm_table.specs.Cell.{register_of}
 use Rattle.pm_table.specs.Codes as command
-use Rattle.pm_table.specs.Commands.{Line, rows, line_of}
+use Rattle.pm_table.specs.Commands.{Line, rows, is_paged, line_of}
 use Rattle.pm_table.specs.Laws.{PayloadsAreShort}
 use Rattle.pm_table.specs.Protection.{is_allowed}
 use Rattle.pm_frame.specs.declared.message.Message.{Message}
@@ -36,7 +36,6 @@ use Rattle.pm_device.specs.Reply.{answer_bytes, register_bytes, register_word, r
 use Rattle.pm_device.proofs.ReadAnswers.{request-answered}
 use Rattle.pm_device.proofs.Refusals.{next-answered}
 use Rattle.pm_device.proofs.Replies.{line-passes, stop-not_answer}
-use Rattle.pm_device.proofs.TakenActs.{or-false}
 use Rattle.pm_device.proofs.WriteEffects.{heard-write}
 
 -- a code is one of those that act on an output, or read something of one
@@ -48,7 +47,7 @@ is_of_output code =
 
 -- each row of the table says so
 is_told : ℕ → Line → Bool
-is_told code line = line.paged || not (is_of_output code)
+is_told code line = is_paged line.scope || not (is_of_output code)
 
 -- what a code of the device isn't
 record IsOfDevice (code : ℕ) : Type 0 where
@@ -75,21 +74,21 @@ of-device code e = parts (go (line_of code) refl e) where
   told false true t p = cc
   told true of_output t p = cc
 
-  go : (found : Option Line) → line_of code ≡ found → option_map_or (λ line. not line.paged) found false ≡ true → is_of_output code ≡ false
+  go : (found : Option Line) → line_of code ≡ found → option_map_or (λ line. not (is_paged line.scope)) found false ≡ true → is_of_output code ≡ false
   go None is p = cc
   go (Some line) is p =
       let passes : is_told code line ≡ true = line-passes is_told rows code line refl is in
-      told line.paged (is_of_output code) passes p
+      told (is_paged line.scope) (is_of_output code) passes p
 
   parts : is_of_output code ≡ false → IsOfDevice code
   parts none =
-      let h = or-false _ _ none in
-      let g = or-false _ _ h.0 in
-      let f = or-false _ _ g.0 in
-      let k = or-false _ _ f.0 in
-      let d = or-false _ _ k.0 in
-      let b = or-false _ _ d.0 in
-      let a = or-false _ _ b.0 in
+      let h = or_parts _ _ none in
+      let g = or_parts _ _ h.0 in
+      let f = or_parts _ _ g.0 in
+      let k = or_parts _ _ f.0 in
+      let d = or_parts _ _ k.0 in
+      let b = or_parts _ _ d.0 in
+      let a = or_parts _ _ b.0 in
       record {
         clears = a.0;
         vout = a.1;

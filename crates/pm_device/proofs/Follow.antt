@@ -1,9 +1,9 @@
 -- What a converter holds after its past is what one event after another makes of its start.
 use Rattle.std.proofs.Common.{◌≡◌, ◌≢◌, inl, inr, ℕ, ◌<◌, ◌≤◌, Bool, true, false, cond, eqb, ltb, ◌||◌, ◌&&◌, List, [], ◌∷◌, length, get_or}
 use Rattle.std.proofs.Common.{set, refl, sym, ◌∙◌, ap, subst, arith}
+use Rattle.std.proofs.Math.Bool.{and-false, or-false, or_comm}
 use Rattle.std.proofs.lemmas.Bool.{cases_eq, cond-false, eq-eqb, ne_eqb}
 use Rattle.std.proofs.lemmas.List.{get_or-set_same, get_or-set_other, length-set}
-use Rattle.std.proofs.Math.Bool.{or_comm}
 use Rattle.std.specs.List.{list_any}
 use Rattle.pm_table.specs.declared.reg.Reg.{Reg}
 use Rattle.pm_table.specs.declared.cell.Cell.{Cell}
@@ -85,16 +85,6 @@ vout-step config past event output =
     ap (λ b. is_output_cut config (kept config (event ∷ past)).words output || b)
     (any-stopped (λ moment. is_output_cut config moment.words output) (clears (act_clears_vout output) outcome)
     (from_last (clears (act_clears_vout output)) (moments config past)))
-
--- `false` beside a bit
-or-fails : (b : Bool) → (b || false) ≡ b
-or-fails true = refl
-or-fails false = refl
-
--- and with a bit
-and-fails : (b : Bool) → (b && false) ≡ false
-and-fails true = refl
-and-fails false = refl
 
 -- an output that starts cut shows it
 vout-shows_start : (config : Config) (output : ℕ) →
@@ -191,7 +181,7 @@ module _ (map : SettingsAreAMap) (alone : OutputsStandAlone) (config : Config) (
       place (is_output_cut config (kept config past).words place)
       (λ within.
       sym (ap (λ b. is_output_cut config (kept config past).words place || cond (b && true) false (before place))
-      (eq-eqb place place refl) ∙ or-fails (is_output_cut config (kept config past).words place)))
+      (eq-eqb place place refl) ∙ or-false (is_output_cut config (kept config past).words place)))
       (λ output there ne.
       stays output
       ∙ ap (λ b. is_output_cut config (kept config past).words output || cond (b && true) false (before output))
@@ -202,7 +192,7 @@ module _ (map : SettingsAreAMap) (alone : OutputsStandAlone) (config : Config) (
       (λ output there.
       stays output
       ∙ ap (λ b. is_output_cut config (kept config past).words output || cond b false (before output))
-      (sym (and-fails (eqb place output))))
+      (sym (and-false (eqb place output))))
 
   -- and a bit beside `true`
   and-holds : (b : Bool) → (b && true) ≡ b
@@ -273,7 +263,7 @@ module _ (map : SettingsAreAMap) (alone : OutputsStandAlone) (config : Config) (
   cut-step Restarts can =
       let store = (kept config past).store in
       each_output-same (is_output_cut config store) (λ output. is_output_cut config store output || false)
-      (λ output there. sym (or-fails (is_output_cut config store output)))
+      (λ output there. sym (or-false (is_output_cut config store output)))
   cut-step _ can = all-stay
 
   -- the latches after one more event
@@ -312,7 +302,7 @@ now-nil config =
     let cut =
     each_output-same (λ output. is_output_cut config (started config).words output || false)
     (is_output_cut config (started config).words)
-    (λ output there. or-fails (is_output_cut config (started config).words output)) in
+    (λ output there. or-false (is_output_cut config (started config).words output)) in
     cc
 
 -- PAGE names an output

@@ -1,6 +1,7 @@
 -- Where the words of the cells come from, over a converter's whole past.
 use Rattle.std.proofs.Common.{◌≡◌, ◌⊎◌, inl, inr, ℕ, ◌≤◌, Bool, true, false, cond, eqb, ◌&&◌, Option, Some, None, List, [], ◌∷◌, refl, sym}
-use Rattle.std.proofs.Common.{◌∙◌, ap, subst, arith}
+use Rattle.std.proofs.Common.{◌∙◌, ap, subst}
+use Rattle.std.proofs.Math.Bool.{and-false}
 use Rattle.std.proofs.lemmas.Bool.{cond-true, cond-false}
 use Rattle.std.specs.Option.{option_map}
 use Rattle.pm_table.specs.declared.cell.Cell.{Cell}
@@ -8,6 +9,7 @@ use Rattle.pm_table.specs.declared.cell.Cell.TheVariants.{Out, Protect}
 use Rattle.pm_table.specs.Cell.{cell_at, cell_accepts, is_output_cell, same_cell, IsCell}
 use Rattle.pm_table.specs.Codes as command
 use Rattle.pm_table.specs.Laws.{CellsAreToldApart}
+use Rattle.pm_table.specs.Lemmas.{IsCell-eight}
 use Rattle.pm_frame.specs.Fault.{write_fault}
 use Rattle.pm_frame.specs.Laws.{WritesAreExact}
 use Rattle.pm_frame.specs.Layout.{AreBytes, IsWrite}
@@ -61,11 +63,6 @@ put-names code output word number cell e =
     first false false false true h = cc
     first false false false false h =
         last (eqb code command.store_user_all) (eqb code command.restore_user_all) (cell_at code output) h
-
--- a cell of fewer outputs is one of eight
-pub cell-of_eight : (count : ℕ) (cell : Cell) → count ≤ 8 → IsCell count cell → IsCell 8 cell
-cell-of_eight count (Out output register) few here = omega (arith, few, here)
-cell-of_eight count Protect few here = tt
 
 -- bytes without a fault are a write of what they say by their places
 written-message : WritesAreExact → (addr : ℕ) (bytes : List ℕ) → AreBytes bytes → write_fault addr bytes ≡ None →
@@ -157,11 +154,6 @@ heard-before (Hearing bytes ending) past heard = heard.1
 heard-before Restarted past heard = heard
 heard-before (Reading output code word) past heard = heard.1
 
--- a bit beside one that isn't set
-and-fails : (b : Bool) → (b && false) ≡ false
-and-fails true = refl
-and-fails false = refl
-
 -- a word is the one that the cell was last loaded with, or one that was carried for it
 HasOrigin : Config → List Event → Cell → ℕ → Type 0
 HasOrigin config past cell word = (word ≡ loaded_word config past cell) ⊎ WasCarried config past cell word
@@ -195,12 +187,12 @@ module _ (map : SettingsAreAMap) (told : CellsAreToldApart) where
       P (word_at (kept_by before outcome).words cell)
   outcome-word before (Heard (Takes (Put other word))) cell P (full, there) put holds loaded =
       let puts = put other word refl in
-      put-word before.words other cell word P (full.words, puts.0, there) puts.1 (holds (and-fails (is_output_cell cell)))
+      put-word before.words other cell word P (full.words, puts.0, there) puts.1 (holds (and-false (is_output_cell cell)))
   outcome-word before (Heard (Takes Restore)) (Out output register) P (full, there) put holds loaded =
       subst P (sym (map.outputs before.words before.store output register full.store there)) (loaded refl)
   outcome-word before (Heard (Takes Restore)) Protect P (full, there) put holds loaded =
       subst P (sym (map.protect before.words before.store full.store)) (holds refl)
-  outcome-word before (Heard (Takes act)) cell P facts put holds loaded = holds (and-fails (is_output_cell cell))
+  outcome-word before (Heard (Takes act)) cell P facts put holds loaded = holds (and-false (is_output_cell cell))
   outcome-word before Restarts cell P facts put holds loaded = loaded refl
   outcome-word before _ cell P facts put holds loaded = holds refl
 
@@ -211,7 +203,7 @@ module _ (map : SettingsAreAMap) (told : CellsAreToldApart) where
   outcome-stored before (Heard (Takes Store)) (Out output register) (full, there) =
       map.outputs before.store before.words output register full.words there
   outcome-stored before (Heard (Takes Store)) Protect (full, there) = map.protect before.store before.words full.words
-  outcome-stored before (Heard (Takes act)) cell facts = sym (cond-false _ _ _ (and-fails (is_output_cell cell)))
+  outcome-stored before (Heard (Takes act)) cell facts = sym (cond-false _ _ _ (and-false (is_output_cell cell)))
   outcome-stored before _ cell facts = refl
 
   -- a cell's word as a converter starts
@@ -224,14 +216,14 @@ module _ (map : SettingsAreAMap) (told : CellsAreToldApart) where
       IsCount config → AreHeard past → IsCell config.count cell → HasOrigin config past cell (word_at (kept config past).words cell)
   unfolding HasOrigin kept loaded_word
   kept-origin exact config [] cell count heard here =
-      inl (start-at config cell (cell-of_eight config.count cell count.few here))
+      inl (start-at config cell (IsCell-eight config.count cell count.few here))
   kept-origin exact config (event ∷ past) cell count heard here =
       let before = kept config past in
       outcome-word before (outcome_of config before event) cell (HasOrigin config (event ∷ past) cell)
-      (kept-full map config past, cell-of_eight config.count cell count.few here)
+      (kept-full map config past, IsCell-eight config.count cell count.few here)
       (λ other word e.
       let can = outcome-can config before event (Put other word) e (kept-page config past count.some) in (
-        cell-of_eight config.count other count.few can.0,
+        IsCell-eight config.count other count.few can.0,
         λ same. inr (subst (λ c. WasCarried config (event ∷ past) c word) same (carried-event exact config past event other word heard e)),
       ))
       (λ unbroken. origin-later config past event cell (word_at before.words cell) unbroken
@@ -253,18 +245,18 @@ module _ (map : SettingsAreAMap) (told : CellsAreToldApart) where
   unfolding kept
   kept-ever exact config [] cell count heard here =
       let start : IsEverHad config [] cell (word_at (start_words config) cell) =
-      inl (start-at config cell (cell-of_eight config.count cell count.few here)) in (start, start)
+      inl (start-at config cell (IsCell-eight config.count cell count.few here)) in (start, start)
   kept-ever exact config (event ∷ past) cell count heard here =
       let before = kept config past in
       let outcome = outcome_of config before event in
-      let facts : AreFull before × IsCell 8 cell = (kept-full map config past, cell-of_eight config.count cell count.few here) in
+      let facts : AreFull before × IsCell 8 cell = (kept-full map config past, IsCell-eight config.count cell count.few here) in
       let both = kept-ever exact config past cell count (heard-before event past heard) here in
       let words = later-had config past event cell (word_at before.words cell) both.0 in
       let store = later-had config past event cell (word_at before.store cell) both.1 in (
         outcome-word before outcome cell (IsEverHad config (event ∷ past) cell) facts
             (λ other word e.
             let can = outcome-can config before event (Put other word) e (kept-page config past count.some) in (
-              cell-of_eight config.count other count.few can.0,
+              IsCell-eight config.count other count.few can.0,
               λ same. inr (subst (λ c. WasEverCarried config (event ∷ past) c word) same
                   (carried-event exact config past event other word heard e).frame),
             ))
@@ -298,7 +290,7 @@ module _ (map : SettingsAreAMap) (told : CellsAreToldApart) where
   pub now-stored : (config : Config) (past : List Event) (cell : Cell) → config.count ≤ 8 → IsCell config.count cell →
       word_at (now config past).store cell ≡ stored_word config past cell
   unfolding now
-  now-stored config past cell few here = kept-stored config past cell (cell-of_eight config.count cell few here)
+  now-stored config past cell few here = kept-stored config past cell (IsCell-eight config.count cell few here)
 
   -- each cell accepts its word, and the one in the store
   kept-accepted : (config : Config) (past : List Event) (cell : Cell) → IsSound config → IsCell config.count cell →
@@ -308,16 +300,16 @@ module _ (map : SettingsAreAMap) (told : CellsAreToldApart) where
   kept-accepted config [] cell sound here =
       let start =
       subst (λ w. cell_accepts cell w ≡ true)
-      (sym (start-at config cell (cell-of_eight config.count cell sound.few here))) (sound.starts cell here) in (start, start)
+      (sym (start-at config cell (IsCell-eight config.count cell sound.few here))) (sound.starts cell here) in (start, start)
   kept-accepted config (event ∷ past) cell sound here =
       let before = kept config past in
       let outcome = outcome_of config before event in
-      let facts : AreFull before × IsCell 8 cell = (kept-full map config past, cell-of_eight config.count cell sound.few here) in
+      let facts : AreFull before × IsCell 8 cell = (kept-full map config past, IsCell-eight config.count cell sound.few here) in
       let both = kept-accepted config past cell sound here in (
         outcome-word before outcome cell (λ w. cell_accepts cell w ≡ true) facts
             (λ other word e.
             let can = outcome-can config before event (Put other word) e (kept-page config past sound.some) in (
-              cell-of_eight config.count other sound.few can.0,
+              IsCell-eight config.count other sound.few can.0,
               λ same. subst (λ c. cell_accepts c word ≡ true) same can.1,
             ))
             (λ unbroken. both.0) (λ loaded. both.1),

@@ -1,12 +1,12 @@
 -- Which replies come after which endings, and for which codes.
 use Rattle.std.proofs.Common.{◌≡◌, ℕ, Bool, true, false, cond, eqb, ltb, not, ◌||◌, ◌&&◌, is_some, Option, Some}
 use Rattle.std.proofs.Common.{None, List, [], ◌∷◌, refl, sym, ◌∙◌, ap, subst}
-use Rattle.std.proofs.lemmas.Bool.{and_parts, eqb-true}
+use Rattle.std.proofs.lemmas.Bool.{and_parts, eqb-true, not-true, or_parts}
 use Rattle.std.specs.List.{list_all}
 use Rattle.std.specs.Option.{option_map_or}
 use Rattle.pm_table.specs.declared.cell.Cell.TheVariants.{Protect}
 use Rattle.pm_table.specs.Codes as command
-use Rattle.pm_table.specs.Commands.{Line, Row, rows, line_among, line_of, is_written}
+use Rattle.pm_table.specs.Commands.{Line, Row, rows, line_among, line_of, is_ever_written, is_written}
 use Rattle.pm_table.specs.Protection.{is_allowed}
 use Rattle.pm_frame.specs.declared.fault.FrameFault.{FrameFault}
 use Rattle.pm_frame.specs.declared.fault.FrameFault.TheVariants as frame
@@ -29,7 +29,7 @@ use Rattle.pm_device.specs.Held.{Held}
 use Rattle.pm_device.specs.Verdict.{act_in, act_verdict, answers_coefficients, fault_verdict, is_accepted, names_no_output, output_in}
 use Rattle.pm_device.specs.Verdict.{read_verdict, selects_no_output, unless_faulty, verdict_of, write_verdict, written_word}
 use Rattle.pm_device.specs.Reply.{reply_to, reply_of}
-use Rattle.pm_device.proofs.TakenActs.{or-false, request-not_taken}
+use Rattle.pm_device.proofs.TakenActs.{request-not_taken}
 
 -- what passes for every row of the command table passes for the line of a code
 pub line-passes : (test : ℕ → Line → Bool) (among : List Row) (code : ℕ) (line : Line) →
@@ -49,7 +49,7 @@ line-passes test (row ∷ others) code line all is =
 
 -- a code that is written has an act, but for PAGE_PLUS_WRITE, which only carries one
 has-act : ℕ → ℕ → ℕ → Line → Bool
-has-act output word code line = not line.writes || (eqb code command.page_plus_write || is_some (act_in code output word))
+has-act output word code line = not (is_ever_written line.protection) || (eqb code command.page_plus_write || is_some (act_in code output word))
 
 -- so a code that is written has an act
 written-act : (code output word : ℕ) → is_written code ≡ true → eqb code command.page_plus_write ≡ false →
@@ -61,18 +61,13 @@ written-act code output word written plain none = go (line_of code) refl written
   last true false some p w c = p
   last false carries some p w c = cc
 
-  go : (found : Option Line) → line_of code ≡ found → option_map_or (λ l. l.writes) found false ≡ true → ⊥
+  go : (found : Option Line) → line_of code ≡ found → option_map_or (λ l. is_ever_written l.protection) found false ≡ true → ⊥
   go None is w = cc
   go (Some line) is w =
       let passes : has-act output word code line ≡ true = line-passes (has-act output word) rows code line refl is in
-      let some = last line.writes (eqb code command.page_plus_write) (is_some (act_in code output word)) passes w plain in
+      let some = last (is_ever_written line.protection) (eqb code command.page_plus_write) (is_some (act_in code output word)) passes w plain in
       let not_some : is_some (act_in code output word) ≡ false = ap (λ a. is_some a) none in
       cc
-
--- what `not` of it holds of doesn't
-pub not-true : (b : Bool) → not b ≡ true → b ≡ false
-not-true false e = refl
-not-true true e = cc
 
 -- the code of a message that writes is written, and isn't PAGE_PLUS_WRITE
 IsWrittenCode : ℕ → Type 0
@@ -101,10 +96,10 @@ write-code (PagePlusWrite page code payload) writes fits =
     (is_written code) both in
     let none = not-true (eqb code command.page || eqb code command.page_plus_write || eqb code command.page_plus_read || eqb code
     command.coefficients) parts.0 in
-    let three = (or-false (eqb code command.page || eqb code command.page_plus_write || eqb code command.page_plus_read)
+    let three = (or_parts (eqb code command.page || eqb code command.page_plus_write || eqb code command.page_plus_read)
     (eqb code command.coefficients) none).0 in
-    let two = (or-false (eqb code command.page || eqb code command.page_plus_write) (eqb code command.page_plus_read) three).0 in
-    (parts.1, (or-false (eqb code command.page) (eqb code command.page_plus_write) two).1)
+    let two = (or_parts (eqb code command.page || eqb code command.page_plus_write) (eqb code command.page_plus_read) three).0 in
+    (parts.1, (or_parts (eqb code command.page) (eqb code command.page_plus_write) two).1)
 write-code (ReadCommand code) writes fits = cc
 write-code (PagePlusRead page code) writes fits = cc
 write-code (ReadCoefficients code side) writes fits = cc

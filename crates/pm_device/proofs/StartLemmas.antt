@@ -10,6 +10,7 @@ use Rattle.std.specs.Result.{result_err, result_ok}
 use Rattle.pm_num.specs.AnyFormat.{Shape, InLinear11}
 use Rattle.pm_num.specs.declared.fault.NumFault.{NumFault}
 use Rattle.pm_table.specs.Address.{IsAddress}
+use Rattle.pm_table.specs.RuleLemmas.{or-none, rule-none}
 use Rattle.pm_table.specs.Cell.{is_operation, register_accepts, register_number, cell_accepts, IsCell}
 use Rattle.pm_table.specs.Format.{shape_in}
 use Rattle.pm_table.specs.VoutMode.{mode_of}
@@ -62,20 +63,10 @@ all-start config words one registers protect = one (start_word config) each wher
   each (Out output register) here = registers output register here
   each Protect here = protect
 
--- the parts of an alternative that is none
-or-none : {X : Type 0} (x y : Option X) → option_or x y ≡ None → (x ≡ None) × (y ≡ None)
-or-none None y e = (refl, e)
-or-none (Some x) y e = cc
-
--- nor is what a function makes of it
+-- what a function makes of something is something
 map-none : {X Y : Type 0} (f : X → Y) (x : Option X) → option_map f x ≡ None → x ≡ None
 map-none f None e = refl
 map-none f (Some x) e = cc
-
--- a rule that names no fault doesn't apply
-rule-none : {X : Type 0} (b : Bool) (x : X) → cond b (Some x) None ≡ None → b ≡ false
-rule-none false x e = refl
-rule-none true x e = cc
 
 -- a test that names no fault passes
 unless-none : {X : Type 0} (b : Bool) (x : X) → cond b None (Some x) ≡ None → b ≡ true

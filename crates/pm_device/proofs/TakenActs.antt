@@ -1,7 +1,7 @@
 -- What a hearing that is taken was: a write without a fault, whose act was asked for, allowed and accepted.
 use Rattle.std.proofs.Common.{◌≡◌, ℕ, ◌<◌, Bool, true, false, cond, eqb, ltb, not, ◌||◌, Option, Some, None, unwrap_or, List, refl, sym}
 use Rattle.std.proofs.Common.{◌∙◌, ap, subst}
-use Rattle.std.proofs.lemmas.Bool.{ltb-true}
+use Rattle.std.proofs.lemmas.Bool.{ltb-true, or_parts}
 use Rattle.std.specs.Option.{option_map, option_map_or}
 use Rattle.pm_table.specs.declared.reg.Reg.{Reg}
 use Rattle.pm_table.specs.declared.cell.Cell.TheVariants.{Out, Protect}
@@ -45,12 +45,6 @@ chosen false false c found act e = cc
 chosen false true false found act e = cc
 chosen false true true found act e = (refl, refl, refl, cc)
 
--- neither of two bits is set
-pub or-false : (a b : Bool) → (a || b) ≡ false → (a ≡ false) × (b ≡ false)
-or-false false false e = (refl, refl)
-or-false false true e = cc
-or-false true b e = cc
-
 -- what a write is whose act is taken
 pub write-taken : (config : Config) (words : Words) (page : ℕ) (message : Message) (act : Act)
     → write_verdict config words page message ≡ Takes act → IsTaken config words page message act
@@ -63,7 +57,7 @@ write-taken config words page message act e =
       go (Some found) is taken =
           let parts = chosen (names_no_output config.count message || selects_no_output config.count found)
           (is_allowed (word_at words Protect) (message_code message)) (is_accepted found) found act taken in
-          let outside = or-false (names_no_output config.count message) (selects_no_output config.count found) parts.0 in
+          let outside = or_parts (names_no_output config.count message) (selects_no_output config.count found) parts.0 in
           record {
             asked = is ∙ ap (λ a. Some a) parts.3;
             there = outside.0;

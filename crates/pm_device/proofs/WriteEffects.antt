@@ -7,6 +7,7 @@ use Rattle.pm_table.specs.declared.cell.Cell.{Cell}
 use Rattle.pm_table.specs.declared.cell.Cell.TheVariants.{Protect}
 use Rattle.pm_table.specs.Cell.{cell_at, cell_accepts}
 use Rattle.pm_table.specs.Codes as command
+use Rattle.pm_table.specs.Commands.{line_of}
 use Rattle.pm_table.specs.Protection.{is_allowed}
 use Rattle.pm_frame.specs.declared.fault.FrameFault.{FrameFault}
 use Rattle.pm_frame.specs.declared.fault.FrameFault.TheVariants as frame
@@ -230,6 +231,7 @@ selected exact held byte bytes h =
 pub cleared : WritesAreExact → (held : Held) (output : ℕ) (payload : Payload) (bytes : List ℕ) →
     IsWrite held.config.addr (PagePlusWrite output command.clear_faults payload) bytes →
     kept_after held (Hearing bytes Stop) ≡ kept_in held
+unfolding line_of
 cleared exact held output payload bytes h =
     acted exact held (PagePlusWrite output command.clear_faults payload) (ClearFaults output) bytes h refl
     ∙ go (ltb output held.config.count)

@@ -22,6 +22,16 @@ device_fault_words Protected = codes "K5 Protected"
 device_fault_words Nested = codes "K6 Nested"
 device_fault_words ReadOnly = codes "K7 ReadOnly"
 
+-- the number of a fault as `pm_part.h` has it, which no other fault has
+abbrev pub device_fault_number : DeviceFault → ℕ
+device_fault_number (Frame fault) = 0x41
+device_fault_number UnsupportedCode = 0x42
+device_fault_number UnsupportedData = 0x43
+device_fault_number BadPage = 0x44
+device_fault_number Protected = 0x45
+device_fault_number Nested = 0x46
+device_fault_number ReadOnly = 0x47
+
 -- the words, and the frame's fault after K1
 abbrev pub device_fault_text : DeviceFault → List ℕ
 device_fault_text (Frame fault) =
@@ -32,6 +42,14 @@ device_fault_text BadPage = device_fault_words BadPage
 device_fault_text Protected = device_fault_words Protected
 device_fault_text Nested = device_fault_words Nested
 device_fault_text ReadOnly = device_fault_words ReadOnly
+
+-- the number of a configuration's fault as `pm_part.h` has it, which no other fault has
+abbrev pub config_fault_number : ConfigFault → ℕ
+config_fault_number OutputCount = 0x51
+config_fault_number (BadStart cell) = 0x52
+config_fault_number Address = 0x53
+config_fault_number (BadMode output fault) = 0x54
+config_fault_number (BadCoefficients fault) = 0x55
 
 -- the letter and the name of a configuration's fault
 abbrev pub config_fault_words : ConfigFault → List ℕ

@@ -6,7 +6,7 @@ use Rattle.pm_table.specs.declared.cell.Cell.{Cell}
 use Rattle.pm_table.specs.declared.cell.Cell.TheVariants.{Protect}
 use Rattle.pm_table.specs.Cell.{cell_at, cell_accepts, cell_code, IsCell}
 use Rattle.pm_table.specs.Codes as command
-use Rattle.pm_table.specs.Commands.{line_of}
+use Rattle.pm_table.specs.Commands.{is_paged, line_of}
 use Rattle.pm_table.specs.Coefficients.{coefficient_bytes}
 use Rattle.pm_table.specs.Protection.{is_allowed}
 use Rattle.pm_frame.specs.declared.fault.FrameFault.TheVariants.{UnknownCode}
@@ -283,7 +283,7 @@ pub record UnknownCodesAreRefused : Type 0 where
 
 -- the code stands in the command table, and acts on the device and not on one output
 abbrev pub is_device_code : ℕ → Bool
-is_device_code code = option_map_or (λ line. not line.paged) (line_of code) false
+is_device_code code = option_map_or (λ line. not (is_paged line.scope)) (line_of code) false
 
 -- two writes that carry one code of the device and one payload, each with a page that exists
 pub record AreWritesAlike (held : Held) (bytes others : List ℕ) : Type 0 where

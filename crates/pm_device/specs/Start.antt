@@ -19,6 +19,7 @@ use Rattle.pm_table.specs.Address.{IsAddress}
 use Rattle.pm_table.specs.Cell.{cell_accepts, register_accepts, registers, IsCell}
 use Rattle.pm_table.specs.VoutMode.{mode_of}
 use Rattle.pm_table.specs.Format.{shape_in}
+use Rattle.pm_table.specs.Rules.{rule}
 use Rattle.pm_model.specs.Settings.{Words, words_of}
 use Rattle.pm_device.specs.declared.config.Config.{Config}
 use Rattle.pm_device.specs.declared.output_start.OutputStart.{OutputStart}
@@ -106,10 +107,6 @@ bad_mode output (start ∷ starts) =
 abbrev pub bad_coefficients : Config → Option NumFault
 bad_coefficients config =
     if has_direct config then result_err (shape_in Direct config.coefficients) else None
-
--- the rule names its fault where it applies
-abbrev pub rule : Bool → ConfigFault → Option ConfigFault
-rule applies fault = if applies then Some fault else None
 
 -- why no converter is made of a configuration: the first rule that applies
 unfoldable pub config_fault : Config → Option ConfigFault

@@ -5,6 +5,7 @@
 use Rattle.std.specs.Prelude.{ℕ, ◌+◌, Bool, true, false, not, ◌&&◌, ◌==◌, nat_lt, if◌then◌else◌, bit_and, List, [], ◌∷◌, slice_index_or}
 use Rattle.std.specs.List.{list_any}
 use Rattle.pm_table.specs.declared.reg.Reg.TheVariants.{Operation}
+use Rattle.pm_table.specs.Operation.{has_on}
 use Rattle.pm_table.specs.declared.cell.Cell.TheVariants.{Out}
 use Rattle.pm_frame.specs.declared.fault.FrameFault.{FrameFault}
 use Rattle.pm_frame.specs.declared.fault.FrameFault.TheVariants as frame
@@ -132,9 +133,9 @@ cml_in config past bit = list_any (λ moment. sets_cml bit moment.outcome)
 abbrev pub marked : ℕ → Bool → ℕ
 marked bit is_set = if is_set then bit else 0
 
--- OPERATION has bit 7 set
+-- OPERATION has the output on
 abbrev pub is_on : Held → ℕ → Bool
-is_on held output = has_bit (word_at held.words (Out output Operation)) 0x80
+is_on held output = has_on (word_at held.words (Out output Operation))
 
 -- what is latched of an output
 abbrev pub cut_at : List Bool → ℕ → Bool

@@ -15,7 +15,7 @@ use pm_frame::FrameFault;
 use std::marker::Model;
 
 /// The bits of STATUS_CML that are latched.
-#[derive(Debug, Drop)]
+#[derive(Clone, Debug, Drop)]
 pub(crate) struct CmlLatches {
     command: bool,
     data: bool,

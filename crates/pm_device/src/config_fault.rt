@@ -1,33 +1,33 @@
-ghost use Rattle.std.specs.Prelude.{◌≡◌};
+ghost use Rattle.std.specs.Prelude.{◌≡◌, ◌≢◌};
 ghost use Rattle.pm_device.specs.Start.{outputs};
 
 use pm_num::NumFault;
 use pm_table::{Cell, TableFault};
+use std::fmt;
 use thiserror::Error;
 
 /// Why no converter is made from a configuration: the first that applies, in the order of these.
 #[derive(Clone, Copy, Debug, PartialEq, Eq, Error)]
+#[error("{words}", words = self.words())]
 pub enum ConfigFault {
     /// V1: the count of outputs isn't 1 to 8.
-    #[error("a number of outputs outside 1 to 8")]
     OutputCount,
     /// V2: the cell doesn't accept its start word.
-    #[error("a start word that its cell doesn't accept")]
+    #[error("{words}{place} {name}", words = self.words(), place = Place(self.output()), name = .0.name())]
     BadStart(Cell),
     /// V3: the address isn't 08h to 77h.
-    #[error("a reserved address")]
     Address,
     /// V4: the output has a VOUT_MODE outside this project's profile.
-    #[error("an unsupported mode of output {0}: {1}")]
+    #[error("{words} {0} {1}", words = self.words())]
     BadMode(u8, TableFault),
     /// V5: an output is DIRECT, and the coefficients are no format.
-    #[error("unsupported coefficients: {0}")]
+    #[error("{words} {0}", words = self.words())]
     BadCoefficients(NumFault),
 }
 
 impl ConfigFault {
     ghost use Rattle.std.specs.Option.{option_map};
-    ghost use Rattle.pm_device.specs.FaultWords.{config_fault_words, config_fault_output, config_fault_detail};
+    ghost use Rattle.pm_device.specs.FaultWords.{config_fault_number, config_fault_words, config_fault_output, config_fault_detail};
 
     /// The letter and the name of the fault, as programs print them: `V2 BadStart`. After them stand
     /// its output and its detail, where it has them.
@@ -40,6 +40,20 @@ impl ConfigFault {
             ConfigFault::Address => "V3 Address",
             ConfigFault::BadMode(..) => "V4 BadMode",
             ConfigFault::BadCoefficients(_) => "V5 BadCoefficients",
+        }
+    }
+
+    /// The number of the fault as `pm_part.h` has it, 51h to 55h. No other fault has it.
+    pub fn number(self) -> u8
+        ensures number { result ≡ config_fault_number self }
+        ensures some { result ≢ 0 }
+    {
+        match self {
+            ConfigFault::OutputCount => 0x51,
+            ConfigFault::BadStart(_) => 0x52,
+            ConfigFault::Address => 0x53,
+            ConfigFault::BadMode(..) => 0x54,
+            ConfigFault::BadCoefficients(_) => 0x55,
         }
     }
 
@@ -65,6 +79,19 @@ impl ConfigFault {
             ConfigFault::BadMode(_, fault) => Some(fault.words()),
             ConfigFault::BadCoefficients(fault) => Some(fault.words()),
             ConfigFault::OutputCount | ConfigFault::Address => None,
+        }
+    }
+}
+
+// An output as it stands behind the words of a fault, where the fault has one.
+#[derive(Clone, Copy)]
+struct Place(Option<u8>);
+
+impl fmt::Display for Place {
+    fn fmt<W: fmt::Write>(&self, f: &mut fmt::Formatter<W>) -> fmt::Result {
+        match self.0 {
+            Some(output) => write!(f, " {output}"),
+            None => Ok(()),
         }
     }
 }

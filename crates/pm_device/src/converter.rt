@@ -20,7 +20,7 @@ use crate::readings::Readings;
 use crate::starts::start_settings;
 use pm_model::{Formats, Plain};
 use pm_num::Frac;
-use pm_table::{Cell, Code, Reg};
+use pm_table::{Cell, Code, Operation, Reg};
 use std::marker::Model;
 
 mod cut;
@@ -29,16 +29,13 @@ mod image;
 mod replies;
 mod status;
 
-/// The bit of OPERATION that has an output on.
-const ON: u16 = 0x80;
-
 /// The model of a power converter with one to eight outputs.
 ///
 /// It holds its configuration, the words of its cells, the store, PAGE, the readings, and the status
 /// bits that are latched. The store has a word for each cell of an output: its start word, or the one
 /// that the cell had at the last STORE_USER_ALL. Every frame that it hears either changes what its
 /// message asks for, or is refused and leaves every setting, the store and PAGE as they were.
-#[derive(Debug, Drop)]
+#[derive(Clone, Debug, Drop)]
 pub struct Converter {
     config: Config,
     formats: Formats,
@@ -213,6 +210,6 @@ impl Converter {
         requires { output < self.now.config.count }
         ensures { result ≡ is_on self.now output }
     {
-        self.word(Cell::Out(output, Reg::Operation)) & ON == ON
+        Operation::has_on(self.word(Cell::Out(output, Reg::Operation)))
     }
 }

@@ -2,7 +2,7 @@ use crate::fault::DeviceFault;
 use pm_frame::Frame;
 
 /// What a converter answers to what it heard.
-#[derive(Debug, Drop)]
+#[derive(Clone, Debug, PartialEq, Eq, Drop)]
 pub enum Heard {
     /// Nothing: the frame is for another device.
     Silent,

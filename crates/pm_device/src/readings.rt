@@ -8,7 +8,7 @@ use std::marker::Model;
 
 /// What the READ codes answer: a word of each output's voltage and current, of the input voltage
 /// and of a temperature.
-#[derive(Debug, Drop)]
+#[derive(Clone, Debug, Drop)]
 pub(crate) struct Readings {
     vout: [u16; 8],
     iout: [u16; 8],

@@ -72,8 +72,8 @@ impl Verdict {
         }
     }
 
-    // A write without a fault: what its act results in. Each code that a frame writes has an act, so K2
-    // never comes here.
+    // A write without a fault: what its act results in. Each code that a frame writes has an act: the arm for K2
+    // is for the compiler.
     fn of_write(config: &Config, settings: &Plain, page: u8, view: &FrameView<'_>) -> Verdict
         requires fits { fits_layout view.now ≡ true }
         requires count { settings.now.count ≡ config.now.count }

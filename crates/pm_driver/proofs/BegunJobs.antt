@@ -5,6 +5,7 @@ use Rattle.std.specs.Prelude.{IsSomeAnd, option_map, option_and_then}
 use Rattle.std.proofs.lemmas.Option.{same_Some}
 use Rattle.pm_table.specs.declared.cell.Cell.{Cell}
 use Rattle.pm_table.specs.Cell.{output_of}
+use Rattle.pm_table.specs.RuleLemmas.{or-none}
 use Rattle.pm_device.specs.declared.config.Config.{Config}
 use Rattle.pm_model.specs.Commanded.{commanded}
 use Rattle.pm_model.specs.Settings.{word_at}
@@ -203,11 +204,6 @@ micro-order : (s : Summary) (cell : Cell) (word : Option ℕ) (begun : host.Job)
     option_and_then (λ w. order_fault s cell w) word ≡ None → job_fault s begun ≡ None
 micro-order s cell None begun is h = cc
 micro-order s cell (Some word) begun is h = subst (λ j. job_fault s j ≡ None) (same_Some (host.Order cell word) begun is) h
-
--- of two faults, none
-or-none : {A : Type 0} (one other : Option A) → option_or one other ≡ None → (one ≡ None) × (other ≡ None)
-or-none None other h = (refl, h)
-or-none (Some x) other h = cc
 
 -- a job that is accepted isn't refused
 begun-free : (s : Summary) (asked : Job) (begun : host.Job) → accepted_job s asked ≡ Some begun → begin_fault s asked ≡ None →

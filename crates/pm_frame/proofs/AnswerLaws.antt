@@ -10,9 +10,12 @@ use Rattle.pm_frame.specs.Damage.{EndsInPec}
 use Rattle.pm_frame.specs.Pec.{pec_of}
 use Rattle.pm_frame.specs.Layout.{IsAnswer, is_read_message, fits_layout, sent, answered, with_pec, read_address, has_count, answer_length}
 use Rattle.pm_frame.specs.View.{answer_payload}
-use Rattle.pm_frame.specs.Fault.{rule, address_fault, length_fault, pec_fault, whole_answer, answer_fault}
+use Rattle.pm_frame.specs.Fault.{address_fault, length_fault, pec_fault, whole_answer, answer_fault}
+use Rattle.pm_table.specs.Rules.{rule}
 use Rattle.pm_frame.proofs.Parts.{last_of, take-front}
-use Rattle.pm_frame.proofs.RuleLemmas.{or_none, none_or, rule_none, none_rule, address_fault-none, address_fault-found, length_fault-none}
+use Rattle.pm_table.specs.RuleLemmas.{none-or, none-rule, or-none, rule-none}
+use Rattle.pm_frame.proofs.RuleLemmas.{address_fault-none, address_fault-found, length_fault-none}
+use Rattle.pm_table.specs.RuleLemmas.{}
 use Rattle.pm_frame.proofs.RuleLemmas.{length_fault-found, pec_fault-none, pec_fault-found}
 use Rattle.pm_frame.proofs.WriteLaws.{empty_of}
 
@@ -63,11 +66,11 @@ pub answer_fault-spelled : (addr : ℕ) (request : Message) (payload bytes : Lis
     → answer_fault addr request bytes ≡ None
 unfolding answer_fault
 answer_fault-spelled addr request payload bytes h =
-    none_or _ _ (ap (address_fault (read_address addr)) h.spelled ∙ opened (has_count request) _)
-    (none_or _ _ (length_fault-none _ bytes (answer-length addr request payload bytes h))
-    (none_or _ _ (none_rule _ (WrongCount 1)
+    none-or _ _ (ap (address_fault (read_address addr)) h.spelled ∙ opened (has_count request) _)
+    (none-or _ _ (length_fault-none _ bytes (answer-length addr request payload bytes h))
+    (none-or _ _ (none-rule _ (WrongCount 1)
     (ap (λ xs. has_count request && not (eqb (get_or xs 1 0) (answer_length request))) h.spelled ∙ counted (has_count request) _))
-    (none_or _ _ (ap (pec_fault (sent addr request)) h.spelled ∙ pec_fault-none (sent addr request) (answered addr request payload)) refl)))
+    (none-or _ _ (ap (pec_fault (sent addr request)) h.spelled ∙ pec_fault-none (sent addr request) (answered addr request payload)) refl)))
   where
     opened : (is_counted : Bool) (last : ℕ)
         → address_fault (read_address addr)
@@ -96,12 +99,12 @@ pub answer_fault-found : (addr : ℕ) (request : Message) (bytes : List ℕ) →
     → answer_fault addr request bytes ≡ None → IsAnswer addr request (answer_payload request bytes) bytes
 unfolding answer_fault
 answer_fault-found addr request bytes reads fits h =
-    let opened = or_none _ _ h in
-    let sized = or_none _ _ opened.1 in
-    let counted = or_none _ _ sized.1 in
+    let opened = or-none _ _ h in
+    let sized = or-none _ _ opened.1 in
+    let counted = or-none _ _ sized.1 in
     let whole = length_fault-found _ bytes sized.0 in
     let found = address_fault-found (read_address addr) bytes opened.0 in
-    let payload = of_shape (has_count request) refl found.0 found.1 whole (rule_none _ (WrongCount 1) counted.0) (or_none _ _ counted.1).0
+    let payload = of_shape (has_count request) refl found.0 found.1 whole (rule-none _ (WrongCount 1) counted.0) (or-none _ _ counted.1).0
     in
     in_place addr request payload.0 bytes payload.1
   where
@@ -160,17 +163,17 @@ answer-front addr request first second front rest h k =
 pub answer_fault-length : (addr : ℕ) (request : Message) (bytes : List ℕ) → answer_fault addr request bytes ≡ None
     → length bytes ≡ whole_answer request
 unfolding answer_fault
-answer_fault-length addr request bytes h = length_fault-found _ bytes (or_none _ _ (or_none _ _ h).1).0
+answer_fault-length addr request bytes h = length_fault-found _ bytes (or-none _ _ (or-none _ _ h).1).0
 
 -- an answer with no fault has none on its PEC
 answer_fault-pec : (addr : ℕ) (request : Message) (bytes : List ℕ) → answer_fault addr request bytes ≡ None
     → pec_fault (sent addr request) bytes ≡ None
 unfolding answer_fault
 answer_fault-pec addr request bytes h =
-    let opened = or_none (address_fault (read_address addr) bytes) _ h in
-    let sized = or_none (length_fault (whole_answer request) bytes) _ opened.1 in
-    let counted = or_none (rule (has_count request && not (eqb (get_or bytes 1 0) (answer_length request))) (WrongCount 1)) _ sized.1 in
-    (or_none (pec_fault (sent addr request) bytes) None counted.1).0
+    let opened = or-none (address_fault (read_address addr) bytes) _ h in
+    let sized = or-none (length_fault (whole_answer request) bytes) _ opened.1 in
+    let counted = or-none (rule (has_count request && not (eqb (get_or bytes 1 0) (answer_length request))) (WrongCount 1)) _ sized.1 in
+    (or-none (pec_fault (sent addr request) bytes) None counted.1).0
 
 -- the last byte of an answer is the PEC of the request and of those before it
 pub answer-last : (addr last : ℕ) (request : Message) (front : List ℕ) → answer_fault addr request (front ++ last ∷ []) ≡ None

@@ -3,7 +3,7 @@ use Rattle.std.proofs.Common.{Option, Some, None, is_some, ◌≡◌, ℕ, Bool,
 use Rattle.std.proofs.lemmas.Bool.{eqb-true, false≢true}
 use Rattle.std.specs.Option.{option_map_or}
 use Rattle.pm_table.specs.Codes as command
-use Rattle.pm_table.specs.Commands.{Line, line_of, is_known, is_written, is_read}
+use Rattle.pm_table.specs.Commands.{Line, line_of, is_ever_written, is_known, is_written, is_read}
 use Rattle.pm_frame.specs.declared.direction.Direction.{Direction}
 use Rattle.pm_frame.specs.declared.direction.Direction.TheVariants.{Write, Read}
 use Rattle.pm_frame.specs.Fault.{codes_of}
@@ -42,5 +42,5 @@ known_if (Some l) field h = refl
 
 -- a code that goes one way stands in the table
 pub codes_of-is_known : (direction : Direction) (code : ℕ) → codes_of direction code ≡ true → is_known code ≡ true
-codes_of-is_known Write code h = known_if (line_of code) (λ l. l.writes) h
+codes_of-is_known Write code h = known_if (line_of code) (λ l. is_ever_written l.protection) h
 codes_of-is_known Read code h = known_if (line_of code) (λ l. l.reads) h

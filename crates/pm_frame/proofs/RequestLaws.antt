@@ -15,9 +15,12 @@ use Rattle.pm_frame.specs.declared.message.Message.TheVariants.{SendByte, WriteB
 use Rattle.pm_frame.specs.declared.message.Message.TheVariants.{ReadCoefficients}
 use Rattle.pm_frame.specs.Layout.{IsRequest, sent, write_address, fits_layout, is_read_message, is_plain_read, is_carried}
 use Rattle.pm_frame.specs.View.{message_in}
-use Rattle.pm_frame.specs.Fault.{rule, carried_fault, plain_fault, block_request_fault, request_fault, write_fault}
+use Rattle.pm_frame.specs.Fault.{carried_fault, plain_fault, block_request_fault, request_fault, write_fault}
+use Rattle.pm_table.specs.Rules.{rule}
 use Rattle.pm_frame.proofs.Codes.{read-is_no_page_plus_write, written-is_no_page_plus_read, written-is_no_coefficients}
-use Rattle.pm_frame.proofs.RuleLemmas.{or_none, none_or, rule_none, none_rule, opening_fault-none, opening_fault-found, length_fault-none}
+use Rattle.pm_table.specs.RuleLemmas.{none-or, none-rule, or-none, rule-none}
+use Rattle.pm_frame.proofs.RuleLemmas.{opening_fault-none, opening_fault-found, length_fault-none}
+use Rattle.pm_table.specs.RuleLemmas.{}
 use Rattle.pm_frame.proofs.RuleLemmas.{length_fault-found, plain_fault-none, plain_fault-found, carried_fault-none, carried_fault-found}
 use Rattle.pm_frame.proofs.WriteLaws.{empty_of, write-first}
 
@@ -26,9 +29,9 @@ plain-none : (addr code : ℕ) → is_plain_read code ≡ true → request_fault
 unfolding request_fault
 plain-none addr code h =
     let parts = and_parts _ _ h in
-    none_or _ _ (opening_fault-none (write_address addr) code [])
+    none-or _ _ (opening_fault-none (write_address addr) code [])
     (cond-false _ _ _ (not-true _ parts.1)
-    ∙ none_or _ _ (plain_fault-none Read code parts.0) (none_rule _ (Long 2) (le-ltb 2 2 (omega arith))))
+    ∙ none-or _ _ (plain_fault-none Read code parts.0) (none-rule _ (Long 2) (le-ltb 2 2 (omega arith))))
 
 -- nor has a PAGE_PLUS_READ that fits,
 paged-none : (addr page code : ℕ) → is_carried code ≡ true → is_read code ≡ true
@@ -36,15 +39,15 @@ paged-none : (addr page code : ℕ) → is_carried code ≡ true → is_read cod
 unfolding request_fault block_request_fault
 paged-none addr page code carried h =
     let bytes = sent addr (PagePlusRead page code) in
-    none_or _ _ (opening_fault-none (write_address addr) command.page_plus_read (0x02 ∷ page ∷ code ∷ []))
-    (none_or _ _ (length_fault-none 5 bytes refl) (none_or _ _ refl (none_or _ _ (carried_fault-none Read code carried h) refl)))
+    none-or _ _ (opening_fault-none (write_address addr) command.page_plus_read (0x02 ∷ page ∷ code ∷ []))
+    (none-or _ _ (length_fault-none 5 bytes refl) (none-or _ _ refl (none-or _ _ (carried_fault-none Read code carried h) refl)))
 
 -- nor COEFFICIENTS, of any code and side
 coefficients-none : (addr code side : ℕ) → request_fault addr (sent addr (ReadCoefficients code side)) ≡ None
 unfolding request_fault block_request_fault
 coefficients-none addr code side =
-    none_or _ _ (opening_fault-none (write_address addr) command.coefficients (0x02 ∷ code ∷ side ∷ []))
-    (none_or _ _ (length_fault-none 5 (sent addr (ReadCoefficients code side)) refl) refl)
+    none-or _ _ (opening_fault-none (write_address addr) command.coefficients (0x02 ∷ code ∷ side ∷ []))
+    (none-or _ _ (length_fault-none 5 (sent addr (ReadCoefficients code side)) refl) refl)
 
 -- bytes of the layout of a request have no fault
 pub request_fault-spelled : (addr : ℕ) (message : Message) (bytes : List ℕ) → IsRequest addr message bytes → request_fault addr bytes ≡ None
@@ -84,11 +87,11 @@ block-found : (addr code : ℕ) (rest : List ℕ) → eqb code command.page_plus
     → IsRequest addr (message_in (write_address addr ∷ code ∷ rest)) (write_address addr ∷ code ∷ rest)
 unfolding block_request_fault message_in
 block-found addr code rest block h =
-    let sized = or_none _ _ h in
-    let counted = or_none _ _ sized.1 in
-    let count : get_or (write_address addr ∷ code ∷ rest) 2 0 ≡ 2 = eqb-true _ _ (not-false _ (rule_none _ (WrongCount 2) counted.0)) in
+    let sized = or-none _ _ h in
+    let counted = or-none _ _ sized.1 in
+    let count : get_or (write_address addr ∷ code ∷ rest) 2 0 ≡ 2 = eqb-true _ _ (not-false _ (rule-none _ (WrongCount 2) counted.0)) in
     go rest (length_fault-found 5 (write_address addr ∷ code ∷ rest) sized.0) count (eqb code command.page_plus_read) refl
-    (or_none _ _ counted.1).0
+    (or-none _ _ counted.1).0
   where
     paged : (page carried : ℕ) → code ≡ command.page_plus_read → (is_carried carried ≡ true) × (is_read carried ≡ true)
         → IsRequest addr (message_in (write_address addr ∷ code ∷ 2 ∷ page ∷ carried ∷ []))
@@ -138,7 +141,7 @@ plain-found addr code (byte ∷ rest) other reads short = absurd (omega arith)
 pub request_fault-found : (addr : ℕ) (bytes : List ℕ) → request_fault addr bytes ≡ None → IsRequest addr (message_in bytes) bytes
 unfolding request_fault
 request_fault-found addr bytes h =
-    let opened = or_none _ _ h in
+    let opened = or-none _ _ h in
     go bytes opened.1 (opening_fault-found (write_address addr) bytes opened.0)
   where
     here : (code : ℕ) (rest : List ℕ) (block : Bool) → eqb code command.page_plus_read || eqb code command.coefficients ≡ block
@@ -147,8 +150,8 @@ request_fault-found addr bytes h =
         → IsRequest addr (message_in (write_address addr ∷ code ∷ rest)) (write_address addr ∷ code ∷ rest)
     here code rest true is e = block-found addr code rest is e
     here code rest false is e =
-        let both = or_none _ _ e in
-        plain-found addr code rest is (plain_fault-found Read code both.0) (ltb-false _ _ (rule_none _ (Long 2) both.1))
+        let both = or-none _ _ e in
+        plain-found addr code rest is (plain_fault-found Read code both.0) (ltb-false _ _ (rule-none _ (Long 2) both.1))
 
     go : (bytes : List ℕ) → cond (eqb (get_or bytes 1 0) command.page_plus_read || eqb (get_or bytes 1 0) command.coefficients)
         (block_request_fault bytes) (option_or (plain_fault Read (get_or bytes 1 0)) (rule (ltb 2 (length bytes)) (Long 2))) ≡ None

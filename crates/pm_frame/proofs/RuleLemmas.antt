@@ -1,34 +1,16 @@
--- What follows where a rule doesn't apply, and where it's the first one that does.
-use Rattle.std.proofs.Common.{◌≡◌, ℕ, ◌-◌, ◌<◌, ◌≤◌, Bool, true, false, not, eqb, Option, Some, None, List, [], ◌∷◌, ◌++◌, length}
+-- What follows where a rule of a frame doesn't apply, and where it's the first one that does.
+use Rattle.std.proofs.Common.{◌≡◌, ℕ, ◌-◌, ◌<◌, ◌≤◌, true, false, not, eqb, None, List, [], ◌∷◌, ◌++◌, length}
 use Rattle.std.proofs.Common.{length-append, take, get_or, refl, sym, ◌∙◌, ap, arith}
 use Rattle.std.proofs.lemmas.Bool.{eq-eqb, ne_eqb, eqb-true, not-false, or_parts, or_from, not_from_true, le-ltb, ltb-false}
 use Rattle.std.proofs.lemmas.List.{take-append-le, get_or-append_right, take_all}
-use Rattle.std.specs.Option.{option_or}
 use Rattle.pm_frame.specs.declared.direction.Direction.{Direction}
-use Rattle.pm_frame.specs.declared.fault.FrameFault.{FrameFault}
 use Rattle.pm_frame.specs.declared.fault.FrameFault.TheVariants.{NotOurs, Short, Long, WrongPec, UnknownCode, WrongDirection, Nested}
-use Rattle.pm_frame.specs.Fault.{rule, address_fault, opening_fault, length_fault, pec_fault, codes_of, carried_fault, plain_fault}
+use Rattle.pm_frame.specs.Fault.{address_fault, opening_fault, length_fault, pec_fault, codes_of, carried_fault, plain_fault}
+use Rattle.pm_table.specs.Rules.{rule}
+use Rattle.pm_table.specs.RuleLemmas.{none-or, none-rule, or-none, rule-none}
 use Rattle.pm_frame.specs.Layout.{is_carried}
 use Rattle.pm_frame.specs.Pec.{pec_of}
 use Rattle.pm_frame.proofs.Codes.{codes_of-is_known}
-
--- where the first of two faults is none, each is none
-pub or_none : {X : Type 0} (a b : Option X) → option_or a b ≡ None → (a ≡ None) × (b ≡ None)
-or_none None b h = (refl, h)
-or_none (Some x) b h = cc
-
--- where each of two faults is none, so is the first of them
-pub none_or : {X : Type 0} (a b : Option X) → a ≡ None → b ≡ None → option_or a b ≡ None
-none_or a b h k = ap (λ o. option_or o b) h ∙ k
-
--- a rule that names no fault does not apply
-pub rule_none : (applies : Bool) (fault : FrameFault) → rule applies fault ≡ None → applies ≡ false
-rule_none false fault h = refl
-rule_none true fault h = cc
-
--- a rule that does not apply names no fault
-pub none_rule : (applies : Bool) (fault : FrameFault) → applies ≡ false → rule applies fault ≡ None
-none_rule applies fault h = ap (λ b. rule b fault) h
 
 -- the test of equality at one number,
 pub eqb-same : (n : ℕ) → eqb n n ≡ true
@@ -42,27 +24,27 @@ eqb-below m n h = ne_eqb n m (λ e. omega arith)
 pub address_fault-none : (wanted : ℕ) (bytes : List ℕ) → address_fault wanted (wanted ∷ bytes) ≡ None
 unfolding address_fault
 address_fault-none wanted bytes =
-    none_rule _ NotOurs (or_from _ _ (eqb-below 0 (length (wanted ∷ bytes)) (omega arith)) (not_from_true _ (eqb-same wanted)))
+    none-rule _ NotOurs (or_from _ _ (eqb-below 0 (length (wanted ∷ bytes)) (omega arith)) (not_from_true _ (eqb-same wanted)))
 
 -- bytes with no fault there begin with the wanted one
 pub address_fault-found : (wanted : ℕ) (bytes : List ℕ) → address_fault wanted bytes ≡ None → (rest : List ℕ) × (bytes ≡ wanted ∷ rest)
 unfolding address_fault
 address_fault-found wanted [] h = cc
 address_fault-found wanted (byte ∷ rest) h =
-    (rest, ap (λ x. x ∷ rest) (eqb-true byte wanted (not-false _ (or_parts _ _ (rule_none _ NotOurs h)).1)))
+    (rest, ap (λ x. x ∷ rest) (eqb-true byte wanted (not-false _ (or_parts _ _ (rule-none _ NotOurs h)).1)))
 
 -- the address and another byte have no fault at the opening
 pub opening_fault-none : (wanted second : ℕ) (bytes : List ℕ) → opening_fault wanted (wanted ∷ second ∷ bytes) ≡ None
 unfolding opening_fault
 opening_fault-none wanted second bytes =
-    none_or _ _ (address_fault-none wanted (second ∷ bytes))
-    (none_rule _ (Short 1) (eqb-below 1 (length (wanted ∷ second ∷ bytes)) (omega arith)))
+    none-or _ _ (address_fault-none wanted (second ∷ bytes))
+    (none-rule _ (Short 1) (eqb-below 1 (length (wanted ∷ second ∷ bytes)) (omega arith)))
 
 -- bytes with no fault at the opening begin with the wanted byte and another
 pub opening_fault-found : (wanted : ℕ) (bytes : List ℕ) → opening_fault wanted bytes ≡ None
     → (second : ℕ) × (rest : List ℕ) × (bytes ≡ wanted ∷ second ∷ rest)
 unfolding opening_fault
-opening_fault-found wanted bytes h = go bytes (or_none _ _ h) where
+opening_fault-found wanted bytes h = go bytes (or-none _ _ h) where
   go : (bytes : List ℕ) → (address_fault wanted bytes ≡ None) × (rule (eqb (length bytes) 1) (Short 1) ≡ None)
       → (second : ℕ) × (rest : List ℕ) × (bytes ≡ wanted ∷ second ∷ rest)
   go [] e = let found = address_fault-found wanted [] e.0 in cc (found.1)
@@ -73,16 +55,16 @@ opening_fault-found wanted bytes h = go bytes (or_none _ _ h) where
 pub length_fault-none : (wanted : ℕ) (bytes : List ℕ) → length bytes ≡ wanted → length_fault wanted bytes ≡ None
 unfolding length_fault
 length_fault-none wanted bytes h =
-    none_or _ _ (none_rule _ (Short (length bytes)) (le-ltb (length bytes) wanted (omega arith)))
-    (none_or _ _ (none_rule _ (Long wanted) (le-ltb wanted (length bytes) (omega arith))) refl)
+    none-or _ _ (none-rule _ (Short (length bytes)) (le-ltb (length bytes) wanted (omega arith)))
+    (none-or _ _ (none-rule _ (Long wanted) (le-ltb wanted (length bytes) (omega arith))) refl)
 
 -- bytes with no fault on the length are as many as wanted
 pub length_fault-found : (wanted : ℕ) (bytes : List ℕ) → length_fault wanted bytes ≡ None → length bytes ≡ wanted
 unfolding length_fault
 length_fault-found wanted bytes h =
-    let both = or_none _ _ h in
-    let above : wanted ≤ length bytes = ltb-false _ _ (rule_none _ (Short (length bytes)) both.0) in
-    let below : length bytes ≤ wanted = ltb-false _ _ (rule_none _ (Long wanted) (or_none _ _ both.1).0) in
+    let both = or-none _ _ h in
+    let above : wanted ≤ length bytes = ltb-false _ _ (rule-none _ (Short (length bytes)) both.0) in
+    let below : length bytes ≤ wanted = ltb-false _ _ (rule-none _ (Long wanted) (or-none _ _ both.1).0) in
     omega arith
 
 -- what the rule on the PEC says where the last byte is seen
@@ -101,39 +83,39 @@ pec_fault-last before front last =
 -- bytes that end in their PEC have no fault on it,
 pub pec_fault-none : (before front : List ℕ) → pec_fault before (front ++ pec_of (before ++ front) ∷ []) ≡ None
 pec_fault-none before front =
-    pec_fault-last before front _ ∙ none_rule _ (WrongPec (length front)) (not_from_true _ (eqb-same (pec_of (before ++ front))))
+    pec_fault-last before front _ ∙ none-rule _ (WrongPec (length front)) (not_from_true _ (eqb-same (pec_of (before ++ front))))
 
 -- and bytes with no fault on it end in their PEC
 pub pec_fault-found : (before front : List ℕ) (last : ℕ) → pec_fault before (front ++ last ∷ []) ≡ None → last ≡ pec_of (before ++ front)
 pec_fault-found before front last h =
-    eqb-true _ _ (not-false _ (rule_none _ (WrongPec (length front)) (sym (pec_fault-last before front last) ∙ h)))
+    eqb-true _ _ (not-false _ (rule-none _ (WrongPec (length front)) (sym (pec_fault-last before front last) ∙ h)))
 
 -- a plain code has no fault exactly where it goes this way
 pub plain_fault-none : (direction : Direction) (code : ℕ) → codes_of direction code ≡ true → plain_fault direction code ≡ None
 unfolding plain_fault
 plain_fault-none direction code h =
-    none_or _ _ (none_rule _ (UnknownCode 1) (not_from_true _ (codes_of-is_known direction code h)))
-    (none_or _ _ (none_rule _ (WrongDirection 1) (not_from_true _ h)) refl)
+    none-or _ _ (none-rule _ (UnknownCode 1) (not_from_true _ (codes_of-is_known direction code h)))
+    (none-or _ _ (none-rule _ (WrongDirection 1) (not_from_true _ h)) refl)
 
 -- a plain code with no fault goes this way
 pub plain_fault-found : (direction : Direction) (code : ℕ) → plain_fault direction code ≡ None → codes_of direction code ≡ true
 unfolding plain_fault
-plain_fault-found direction code h = not-false _ (rule_none _ (WrongDirection 1) (or_none _ _ (or_none _ _ h).1).0)
+plain_fault-found direction code h = not-false _ (rule-none _ (WrongDirection 1) (or-none _ _ (or-none _ _ h).1).0)
 
 -- a carried code has no fault exactly where PAGE_PLUS carries it and it goes this way
 pub carried_fault-none : (direction : Direction) (code : ℕ) → is_carried code ≡ true → codes_of direction code ≡ true
     → carried_fault direction code ≡ None
 unfolding carried_fault
 carried_fault-none direction code carried h =
-    none_or _ _ (none_rule _ (Nested 4) (not_from_true _ carried))
-    (none_or _ _ (none_rule _ (UnknownCode 4) (not_from_true _ (codes_of-is_known direction code h)))
-    (none_or _ _ (none_rule _ (WrongDirection 4) (not_from_true _ h)) refl))
+    none-or _ _ (none-rule _ (Nested 4) (not_from_true _ carried))
+    (none-or _ _ (none-rule _ (UnknownCode 4) (not_from_true _ (codes_of-is_known direction code h)))
+    (none-or _ _ (none-rule _ (WrongDirection 4) (not_from_true _ h)) refl))
 
 -- a carried code with no fault is carried, and goes this way
 pub carried_fault-found : (direction : Direction) (code : ℕ) → carried_fault direction code ≡ None
     → (is_carried code ≡ true) × (codes_of direction code ≡ true)
 unfolding carried_fault
 carried_fault-found direction code h =
-    let nested = or_none _ _ h in
-    let unknown = or_none _ _ nested.1 in
-    (not-false _ (rule_none _ (Nested 4) nested.0), not-false _ (rule_none _ (WrongDirection 4) (or_none _ _ unknown.1).0))
+    let nested = or-none _ _ h in
+    let unknown = or-none _ _ nested.1 in
+    (not-false _ (rule-none _ (Nested 4) nested.0), not-false _ (rule-none _ (WrongDirection 4) (or-none _ _ unknown.1).0))

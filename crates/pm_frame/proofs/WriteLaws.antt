@@ -26,8 +26,11 @@ use Rattle.pm_frame.specs.Fault.{write_fault}
 use Rattle.pm_frame.proofs.Codes.{wrapper-is_written, written-is_no_page_plus_read, written-is_no_coefficients}
 use Rattle.pm_frame.proofs.Parts.{last_of, payload_in-bytes, bytes-payload_in, sent-plain, is_read-plain, fits-plain, message_in-plain}
 use Rattle.pm_frame.proofs.Parts.{message_in-carried}
-use Rattle.pm_frame.proofs.RuleLemmas.{or_none, none_or, rule_none, none_rule, eqb-below, opening_fault-none, opening_fault-found}
+use Rattle.pm_table.specs.RuleLemmas.{none-or, none-rule, or-none, rule-none}
+use Rattle.pm_frame.proofs.RuleLemmas.{eqb-below, opening_fault-none, opening_fault-found}
+use Rattle.pm_table.specs.RuleLemmas.{}
 use Rattle.pm_frame.proofs.RuleLemmas.{plain_fault-none, plain_fault-found, carried_fault-none, carried_fault-found, length_fault-none}
+use Rattle.pm_table.specs.RuleLemmas.{}
 use Rattle.pm_frame.proofs.RuleLemmas.{length_fault-found, pec_fault-none, pec_fault-found}
 
 -- each group of rules leaves the bytes alone
@@ -42,15 +45,15 @@ record Faultless (addr : ℕ) (bytes : List ℕ) : Type 0 where
 faultless : (addr : ℕ) (bytes : List ℕ) → write_fault addr bytes ≡ None → Faultless addr bytes
 unfolding write_fault
 faultless addr bytes h =
-    let opening = or_none _ _ h in
-    let size = or_none _ _ opening.1 in
-    let pec = or_none _ _ size.1 in
-    record { opening = opening.0; size = size.0; pec = pec.0; code = (or_none _ _ pec.1).0 }
+    let opening = or-none _ _ h in
+    let size = or-none _ _ opening.1 in
+    let pec = or-none _ _ size.1 in
+    record { opening = opening.0; size = size.0; pec = pec.0; code = (or-none _ _ pec.1).0 }
 
 -- and bytes with none in any group have no fault
 write_fault-none : (addr : ℕ) (bytes : List ℕ) → Faultless addr bytes → write_fault addr bytes ≡ None
 unfolding write_fault
-write_fault-none addr bytes h = none_or _ _ h.opening (none_or _ _ h.size (none_or _ _ h.pec (none_or _ _ h.code refl)))
+write_fault-none addr bytes h = none-or _ _ h.opening (none-or _ _ h.size (none-or _ _ h.pec (none-or _ _ h.code refl)))
 
 -- a plain write that fits has no fault
 plain-none : (addr code : ℕ) (payload : Payload) → is_plain_write code ≡ true → payload_length code ≡ length (payload_bytes payload)
@@ -86,9 +89,9 @@ carried-none addr page code payload fits =
     write_fault-none addr bytes record {
       opening = opening_fault-none (write_address addr) command.page_plus_write _;
       size = cond-false _ _ _ not_plain ∙ (cond-false _ _ _ not_two
-          ∙ none_or _ _ (length_fault-none (count + 4) bytes (omega arith))
-          (none_or _ _ (none_rule _ (WrongCount 2) (le-ltb count 2 (omega arith)))
-          (none_or _ _ (none_rule _ (WrongCount 2) (and_right _ _ (not_from_true _ right_count))) refl)));
+          ∙ none-or _ _ (length_fault-none (count + 4) bytes (omega arith))
+          (none-or _ _ (none-rule _ (WrongCount 2) (le-ltb count 2 (omega arith)))
+          (none-or _ _ (none-rule _ (WrongCount 2) (and_right _ _ (not_from_true _ right_count))) refl)));
       pec = pec_fault-none [] (sent addr (PagePlusWrite page code payload));
       code = carried_fault-none Write code allowed.0 allowed.1;
     }
@@ -240,8 +243,8 @@ not_plain-cases bytes true wrapper size code not_plain =
         (option_or (length_fault (get_or bytes 2 0 + 4) bytes) (carried_count_fault bytes)) None) ≡ None → FoundCarried bytes
     go true codes sized = cc sized
     go false codes sized =
-        let both = or_none _ _ (sym (cond-true _ _ _ wrapper) ∙ sized) in
-        let wrong = rule_none _ (WrongCount 2) (or_none _ _ (or_none _ _ both.1).1).0 in
+        let both = or-none _ _ (sym (cond-true _ _ _ wrapper) ∙ sized) in
+        let wrong = rule-none _ (WrongCount 2) (or-none _ _ (or-none _ _ both.1).1).0 in
         record {
           is_wrapper = eqb-true _ _ wrapper;
           whole = length_fault-found _ bytes both.0;

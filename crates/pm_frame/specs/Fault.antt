@@ -6,6 +6,7 @@ use Rattle.std.specs.Prelude.{ℕ, ◌+◌, ◌-◌, Bool, not, ◌&&◌, ◌||�
 use Rattle.std.specs.Option.{option_or}
 use Rattle.pm_table.specs.Codes as command
 use Rattle.pm_table.specs.Commands.{is_known, is_read, is_written, payload_length}
+use Rattle.pm_table.specs.Rules.{first, rule}
 use Rattle.pm_frame.specs.declared.direction.Direction.{Direction}
 use Rattle.pm_frame.specs.declared.direction.Direction.TheVariants.{Write, Read}
 use Rattle.pm_frame.specs.declared.fault.FrameFault.{FrameFault}
@@ -13,15 +14,6 @@ use Rattle.pm_frame.specs.declared.fault.FrameFault.TheVariants.{NotOurs, Short,
 use Rattle.pm_frame.specs.declared.message.Message.{Message}
 use Rattle.pm_frame.specs.Layout.{write_address, read_address, is_carried, is_plain_write, sent, answer_length, has_count}
 use Rattle.pm_frame.specs.Pec.{pec_of}
-
--- a rule names its fault where it applies
-abbrev pub rule : Bool → FrameFault → Option FrameFault
-rule applies fault = if applies then Some fault else None
-
--- the first of several that exists
-abbrev pub first : List (Option FrameFault) → Option FrameFault
-first [] = None
-first (fault ∷ faults) = option_or fault (first faults)
 
 -- F1 for no byte, or another first one than wanted
 unfoldable pub address_fault : ℕ → List ℕ → Option FrameFault

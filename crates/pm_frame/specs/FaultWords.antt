@@ -15,6 +15,17 @@ frame_fault_words (UnknownCode place) = codes "F6 UnknownCode"
 frame_fault_words (WrongDirection place) = codes "F7 WrongDirection"
 frame_fault_words (Nested place) = codes "F8 Nested"
 
+-- the number of a fault as `pm.h` has it, which no other fault has
+abbrev pub frame_fault_number : FrameFault → ℕ
+frame_fault_number NotOurs = 0x31
+frame_fault_number (Short place) = 0x32
+frame_fault_number (Long place) = 0x33
+frame_fault_number (WrongCount place) = 0x34
+frame_fault_number (WrongPec place) = 0x35
+frame_fault_number (UnknownCode place) = 0x36
+frame_fault_number (WrongDirection place) = 0x37
+frame_fault_number (Nested place) = 0x38
+
 -- the place, where there is one
 abbrev pub frame_fault_place : FrameFault → Option ℕ
 frame_fault_place NotOurs = None

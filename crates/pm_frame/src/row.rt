@@ -38,7 +38,7 @@ impl Row {
         ensures { result ≡ codes_of direction self.code.0 }
     {
         match (self.attributes, direction) {
-            (Some(attributes), Direction::Write) => attributes.writes,
+            (Some(attributes), Direction::Write) => attributes.protection.is_ever_written(),
             (Some(attributes), Direction::Read) => attributes.reads,
             (None, _) => false,
         }

@@ -1,34 +1,25 @@
-//! The text of each fault, which no report and no trace uses.
+//! How each fault shows: as programs print it.
 
 use crate::checks::agrees;
 use pm_frame::FrameFault;
 use std::alloc::AllocError;
 
 static ROWS: [(FrameFault, &str); 8] = [
-    (FrameFault::NotOurs, "a frame for another device"),
-    (FrameFault::Short(7), "a frame cut short after 7 bytes"),
-    (FrameFault::Long(8), "a byte too many at place 8"),
-    (FrameFault::WrongCount(2), "a wrong count at place 2"),
-    (
-        FrameFault::WrongPec(7),
-        "a wrong packet error code at place 7",
-    ),
-    (FrameFault::UnknownCode(1), "an unknown code at place 1"),
-    (
-        FrameFault::WrongDirection(4),
-        "a code of the other direction at place 4",
-    ),
-    (
-        FrameFault::Nested(4),
-        "a code at place 4 that isn't carried",
-    ),
+    (FrameFault::NotOurs, "F1 NotOurs"),
+    (FrameFault::Short(7), "F2 Short 7"),
+    (FrameFault::Long(8), "F3 Long 8"),
+    (FrameFault::WrongCount(2), "F4 WrongCount 2"),
+    (FrameFault::WrongPec(7), "F5 WrongPec 7"),
+    (FrameFault::UnknownCode(1), "F6 UnknownCode 1"),
+    (FrameFault::WrongDirection(4), "F7 WrongDirection 4"),
+    (FrameFault::Nested(4), "F8 Nested 4"),
 ];
 
 #[test]
-fn each_fault_has_its_message_with_its_place(rt: HostRuntime) -> Result<(), AllocError> {
+fn each_fault_shows_its_words_and_its_place(rt: HostRuntime) -> Result<(), AllocError> {
     for (row, (fault, wanted)) in ROWS.iter().enumerate() {
-        let message = format!(in rt.alloc(); "{fault}")?;
-        agrees(&rt, row, &message.as_str(), wanted);
+        let shown = format!(in rt.alloc(); "{fault}")?;
+        agrees(&rt, row, &shown.as_str(), wanted);
     }
     Ok(())
 }

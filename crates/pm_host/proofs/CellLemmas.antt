@@ -1,5 +1,5 @@
 -- Cells, their places, and lists with an element for each place.
-use Rattle.std.proofs.Common.{◌≡◌, ℕ, ◌<◌, true, false, length, get_or, set, replicate, sym, ap, ◌∙◌}
+use Rattle.std.proofs.Common.{◌≡◌, ℕ, ◌<◌, false, length, get_or, set, replicate, sym, ap, ◌∙◌}
 use Rattle.std.proofs.Common.{inl, inr, arith, rules}
 use Rattle.std.proofs.lemmas.List.{same_lists, length-set, get_or-set_same, get_or-set_other, length-replicate, get_or-replicate}
 use Rattle.std.proofs.lemmas.List.FromFn.{length-map-range_with_len, get_or-map-range_with_len}
@@ -8,10 +8,6 @@ use Rattle.pm_table.specs.declared.cell.Cell.{Cell}
 use Rattle.pm_table.specs.Cell.{IsCell, cell_in, place_of, places, same_cell}
 use Rattle.pm_table.specs.Laws.{CellsHavePlaces}
 use Rattle.pm_host.specs.Cells.{table}
-
--- a cell is the same as itself
-pub same_cell_itself : (cell : Cell) → same_cell cell cell ≡ true
-same_cell_itself = search rules
 
 -- the cell of another place is another cell
 other_place : (cell : Cell) (place : ℕ) → place < places → (place ≡ place_of cell → ⊥) → same_cell cell (cell_in place) ≡ false

@@ -4,7 +4,6 @@ use Rattle.std.proofs.Common.{Option, Some, None, is_none, option_map, option_an
 use Rattle.std.specs.Option.{option_or}
 use Rattle.std.specs.List.{range_with_len}
 use Rattle.pm_num.specs.AnyFormat.{Shape}
-use Rattle.pm_table.specs.declared.cell.Cell.{Cell}
 use Rattle.pm_table.specs.Cell.{cell_accepts, IsCell}
 use Rattle.pm_table.specs.Laws.{CellsHavePlaces}
 use Rattle.pm_host.specs.declared.stage.Stage.{Stage}
@@ -29,10 +28,6 @@ IsJob setup (Some (Order cell word)) = IsCell setup.outputs cell × (cell_accept
 IsJob setup (Some (Check cell)) = IsCell setup.outputs cell
 IsJob setup (Some (Learn output)) = output < setup.outputs
 IsJob setup (Some (Send sent)) = is_command setup.outputs sent ≡ true
-
--- a cell of a host's setup is one of eight outputs
-pub IsCell-eight : (outputs : ℕ) (cell : Cell) → outputs ≤ 8 → IsCell outputs cell → IsCell 8 cell
-IsCell-eight = search rules
 
 -- marks of cells that there are
 abbrev pub AreMarks : List Mark → Type 0

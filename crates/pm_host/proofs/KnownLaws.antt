@@ -17,7 +17,8 @@ use Rattle.pm_host.specs.Standing.{standing_of}
 use Rattle.pm_host.specs.Possible.{is_listed, is_possible, once, possible_from, words_since, possible_of, restart_seen_of, only, joined}
 use Rattle.pm_host.specs.Known.{Known, known_possible, known_standing, all_any, all_unknown, nothing_known, known_after, known_now}
 use Rattle.pm_host.proofs.Once.{once-push, is_listed-once}
-use Rattle.pm_host.proofs.CellLemmas.{same_cell_itself, table-at, table-set, table-same, table-agree}
+use Rattle.pm_table.specs.Lemmas.{same_cell-itself}
+use Rattle.pm_host.proofs.CellLemmas.{table-at, table-set, table-same, table-agree}
 
 -- a mark that names a cell of eight outputs
 abbrev pub IsMark : Mark → Type 0
@@ -44,7 +45,7 @@ joined-from word (Some ws) =
 pub possible_of-put_same : (before : List Mark) (cell : Cell) (word : ℕ)
     → possible_of (Put cell word ∷ before) cell ≡ joined (possible_of before cell) word
 unfolding possible_of
-possible_of-put_same before cell word = rw (same_cell_itself cell) (joined-from word (words_since before cell))
+possible_of-put_same before cell word = rw (same_cell-itself cell) (joined-from word (words_since before cell))
 
 -- a write leaves the words of another cell
 possible_of-put_other : (before : List Mark) (cell d : Cell) (word : ℕ) → same_cell cell d ≡ false
@@ -128,14 +129,14 @@ put_standing : CellsHavePlaces → (before : List Mark) (cell : Cell) (word : �
     → table places (standing_of (Put cell word ∷ before)) ≡ set (table places (standing_of before)) (place_of cell) Unknown
 put_standing law before cell word there =
     table-set law (standing_of before) (standing_of (Put cell word ∷ before)) cell Unknown there
-    (rw (same_cell_itself cell) refl) (λ d other. (standing_of-other before cell d word other).0)
+    (rw (same_cell-itself cell) refl) (λ d other. (standing_of-other before cell d word other).0)
 
 -- after a good answer
 good_standing : CellsHavePlaces → (before : List Mark) (cell : Cell) (word : ℕ) → IsCell 8 cell
     → table places (standing_of (Good cell word ∷ before)) ≡ set (table places (standing_of before)) (place_of cell) (Confirmed word)
 good_standing law before cell word there =
     table-set law (standing_of before) (standing_of (Good cell word ∷ before)) cell (Confirmed word) there
-    (rw (same_cell_itself cell) refl) (λ d other. (standing_of-other before cell d word other).1)
+    (rw (same_cell-itself cell) refl) (λ d other. (standing_of-other before cell d word other).1)
 
 -- after a restart it is as without a mark
 restart_possible : (before : List Mark) (cell : Cell) → possible_of (Restart ∷ before) cell ≡ possible_of [] cell

@@ -29,10 +29,10 @@ use Rattle.pm_host.specs.Summary.{Summary, sending_in}
 use Rattle.pm_host.specs.Transcript.{Setup, Job, Order, Check, Learn, Send, Entry, Accepted, Finished, Got, Restarted, last_job, told_since}
 use Rattle.pm_host.specs.Transcript.{end_of, open_job, sending_of, job_message, is_write_turn, order_end, mode_told}
 use Rattle.pm_host.specs.Transcript.{coefficients_tries, format_of_output}
-use Rattle.pm_host.proofs.CellLemmas.{same_cell_itself}
+use Rattle.pm_table.specs.Lemmas.{same_cell-itself, IsCell-eight}
 use Rattle.pm_host.proofs.KnownLaws.{possible_of-put_same, known_now-possible, known_now-standing}
 use Rattle.pm_host.proofs.Changes.{end_by, WritesBy, ReadsBy, WritesBy-from, ReadsBy-from, turn_after_read}
-use Rattle.pm_host.proofs.Follows.{IsJob, IsJob-told, IsCell-eight}
+use Rattle.pm_host.proofs.Follows.{IsJob, IsJob-told}
 use Rattle.pm_host.proofs.Left.{IsLeft, told-left}
 
 -- an open job is the last one, and hasn't ended
@@ -63,7 +63,7 @@ put_facts : (before : List Mark) (cell : Cell) (word : ℕ)
 put_facts before cell word = (
   ap (is_possible word) (possible_of-put_same before cell word)
       ∙ joined-possible (possible_of before cell) word,
-  rw (same_cell_itself cell) refl,
+  rw (same_cell-itself cell) refl,
 )
 
 -- where an order's write is sent, the newest mark is its write

@@ -9,6 +9,7 @@ use Rattle.pm_num.specs.Ratio.{Ratio, micros}
 use Rattle.pm_table.specs.Address.{IsAddress}
 use Rattle.pm_table.specs.declared.cell.Cell.{Cell}
 use Rattle.pm_table.specs.Cell.{cell_accepts, is_cell, is_voltage_cell, output_of}
+use Rattle.pm_table.specs.Rules.{first, rule}
 use Rattle.pm_frame.specs.Layout.{is_read_message}
 use Rattle.pm_host.specs.declared.command.Command.{Command}
 use Rattle.pm_host.specs.declared.fault.HostFault.{HostFault}
@@ -19,14 +20,6 @@ use Rattle.pm_host.specs.Possible.{has_room}
 use Rattle.pm_host.specs.Question.{is_question}
 use Rattle.pm_host.specs.Summary.{Summary, possible_at, format_at, sending_in}
 use Rattle.pm_host.specs.Transcript.{Setup, Job, Order, Check, Learn, Send, Entry, Accepted, Finished, Got, Restarted}
-
--- a rule names its fault where it applies, and the first of several counts
-abbrev pub rule : Bool → HostFault → Option HostFault
-rule applies fault = if applies then Some fault else None
-
-abbrev pub first : List (Option HostFault) → Option HostFault
-first [] = None
-first (fault ∷ faults) = option_or fault (first faults)
 
 -- the number is one from the first to the last
 abbrev pub is_within : ℕ → ℕ → ℕ → Bool

@@ -1,39 +1,32 @@
-ghost use Rattle.std.specs.Prelude.{◌≡◌};
+ghost use Rattle.std.specs.Prelude.{◌≡◌, ◌≢◌};
 
 use pm_num::NumFault;
 use thiserror::Error;
 
 /// Why a call is refused. A refused call changes nothing.
 #[derive(Clone, Copy, Debug, PartialEq, Eq, Error)]
+#[error("{words}", words = self.words())]
 pub enum HostFault {
     /// H1: the number of outputs isn't 1 to 8.
-    #[error("a number of outputs other than 1 to 8")]
     OutputCount,
     /// H2: the number of passes isn't 1 to 15.
-    #[error("a number of passes other than 1 to 15")]
     Passes,
     /// H3: a job is open.
-    #[error("an open job")]
     Busy,
     /// H4: the output isn't there.
-    #[error("an unknown output")]
     UnknownOutput,
     /// H5: the cell doesn't accept the word, or isn't a voltage.
-    #[error("a word or a voltage that the cell doesn't take")]
     BadWord,
     /// H6: 16 words are already possible for the cell, and this isn't one of them.
-    #[error("too many possible words")]
     TooUncertain,
     /// H7: the format of the output's voltages wasn't learned since the host started.
-    #[error("an unknown format")]
     FormatUnknown,
     /// N3, N4 or N5: the voltage has no word in the output's format.
-    #[error("{0}")]
     Num(NumFault),
 }
 
 impl HostFault {
-    ghost use Rattle.pm_host.specs.FaultWords.{host_fault_words};
+    ghost use Rattle.pm_host.specs.FaultWords.{host_fault_number, host_fault_words};
 
     /// The letter and the name of the fault, as programs print them: `H6 TooUncertain`. The fault of a
     /// number is told as that: `N3 BelowLeast`.
@@ -49,6 +42,23 @@ impl HostFault {
             HostFault::TooUncertain => "H6 TooUncertain",
             HostFault::FormatUnknown => "H7 FormatUnknown",
             HostFault::Num(fault) => fault.words(),
+        }
+    }
+
+    /// The number of the fault as `pm.h` has it, 1 to 7; the fault of a number has its own.
+    pub fn number(self) -> u8
+        ensures number { result ≡ host_fault_number self }
+        ensures some { result ≢ 0 }
+    {
+        match self {
+            HostFault::OutputCount => 1,
+            HostFault::Passes => 2,
+            HostFault::Busy => 3,
+            HostFault::UnknownOutput => 4,
+            HostFault::BadWord => 5,
+            HostFault::TooUncertain => 6,
+            HostFault::FormatUnknown => 7,
+            HostFault::Num(fault) => fault.number(),
         }
     }
 }

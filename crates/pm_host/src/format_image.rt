@@ -13,7 +13,7 @@ pub(crate) const NO_COEFFICIENTS: Coefficients = Coefficients { m: 0, b: 0, r: 0
 
 /// The format of an output's voltages, as plain numbers.
 #[repr(C)]
-#[derive(Clone, Copy)]
+#[derive(Clone, Copy, Debug, PartialEq, Eq)]
 pub struct FormatImage {
     /// 1 for ULINEAR16, 2 for DIRECT; with any other number no format is known.
     pub kind: u8,

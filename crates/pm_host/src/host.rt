@@ -39,7 +39,7 @@ use std::marker::Model;
 /// before each `told`. A job has ended once `told` answers `Step::Ended`, after at most twice `passes`
 /// frames. `restart`, `standing`, `possible` and `restart_seen` may come at any time. A refused call
 /// changes nothing. No call takes memory.
-#[derive(Drop)]
+#[derive(Debug, Drop)]
 pub struct Host {
     state: State,
     // What the open job is sending; nothing where no job is open.

@@ -27,7 +27,7 @@ pub struct NoHost;
 /// A host in memory that a caller keeps who isn't Rattle: after the mark and the number of its layout, where
 /// the open job stands, and the state. It has no padding, holds no address of memory, and may be copied.
 #[repr(C)]
-#[derive(Drop)]
+#[derive(Debug, Drop)]
 pub struct Image {
     /// 504Dh, the bytes 'PM'.
     pub mark: u16,
@@ -143,7 +143,7 @@ impl State {
 
 /// Where an open job stands, as plain numbers.
 #[repr(C)]
-#[derive(Clone, Copy)]
+#[derive(Clone, Copy, Debug, PartialEq, Eq)]
 pub struct StageImage {
     /// 0 where no job is open; 1 and 2 for an order that writes or reads; 3, 4 and 5 for a question, of a
     /// cell's word, of VOUT_MODE or of COEFFICIENTS; 6 for a command that is sent to an output, 7 for one

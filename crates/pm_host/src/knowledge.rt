@@ -13,7 +13,7 @@ use pm_table::Cell;
 
 /// What the host knows of each cell, as plain numbers; a cell stands at `Cell::place`.
 #[repr(C)]
-#[derive(Drop)]
+#[derive(Debug, Drop)]
 pub struct Knowledge {
     /// The words that each cell may hold.
     pub possible: [WordsImage; Cell::PLACES],

@@ -4,7 +4,7 @@ ghost use Rattle.pm_host.specs.Possible.{is_possible};
 use arrayvec::ArrayVec;
 
 /// The words that a cell may hold, as far as the host knows.
-#[derive(Debug, Drop)]
+#[derive(Clone, Debug, PartialEq, Eq, Drop)]
 pub enum Possible {
     /// Any word: the host has no good answer for the cell since it started, saw a restart or, where the
     /// cell is an output's, last began to send a restore.

@@ -6,7 +6,7 @@ use crate::stage::Stage;
 use crate::step::Step;
 
 /// Where a job stands once its frame was sent.
-#[derive(Clone, Copy, Debug)]
+#[derive(Clone, Copy, Debug, PartialEq, Eq)]
 pub enum Progress {
     /// It goes on at this stage, whose frame is sent next.
     At(Stage),

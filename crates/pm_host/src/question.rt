@@ -7,7 +7,7 @@ use pm_frame::Message;
 use pm_table::Cell;
 
 /// What a job asks the device by a request that it repeats until a good answer comes.
-#[derive(Clone, Copy, Debug)]
+#[derive(Clone, Copy, Debug, PartialEq, Eq)]
 pub enum Question {
     /// The word of a cell.
     Word(Cell),

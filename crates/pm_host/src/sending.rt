@@ -8,7 +8,7 @@ use crate::stage::Stage;
 use pm_frame::{Frame, Message, write_part};
 
 /// What is being sent: where the open job stands, its message, and the frame that carries it.
-#[derive(Drop)]
+#[derive(Debug, Drop)]
 pub(crate) struct Sending {
     pub(crate) stage: Stage,
     pub(crate) message: Message,

@@ -10,7 +10,7 @@ use pm_frame::Message;
 use pm_table::Cell;
 
 /// Where an open job stands: the frame that it sends, and how many passes or tries came before.
-#[derive(Clone, Copy, Debug)]
+#[derive(Clone, Copy, Debug, PartialEq, Eq)]
 pub enum Stage {
     /// An order sends its write, in this pass, counted from 0.
     Writes { cell: Cell, word: u16, pass: u8 },

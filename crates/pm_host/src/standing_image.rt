@@ -5,7 +5,7 @@ use crate::standing::Standing;
 
 /// What the host says of a cell's word, as plain numbers.
 #[repr(C)]
-#[derive(Clone, Copy)]
+#[derive(Clone, Copy, Debug, PartialEq, Eq)]
 pub struct StandingImage {
     /// 1 where the word is confirmed; any other number says that none is.
     pub is_confirmed: u16,

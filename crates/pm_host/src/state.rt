@@ -34,7 +34,7 @@ pub(crate) const OUTPUTS: usize = 8;
 /// which says what each does. Where the open job stands is given to each call that asks for it, and is
 /// answered by each that changes it.
 #[repr(C)]
-#[derive(Drop)]
+#[derive(Debug, Drop)]
 pub struct State {
     /// The address of the device, 08h to 77h.
     pub address: u8,

@@ -1,7 +1,7 @@
 use pm_frame::Frame;
 
 /// What is to be sent now.
-#[derive(Clone, Copy, Debug)]
+#[derive(Clone, Copy, Debug, PartialEq, Eq)]
 pub enum Turn<'a> {
     /// No job is open: nothing.
     Idle,

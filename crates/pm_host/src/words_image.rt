@@ -8,7 +8,7 @@ use arrayvec::ArrayVec;
 /// The words that a cell may hold, as plain numbers: the first `count` of `words`, where that is 1 to
 /// 16; any word where `count` is another number.
 #[repr(C)]
-#[derive(Clone, Copy)]
+#[derive(Clone, Copy, Debug)]
 pub struct WordsImage {
     /// How many words are listed.
     pub count: u16,

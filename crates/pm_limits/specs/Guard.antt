@@ -6,7 +6,9 @@ use Rattle.pm_num.specs.AnyFormat.{Shape, shape_value}
 use Rattle.pm_table.specs.declared.cell.Cell.{Cell}
 use Rattle.pm_table.specs.declared.cell.Cell.TheVariants.{Out, Protect}
 use Rattle.pm_table.specs.declared.reg.Reg.TheVariants.{Operation}
-use Rattle.pm_table.specs.Cell.{is_operation, is_voltage_cell, output_of}
+use Rattle.pm_table.specs.Cell.{is_voltage_cell, output_of}
+use Rattle.pm_table.specs.Operation.{has_on}
+use Rattle.pm_table.specs.Rules.{first, rule}
 use Rattle.pm_host.specs.declared.fault.HostFault.{HostFault}
 use Rattle.pm_host.specs.declared.fault.HostFault.TheVariants.{UnknownOutput, BadWord}
 use Rattle.pm_host.specs.declared.fault.HostFault.TheVariants as host
@@ -30,14 +32,6 @@ pub record Guarded : Type 0 where
 abbrev pub limits_at : Guarded → ℕ → Option Bounds
 limits_at g output = slice_index_or g.limits output None
 
--- a rule names its fault where it applies, and the first of several counts
-abbrev pub rule : Bool → LimitFault → Option LimitFault
-rule applies fault = if applies then Some fault else None
-
-abbrev pub first : List (Option LimitFault) → Option LimitFault
-first [] = None
-first (fault ∷ faults) = option_or fault (first faults)
-
 -- a refusal of the host's own
 abbrev pub of_host : Option HostFault → Option LimitFault
 of_host fault = option_map (λ f. Host f) fault
@@ -48,14 +42,10 @@ voltage_limit None shape word = None
 voltage_limit (Some bounds) None word = Some FormatUnknown
 voltage_limit (Some bounds) (Some shape) word = outside_fault bounds (shape_value shape word)
 
--- a byte of OPERATION that leaves the output on (PMBus 1.3 Part II: bit 7)
-abbrev pub leaves_on : ℕ → Bool
-leaves_on byte = is_operation byte && nat_le 0x80 byte
-
 -- L5 for a byte that leaves the output on, unless the band with this byte lies within the limits
 abbrev pub operation_limit : Guarded → ℕ → ℕ → Option LimitFault
 operation_limit g output byte =
-    rule (leaves_on byte && not (is_yes (within_of (limits_at g output) (band_on g.host output byte)))) NotKnownWithin
+    rule (has_on byte && not (is_yes (within_of (limits_at g output) (band_on g.host output byte)))) NotKnownWithin
 
 -- what the limits say of a word for a cell
 abbrev pub judged : Guarded → Cell → ℕ → Option LimitFault

@@ -5,6 +5,7 @@ use Rattle.pm_table.specs.declared.reg.Reg.{Reg}
 use Rattle.pm_table.specs.declared.cell.Cell.TheVariants.{Out}
 use Rattle.pm_table.specs.declared.reg.Reg.TheVariants.{Operation}
 use Rattle.pm_table.specs.Cell.{is_voltage}
+use Rattle.pm_table.specs.Operation.{has_on}
 use Rattle.pm_model.specs.Commanded.{commanded}
 use Rattle.pm_model.specs.Settings.{Words, word_at}
 use Rattle.pm_host.specs.declared.job.Job.{Job}
@@ -18,7 +19,7 @@ use Rattle.pm_limits.specs.declared.side.Side.{Side}
 use Rattle.pm_limits.specs.Band.{HasDens, Known, band_on, decides, end_choice, end_with, operations, within_of}
 use Rattle.pm_limits.specs.Bounds.{Bounds, IsWithin}
 use Rattle.pm_limits.specs.Ends.{Reaches}
-use Rattle.pm_limits.specs.Guard.{Guarded, guard_fault, leaves_on, limits_at, of_host}
+use Rattle.pm_limits.specs.Guard.{Guarded, guard_fault, limits_at, of_host}
 
 -- What a guard lets through: as a word or in microvolts, a voltage of an output with limits within them, in the
 -- format that the host learned (`voltage`), and a byte of OPERATION that leaves it on only where the band with that
@@ -30,9 +31,9 @@ pub record GuardedOrdersAreWithin : Type 0 where
       is_voltage register ≡ true → limits_at g output ≡ Some bounds →
       IsSomeAnd (format_at g.host output) (λ shape. IsWithin bounds (shape_value shape word))
   pub on : (g : Guarded) (output byte : ℕ) →
-      guard_fault g (job.Order (Out output Operation) byte) ≡ None → leaves_on byte ≡ true →
+      guard_fault g (job.Order (Out output Operation) byte) ≡ None → has_on byte ≡ true →
       within_of (limits_at g output) (band_on g.host output byte) ≡ Yes
-  pub off : (g : Guarded) (output byte : ℕ) → leaves_on byte ≡ false →
+  pub off : (g : Guarded) (output byte : ℕ) → has_on byte ≡ false →
       guard_fault g (job.Order (Out output Operation) byte)
       ≡ of_host (begin_fault g.host (job.Order (Out output Operation) byte))
   pub free : (g : Guarded) (output : ℕ) (register : Reg) (word : ℕ) → limits_at g output ≡ None →

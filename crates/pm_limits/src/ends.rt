@@ -2,7 +2,7 @@
 
 ghost use Rattle.std.specs.Prelude.{◌≡◌, ◌<◌, ℕ};
 ghost use Rattle.pm_num.specs.AnyFormat.{any_value, shape_of};
-ghost use Rattle.pm_model.specs.Commanded.{limited as spec_limited, selected_register as spec_selected_register};
+ghost use Rattle.pm_model.specs.Commanded.{limited as spec_limited, selected_register};
 ghost use Rattle.pm_limits.specs.Band.{end_with as spec_end_with, known_of, word_end};
 ghost use Rattle.pm_limits.specs.Ends.{candidates as spec_candidates, end_of as spec_end_of, farthest as spec_farthest, farthest_of as spec_farthest_of, is_farther as spec_is_farther};
 ghost use Rattle.pm_limits.specs.Selectable.{end_in, selected_value};
@@ -10,7 +10,7 @@ ghost use Rattle.pm_limits.specs.Selectable.{end_in, selected_value};
 use crate::side::Side;
 use pm_host::{Host, Possible};
 use pm_num::{AnyFormat, Frac, NumFormat};
-use pm_table::{Cell, Reg};
+use pm_table::{Cell, Operation, Reg};
 
 // The words of the ends of each format, in one order or the other.
 static LINEAR11_ENDS: [u16; 2] = [0x7C00, 0x7BFF];
@@ -60,8 +60,8 @@ impl Selectable {
     // The ends of what an output's registers may hold.
     fn of(side: Side, format: &AnyFormat, host: &Host, output: u8) -> Selectable
         requires { output < host.now.setup.outputs }
-        ensures { (byte : ℕ) → end_in result (spec_selected_register byte)
-            ≡ word_end side (shape_of format.now) (known_of host.now output) (spec_selected_register byte) }
+        ensures { (byte : ℕ) → end_in result (selected_register byte)
+            ≡ word_end side (shape_of format.now) (known_of host.now output) (selected_register byte) }
     {
         Selectable {
             command: end_at(side, format, host, output, Reg::VoutCommand),
@@ -72,9 +72,9 @@ impl Selectable {
 
     // The end of the register that a byte of OPERATION selects.
     fn word(&self, byte: u16) -> u16
-        ensures { result ≡ end_in self.now (spec_selected_register byte) }
+        ensures { result ≡ end_in self.now (selected_register byte) }
     {
-        match selected_register(byte) {
+        match Operation::selected_register(byte) {
             Reg::MarginHigh => self.high,
             Reg::MarginLow => self.low,
             _ => self.command,
@@ -113,17 +113,6 @@ impl Selectable {
             }
         }
         farthest
-    }
-}
-
-// The register that a byte of OPERATION selects.
-fn selected_register(byte: u16) -> Reg
-    ensures { result ≡ spec_selected_register byte }
-{
-    match byte / 4 {
-        0b100101 | 0b100110 => Reg::MarginLow,
-        0b101001 | 0b101010 => Reg::MarginHigh,
-        _ => Reg::VoutCommand,
     }
 }
 

@@ -5,28 +5,22 @@ use thiserror::Error;
 
 /// Why a guard refuses a call. A refused call changes nothing.
 #[derive(Clone, Copy, Debug, PartialEq, Eq, Error)]
+#[error("{words}", words = self.words())]
 pub enum LimitFault {
     /// L1: the least voltage of limits is above the most.
-    #[error("limits whose least is above their most")]
     LimitsInverted,
     /// L2: the output has limits, and the format of its voltages wasn't learned since the host started.
-    #[error("limits without a known format")]
     FormatUnknown,
     /// L3: the word's value lies below the output's limits.
-    #[error("a voltage below the output's limits")]
     BelowLimit,
     /// L4: the word's value lies above the output's limits.
-    #[error("a voltage above the output's limits")]
     AboveLimit,
     /// L5: the byte of OPERATION leaves the output on, and what it would command isn't known to lie within
     /// its limits.
-    #[error("an output turned on that isn't known to be within its limits")]
     NotKnownWithin,
     /// L6: the new limits let through what the old ones don't.
-    #[error("limits wider than before")]
     LimitsWidened,
     /// H1 to H7 or N3 to N5: the host's own refusal, or N5 where a limit is beyond 10^15.
-    #[error("{0}")]
     Host(HostFault),
 }
 

@@ -31,7 +31,7 @@ const OUTPUTS: usize = 8;
 ///
 /// Limits can be narrowed, never widened. Words that were ordered before limits were narrowed stay
 /// possible: [`Guard::within`] says what holds of the output now.
-#[derive(Drop)]
+#[derive(Debug, Drop)]
 pub struct Guard {
     host: Host,
     limits: [Option<Limits>; OUTPUTS],

@@ -10,6 +10,7 @@ use Rattle.std.specs.Str.{IsAscii, IsUtf8}
 use Rattle.std.specs.Str.Parse.{ParsesSigned, ParsesUnsigned}
 use Rattle.std.proofs.lemmas.Str.Parse.{IsDigitsTest, IsNumeralModel, WeighsDigits, numerals_by_weight, parse_plain, parse_signed_minus}
 use Rattle.std.proofs.lemmas.Str.Parse.{parse_signed_plain}
+use Rattle.std.proofs.lemmas.Bool.{and_parts}
 use Rattle.std.proofs.lemmas.Bool.Decides.{nat_tests, Decides-eqb}
 use Rattle.std.proofs.lemmas.Nat.{pow_pos}
 use Rattle.std.proofs.lemmas.Str.{IsUtf8-from_ascii}
@@ -17,11 +18,6 @@ use mir.Syntax.{Width}
 use mir.Val.{hbits}
 use Rattle.pm_lines.specs.Pairs.{pair_of}
 use Rattle.pm_lines.specs.Digits.{are_digits, decimal_of, digit, fits, hex_of, natural_of, place_sum, signed_of, small_of}
-
--- two tests that hold
-both : (a b : Bool) → (a && b) ≡ true → (a ≡ true) × (b ≡ true)
-both true b e = (refl, e)
-both false b e = absurd (true≢false (sym e))
 
 -- ---- digits
 
@@ -41,7 +37,7 @@ digit_below c h = let e = digit_decimal c h in grind (arith, nat_tests)
 decimal_test : IsDigitsTest (λ ds. are_digits 10 ds ≡ true)
 decimal_test = record {
   empty = refl;
-  parts = λ c cs e. let p = both (nat_lt (digit c) 10) _ e in (decimal_digit c p.0, p.1);
+  parts = λ c cs e. let p = and_parts (nat_lt (digit c) 10) _ e in (decimal_digit c p.0, p.1);
   more = λ c cs h e. ap₂ (λ x y. x && y) (digit_below c h) e;
 }
 
@@ -90,7 +86,7 @@ module _ {E : Type 0} (w : Width) (bits : ℕ) (same : hbits w ≡ bits - 1) (r 
       → result_ok r ≡ option_and_then (λ z. cond (fits bits z) (Some z) None) (option_map (λ n. pos n) (natural_of 10 text))
   signed_plain text h plus minus =
       as_tested r _ _ _ (parse_signed_plain own w text r h plus minus)
-      (λ e. let p = both (nat_lt 0 (length text) && are_digits 10 text) _ e in let q = both (nat_lt 0 (length text)) _ p.0 in
+      (λ e. let p = and_parts (nat_lt 0 (length text) && are_digits 10 text) _ e in let q = and_parts (nat_lt 0 (length text)) _ p.0 in
       (q.1, ltb-true _ _ q.0, subst (λ k. place_sum 10 text < 2 ^ k) (sym same) (ltb-true _ _ p.1)))
       (λ h. ap₂ (λ x y. x && y) (ap₂ (λ x y. x && y) (lt-ltb _ _ h.1) h.0) (lt-ltb _ _ (subst (λ k. place_sum 10 text < 2 ^ k) same h.2)))
       ∙ sym (nested _ (place_sum 10 text) (λ n. pos n) bits)
@@ -100,7 +96,7 @@ module _ {E : Type 0} (w : Width) (bits : ℕ) (same : hbits w ≡ bits - 1) (r 
       → result_ok r ≡ option_and_then (λ z. cond (fits bits z) (Some z) None) (option_map (λ n. neg_ℤ (pos n)) (natural_of 10 rest))
   signed_minus c rest h is =
       as_tested r _ _ _ (parse_signed_minus own w (c ∷ rest) r h is)
-      (λ e. let p = both (nat_lt 0 (length rest) && are_digits 10 rest) _ e in let q = both (nat_lt 0 (length rest)) _ p.0 in
+      (λ e. let p = and_parts (nat_lt 0 (length rest) && are_digits 10 rest) _ e in let q = and_parts (nat_lt 0 (length rest)) _ p.0 in
       (q.1, ltb-true _ _ q.0, subst (λ k. place_sum 10 rest ≤ 2 ^ k) (sym same) (fits_minus bits (place_sum 10 rest) p.1)))
       (λ h. ap₂ (λ x y. x && y) (ap₂ (λ x y. x && y) (lt-ltb _ _ h.1) h.0)
       (minus_fits bits (place_sum 10 rest) (subst (λ k. place_sum 10 rest ≤ 2 ^ k) same h.2)))
@@ -179,7 +175,7 @@ pub small_read : {E : Type 0} (r : Result ℕ E) (text : List ℕ) → ParsesUns
     → result_ok r ≡ small_of text
 small_read r text h plus =
     as_tested r _ _ _ (parse_plain own 8 text r h plus)
-    (λ e. let p = both (nat_lt 0 (length text) && are_digits 10 text) _ e in let q = both (nat_lt 0 (length text)) _ p.0 in
+    (λ e. let p = and_parts (nat_lt 0 (length text) && are_digits 10 text) _ e in let q = and_parts (nat_lt 0 (length text)) _ p.0 in
     (q.1, ltb-true _ _ q.0, ltb-true _ _ p.1))
     (λ h. ap₂ (λ x y. x && y) (ap₂ (λ x y. x && y) (lt-ltb _ _ h.1) h.0) (lt-ltb _ _ h.2))
     ∙ sym (nested_small _ (place_sum 10 text))
@@ -193,8 +189,8 @@ digit_ascii base c within e = grind (arith, nat_tests)
 -- so are digits
 digits_ascii : (base : ℕ) → base ≤ 16 → (text : List ℕ) → are_digits base text ≡ true → IsAscii text
 digits_ascii base within [] e i = lit< tt
-digits_ascii base within (c ∷ cs) e zero = digit_ascii base c within (both (nat_lt (digit c) base) _ e).0
-digits_ascii base within (c ∷ cs) e (suc i) = digits_ascii base within cs (both (nat_lt (digit c) base) _ e).1 i
+digits_ascii base within (c ∷ cs) e zero = digit_ascii base c within (and_parts (nat_lt (digit c) base) _ e).0
+digits_ascii base within (c ∷ cs) e (suc i) = digits_ascii base within cs (and_parts (nat_lt (digit c) base) _ e).1 i
 
 -- bytes beyond ASCII write no number
 natural_ascii : (base : ℕ) → base ≤ 16 → (text : List ℕ) → ¬ (IsAscii text) → natural_of base text ≡ None

@@ -3,7 +3,7 @@
 use Rattle.std.specs.Prelude.{ℕ, List, Option, Some, None, codes, ⊤}
 use Rattle.pm_lines.specs.declared.fault.TextFault.{TextFault}
 use Rattle.pm_lines.specs.declared.fault.TextFault.TheVariants.{Syntax, BadHex, TooLong, Read, Write, Memory, Setup}
-use Rattle.pm_world.specs.declared.setup_fault.SetupFault.{SetupFault}
+use Rattle.pm_setup.specs.declared.setup_fault.SetupFault.{SetupFault}
 
 -- the letters and the name of a fault
 abbrev pub fault_words : TextFault → List ℕ

@@ -1,34 +1,31 @@
 ghost use Rattle.std.specs.Prelude.{◌≡◌};
 ghost use Rattle.pm_lines.specs.declared.fault.TextFault.TheVariants.{Memory, Setup};
 
-use pm_world::SetupFault;
+use pm_setup::SetupFault;
 use std::alloc::{AllocError, AllocFailed};
 use thiserror::Error;
 
 /// Why a text is refused, or was not read or written. Lines are numbered from 1. The faults and
 /// their letters are this project's own choice.
 #[derive(Clone, Copy, Debug, PartialEq, Eq, Error)]
+#[error("{words}", words = self.words())]
 pub enum TextFault {
     /// X1: this line isn't one that the text may have here, or is missing.
-    #[error("an unexpected line {0}")]
+    #[error("{words} line {0}", words = self.words())]
     Syntax(u64),
     /// X2: this line should be hexadecimal and isn't.
-    #[error("bad hexadecimal in line {0}")]
+    #[error("{words} line {0}", words = self.words())]
     BadHex(u64),
     /// X3: the text has more than 1,048,576 bytes.
-    #[error("a text of more than 1048576 bytes")]
     TooLong,
     /// X4: the reader failed.
-    #[error("a failed read")]
     Read,
     /// X5: the writer failed, or took none of the bytes that it was offered.
-    #[error("a failed write")]
     Write,
     /// X6: memory was refused.
-    #[error("want of memory")]
     Memory,
     /// X7: no world is made of what the text asks for.
-    #[error("an impossible setup: {0}")]
+    #[error("{words} {0}", words = self.words())]
     Setup(SetupFault),
 }
 

@@ -1,13 +1,14 @@
 -- In a run of the order machine each cell has its start word, or one that was accepted for it; so has the
 -- store.
 use Rattle.std.proofs.Common.{◌≡◌, inl, inr, ℕ, ◌≤◌, Bool, true, false, cond, List, [], ◌∷◌, Option, Some, None, refl, sym}
-use Rattle.std.proofs.Common.{◌∙◌, subst, arith}
+use Rattle.std.proofs.Common.{◌∙◌, subst}
 use Rattle.std.specs.List.{Contains}
 use Rattle.std.proofs.lemmas.List.Elements.{Contains-append_left, Contains-append_right, Contains-push}
 use Rattle.pm_table.specs.declared.cell.Cell.{Cell}
 use Rattle.pm_table.specs.declared.cell.Cell.TheVariants.{Out, Protect}
 use Rattle.pm_table.specs.Cell.{IsCell, same_cell}
 use Rattle.pm_table.specs.Laws.{CellsAreToldApart}
+use Rattle.pm_table.specs.Lemmas.{IsCell-eight}
 use Rattle.pm_model.specs.declared.pending_job.PendingJob.{PendingJob}
 use Rattle.pm_model.specs.declared.pending_job.PendingJob.TheVariants.{Order, Store, Restore}
 use Rattle.pm_model.specs.Settings.{Settings, Words, AreWords, word_at, with_word, with_outputs}
@@ -22,11 +23,6 @@ newest x xs = Contains-append_left (x ∷ []) xs x (Contains-push [] x)
 -- and what the older ones have
 older : {X : Type 0} → (y x : X) (xs : List X) → Contains xs x → Contains (y ∷ xs) x
 older y x xs h = Contains-append_right (y ∷ []) xs x h
-
--- a cell of fewer outputs is one of eight
-cell-of_eight : (count : ℕ) (cell : Cell) → count ≤ 8 → IsCell count cell → IsCell 8 cell
-cell-of_eight count (Out output register) few here = omega (arith, few, here)
-cell-of_eight count Protect few here = tt
 
 -- the start of a run stays
 pub machine-start : (start : Settings) (steps : List Step) → (machine_of start steps).start ≡ start
@@ -85,8 +81,8 @@ module _ (told : CellsAreToldApart) (map : SettingsAreAMap) (start : Settings) (
   ordered-own steps words ordered word are accepted = record {
     full = map.kept words ordered word are.full;
     each = λ cell here.
-        let one = cell-of_eight start.count ordered few accepted.0.0 in
-        let two = cell-of_eight start.count cell few here in
+        let one = IsCell-eight start.count ordered few accepted.0.0 in
+        let two = IsCell-eight start.count cell few here in
         subst (IsOwnWord start steps cell) (sym (map.read words ordered cell word are.full one two))
         (go cell here (same_cell ordered cell) refl);
   } where
@@ -102,7 +98,7 @@ module _ (told : CellsAreToldApart) (map : SettingsAreAMap) (start : Settings) (
     each : (cell : Cell) → IsCell start.count cell → IsOwnWord start steps cell (word_at (with_outputs words others) cell)
     each (Out output register) here =
         subst (IsOwnWord start steps (Out output register))
-        (sym (map.outputs words others output register from.full (cell-of_eight start.count (Out output register) few here)))
+        (sym (map.outputs words others output register from.full (IsCell-eight start.count (Out output register) few here)))
         (from.each (Out output register) here)
     each Protect here = subst (IsOwnWord start steps Protect) (sym (map.protect words others from.full)) (are.each Protect here)
 

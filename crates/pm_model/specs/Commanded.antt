@@ -1,25 +1,16 @@
 -- What an output commands by its settings: OPERATION of PMBus 1.3 Part II names the word that is
 -- selected, and VOUT_MAX and VOUT_MIN limit its value. Values are compared as fractions and never as
--- words. That VOUT_COMMAND is selected while an output is off, and that VOUT_MAX decides where VOUT_MIN
--- is above it, is this project's own choice.
-use Rattle.std.specs.Prelude.{◌≡◌, ℕ, ◌/◌, Bool, ◌||◌, ◌&&◌, if◌then◌else◌, ◌==◌, List, slice_index_or}
+-- words. That VOUT_MAX decides where VOUT_MIN is above it is this project's own choice.
+use Rattle.std.specs.Prelude.{◌≡◌, ℕ, Bool, ◌||◌, ◌&&◌, if◌then◌else◌, List, slice_index_or}
 use Rattle.pm_num.specs.Ratio.{Ratio}
 pub use Rattle.pm_num.specs.Ratio.{is_above}
 use Rattle.pm_num.specs.AnyFormat.{any_value}
 use Rattle.pm_num.specs.declared.any_format.AnyFormat.{AnyFormat}
 use Rattle.pm_num.specs.declared.any_format.AnyFormat.TheVariants.{Linear11}
-use Rattle.pm_table.specs.declared.reg.Reg.{Reg}
-use Rattle.pm_table.specs.declared.reg.Reg.TheVariants.{Operation, VoutCommand, VoutMax, MarginHigh, MarginLow, VoutMin}
+use Rattle.pm_table.specs.declared.reg.Reg.TheVariants.{Operation, VoutMax, VoutMin}
 use Rattle.pm_table.specs.declared.cell.Cell.TheVariants.{Out}
+pub use Rattle.pm_table.specs.Operation.{selected_register}
 use Rattle.pm_model.specs.Settings.{Words, word_at}
-
--- The register that a byte of OPERATION selects: on with margin low is 100101.. or 100110.., on with
--- margin high 101001.. or 101010..
-abbrev pub selected_register : ℕ → Reg
-selected_register byte =
-    if byte / 4 == 0b100101 || byte / 4 == 0b100110 then MarginLow
-    else (if byte / 4 == 0b101001 || byte / 4 == 0b101010 then MarginHigh
-    else VoutCommand)
 
 -- the word that an output's OPERATION selects
 unfoldable pub selected : Words → ℕ → ℕ

@@ -2,7 +2,7 @@ use pm_num::AnyFormat;
 
 /// What the words of each output's voltages stand for: of VOUT_COMMAND, its two limits and both
 /// margins.
-#[derive(Clone, Copy, Debug)]
+#[derive(Clone, Copy, Debug, PartialEq, Eq)]
 pub struct Formats {
     /// How many outputs there are.
     pub count: u8,

@@ -14,7 +14,7 @@ use std::marker::Model;
 /// number of times, and ends. A job is an order of a word for a cell, a store of the outputs' words, or
 /// their restore. A slow copy of both ends of the bus, for tests: it has no bytes, pages, packet error
 /// codes or passes.
-#[derive(Debug, Drop)]
+#[derive(Clone, Debug, Drop)]
 pub struct OrderMachine {
     start: Plain,
     settings: Plain,

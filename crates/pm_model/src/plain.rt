@@ -3,16 +3,16 @@ ghost use Rattle.pm_num.specs.AnyFormat.{any_value};
 ghost use Rattle.pm_table.specs.Cell.{cell_accepts, protect_place, register_accepts, register_count, register_number, places, IsCell};
 ghost use Rattle.pm_table.specs.declared.reg.Reg.{Reg as Register};
 ghost use Rattle.pm_model.specs.Settings.{are_accepted as spec_are_accepted, is_accepted_at as spec_is_accepted_at, settings_in, word_at, with_outputs as spec_with_outputs, with_word, AreSettings, AreWords};
-ghost use Rattle.pm_model.specs.Commanded.{commanded, greatest_value, least_value, is_above as spec_is_above, is_outside as spec_is_outside, is_cut, scale_at, selected, selected_register as spec_selected_register};
+ghost use Rattle.pm_model.specs.Commanded.{commanded, greatest_value, least_value, is_above as spec_is_above, is_outside as spec_is_outside, is_cut, scale_at, selected};
 
 use crate::formats::Formats;
 use crate::laws::{commands_are_limited, settings_are_a_map};
 use pm_num::{AnyFormat, Frac, NumFormat};
-use pm_table::{Cell, Reg, cells_are_told_apart, cells_have_places};
+use pm_table::{Cell, Operation, Reg, cells_are_told_apart, cells_have_places};
 use std::marker::Model;
 
 /// The settings of a converter with one to eight outputs: a word for each cell that there is.
-#[derive(Debug, Drop)]
+#[derive(Clone, Debug, Drop)]
 pub struct Plain {
     count: u8,
     // The word of each cell at its place: for eight outputs, and for WRITE_PROTECT.
@@ -249,7 +249,8 @@ impl Plain {
         requires { output < self.now.count }
         ensures { result ≡ selected self.now.words output }
     {
-        self.word(output, selected_register(self.word(output, Reg::Operation)))
+        let operation = self.word(output, Reg::Operation);
+        self.word(output, Operation::selected_register(operation))
     }
 
     // The word of an output's register.
@@ -268,17 +269,6 @@ impl Plain {
         // There is a format for each of eight outputs at most.
         let _count = self.count();
         &formats.each[usize::from(output)]
-    }
-}
-
-// The register that a byte of OPERATION selects.
-fn selected_register(operation: u16) -> Reg
-    ensures { result ≡ spec_selected_register operation }
-{
-    match operation / 4 {
-        0b100101 | 0b100110 => Reg::MarginLow,
-        0b101001 | 0b101010 => Reg::MarginHigh,
-        _ => Reg::VoutCommand,
     }
 }
 

@@ -8,7 +8,7 @@ ghost use Rattle.pm_device.specs.Status.{is_on};
 ghost use Rattle.pm_part.specs.Numbers.{cell_number, commanded_number, output_number, stored_number, there_number};
 ghost use Rattle.pm_part.specs.Part.{commanded_now, flag_of, IsStored, IsWord};
 
-use crate::numbers::{ACCEPTED, NO_CELL, NO_OUTPUT, NO_PART, of_number};
+use crate::numbers::{ACCEPTED, NO_CELL, NO_OUTPUT, NO_PART};
 use pm_device::{Converter, Image};
 use pm_table::{Cell, Code, cell_of};
 
@@ -89,7 +89,7 @@ pub extern "C" fn pm_part_commanded(part: &Image, output: u8, microvolts: &mut i
             *microvolts = floor;
             ACCEPTED
         }
-        Err(fault) => of_number(fault),
+        Err(fault) => fault.number(),
     }
 }
 

@@ -11,7 +11,7 @@ ghost use Rattle.pm_part.specs.Numbers.{heard_now_number, made_number, reading_n
 ghost use Rattle.pm_part.specs.Part.{ending_of, IsReply};
 ghost use Rattle.pm_part.specs.Sizes.{part_size};
 
-use crate::numbers::{ACCEPTED, NO_OUTPUT, NO_PART, NO_READING, of_config};
+use crate::numbers::{ACCEPTED, NO_OUTPUT, NO_PART, NO_READING};
 use crate::reply_image::ReplyImage;
 use pm_device::{ConfigImage, Converter, Ending, Image};
 use pm_table::Code;
@@ -38,7 +38,7 @@ pub extern "C" fn pm_part_new(part: &mut Image, config: &ConfigImage) -> u8
             converter.write(part);
             ACCEPTED
         }
-        Err(fault) => of_config(fault),
+        Err(fault) => fault.number(),
     }
 }
 

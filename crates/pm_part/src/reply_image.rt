@@ -2,7 +2,7 @@ ghost use Rattle.std.specs.Prelude.{◌≡◌, length, take, drop};
 ghost use Rattle.pm_part.specs.Part.{HasReply};
 ghost use Rattle.pm_part.specs.Numbers.{heard_number};
 
-use crate::numbers::{ANSWERED, SILENT, TAKEN, of_device};
+use crate::numbers::{ANSWERED, SILENT, TAKEN};
 use pm_device::Heard;
 use pm_frame::Frame;
 
@@ -32,7 +32,7 @@ impl ReplyImage {
                 self.length = copy_frame(&mut self.bytes, &frame);
                 ANSWERED
             }
-            Heard::Refused(fault) => of_device(fault),
+            Heard::Refused(fault) => fault.number(),
         }
     }
 }

@@ -6,24 +6,19 @@ use thiserror::Error;
 
 /// Why a line is refused. Then nothing has changed.
 #[derive(Clone, Copy, Debug, PartialEq, Eq, Error)]
+#[error("{words}", words = self.words())]
 pub enum Refusal {
     /// X1: the line isn't one of those that may be said; an empty line and a comment are none.
-    #[error("an unexpected line")]
     Syntax,
     /// X2: a word should be hexadecimal of a stated length and isn't, or more than 16 bytes came back.
-    #[error("bad hexadecimal")]
     BadHex,
     /// X3: the line has more than 256 bytes.
-    #[error("a line of more than 256 bytes")]
     TooLong,
     /// S2: it is told what became of a frame, and none is being sent.
-    #[error("no frame is being sent")]
     NothingSent,
     /// S3: it is told the end of a write while a read is being sent, or an answer while a write is.
-    #[error("a frame of the other kind is being sent")]
     WrongKind,
     /// H3 to H7 and N3 to N5: the host refuses.
-    #[error("the host refuses: {0}")]
     Host(HostFault),
 }
 

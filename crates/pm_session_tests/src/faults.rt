@@ -1,4 +1,4 @@
-//! The texts of errors, which no answer uses.
+//! The texts of errors: each shows as programs print it.
 
 use crate::checks::equal;
 use pm_host::HostFault;
@@ -8,28 +8,19 @@ use std::process::Abort;
 use std::test::Fail;
 
 static START: [(StartFault, &str); 4] = [
-    (StartFault::Address, "a bad address"),
-    (StartFault::Outputs, "a bad number of outputs"),
-    (StartFault::Passes, "a bad number of passes"),
-    (
-        StartFault::Host(HostFault::OutputCount),
-        "a number of outputs other than 1 to 8",
-    ),
+    (StartFault::Address, "bad address"),
+    (StartFault::Outputs, "bad outputs"),
+    (StartFault::Passes, "bad passes"),
+    (StartFault::Host(HostFault::OutputCount), "H1 OutputCount"),
 ];
 
 static REFUSALS: [(Refusal, &str); 6] = [
-    (Refusal::Syntax, "an unexpected line"),
-    (Refusal::BadHex, "bad hexadecimal"),
-    (Refusal::TooLong, "a line of more than 256 bytes"),
-    (Refusal::NothingSent, "no frame is being sent"),
-    (
-        Refusal::WrongKind,
-        "a frame of the other kind is being sent",
-    ),
-    (
-        Refusal::Host(HostFault::Busy),
-        "the host refuses: an open job",
-    ),
+    (Refusal::Syntax, "X1 Syntax"),
+    (Refusal::BadHex, "X2 BadHex"),
+    (Refusal::TooLong, "X3 TooLong"),
+    (Refusal::NothingSent, "S2 NothingSent"),
+    (Refusal::WrongKind, "S3 WrongKind"),
+    (Refusal::Host(HostFault::Busy), "H3 Busy"),
 ];
 
 // Each fault of a table is told by its text.

@@ -10,6 +10,7 @@ use Rattle.pm_table.specs.declared.cell.Cell.{Cell}
 use Rattle.pm_table.specs.declared.cell.Cell.TheVariants.{Out, Protect}
 use Rattle.pm_table.specs.Codes as command
 use Rattle.pm_table.specs.Commands.{name_of}
+pub use Rattle.pm_table.specs.Operation.{is_operation}
 
 -- the registers of an output, in their order
 abbrev pub registers : List Reg
@@ -79,14 +80,6 @@ cell_name cell = name_of (cell_code cell)
 -- how many bytes the word of a cell has on the wire
 abbrev pub cell_bytes : Cell → ℕ
 cell_bytes cell = if is_voltage_cell cell then 2 else 1
-
--- The bytes of OPERATION (PMBus 1.3 Part II) that this project takes: immediate off 00......, soft
--- off 01......, on 1000....; on with margin low 100101.. or 100110.., with margin high 101001.. or
--- 101010.. (a fault ignored, or acted on). A dotted bit may be 0 or 1.
-abbrev pub is_operation : ℕ → Bool
-is_operation byte =
-    byte / 64 == 0b00 || byte / 64 == 0b01 || byte / 16 == 0b1000
-    || byte / 4 == 0b100101 || byte / 4 == 0b100110 || byte / 4 == 0b101001 || byte / 4 == 0b101010
 
 -- the four bytes of WRITE_PROTECT that this project takes
 abbrev pub is_protection : ℕ → Bool

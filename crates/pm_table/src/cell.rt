@@ -3,6 +3,7 @@ ghost use Rattle.pm_table.specs.declared.cell.Cell.{Cell};
 ghost use Rattle.pm_table.specs.Cell.{cell_at};
 
 use crate::commands::Code;
+use crate::operation::Operation;
 use crate::reg::Reg;
 
 /// A setting of the converter that holds a word: a register of an output, or WRITE_PROTECT, which
@@ -68,17 +69,13 @@ impl Cell {
         if self.is_voltage() { 2 } else { 1 }
     }
 
-    /// Whether the cell may hold the word. A voltage may be any word. OPERATION is a byte of PMBus
-    /// 1.3 Part II for off (00h to 7Fh), on (80h to 8Fh), or on with margin low (94h to 9Bh) or
-    /// high (A4h to ABh); that no other is taken, as B0h, is this project's own choice.
-    /// WRITE_PROTECT is 00h, 20h, 40h or 80h.
+    /// Whether the cell may hold the word. A voltage may be any word. OPERATION is a byte that
+    /// [`Operation::read`] reads. WRITE_PROTECT is 00h, 20h, 40h or 80h.
     pub fn accepts(&self, word: u16) -> bool
         ensures { result ≡ cell_accepts self.now word }
     {
         match self {
-            Cell::Out(_, Reg::Operation) => {
-                matches!(word, 0x00..=0x8F | 0x94..=0x9B | 0xA4..=0xAB)
-            }
+            Cell::Out(_, Reg::Operation) => Operation::read(word).is_some(),
             Cell::Out(_, _) => true,
             Cell::Protect => matches!(word, 0x00 | 0x20 | 0x40 | 0x80),
         }

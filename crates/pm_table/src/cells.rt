@@ -8,7 +8,7 @@ use crate::cell::Cell;
 use crate::reg::Reg;
 
 /// The cells of a device, as [`Cell::all`] gives them.
-#[derive(Clone, Copy, Debug)]
+#[derive(Clone, Copy, Debug, PartialEq, Eq)]
 pub struct Cells {
     outputs: u8,
     next: usize,

@@ -1,38 +1,44 @@
 ghost use Rattle.std.specs.Prelude.{◌≡◌, ◌≤◌, IfSome, true, false};
 ghost use Rattle.std.specs.Option.{option_map};
-ghost use Rattle.pm_table.specs.Commands.{line_of, line_seen, attributes};
+ghost use Rattle.pm_table.specs.declared.protection.Protection.TheVariants.{NotWritten};
+ghost use Rattle.pm_table.specs.Commands.{attributes, info_seen, known_of};
 
-// The command table, a row for each code: its name, and what is known of it besides. `true` is the scope of
-// an output, `false` that of the device. It is asked for one column at a time, so that who wants the
-// attributes doesn't pay for the name.
+use crate::protection::Protection;
+use crate::protection::Protection::{Always, At00, At20, At40, At80};
+use crate::scope::Scope;
+use crate::scope::Scope::{Device, Output};
+
+// The command table, a row for each code: its name, its bytes, what it acts on, and, where it is written,
+// up to which value of WRITE_PROTECT. It is asked for one column at a time, so that who wants the attributes
+// doesn't pay for the name.
 macro_rules! command_table {
     ($column:ident of $code:expr) => {
         column_of!($column of $code =>
-            PAGE is setting(1, false),
-            OPERATION is setting(1, true),
-            CLEAR_FAULTS is action(0, true),
-            PAGE_PLUS_WRITE is action(0, false),
-            PAGE_PLUS_READ is reading(0, false),
-            WRITE_PROTECT is setting(1, false),
-            STORE_USER_ALL is action(0, false),
-            RESTORE_USER_ALL is action(0, false),
-            CAPABILITY is reading(1, false),
-            VOUT_MODE is reading(1, true),
-            VOUT_COMMAND is setting(2, true),
-            VOUT_MAX is setting(2, true),
-            VOUT_MARGIN_HIGH is setting(2, true),
-            VOUT_MARGIN_LOW is setting(2, true),
-            VOUT_MIN is setting(2, true),
-            COEFFICIENTS is reading(0, false),
-            STATUS_BYTE is reading(1, true),
-            STATUS_WORD is reading(2, true),
-            STATUS_VOUT is setting(1, true),
-            STATUS_CML is setting(1, false),
-            READ_VIN is reading(2, false),
-            READ_VOUT is reading(2, true),
-            READ_IOUT is reading(2, true),
-            READ_TEMPERATURE_1 is reading(2, false),
-            PMBUS_REVISION is reading(1, false),
+            PAGE is setting(1, Device, At40),
+            OPERATION is setting(1, Output, At40),
+            CLEAR_FAULTS is action(0, Output, Always),
+            PAGE_PLUS_WRITE is action(0, Device, At00),
+            PAGE_PLUS_READ is reading(0, Device),
+            WRITE_PROTECT is setting(1, Device, At80),
+            STORE_USER_ALL is action(0, Device, At00),
+            RESTORE_USER_ALL is action(0, Device, At00),
+            CAPABILITY is reading(1, Device),
+            VOUT_MODE is reading(1, Output),
+            VOUT_COMMAND is setting(2, Output, At20),
+            VOUT_MAX is setting(2, Output, At00),
+            VOUT_MARGIN_HIGH is setting(2, Output, At00),
+            VOUT_MARGIN_LOW is setting(2, Output, At00),
+            VOUT_MIN is setting(2, Output, At00),
+            COEFFICIENTS is reading(0, Device),
+            STATUS_BYTE is reading(1, Output),
+            STATUS_WORD is reading(2, Output),
+            STATUS_VOUT is setting(1, Output, At00),
+            STATUS_CML is setting(1, Device, At00),
+            READ_VIN is reading(2, Device),
+            READ_VOUT is reading(2, Output),
+            READ_IOUT is reading(2, Output),
+            READ_TEMPERATURE_1 is reading(2, Device),
+            PMBUS_REVISION is reading(1, Device),
         )
     };
 }
@@ -149,7 +155,7 @@ impl Code {
         ensures { result ≡ is_written self.0 }
     {
         match self.attributes() {
-            Some(attributes) => attributes.writes,
+            Some(attributes) => attributes.protection.is_ever_written(),
             None => false,
         }
     }
@@ -197,16 +203,16 @@ pub struct Info {
 /// converter has it; `None` for every other code. Codes and lengths are the standard's; read, write
 /// and scope are this converter's own choice.
 pub fn known(code: Code) -> Option<Info>
-    ensures line { option_map line_seen result ≡ line_of code.0 }
+    ensures line { option_map info_seen result ≡ known_of code.0 }
     ensures short { IfSome result (λ line. line.length ≤ 2) }
 {
     match code.attributes() {
         Some(attributes) => Some(Info {
             name: code.name(),
             length: attributes.length,
-            paged: attributes.paged,
+            paged: attributes.scope == Scope::Output,
             reads: attributes.reads,
-            writes: attributes.writes,
+            writes: attributes.protection.is_ever_written(),
         }),
         None => None,
     }
@@ -217,43 +223,40 @@ pub fn known(code: Code) -> Option<Info>
 pub struct Attributes {
     /// The bytes of its payload, 0 to 2; 0 for a block code too.
     pub length: u8,
-    /// Whether it acts on one output, and not on the whole device.
-    pub paged: bool,
+    /// What it acts on. PAGE_PLUS_WRITE and PAGE_PLUS_READ, which only carry another code, act on the device.
+    pub scope: Scope,
     /// Whether the converter answers a read of it.
     pub reads: bool,
-    /// Whether the converter takes a write of it.
-    pub writes: bool,
+    /// Up to which value of WRITE_PROTECT a host may write it.
+    pub protection: Protection,
 }
 
 // A code that is read and written.
-fn setting(length: u8, paged: bool) -> Attributes
-    ensures { result ≡ (attributes length paged true true) }
+fn setting(length: u8, scope: Scope, protection: Protection) -> Attributes
+    ensures { result ≡ (attributes length scope true protection) }
 {
     Attributes {
         length,
-        paged,
+        scope,
         reads: true,
-        writes: true,
+        protection,
     }
 }
 
 // A code that is only read.
-fn reading(length: u8, paged: bool) -> Attributes
-    ensures { result ≡ (attributes length paged true false) }
+fn reading(length: u8, scope: Scope) -> Attributes
+    ensures { result ≡ (attributes length scope true NotWritten) }
 {
-    Attributes {
-        writes: false,
-        ..setting(length, paged)
-    }
+    setting(length, scope, Protection::NotWritten)
 }
 
 // A code that is only written.
-fn action(length: u8, paged: bool) -> Attributes
-    ensures { result ≡ (attributes length paged false true) }
+fn action(length: u8, scope: Scope, protection: Protection) -> Attributes
+    ensures { result ≡ (attributes length scope false protection) }
 {
     Attributes {
         reads: false,
-        ..setting(length, paged)
+        ..setting(length, scope, protection)
     }
 }
 

@@ -5,18 +5,15 @@ use thiserror::Error;
 /// Why a VOUT_MODE byte isn't one of this project's profile. The first that applies, in the order
 /// C3, C1, C2, C4.
 #[derive(Clone, Copy, Debug, PartialEq, Eq, Error)]
+#[error("{words}", words = self.words())]
 pub enum TableFault {
     /// C1: bits 6:5 are 01, the VID format.
-    #[error("a vid mode")]
     VidMode,
     /// C2: bits 6:5 are 11, the IEEE half precision format.
-    #[error("a half precision mode")]
     HalfMode,
     /// C3: bit 7 is 1, a relative mode.
-    #[error("a relative mode")]
     RelativeMode,
     /// C4: bits 6:5 are 10, the DIRECT format, and bits 4:0 aren't 0.
-    #[error("a parameter other than 0 of the direct mode")]
     BadParameter,
 }
 
@@ -43,20 +40,17 @@ mod tests {
     use std::alloc::AllocError;
 
     static ROWS: [(TableFault, &str); 4] = [
-        (TableFault::VidMode, "a vid mode"),
-        (TableFault::HalfMode, "a half precision mode"),
-        (TableFault::RelativeMode, "a relative mode"),
-        (
-            TableFault::BadParameter,
-            "a parameter other than 0 of the direct mode",
-        ),
+        (TableFault::VidMode, "C1 VidMode"),
+        (TableFault::HalfMode, "C2 HalfMode"),
+        (TableFault::RelativeMode, "C3 RelativeMode"),
+        (TableFault::BadParameter, "C4 BadParameter"),
     ];
 
     #[test]
-    fn each_fault_has_its_message(rt: HostRuntime) -> Result<(), AllocError> {
+    fn each_fault_shows_its_words(rt: HostRuntime) -> Result<(), AllocError> {
         for (row, (fault, wanted)) in ROWS.iter().enumerate() {
-            let message = format!(in rt.alloc(); "{fault}")?;
-            agrees(&rt, row, &message.as_str(), wanted);
+            let shown = format!(in rt.alloc(); "{fault}")?;
+            agrees(&rt, row, &shown.as_str(), wanted);
         }
         Ok(())
     }

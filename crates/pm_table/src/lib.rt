@@ -26,8 +26,10 @@ mod fault;
 mod format;
 mod laws;
 mod names;
+mod operation;
 mod protection;
 mod reg;
+mod scope;
 #[cfg(test)]
 mod tests;
 mod vout_mode;
@@ -43,6 +45,8 @@ pub use laws::{
     cells_are_told_apart, cells_have_places, payloads_are_short, registers_are_in_the_table,
 };
 pub use names::UnknownName;
-pub use protection::is_allowed;
+pub use operation::Operation;
+pub use protection::{Protection, is_allowed};
 pub use reg::Reg;
+pub use scope::Scope;
 pub use vout_mode::VoutMode;

@@ -8,7 +8,7 @@ use crate::commands::Code;
 pub enum Reg {
     /// OPERATION: on, off and margins. One byte.
     Operation,
-    /// VOUT_COMMAND: the voltage that is asked for. A word in the output's format, as the four
+    /// VOUT_COMMAND: the voltage that is asked for. A word in the output's format, as those
     /// below.
     VoutCommand,
     /// VOUT_MAX: the greatest voltage that may be commanded.

@@ -1,4 +1,4 @@
-//! The texts of errors, which no report and no trace uses.
+//! The texts of errors: each shows as programs print it.
 
 use crate::checks::equal;
 use pm_device::{ConfigFault, DeviceFault};
@@ -14,120 +14,97 @@ use std::test::Fail;
 static DEVICE: [(DeviceFault, &str); 10] = [
     (
         DeviceFault::Frame(FrameFault::Short(7)),
-        "a faulty frame: a frame cut short after 7 bytes",
+        "K1 Frame F2 Short 7",
     ),
     (
         DeviceFault::Frame(FrameFault::Long(5)),
-        "a faulty frame: a byte too many at place 5",
+        "K1 Frame F3 Long 5",
     ),
     (
         DeviceFault::Frame(FrameFault::WrongCount(2)),
-        "a faulty frame: a wrong count at place 2",
+        "K1 Frame F4 WrongCount 2",
     ),
     (
         DeviceFault::Frame(FrameFault::WrongPec(3)),
-        "a faulty frame: a wrong packet error code at place 3",
+        "K1 Frame F5 WrongPec 3",
     ),
-    (DeviceFault::UnsupportedCode, "an unsupported code"),
-    (DeviceFault::UnsupportedData, "unsupported data"),
-    (DeviceFault::BadPage, "a page with no output"),
-    (DeviceFault::Protected, "a protected setting"),
-    (DeviceFault::Nested, "a code that isn't carried"),
-    (DeviceFault::ReadOnly, "a code of the other direction"),
+    (DeviceFault::UnsupportedCode, "K2 UnsupportedCode"),
+    (DeviceFault::UnsupportedData, "K3 UnsupportedData"),
+    (DeviceFault::BadPage, "K4 BadPage"),
+    (DeviceFault::Protected, "K5 Protected"),
+    (DeviceFault::Nested, "K6 Nested"),
+    (DeviceFault::ReadOnly, "K7 ReadOnly"),
 ];
 
-static CONFIG: [(ConfigFault, &str); 9] = [
-    (
-        ConfigFault::OutputCount,
-        "a number of outputs outside 1 to 8",
-    ),
+static CONFIG: [(ConfigFault, &str); 10] = [
+    (ConfigFault::OutputCount, "V1 OutputCount"),
     (
         ConfigFault::BadStart(Cell::Out(0, Reg::Operation)),
-        "a start word that its cell doesn't accept",
+        "V2 BadStart 0 OPERATION",
     ),
-    (ConfigFault::Address, "a reserved address"),
+    (
+        ConfigFault::BadStart(Cell::Protect),
+        "V2 BadStart WRITE_PROTECT",
+    ),
+    (ConfigFault::Address, "V3 Address"),
     (
         ConfigFault::BadMode(3, TableFault::VidMode),
-        "an unsupported mode of output 3: a vid mode",
+        "V4 BadMode 3 C1 VidMode",
     ),
     (
         ConfigFault::BadMode(0, TableFault::HalfMode),
-        "an unsupported mode of output 0: a half precision mode",
+        "V4 BadMode 0 C2 HalfMode",
     ),
     (
         ConfigFault::BadMode(7, TableFault::RelativeMode),
-        "an unsupported mode of output 7: a relative mode",
+        "V4 BadMode 7 C3 RelativeMode",
     ),
     (
         ConfigFault::BadMode(1, TableFault::BadParameter),
-        "an unsupported mode of output 1: a parameter other than 0 of the direct mode",
+        "V4 BadMode 1 C4 BadParameter",
     ),
     (
         ConfigFault::BadCoefficients(NumFault::ZeroSlope),
-        "unsupported coefficients: slope is zero",
+        "V5 BadCoefficients N1 ZeroSlope",
     ),
     (
         ConfigFault::BadCoefficients(NumFault::ExponentRange),
-        "unsupported coefficients: exponent out of range",
+        "V5 BadCoefficients N2 ExponentRange",
     ),
 ];
 
 static HOST: [(HostFault, &str); 10] = [
-    (
-        HostFault::OutputCount,
-        "a number of outputs other than 1 to 8",
-    ),
-    (HostFault::Passes, "a number of passes other than 1 to 15"),
-    (HostFault::Busy, "an open job"),
-    (HostFault::UnknownOutput, "an unknown output"),
-    (
-        HostFault::BadWord,
-        "a word or a voltage that the cell doesn't take",
-    ),
-    (HostFault::TooUncertain, "too many possible words"),
-    (HostFault::FormatUnknown, "an unknown format"),
-    (
-        HostFault::Num(NumFault::BelowLeast),
-        "below the least value",
-    ),
-    (
-        HostFault::Num(NumFault::AboveGreatest),
-        "above the greatest value",
-    ),
-    (HostFault::Num(NumFault::TooLarge), "number too large"),
+    (HostFault::OutputCount, "H1 OutputCount"),
+    (HostFault::Passes, "H2 Passes"),
+    (HostFault::Busy, "H3 Busy"),
+    (HostFault::UnknownOutput, "H4 UnknownOutput"),
+    (HostFault::BadWord, "H5 BadWord"),
+    (HostFault::TooUncertain, "H6 TooUncertain"),
+    (HostFault::FormatUnknown, "H7 FormatUnknown"),
+    (HostFault::Num(NumFault::BelowLeast), "N3 BelowLeast"),
+    (HostFault::Num(NumFault::AboveGreatest), "N4 AboveGreatest"),
+    (HostFault::Num(NumFault::TooLarge), "N5 TooLarge"),
 ];
 
 static CAUSES: [(Cause, &str); 6] = [
-    (
-        Cause::NotBetrayed,
-        "damage that the packet error code doesn't betray",
-    ),
-    (Cause::NothingSent, "no frame is being sent"),
-    (Cause::WrongKind, "a frame of the other kind is being sent"),
-    (
-        Cause::Host(HostFault::Busy),
-        "the host refuses: an open job",
-    ),
+    (Cause::NotBetrayed, "S1 NotBetrayed"),
+    (Cause::NothingSent, "S2 NothingSent"),
+    (Cause::WrongKind, "S3 WrongKind"),
+    (Cause::Host(HostFault::Busy), "S4 Host H3 Busy"),
     (
         Cause::Host(HostFault::Num(NumFault::TooLarge)),
-        "the host refuses: number too large",
+        "S4 Host N5 TooLarge",
     ),
-    (Cause::Full, "a full world"),
+    (Cause::Full, "S5 Full"),
 ];
 
 static SETUP: [(SetupFault, &str); 3] = [
-    (
-        SetupFault::Device(ConfigFault::Address),
-        "the device: a reserved address",
-    ),
+    (SetupFault::Device(ConfigFault::Address), "V3 Address"),
     (
         SetupFault::Device(ConfigFault::BadCoefficients(NumFault::ZeroSlope)),
-        "the device: unsupported coefficients: slope is zero",
+        "V5 BadCoefficients N1 ZeroSlope",
     ),
-    (
-        SetupFault::Host(HostFault::Passes),
-        "the host: a number of passes other than 1 to 15",
-    ),
+    (SetupFault::Host(HostFault::Passes), "H2 Passes"),
 ];
 
 // Each fault of a table is told by its text.
@@ -145,11 +122,4 @@ fn each_fault_has_its_text(rt: HostRuntime) -> Result<(), Fail> {
     are_told(&rt, &HOST)?;
     are_told(&rt, &CAUSES)?;
     are_told(&rt, &SETUP)
-}
-
-// The one letter that no text shows: of a world the converter's fault comes first.
-#[test]
-fn a_hosts_number_of_outputs_has_its_letter(rt: HostRuntime) {
-    let words = HostFault::OutputCount.words();
-    equal(&rt, &words, &"H1 OutputCount", &words);
 }

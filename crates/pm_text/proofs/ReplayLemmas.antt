@@ -8,7 +8,7 @@ use Rattle.std.proofs.lemmas.Option.{slice_get_cases}
 use Rattle.pm_device.specs.declared.config.Config.{Config}
 use Rattle.pm_world.specs.declared.event.Event.{Event}
 use Rattle.pm_world.specs.declared.cause.Cause.{Cause}
-use Rattle.pm_world.specs.declared.setup_fault.SetupFault.{SetupFault}
+use Rattle.pm_setup.specs.declared.setup_fault.SetupFault.{SetupFault}
 use Rattle.pm_world.specs.declared.stop.Stop.{Stop}
 use Rattle.pm_world.specs.Setup.{setup_fault}
 use Rattle.pm_world.specs.Life.{AreTaken, StopsAt, now, taken_events}

@@ -6,7 +6,7 @@ use Rattle.pm_world.specs.Setup.{setup_fault}
 use Rattle.pm_world.specs.State.{cause_of}
 use Rattle.pm_world.specs.declared.event.Event.{Event}
 use Rattle.pm_world.specs.declared.cause.Cause.{Cause}
-use Rattle.pm_world.specs.declared.setup_fault.SetupFault.{SetupFault}
+use Rattle.pm_setup.specs.declared.setup_fault.SetupFault.{SetupFault}
 use Rattle.pm_world.specs.declared.stop.Stop.{Stop}
 use Rattle.pm_lines.specs.Engine.{Engine}
 use Rattle.pm_lines.specs.declared.fault.TextFault.{TextFault}

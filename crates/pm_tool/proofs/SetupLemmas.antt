@@ -3,7 +3,7 @@ use Rattle.std.proofs.Common.{◌≡◌, ◌∙◌, ℕ, List, [], ◌++◌, app
 use Rattle.std.specs.Prelude.{decimal}
 use Rattle.pm_lines.specs.Faults.{fault_words}
 use Rattle.pm_lines.specs.declared.fault.TextFault.TheVariants.{Setup}
-use Rattle.pm_world.specs.declared.setup_fault.SetupFault.{SetupFault}
+use Rattle.pm_setup.specs.declared.setup_fault.SetupFault.{SetupFault}
 use Rattle.pm_tool.specs.Execution.{refusal_line}
 
 -- the letters are those of the fault

@@ -13,8 +13,8 @@ use Rattle.pm_lines.specs.Engine.{Engine, IsMade, IsTold, IsUnderWay, Refuses}
 use Rattle.pm_lines.specs.Streams.{Held}
 use Rattle.pm_lines.specs.declared.fault.TextFault.{TextFault}
 use Rattle.pm_lines.specs.declared.fault.TextFault.TheVariants.{Read, Write, Memory}
-use Rattle.pm_world.specs.FaultWords.{setup_fault_text}
-use Rattle.pm_world.specs.declared.setup_fault.SetupFault.{SetupFault}
+use Rattle.pm_setup.specs.FaultWords.{setup_fault_text}
+use Rattle.pm_setup.specs.declared.setup_fault.SetupFault.{SetupFault}
 use Rattle.pm_trace.specs.Outcome.{decoding}
 use Rattle.pm_trace.specs.declared.decode_end.DecodeEnd.{DecodeEnd}
 use Rattle.pm_trace.specs.declared.decode_end.DecodeEnd.TheVariants.{Clean, BadLines}

@@ -3,7 +3,7 @@ use Rattle.std.proofs.Common.{◌≡◌, ℕ, Bool, true, false, not, cond, ◌|
 use Rattle.std.proofs.Common.{◌∙◌, ap, subst, inl, inr}
 use Rattle.std.specs.Prelude.{option_to_list}
 use Rattle.std.specs.Option.{option_map_or, option_or}
-use Rattle.std.proofs.lemmas.Bool.{cases_Bool, true≢false}
+use Rattle.std.proofs.lemmas.Bool.{cases_Bool, or_parts, true≢false}
 use Rattle.std.proofs.lemmas.Option.{none-some, same_Some}
 use Rattle.pm_table.specs.declared.cell.Cell.{Cell}
 use Rattle.pm_table.specs.Cell.{cell_accepts, IsCell}
@@ -46,7 +46,7 @@ use Rattle.pm_world.proofs.HeldWords.{Knows, knows, life-known, reads-true}
 use Rattle.pm_world.proofs.Learned.{exchange-legal}
 use Rattle.pm_world.proofs.Lives.{IsLived, earlier, entries-more, life-told, newest, now-config}
 use Rattle.pm_world.proofs.Seen.{got_bytes, since-started}
-use Rattle.pm_world.proofs.Unread.{or-neither, restart-told, unread-none}
+use Rattle.pm_world.proofs.Unread.{restart-told, unread-none}
 use Rattle.pm_world.proofs.Sending.{eight, told-nothing}
 use Rattle.pm_world.proofs.SinceRestart.{since-same}
 use Rattle.pm_world.proofs.Starts.{IsKin}
@@ -280,5 +280,5 @@ life-came laws config passes (event ∷ before) lived fresh =
         subst (λ o. AreCome config (setup_of config passes) (since_restart (option_to_list o ++ (life config passes before).entries)))
         (sym (restart-told (now config passes before) event e)) tt
     go false e h older =
-        let running = (or-neither (restarts_converter event) (restarted_since_host before) h).1 in
+        let running = (or_parts (restarts_converter event) (restarted_since_host before) h).1 in
         told-came laws (share_of (now config passes before) event).told lived running refl (older running)

@@ -1,10 +1,12 @@
 -- Why an event is taken, and the job that it asks for.
-use Rattle.std.proofs.Common.{◌≡◌, ℕ, ℤ, Bool, true, false, not, Option, Some, None, refl, ap, subst}
+use Rattle.std.proofs.Common.{◌≡◌, ℕ, ℤ, Bool, false, Option, Some, None, refl, ap, subst}
 use Rattle.std.specs.Prelude.{nat_le, option_map, IsSome}
-use Rattle.std.specs.Option.{option_or, option_and_then, option_map_or}
+use Rattle.std.specs.Option.{option_and_then, option_map_or}
+pub use Rattle.std.proofs.lemmas.Bool.{not-false}
 use Rattle.std.proofs.lemmas.Option.{same_Some}
 use Rattle.pm_table.specs.declared.cell.Cell.{Cell}
 use Rattle.pm_table.specs.Cell.{output_of}
+pub use Rattle.pm_table.specs.RuleLemmas.{or-none, rule-none}
 use Rattle.pm_host.specs.declared.fault.HostFault.{HostFault}
 use Rattle.pm_host.specs.declared.job.Job.{Job}
 use Rattle.pm_host.specs.declared.job.Job.TheVariants as job
@@ -14,27 +16,11 @@ use Rattle.pm_host.specs.Summary.{Summary, format_at}
 use Rattle.pm_host.specs.Transcript as host
 use Rattle.pm_world.specs.declared.event.Event.{Event}
 use Rattle.pm_world.specs.declared.event.Event.TheVariants.{Deliver, Exchange, Finish, OrderMicro, RestartDevice}
-use Rattle.pm_world.specs.declared.cause.Cause.{Cause}
 use Rattle.pm_world.specs.declared.cause.Cause.TheVariants.{Full}
 use Rattle.pm_world.specs.Confirmed.{restarts_converter}
 use Rattle.pm_world.specs.Job.{asked_by, refusal_of}
 use Rattle.pm_world.specs.State.{State, asked, share_of, share_beside, tells, shared, counted, next, rule, refused, event_cause, HasWord}
 use Rattle.pm_world.specs.State.{cause_beside, cause_of, event_limit, IsTaken}
-
--- of two, none
-pub or-none : {A : Type 0} (a b : Option A) → option_or a b ≡ None → (a ≡ None) × (b ≡ None)
-or-none None b h = (refl, h)
-or-none (Some x) b h = cc
-
--- a rule that names no cause doesn't apply
-pub rule-none : (b : Bool) (cause : Cause) → rule b cause ≡ None → b ≡ false
-rule-none false cause h = refl
-rule-none true cause h = cc
-
--- what isn't false is true
-pub not-false : (b : Bool) → not b ≡ false → b ≡ true
-not-false true h = refl
-not-false false h = cc
 
 -- what the host doesn't refuse has no fault
 refused-none : (fault : Option HostFault) → refused fault ≡ None → fault ≡ None

@@ -3,7 +3,7 @@ use Rattle.std.proofs.Common.{◌≡◌, ℕ, ◌<◌, Bool, true, false, not, �
 use Rattle.std.specs.Prelude.{bytes_eq, nat_lt, nat_eq}
 use Rattle.std.specs.List.{starts_with}
 use Rattle.std.specs.Option.{option_or}
-use Rattle.std.proofs.lemmas.Bool.{or_right}
+use Rattle.std.proofs.lemmas.Bool.{false_from_ne_true, or_right}
 use Rattle.pm_frame.specs.declared.message.Message.{Message}
 use Rattle.pm_frame.specs.Betrayal.{is_betrayed}
 use Rattle.pm_frame.specs.Damage.{DifferWithinEight}
@@ -33,11 +33,6 @@ use Rattle.pm_world.proofs.Learned.{is_request}
 use Rattle.pm_world.proofs.TakenWhole.{free, whole-hearing}
 use Rattle.pm_world.proofs.Lives.{IsLived, life-told, now-setup}
 
--- what isn't betrayed
-is-false : (b : Bool) → (b ≡ true → ⊥) → b ≡ false
-is-false false h = refl
-is-false true h = absurd (h refl)
-
 -- what wasn't betrayed is, where it came so
 damaged : Below → (before bytes came : List ℕ) → is_betrayed before bytes ≡ false → IsBetrayedDamage bytes came →
     is_betrayed before came ≡ true
@@ -54,7 +49,7 @@ pub heard-legal : Below → (addr : ℕ) (message : Message) (frame bytes : List
     is_legal_hearing frame bytes ending ≡ true
 unfolding is_legal_hearing
 heard-legal laws addr message frame bytes ending is damage =
-    let good = is-false (is_betrayed [] frame)
+    let good = false_from_ne_true (is_betrayed [] frame)
     (λ e. laws.betrayal_is_refused.write addr frame e (laws.writes_are_exact.spelled addr message frame is)) in
     or_right (is_restart ending) _
     (or_right (starts_with nat_eq frame bytes) (is_betrayed [] bytes) (damaged laws [] frame bytes good damage))
@@ -66,7 +61,7 @@ pub return-legal : Below → {addr : ℕ} {request : Message} {frame payload ans
 unfolding is_legal_return
 return-legal laws {addr = addr} {request = request} {frame = frame} {payload = payload} {answer = answer} {bytes = bytes} whole asked is
     damage =
-    let good = is-false (is_betrayed (sent addr request) answer)
+    let good = false_from_ne_true (is_betrayed (sent addr request) answer)
     (λ e. laws.betrayal_is_refused.answer addr request answer e (laws.answers_are_exact.spelled addr request payload answer is)) in
     let betrayed = subst (λ f. is_betrayed f bytes ≡ true) (sym asked.spelled) (damaged laws (sent addr request) answer bytes good damage)
     in

@@ -2,7 +2,7 @@
 use Rattle.std.proofs.Common.{◌≡◌, ℕ, Bool, true, false, not, cond, eqb, List, [], ◌∷◌, Option, Some, None, option_map, refl, sym, ◌∙◌}
 use Rattle.std.proofs.Common.{ap, ap₂, subst}
 use Rattle.std.specs.List.{starts_with}
-use Rattle.std.specs.Option.{option_or}
+use Rattle.std.specs.Option.{option_map_or, option_or}
 use Rattle.std.proofs.lemmas.Bool.{or_left}
 use Rattle.std.proofs.lemmas.Bool.Decides.{Decides-eqb}
 use Rattle.std.proofs.lemmas.List.{append-nil}
@@ -11,9 +11,10 @@ use Rattle.pm_table.specs.declared.reg.Reg.{Reg}
 use Rattle.pm_table.specs.declared.cell.Cell.{Cell}
 use Rattle.pm_table.specs.declared.cell.Cell.TheVariants.{Out, Protect}
 use Rattle.pm_table.specs.Cell.{cell_accepts, cell_code, register_code, IsCell}
-use Rattle.pm_table.specs.Codes as command
-use Rattle.pm_table.specs.Commands.{is_written}
-use Rattle.pm_table.specs.Protection.{is_allowed}
+use Rattle.pm_table.specs.Commands.{Line, is_ever_written, is_written, line_of}
+use Rattle.pm_table.specs.Protection.{is_allowed, lets_write}
+use Rattle.pm_table.specs.declared.protection.Protection.{Protection}
+use Rattle.pm_table.specs.declared.protection.Protection.TheVariants.{NotWritten}
 use Rattle.pm_frame.specs.declared.message.Message.{Message}
 use Rattle.pm_frame.specs.Betrayal.{is_betrayed}
 use Rattle.pm_model.specs.Settings.{word_at, with_word}
@@ -95,10 +96,15 @@ write-heard frame = or_left (starts_with eqb frame frame) (is_betrayed [] frame)
 
 -- where WRITE_PROTECT is 00h, each code that is written may be
 open-allows : (code : ℕ) → is_written code ≡ true → is_allowed 0x00 code ≡ true
-open-allows code written = go (eqb code command.clear_faults) written where
-  go : (b : Bool) → is_written code ≡ true → cond b true (is_written code) ≡ true
-  go true h = refl
-  go false h = h
+open-allows code written = go (line_of code) written where
+  at_00h : (protection : Protection) → is_ever_written protection ≡ true → lets_write protection 0x00 ≡ true
+  at_00h NotWritten h = h
+  at_00h _ h = refl
+
+  go : (line : Option Line) → option_map_or (λ l. is_ever_written l.protection) line false ≡ true →
+      option_map_or (λ l. lets_write l.protection 0x00) line false ≡ true
+  go None h = h
+  go (Some line) h = at_00h line.protection h
 
 -- what is known of a world in which a write of an output's cell is being sent
 pub record CanDeliver (s : State) (output : ℕ) (register : Reg) (word : ℕ) : Type 0 where

@@ -21,7 +21,6 @@ use Rattle.pm_device.specs.Held.{Held}
 use Rattle.pm_device.specs.Effect as device
 use Rattle.pm_device.specs.Effect.{Hearing, Kept, kept_in, kept_after}
 use Rattle.pm_device.specs.History.{next as device_next}
-use Rattle.pm_host.specs.declared.fault.HostFault.{HostFault}
 use Rattle.pm_host.specs.declared.command.Command.{Command}
 use Rattle.pm_host.specs.declared.command.Command.TheVariants.{ClearFaults, StoreUserAll, RestoreUserAll}
 use Rattle.pm_host.specs.declared.question.Question.{Question}
@@ -30,7 +29,7 @@ use Rattle.pm_host.specs.declared.stage.Stage.{Stage}
 use Rattle.pm_host.specs.declared.stage.Stage.TheVariants.{Writes, Reads, Asks, Sends}
 use Rattle.pm_host.specs.Messages.{cell_read, cell_write, command_message}
 use Rattle.pm_host.specs.Question.{question_message}
-use Rattle.pm_host.specs.Refusals.{is_busy, asking_fault, cell_fault, order_fault, job_fault, rule as host_rule}
+use Rattle.pm_host.specs.Refusals.{is_busy, asking_fault, cell_fault, order_fault, job_fault}
 use Rattle.pm_host.specs.Summary.{Summary, next as host_next, sending_in, stage_message, idle}
 use Rattle.pm_host.specs.Transcript as host
 use Rattle.pm_world.specs.Below.{Below}
@@ -44,11 +43,6 @@ use Rattle.pm_world.specs.State.{return_cause}
 use Rattle.pm_world.proofs.Causes.{or-none, rule-none, not-false}
 use Rattle.pm_world.proofs.Hearings.{hears-write, hears-request, cell-reached}
 use Rattle.pm_world.proofs.OpenOrders.{stage_pending, Goes, answered-order}
-
--- a rule of the host that names no fault doesn't apply
-host_rule-none : (b : Bool) (fault : HostFault) → host_rule b fault ≡ None → b ≡ false
-host_rule-none false fault h = refl
-host_rule-none true fault h = cc
 
 -- the message that exists
 some-is : (a b : Message) → Some a ≡ Some b → a ≡ b
@@ -231,7 +225,7 @@ idle-order s free = go s.stage free where
 
 -- by the first fault of a job
 asking-order : (s : Summary) (there : Bool) → asking_fault s there ≡ None → stage_pending s.stage ≡ None
-asking-order s there h = idle-order s (host_rule-none (is_busy s) _ (or-none (host_rule (is_busy s) _) _ h).0)
+asking-order s there h = idle-order s (rule-none (is_busy s) _ (or-none (rule (is_busy s) _) _ h).0)
 
 -- and of each job
 pub job-order : (s : Summary) (job : host.Job) → job_fault s job ≡ None → stage_pending s.stage ≡ None
@@ -255,12 +249,12 @@ pub record IsFree (s : Summary) (cell : Cell) (word : ℕ) : Type 0 where
 pub order-free : (s : Summary) (cell : Cell) (word : ℕ) → order_fault s cell word ≡ None → IsFree s cell word
 order-free s cell word h =
     let first = or-none (cell_fault s cell) _ h in
-    let cells = or-none (host_rule (is_busy s) _) _ first.0 in
-    let words = or-none (host_rule (not (cell_accepts cell word)) _) _ first.1 in
+    let cells = or-none (rule (is_busy s) _) _ first.0 in
+    let words = or-none (rule (not (cell_accepts cell word)) _) _ first.1 in
     record {
       free = asking-order s _ first.0;
       there = cell-there s.setup.outputs cell
-          (not-false _ (host_rule-none (not (is_cell s.setup.outputs cell)) _
-          (or-none (host_rule (not (is_cell s.setup.outputs cell)) _) _ cells.1).0));
-      fits = not-false _ (host_rule-none (not (cell_accepts cell word)) _ words.0);
+          (not-false _ (rule-none (not (is_cell s.setup.outputs cell)) _
+          (or-none (rule (not (is_cell s.setup.outputs cell)) _) _ cells.1).0));
+      fits = not-false _ (rule-none (not (cell_accepts cell word)) _ words.0);
     }

@@ -4,7 +4,7 @@ use Rattle.std.proofs.Common.{refl, sym, ◌∙◌, ap, subst}
 use Rattle.std.specs.Prelude.{option_to_list}
 use Rattle.std.specs.List.{list_any}
 use Rattle.std.specs.Option.{option_map_or}
-use Rattle.std.proofs.lemmas.Bool.{cases_Bool, true≢false, false≢true}
+use Rattle.std.proofs.lemmas.Bool.{and_parts, cases_Bool, not-true, or_right, true≢false, false≢true}
 use Rattle.std.proofs.lemmas.Option.{none-some, same_Some}
 use Rattle.pm_table.specs.declared.cell.Cell.{Cell}
 use Rattle.pm_table.specs.Cell.{IsCell, same_cell}
@@ -33,20 +33,10 @@ use Rattle.pm_world.proofs.Standings.{ArePuts, no_put, one_put, one_restore, are
 use Rattle.pm_world.proofs.Standings.{same-cells}
 use Rattle.pm_world.proofs.Unread.{listed-read, restart-told}
 
--- of two, both; of two, neither; one of two
-and-both : (a b : Bool) → (a && b) ≡ true → (a ≡ true) × (b ≡ true)
-and-both true b h = (refl, h)
-and-both false b h = absurd (false≢true h)
-
 -- one of two
 or-one : (a b : Bool) → (a || b) ≡ true → (a ≡ true) ⊎ (b ≡ true)
 or-one true b h = inl refl
 or-one false b h = inr h
-
--- the last of two
-or-last : (a b : Bool) → b ≡ true → (a || b) ≡ true
-or-last true b h = refl
-or-last false b h = h
 
 -- the other case of a choice
 cond-off : (a b : Bool) → cond a false b ≡ true → (a ≡ false) × (b ≡ true)
@@ -87,11 +77,6 @@ record Surprise (s : State) (setup : host.Setup) (entries : List host.Entry) (ce
   there : IsCell s.device.config.count cell
   impossible : is_possible (word_at s.device.words cell) (possible_of (marks setup entries) cell) ≡ false
 
--- what isn't true is false
-not-true : (b : Bool) → not b ≡ true → b ≡ false
-not-true true h = cc
-not-true false h = refl
-
 -- by the good answer
 one-surprise : Below → {s : State} {setup : host.Setup} {entries : List host.Entry} (read : Cell) (word : ℕ) → Knows s setup entries →
     read_by (host.open_job setup entries) (host.told_since entries) ≡ Some read → word_at s.device.words read ≡ word →
@@ -111,7 +96,7 @@ goods-surprise laws {s = s} {setup = setup} {entries = entries} (one_good read w
     let one = or-one (is_surprise_for cell (marks setup entries) (Good read word)) false h in
     elim one [
       | inl so ↦
-          (let both = and-both (same_cell read cell) (not (is_possible word (possible_of (marks setup entries) read))) so in
+          (let both = and_parts (same_cell read cell) (not (is_possible word (possible_of (marks setup entries) read))) so in
           subst (Surprise s setup entries) (same-cells laws read cell both.0)
           (one-surprise laws read word knows asked (is read word asked good) both.1))
       | inr bad ↦ absurd (false≢true bad)
@@ -273,7 +258,7 @@ life-seen laws config passes (event ∷ before) lived seen =
         elim (told-seen laws
         (share_of (now config passes before) event).told
         (knows laws config passes before (earlier lived)) after) [
-          | inl seen ↦ (let o = older seen in (o.0, o.1, here o.0 e (or-last _ _ o.2)))
+          | inl seen ↦ (let o = older seen in (o.0, o.1, here o.0 e (or_right _ _ o.2)))
           | inr by ↦ newest e by
         ]
 
@@ -305,13 +290,13 @@ unfolding restarted_between restarted_since_host
 between-started config passes cell [] between = cc
 between-started config passes cell (event ∷ before) between =
     let running = cond-off (restarts_host event) _ between in
-    rw running.0 (or-last (restarts_converter event) (restarted_since_host before)
+    rw running.0 (or_right (restarts_converter event) (restarted_since_host before)
     (elim (or-one (reads_cell config passes cell before event &&
     (has_read config passes cell before && restarted_since config passes cell before)) (restarted_between config passes cell before)
     running.1) [
       | inl newest ↦
-          (let parts = and-both (has_read config passes cell before) (restarted_since config passes cell before)
-          (and-both (reads_cell config passes cell before event) _ newest).1 in
+          (let parts = and_parts (has_read config passes cell before) (restarted_since config passes cell before)
+          (and_parts (reads_cell config passes cell before event) _ newest).1 in
           since-started config passes cell before parts.0 parts.1)
       | inr older ↦ between-started config passes cell before older
     ]))

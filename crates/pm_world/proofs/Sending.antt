@@ -1,14 +1,15 @@
 -- A world while the write of an order is being sent.
-use Rattle.std.proofs.Common.{◌≡◌, ℕ, ◌≤◌, Bool, true, false, not, cond, ◌||◌, eqb, Option, Some, None, option_map, refl, sym, ◌∙◌, ap, ap₂}
-use Rattle.std.proofs.Common.{subst, ◌⊎◌, inl, inr, arith}
+use Rattle.std.proofs.Common.{◌≡◌, ℕ, ◌≤◌, Bool, true, false, not, ◌||◌, Option, Some, None, option_map, refl, sym, ◌∙◌, ap, ap₂}
+use Rattle.std.proofs.Common.{subst, ◌⊎◌, inl, inr}
 use Rattle.std.specs.Prelude.{bytes_eq}
-use Rattle.std.proofs.lemmas.Bool.{and_parts, eq-eqb, cond-true}
+use Rattle.std.proofs.lemmas.Bool.{and_parts, cond-true}
 use Rattle.std.proofs.lemmas.Slice.Eq.{bytes_eq-Decides}
 use Rattle.pm_table.specs.declared.cell.Cell.{Cell}
 use Rattle.pm_table.specs.declared.cell.Cell.TheVariants.{Out, Protect}
-use Rattle.pm_table.specs.Cell.{cell_accepts, cell_code, is_protection, register_code, IsCell, same_cell}
+use Rattle.pm_table.specs.Cell.{cell_accepts, cell_code, is_protection, IsCell, same_cell}
 use Rattle.pm_table.specs.Codes as command
 use Rattle.pm_table.specs.Commands.{line_of}
+pub use Rattle.pm_table.specs.Lemmas.{same_cell-itself, IsCell-eight as eight}
 use Rattle.pm_table.specs.Protection.{is_allowed}
 use Rattle.pm_frame.specs.declared.message.Message.{Message}
 use Rattle.pm_frame.specs.Layout.{fits_layout, is_read_message}
@@ -33,23 +34,10 @@ use Rattle.pm_world.proofs.Frames.{heard_ending-write}
 use Rattle.pm_world.proofs.Hearings.{CanTake, is_write, whole-write, legal-write, write-kind}
 use Rattle.pm_world.proofs.Causes.{or-none, rule-none, not-false}
 
--- a word that WRITE_PROTECT may hold allows its own code
-four : (a b c d : Bool) → (a || b || c || d) ≡ true → cond d true (cond c true (cond b true (cond a true false))) ≡ true
-four a b c true h = refl
-four a b true false h = refl
-four a true false false h = refl
-four true false false false h = refl
-four false false false false h = cc
-
--- so the cell of WRITE_PROTECT may be written again
+-- whatever word WRITE_PROTECT may hold, its own code may be written
 protect-allowed : (word : ℕ) → is_protection word ≡ true → is_allowed word command.write_protect ≡ true
 unfolding line_of
-protect-allowed word h = four (eqb word 0x00) (eqb word 0x20) (eqb word 0x40) (eqb word 0x80) h
-
--- a cell is itself by the test
-pub same_cell-itself : (cell : Cell) → same_cell cell cell ≡ true
-same_cell-itself (Out output register) = rw (eq-eqb output output refl, eq-eqb (register_code register) (register_code register) refl) refl
-same_cell-itself Protect = refl
+protect-allowed word h = h
 
 -- after a write the cell has its word, and its code stays allowed
 wrote-held : Below → (words : Words) (cell : Cell) (word : ℕ) → AreWords words → IsCell 8 cell →
@@ -67,11 +55,6 @@ wrote-allowed laws words (Out output register) word are there accepted allowed =
 wrote-allowed laws words Protect word are there accepted allowed =
     ap (λ p. is_allowed p (cell_code Protect)) (laws.settings_are_a_map.read words Protect Protect word are tt tt)
     ∙ protect-allowed word accepted
-
--- a cell that exists is one of eight outputs
-pub eight : (count : ℕ) (cell : Cell) → count ≤ 8 → IsCell count cell → IsCell 8 cell
-eight count (Out output register) few there = omega (arith, few, there)
-eight count Protect few there = tt
 
 -- the write of a cell fits its layout
 pub write-fits : Below → (setup : host.Setup) (cell : Cell) (word : ℕ) → IsCell setup.outputs cell → cell_accepts cell word ≡ true →

@@ -4,7 +4,7 @@ use Rattle.std.proofs.Common.{refl, sym, ap, subst}
 use Rattle.std.specs.Prelude.{option_to_list}
 use Rattle.std.specs.List.{list_any}
 use Rattle.std.specs.Option.{option_map}
-use Rattle.std.proofs.lemmas.Bool.{cases_Bool, true≢false}
+use Rattle.std.proofs.lemmas.Bool.{cases_Bool, or_parts}
 use Rattle.pm_table.specs.declared.cell.Cell.{Cell}
 use Rattle.pm_table.specs.Cell.{is_output_cell, same_cell}
 use Rattle.pm_device.specs.declared.config.Config.{Config}
@@ -21,11 +21,6 @@ use Rattle.pm_world.specs.Setup.{setup_of}
 use Rattle.pm_world.specs.State.{State, asked, share_of}
 use Rattle.pm_world.proofs.Lives.{entries-more}
 use Rattle.pm_world.proofs.Standings.{ArePuts, no_put, one_put, one_restore, are-puts, AreGoods, no_good, one_good, are-goods}
-
--- neither of two
-pub or-neither : (a b : Bool) → (a || b) ≡ false → (a ≡ false) × (b ≡ false)
-or-neither true b h = absurd (true≢false h)
-or-neither false b h = (refl, h)
 
 -- a restart of the host is told as that
 pub restart-told : (s : State) (event : Event) → restarts_host event ≡ true → (share_of s event).told ≡ Some host.Restarted
@@ -102,7 +97,7 @@ unread-none config passes cell (event ∷ before) unread =
         subst (λ o. NoWords (marks (setup_of config passes) (option_to_list o ++ (life config passes before).entries)) cell)
         (sym (restart-told (now config passes before) event e)) refl
     go false e h older =
-        let both = or-neither (reads_cell config passes cell before event) (has_read config passes cell before) h in
+        let both = or_parts (reads_cell config passes cell before event) (has_read config passes cell before) h in
         told-none (setup_of config passes) (life config passes before).entries cell (share_of (now config passes before) event).told
         both.0 (older both.1)
 

@@ -1,12 +1,9 @@
--- The letters and the names of the causes against an event, and of the faults of a setup, as programs
--- print them: `S1 NotBetrayed`, `S4 Host H3 Busy`. This project's own choice.
+-- The letters and the names of the causes against an event, as programs print them: `S1 NotBetrayed`, `S4 Host
+-- H3 Busy`. This project's own choice.
 use Rattle.std.specs.Prelude.{ℕ, List, ◌++◌, codes}
-use Rattle.pm_device.specs.FaultWords.{config_fault_text}
 use Rattle.pm_host.specs.FaultWords.{host_fault_words}
 use Rattle.pm_world.specs.declared.cause.Cause.{Cause}
 use Rattle.pm_world.specs.declared.cause.Cause.TheVariants.{Full, NothingSent, WrongKind, NotBetrayed, Host}
-use Rattle.pm_world.specs.declared.setup_fault.SetupFault.{SetupFault}
-use Rattle.pm_world.specs.declared.setup_fault.SetupFault.TheVariants as setup
 
 -- the letter and the name
 abbrev pub cause_words : Cause → List ℕ
@@ -20,8 +17,3 @@ cause_words Full = codes "S5 Full"
 abbrev pub cause_text : Cause → List ℕ
 cause_text (Host fault) = cause_words (Host fault) ++ (codes " " ++ host_fault_words fault)
 cause_text cause = cause_words cause
-
--- a setup's fault is told as that of the end that has it
-abbrev pub setup_fault_text : SetupFault → List ℕ
-setup_fault_text (setup.Device fault) = config_fault_text fault
-setup_fault_text (setup.Host fault) = host_fault_words fault

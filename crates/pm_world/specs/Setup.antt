@@ -7,8 +7,8 @@ use Rattle.pm_device.specs.History.{start_of}
 use Rattle.pm_host.specs.Refusals.{IsSetup, setup_fault as host_fault}
 use Rattle.pm_host.specs.Summary as host
 use Rattle.pm_host.specs.Transcript.{Setup}
-use Rattle.pm_world.specs.declared.setup_fault.SetupFault.{SetupFault}
-use Rattle.pm_world.specs.declared.setup_fault.SetupFault.TheVariants.{Device, Host}
+use Rattle.pm_setup.specs.declared.setup_fault.SetupFault.{SetupFault}
+use Rattle.pm_setup.specs.declared.setup_fault.SetupFault.TheVariants.{Device, Host}
 use Rattle.pm_world.specs.State.{State, event_limit}
 
 abbrev pub setup_of : Config → ℕ → Setup

@@ -8,6 +8,7 @@ use Rattle.pm_device.specs.Held.{Held}
 use Rattle.pm_device.specs.Effect as device
 use Rattle.pm_device.specs.History.{next as device_next}
 use Rattle.pm_device.specs.Reply.{reply_of}
+pub use Rattle.pm_table.specs.Rules.{rule}
 use Rattle.pm_host.specs.declared.fault.HostFault.{HostFault}
 use Rattle.pm_host.specs.declared.job_end.JobEnd.{JobEnd}
 use Rattle.pm_host.specs.declared.step.Step.{Step}
@@ -122,10 +123,6 @@ counted s = record s { taken = s.taken + 1 }
 -- what an event makes of a world
 unfoldable pub next : State → Event → State
 next s event = counted (shared s (share_of s event))
-
--- a rule names its cause where it applies
-abbrev pub rule : Bool → Cause → Option Cause
-rule applies cause = if applies then Some cause else None
 
 -- S4 where the host refuses
 abbrev pub refused : Option HostFault → Option Cause

@@ -3,7 +3,7 @@ use pm_frame::Frame;
 
 /// How a frame that the host sends arrives at the converter. Bytes go over the wire in their order,
 /// so a cut frame is a prefix of it.
-#[derive(Debug, Drop)]
+#[derive(Clone, Debug, PartialEq, Eq, Drop)]
 pub enum Arrival {
     /// All of its bytes, ended as the host ends them: a write by a stop, a request by a repeated
     /// start.

@@ -1,7 +1,7 @@
 use pm_frame::Frame;
 
 /// What comes back to the host of the converter's answer to a request.
-#[derive(Debug, Drop)]
+#[derive(Clone, Debug, PartialEq, Eq, Drop)]
 pub enum Back {
     /// The answer; no bytes where the converter gave none.
     Whole,

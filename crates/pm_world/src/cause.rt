@@ -6,22 +6,19 @@ use thiserror::Error;
 
 /// Why an event isn't taken: the first that applies, in the order of these.
 #[derive(Clone, Copy, Debug, PartialEq, Eq, Error)]
+#[error("{words}", words = self.words())]
 pub enum Cause {
     /// S5: 2^48 events were taken.
-    #[error("a full world")]
     Full,
     /// S2: no frame is being sent.
-    #[error("no frame is being sent")]
     NothingSent,
     /// S3: a read is being sent where a write is delivered or finished, or a write where a request
     /// is exchanged.
-    #[error("a frame of the other kind is being sent")]
     WrongKind,
     /// S1: bytes were heard, or came back, that no cut explains and that the PEC doesn't betray.
-    #[error("damage that the packet error code doesn't betray")]
     NotBetrayed,
     /// S4: the host refuses the job.
-    #[error("the host refuses: {0}")]
+    #[error("{words} {0}", words = self.words())]
     Host(HostFault),
 }
 

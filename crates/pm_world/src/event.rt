@@ -7,7 +7,7 @@ use pm_host::{Command, Job};
 use pm_table::{Cell, Code};
 
 /// What happens in a world.
-#[derive(Debug, Drop)]
+#[derive(Clone, Debug, PartialEq, Eq, Drop)]
 pub enum Event {
     /// The host is asked to write a word to a cell and to read it back.
     Order(Cell, u16),

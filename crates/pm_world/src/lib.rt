@@ -32,7 +32,6 @@ mod cause;
 mod event;
 mod laws;
 mod legal;
-mod setup_fault;
 mod stop;
 mod world;
 
@@ -50,6 +49,6 @@ pub use legal::{
     answer_in, back_bytes, heard_bytes, heard_ending, is_heard_whole, is_legal_hearing,
     is_legal_return,
 };
-pub use setup_fault::SetupFault;
+pub use pm_setup::SetupFault;
 pub use stop::Stop;
 pub use world::World;

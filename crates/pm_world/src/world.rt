@@ -34,10 +34,10 @@ use crate::legal::{
     answer_in, back_bytes, hear_replied, heard_bytes, heard_ending, is_heard_whole,
     is_legal_hearing, is_legal_return,
 };
-use crate::setup_fault::SetupFault;
 use crate::stop::Stop;
 use pm_device::{Config, Converter, Ending};
 use pm_host::{Host, JobEnd, Step, Told, Turn, transcripts_are_followed};
+use pm_setup::SetupFault;
 use pm_table::Code;
 use std::marker::Model;
 
@@ -45,7 +45,7 @@ use std::marker::Model;
 const EVENT_LIMIT: u64 = 1 << 48;
 
 /// One host and one converter, and what happens between them.
-#[derive(Drop)]
+#[derive(Debug, Drop)]
 pub struct World {
     device: Converter,
     host: Host,
@@ -82,14 +82,8 @@ impl World {
         ensures fault { result_err result ≡ setup_fault c passes }
     {
         spell(c); // hands the prover that the configuration's numbers are those of bytes
-        let device = match Converter::new(c) {
-            Ok(device) => device,
-            Err(fault) => return Err(SetupFault::Device(fault)),
-        };
-        let host = match Host::new(c.addr, c.count, passes) {
-            Ok(host) => host,
-            Err(fault) => return Err(SetupFault::Host(fault)),
-        };
+        let device = Converter::new(c)?;
+        let host = Host::new(c.addr, c.count, passes)?;
         Ok(World {
             device,
             host,

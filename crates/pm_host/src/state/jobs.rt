@@ -6,7 +6,8 @@ ghost use Rattle.pm_table.specs.Cell.{IsCell};
 ghost use Rattle.pm_host.specs.Image.{held};
 ghost use Rattle.pm_host.specs.Jobs.{Begins, begun_at};
 ghost use Rattle.pm_host.specs.Question.{IsQuestion};
-ghost use Rattle.pm_host.specs.Refusals.{cell_fault, question_fault, rule};
+ghost use Rattle.pm_host.specs.Refusals.{cell_fault, question_fault};
+ghost use Rattle.pm_table.specs.Rules.{rule};
 ghost use Rattle.pm_host.specs.Sound.{IsSound};
 
 use crate::fault::HostFault;

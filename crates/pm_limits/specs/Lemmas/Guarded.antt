@@ -9,6 +9,7 @@ use Rattle.pm_table.specs.declared.cell.Cell.TheVariants.{Out}
 use Rattle.pm_table.specs.declared.reg.Reg.{Reg}
 use Rattle.pm_table.specs.declared.reg.Reg.TheVariants.{Operation}
 use Rattle.pm_table.specs.Cell.{is_voltage}
+use Rattle.pm_table.specs.Operation.{has_on}
 use Rattle.pm_host.specs.declared.fault.HostFault.{HostFault}
 use Rattle.pm_host.specs.declared.job.Job.{Job}
 use Rattle.pm_host.specs.declared.job.Job.TheVariants as job
@@ -22,7 +23,7 @@ use Rattle.pm_limits.specs.declared.within.Within.{Within}
 use Rattle.pm_limits.specs.declared.within.Within.TheVariants.{Yes, No, NotKnown}
 use Rattle.pm_limits.specs.Band.{band_on, is_yes, within_of}
 use Rattle.pm_limits.specs.Bounds.{Bounds, IsWithin, outside_fault}
-use Rattle.pm_limits.specs.Guard.{Guarded, guard_fault, guarded_order, judged, leaves_on, limits_at, of_host, operation_limit, voltage_limit, word_fault}
+use Rattle.pm_limits.specs.Guard.{Guarded, guard_fault, guarded_order, judged, limits_at, of_host, operation_limit, voltage_limit, word_fault}
 use Rattle.pm_limits.specs.Lemmas.Order.{at-most}
 
 -- the second of two faults is none where neither comes
@@ -98,9 +99,9 @@ guarded-voltage g (job.Send command) output register word bounds free is voltage
 
 -- a byte that leaves the output on
 pub guarded-on : (g : Guarded) (output byte : ℕ) → guard_fault g (job.Order (Out output Operation) byte) ≡ None →
-    leaves_on byte ≡ true → within_of (limits_at g output) (band_on g.host output byte) ≡ Yes
+    has_on byte ≡ true → within_of (limits_at g output) (band_on g.host output byte) ≡ Yes
 guarded-on g output byte free on =
-    go (leaves_on byte) (within_of (limits_at g output) (band_on g.host output byte)) on
+    go (has_on byte) (within_of (limits_at g output) (band_on g.host output byte)) on
     (head (operation_limit g output byte) _ (second (of_host (cell_fault g.host (Out output Operation))) _ free))
   where
     go : (b : Bool) (w : Within) → b ≡ true → cond (b && not (is_yes w)) (Some NotKnownWithin) None ≡ None → w ≡ Yes
@@ -123,7 +124,7 @@ alone g cell word none =
     merge None (Some f) = refl
     merge None None = refl
 
-pub guarded-off : (g : Guarded) (output byte : ℕ) → leaves_on byte ≡ false →
+pub guarded-off : (g : Guarded) (output byte : ℕ) → has_on byte ≡ false →
     guard_fault g (job.Order (Out output Operation) byte)
     ≡ of_host (begin_fault g.host (job.Order (Out output Operation) byte))
 guarded-off g output byte off = alone g (Out output Operation) byte
@@ -133,8 +134,8 @@ guarded-off g output byte off = alone g (Out output Operation) byte
 judged-free : (g : Guarded) (output : ℕ) (register : Reg) (word : ℕ) → limits_at g output ≡ None →
     judged g (Out output register) word ≡ None
 judged-free g output Operation word none =
-    ap (λ (l : Option Bounds). cond (leaves_on word && not (is_yes (within_of l (band_on g.host output word)))) (Some NotKnownWithin) None) none
-    ∙ go (leaves_on word)
+    ap (λ (l : Option Bounds). cond (has_on word && not (is_yes (within_of l (band_on g.host output word)))) (Some NotKnownWithin) None) none
+    ∙ go (has_on word)
   where
     go : (b : Bool) → cond (b && false) (Some NotKnownWithin) None ≡ None
     go true = refl

@@ -7,7 +7,7 @@ ghost use Rattle.pm_host.specs.Jobs.{HasNearestWord, begin_fault};
 ghost use Rattle.pm_host.specs.Refusals.{cell_fault, micro_word as spec_micro_word};
 ghost use Rattle.pm_host.specs.Summary.{format_at};
 ghost use Rattle.pm_limits.specs.Band.{within_of};
-ghost use Rattle.pm_limits.specs.Guard.{BeginsUnless, LetsBegin, judged, leaves_on as spec_leaves_on, limits_at, of_host, operation_limit, voltage_limit, word_fault};
+ghost use Rattle.pm_limits.specs.Guard.{BeginsUnless, LetsBegin, judged, limits_at, of_host, operation_limit, voltage_limit, word_fault};
 
 use crate::band::{Band, band_on};
 use crate::fault::LimitFault;
@@ -15,7 +15,7 @@ use crate::guard::Guard;
 use crate::within::Within;
 use pm_host::{HostFault, Job, nearest_word};
 use pm_num::NumFormat;
-use pm_table::{Cell, Reg};
+use pm_table::{Cell, Operation, Reg};
 
 impl Guard {
     /// Begins an order of a word.
@@ -115,7 +115,7 @@ impl Guard {
         requires { output < self.now.host.setup.outputs }
         ensures { result_err result ≡ operation_limit self.now output byte }
     {
-        if leaves_on(byte)
+        if Operation::has_on(byte)
             && self.within_band(output, band_on(&self.host, output, byte)) != Within::Yes
         {
             return Err(LimitFault::NotKnownWithin);
@@ -133,11 +133,4 @@ impl Guard {
             (Some(_), None) => Within::NotKnown,
         }
     }
-}
-
-// Whether a byte of OPERATION leaves an output on.
-fn leaves_on(byte: u16) -> bool
-    ensures { result ≡ spec_leaves_on byte }
-{
-    byte >= 0x80 && Cell::Out(0, Reg::Operation).accepts(byte)
 }

@@ -3,18 +3,15 @@ use thiserror::Error;
 
 /// Why the options make no host: the first that applies, in the order of these.
 #[derive(Clone, Copy, Debug, PartialEq, Eq, Error)]
+#[error("{words}", words = self.words())]
 pub enum StartFault {
     /// `--address` isn't two hexadecimal digits, 08 to 77.
-    #[error("a bad address")]
     Address,
     /// `--outputs` isn't a number of 0 to 255.
-    #[error("a bad number of outputs")]
     Outputs,
     /// `--passes` isn't a number of 0 to 255.
-    #[error("a bad number of passes")]
     Passes,
     /// H1 or H2: the host can't have this many.
-    #[error("{0}")]
     Host(HostFault),
 }
 

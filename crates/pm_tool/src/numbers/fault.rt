@@ -12,24 +12,19 @@ use thiserror::Error;
 /// Why no line was printed for a word of a number format. The first four are faults of the command
 /// line. All of this is this project's own choice.
 #[derive(Clone, Copy, Debug, PartialEq, Eq, Error)]
+#[error("{words}", words = self.words())]
 pub enum NumberFault {
     /// Neither a word nor a number of millionths was given, or both.
-    #[error("not exactly one of word and micro")]
     OneOf,
     /// The text of the format is none, or is absent.
-    #[error("bad format")]
     Format,
     /// The text of the word isn't four hexadecimal digits.
-    #[error("bad word")]
     Word,
     /// The text of the millionths isn't a decimal number of 64 bits in two's complement.
-    #[error("bad micro")]
     Micro,
     /// N1 to N5: the format can't be, or has no word for the value.
-    #[error("{0}")]
     Num(NumFault),
     /// X5 or X6: the line wasn't written whole, or memory was refused.
-    #[error("{0}")]
     Text(TextFault),
 }
 

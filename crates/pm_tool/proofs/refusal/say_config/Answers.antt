@@ -9,7 +9,7 @@ use Rattle.pm_tool.proofs.EndLemmas.{put_said}
 use Rattle.pm_tool.proofs.SetupLemmas.{lettered, line-none, line-some}
 use Rattle.pm_lines.specs.Faults.{fault_words}
 use Rattle.pm_lines.specs.declared.fault.TextFault.TheVariants.{Setup}
-use Rattle.pm_world.specs.declared.setup_fault.SetupFault.TheVariants.{Device}
+use Rattle.pm_setup.specs.declared.setup_fault.SetupFault.TheVariants.{Device}
 use Rattle.pm_tool.proofs.refusal.say_config.Goals as goal
 
 -- the detail of a fault after a space, where it has one

@@ -2,7 +2,7 @@ use Rattle.std.proofs.Common.{◌∙◌, Some, subst}
 use Rattle.pm_program.specs.Refusals.{Says}
 use Rattle.pm_tool.proofs.EndLemmas.{put_said}
 use Rattle.pm_tool.proofs.SetupLemmas.{lettered, line-host}
-use Rattle.pm_world.specs.declared.setup_fault.SetupFault.TheVariants.{Host}
+use Rattle.pm_setup.specs.declared.setup_fault.SetupFault.TheVariants.{Host}
 use Rattle.pm_tool.proofs.refusal.say_host.Goals as goal
 
 pub returns : goal.returns
