@@ -1,11 +1,11 @@
 -- What the call that tells a host of a frame says of the job, over the definitions alone: by the stage, by what was
 -- told, and by whether a try is left.
-use Rattle.std.proofs.Common.{rules, arith, ◌≡◌, ℕ, ◌+◌, ◌/◌, ◌<◌, Bool, true, false, not, cond, eqb, List, ◌∷◌, length, get_or, set}
+use Rattle.std.proofs.Common.{◌≢◌, rules, arith, ◌≡◌, ℕ, ◌+◌, ◌/◌, ◌<◌, Bool, true, false, not, cond, eqb, List, ◌∷◌, length, get_or, set}
 use Rattle.std.proofs.Common.{Option, Some, None, Result, Ok, Err, is_some, option_map, refl, sym, ap, ◌∙◌, subst}
 use Rattle.std.specs.Option.{option_map_or}
 use Rattle.std.specs.Result.{result_ok}
 use Rattle.std.proofs.lemmas.Bool.{eqb-true, false≢true, eq-eqb}
-use Rattle.std.proofs.lemmas.List.{get_or-set_same, length-replicate}
+use Rattle.std.proofs.lemmas.List.{get_or-set_same, get_or-set_other, length-replicate}
 use Rattle.pm_num.specs.AnyFormat.{Shape, InUlinear16}
 use Rattle.pm_table.specs.declared.cell.Cell.{Cell}
 use Rattle.pm_table.specs.declared.fault.TableFault.{TableFault}
@@ -110,6 +110,11 @@ set-some : (formats : List (Option Shape)) (output : ℕ) (shape : Shape) → ou
     → get_or (set formats output (Some shape)) output None ≡ Some shape
 set-some formats output shape there = get_or-set_same formats output (Some shape) None there
 
+-- and the others stay
+set-others : (formats : List (Option Shape)) (output : ℕ) (shape : Shape) (other : ℕ) → other ≢ output
+    → get_or (set formats output (Some shape)) other None ≡ get_or formats other None
+set-others formats output shape other apart = get_or-set_other formats output other (Some shape) None apart
+
 -- the output of a host has a place for its format
 output-there : (s : Summary) (output : ℕ) → IsSound s → output < s.setup.outputs → output < length s.formats
 output-there s output sound there = let few = sound.setup.few_outputs in let l = sound.formats in omega arith
@@ -120,9 +125,9 @@ learned_tells : (s : Summary) (output tries : ℕ) (asks : Bool) (entry : Entry)
 learned_tells s output tries true entry None there = (refl, (refl, refl))
 learned_tells s output tries false entry None there = (refl, (refl, refl))
 learned_tells s output tries true entry (Some shape) there =
-    (refl, (ap is_some (set-some s.formats output shape there), refl))
+    (refl, (ap is_some (set-some s.formats output shape there), set-others s.formats output shape, refl))
 learned_tells s output tries false entry (Some shape) there =
-    (refl, (ap is_some (set-some s.formats output shape there), refl))
+    (refl, (ap is_some (set-some s.formats output shape there), set-others s.formats output shape, refl))
 
 -- a learn read VOUT_MODE
 mode_tells : (s : Summary) (output tries : ℕ) (entry : Entry) (mode : Result VoutMode TableFault) → output < length s.formats

@@ -71,9 +71,15 @@ CheckTells cell told Done old new = IsSomeAnd told (IsRead new cell)
 CheckTells cell told Unknown old new = (told ≡ None) × KeepsKnown old new
 CheckTells cell told end old new = ⊥
 
--- A learn that learned has left a format; one that is unknown leaves that of before. What is known of the cells stays.
+-- the formats of the other outputs stay
+abbrev pub KeepsOthers : ℕ → Summary → Summary → Type 0
+KeepsOthers output old new = (other : ℕ) → other ≢ output → format_at new other ≡ format_at old other
+
+-- A learn that learned has left a format of its output; one that is unknown leaves that of before. What is known of
+-- the cells stays.
 abbrev pub LearnTells : ℕ → JobEnd → Summary → Summary → Type 0
-LearnTells output Learned old new = IsSome (format_at new output) × KeepsKnown old new
+LearnTells output Learned old new =
+    IsSome (format_at new output) × KeepsOthers output old new × KeepsKnown old new
 LearnTells output Unknown old new = KeepsFormats old new × KeepsKnown old new
 LearnTells output end old new = ⊥
 

@@ -9,14 +9,18 @@ mod DueWords
 mod Ends
 mod Exact
 mod Exchanges
+mod FirstWords
 mod Frames
 mod Hearings
 mod HeldWords
+mod JobSpans
+mod KeptFormats
 mod Learned
 mod LearnedLives
 mod LeftWords
 mod LimitedLives
 mod Lives
+mod NeverTook
 mod OpenOrders
 mod OrderEvents
 mod OwnWords
@@ -26,6 +30,7 @@ mod Retold
 mod Runs
 mod Seen
 mod Sending
+mod ShortWitness
 mod SinceRestart
 mod Standings
 mod Starts
