@@ -23,6 +23,7 @@ mod Lives
 mod NeverTook
 mod OpenOrders
 mod OrderEvents
+mod OwnRequests
 mod OwnWords
 mod ReadBack
 mod Retellings

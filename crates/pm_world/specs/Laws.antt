@@ -13,9 +13,11 @@ use Rattle.pm_device.specs.declared.config.Config.{Config}
 use Rattle.pm_device.specs.declared.ending.Ending.{Ending}
 use Rattle.pm_device.specs.declared.ending.Ending.TheVariants.{Restart}
 use Rattle.pm_device.specs.Held.{Held, value_for}
-use Rattle.pm_device.specs.Reply.{reply_of}
+use Rattle.pm_device.specs.Reply.{payload_for, reply_of}
 use Rattle.pm_device.specs.Start.{IsSound, start_word}
+use Rattle.pm_device.specs.Verdict.{is_answered}
 use Rattle.pm_host.specs.Marks.{marks}
+use Rattle.pm_host.specs.Messages.{cell_read}
 use Rattle.pm_host.specs.Now.{AreTold}
 use Rattle.pm_host.specs.Refusals.{IsSetup}
 use Rattle.pm_host.specs.Summary.{sending_in}
@@ -271,3 +273,17 @@ pub record ListsSayEnough : Type 0 where
   pub short : (config : Config) (passes : ℕ) (events : List Event) (chosen : Choice) →
       length (witness_events (setup_of config passes) chosen (since_restart (life config passes events).entries))
       ≤ 2 * length events
+
+-- What the converter answers to the host's own request that arrives whole is an answer to it: where the output is
+-- there, or the coefficients are (`answered`), and so to each read of a cell (`cell`).
+pub record OwnRequestsAreAnswered : Type 0 where
+  pub answered : (config : Config) (passes : ℕ) (events : List Event) (request : Message) →
+      IsSound config → IsSetup (setup_of config passes) → AreTaken config passes events →
+      sending_in (now config passes events).host ≡ Some request → is_answered config request ≡ true →
+      IsAnswer config.addr request (payload_for (now config passes events).device request)
+      (answer_to (now config passes events).device config.addr request arrival.Whole)
+  pub cell : (config : Config) (passes : ℕ) (events : List Event) (cell : Cell) →
+      IsSound config → IsSetup (setup_of config passes) → AreTaken config passes events →
+      sending_in (now config passes events).host ≡ Some (cell_read cell) →
+      IsAnswer config.addr (cell_read cell) (payload_for (now config passes events).device (cell_read cell))
+      (answer_to (now config passes events).device config.addr (cell_read cell) arrival.Whole)

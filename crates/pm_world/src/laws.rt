@@ -3,7 +3,7 @@
 
 ghost use Rattle.pm_world.specs.Below.{Below};
 ghost use Rattle.pm_world.specs.Honest.{IsSpelled};
-ghost use Rattle.pm_world.specs.Laws.{BetrayedDamageIsLegal, BetrayedDamageIsTaken, ConfirmedSettingsAreHeld, DifferingOrdersNeverTook, FramesAreFew, HonestOrdersGoThrough, LearnedFormatsAreTrue, LegalLivesAreFollowed, ListsSayEnough, LivesAreFollowed, LivesAreOrders, PossibleWordsAreExact, PossibleWordsAreHeld};
+ghost use Rattle.pm_world.specs.Laws.{BetrayedDamageIsLegal, BetrayedDamageIsTaken, ConfirmedSettingsAreHeld, DifferingOrdersNeverTook, FramesAreFew, HonestOrdersGoThrough, LearnedFormatsAreTrue, LegalLivesAreFollowed, ListsSayEnough, LivesAreFollowed, LivesAreOrders, OwnRequestsAreAnswered, PossibleWordsAreExact, PossibleWordsAreHeld};
 ghost use Rattle.pm_world.specs.LimitLaws.{BandsAreExact, BandsAreHeld, LivesStayLimited};
 ghost use Rattle.std.specs.Prelude.{◌<◌, ◌^◌};
 
@@ -208,6 +208,15 @@ pub fn differing_orders_never_took()
 pub fn lists_say_enough()
     ensures { ListsSayEnough }
 {}
+
+/// What the converter answers to the host's own request that arrives whole is an answer to it, of the payload that it
+/// has for the request (`answered`): to each read of a cell (`cell`), and to that of the coefficients where an output
+/// has the DIRECT format. So the damage of which [`betrayed_damage_is_taken`] speaks has something to damage.
+pub fn own_requests_are_answered()
+    ensures { OwnRequestsAreAnswered }
+{
+    lower_laws();
+}
 
 /// The laws of the crates below that those of this crate rest on.
 pub(crate) fn lower_laws()
