@@ -41,9 +41,17 @@ pub fn answer_in(heard: &Heard) -> &[u8]
     ensures bytes { AreBytes (spec_answer_in heard.now) }
 {
     match heard {
-        Heard::Answer(frame) => frame.as_slice(),
+        Heard::Answer(frame) => spelled(frame.as_slice()),
         Heard::Silent | Heard::Taken | Heard::Refused(_) => &[],
     }
+}
+
+// Bytes are below 256.
+fn spelled(bytes: &[u8]) -> &[u8]
+    ensures same { result.now ≡ bytes.entry.now }
+    ensures bytes { AreBytes bytes.entry.now }
+{
+    bytes
 }
 
 /// What comes back of an answer.
