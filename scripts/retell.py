@@ -106,6 +106,10 @@ def failure(setup, passes, entries, chosen):
     fault = world_fault(start, passes)
     if fault:
         return fault, start, events
+    if len(events) > 2 * len(entries):
+        return "more than two events for an entry", start, events
+    if any(not 0 <= word < 0x10000 for _, words in start["outputs"] for word in words.values()):
+        return "a start word of more than two bytes", start, events
     world = World(start, passes)
     world.run(events)
     if world.stop:

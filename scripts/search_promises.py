@@ -3,9 +3,9 @@
 all kinds, with damage, false acknowledgements, repeats and restarts of either end, holds the plain model of
 scripts/plain to every promise after each event, and the program's report to that of the model and to the
 promises on its own. A host that keeps limits takes the same events, and the model is held to what limits and
-bands promise. Two prefixes of each tenth list are run by the program too. Some lists have a faulty setup, of
-which the program must say the fault, and nothing else. What is broken is printed, and the status is then 1; at
-the end stands how many lists met what.
+bands promise; and to what the end of a job says it is held in a world of its own. Two prefixes of each tenth list
+are run by the program too. Some lists have a faulty setup, of which the program must say the fault, and nothing
+else. What is broken is printed, and the status is then 1; at the end stands how many lists met what.
 
     scripts/search_promises.py [SEED [LISTS]]
 
@@ -22,6 +22,7 @@ import program  # noqa: E402
 import refusals  # noqa: E402
 from plain.draw_faulty_setups import draw_faulty  # noqa: E402
 from plain.draw_scenarios import chance, draw_events, draw_setup, draw_uncertain, event_words, setup_lines  # noqa: E402
+from plain.end_promises import end_faults  # noqa: E402
 from plain.limit_promises import limit_faults  # noqa: E402
 from plain.promises import Watch  # noqa: E402
 from plain.report import report  # noqa: E402
@@ -144,7 +145,8 @@ def searched(dice, is_tenth):
     watch, cause, broken = watched(setup, passes, events)
     text, met = text_of(dice, setup, passes, events), watch.reached | set(kinds_of(events))
     limited, kept = limit_faults(random.Random(text), setup, passes, [plain for _, plain in events])
-    broken, met = broken + limited, met | kept
+    ended, seen = end_faults(setup, passes, [plain for _, plain in events])
+    broken, met = broken + limited + ended, met | kept | seen
     if program.PROGRAM:
         broken += program_faults(text, watch, cause)
     if program.PROGRAM and is_tenth:

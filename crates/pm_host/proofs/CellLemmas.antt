@@ -14,7 +14,7 @@ other_place : (cell : Cell) (place : ℕ) → place < places → (place ≡ plac
 other_place = search rules
 
 -- a list with an element for each of n places, and its element at one
-length-table : {X : Type 0} (n : ℕ) (f : Cell → X) → length (table n f) ≡ n
+pub length-table : {X : Type 0} (n : ℕ) (f : Cell → X) → length (table n f) ≡ n
 unfolding table
 length-table n f = length-map-range_with_len (λ place. f (cell_in place)) 0 n
 

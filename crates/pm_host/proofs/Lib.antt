@@ -1,6 +1,7 @@
 pub mod Bounds
 pub mod CellLemmas
 pub mod Changes
+pub mod EndedJobs
 pub mod Follows
 pub mod FrameLemmas
 pub mod Kept

@@ -9,6 +9,7 @@ use Rattle.pm_host.specs.declared.fault.HostFault.{HostFault}
 use Rattle.pm_host.specs.declared.job.Job.{Job}
 use Rattle.pm_host.specs.declared.job.Job.TheVariants.{Order, OrderMicro, Check, Learn, Send}
 use Rattle.pm_host.specs.declared.stage.Stage.{Stage}
+use Rattle.pm_host.specs.Ended.{job_in, BeginsWith}
 use Rattle.pm_host.specs.Frames.{frames_left}
 use Rattle.pm_host.specs.Refusals.{job_fault, micro_fault, micro_word}
 use Rattle.pm_host.specs.Summary.{Summary, next, format_at}
@@ -41,6 +42,9 @@ pub record Begins {X : Type 0} (old : Summary) (job : Job) (result : Result X Ho
   -- otherwise it is accepted
   pub ok : OnOk result (IsSomeAnd (accepted_job old job) (λ begun. new ≡ next old (accepted.Accepted begun)))
   pub nearest : OnOk result (HasNearestWord old job)
+  -- it is open then, and of an order's cell nothing is confirmed any more
+  pub begun : OnOk result (job_in new ≡ accepted_job old job)
+  pub uncertain : OnOk result (IsSomeAnd (accepted_job old job) (BeginsWith new))
   -- a refused job changes nothing
   pub err : OnErr result (new ≡ old)
   -- the host stays that of its device

@@ -1,5 +1,5 @@
 -- What the host holds of its marks, and what one more mark makes of it.
-use Rattle.std.specs.Prelude.{Bool, false, not, ◌||◌, if◌then◌else◌, List, [], ◌∷◌, replicate, slice_index_or, slice_set}
+use Rattle.std.specs.Prelude.{◌≡◌, Bool, false, not, ◌||◌, if◌then◌else◌, List, [], ◌∷◌, length, replicate, slice_index_or, slice_set}
 use Rattle.pm_table.specs.declared.cell.Cell.{Cell}
 use Rattle.pm_table.specs.declared.cell.Cell.TheVariants.{Protect}
 use Rattle.pm_table.specs.Cell.{place_of, places, protect_place}
@@ -25,6 +25,11 @@ known_possible known cell = slice_index_or known.possible (place_of cell) Any
 
 abbrev pub known_standing : Known → Cell → Standing
 known_standing known cell = slice_index_or known.standing (place_of cell) Unknown
+
+-- there is a place for each cell
+pub record HasPlaces (known : Known) : Type 0 where
+  pub possible : length known.possible ≡ places
+  pub standing : length known.standing ≡ places
 
 -- nothing is known of any cell
 unfoldable pub all_any : List Possible

@@ -12,6 +12,7 @@ use Rattle.pm_table.specs.declared.cell.Cell.TheVariants.{Out}
 use Rattle.pm_host.specs.declared.command.Command.TheVariants.{RestoreUserAll}
 use Rattle.pm_host.specs.declared.possible.Possible.TheVariants.{Any}
 use Rattle.pm_host.specs.declared.standing.Standing.TheVariants.{Unknown}
+use Rattle.pm_host.specs.Ended.{job_in, StepTells}
 use Rattle.pm_host.specs.Frames.{CanSend, frames_of}
 use Rattle.pm_host.specs.Marks.{Mark, Put, Good, Restored, Restart, marks}
 use Rattle.pm_host.specs.Now.{now, AreTold}
@@ -20,6 +21,7 @@ use Rattle.pm_host.specs.Refusals.{IsSetup, is_busy}
 use Rattle.pm_host.specs.Sound.{IsSound}
 use Rattle.pm_host.specs.Standing.{standing_of}
 use Rattle.pm_host.specs.Summary.{Summary, start, next, step_of, step_by, sending_in, possible_at, standing_at, format_at}
+use Rattle.pm_host.specs.Told.{is_of_frame}
 use Rattle.pm_host.specs.Transcript.{Setup, Order, Send, Entry, open_job, end_of, sending_of, format_of_output}
 
 -- What a host holds after its transcript, which the definitions find by looking back over the whole
@@ -51,6 +53,16 @@ pub record TranscriptsAreFollowed : Type 0 where
   -- what holds of each host between two calls holds of it
   pub sound : (setup : Setup) (entries : List Entry) → IsSetup setup → AreTold setup entries
       → IsSound (now setup entries)
+
+-- What the end of a job says, of a whole transcript: what the call says that tells a host of a frame, of the job that
+-- is open.
+pub record EndsAreTold : Type 0 where
+  pub job : (setup : Setup) (entries : List Entry) →
+      job_in (now setup entries) ≡ open_job setup entries
+  pub tells : (setup : Setup) (entries : List Entry) (entry : Entry) → IsSetup setup
+      → AreTold setup (entry ∷ entries) → is_of_frame entry ≡ true
+      → StepTells (now setup entries) entry (step_by (end_of setup (entry ∷ entries)))
+      (now setup (entry ∷ entries))
 
 -- no job sends more than twice as many frames as a job has passes
 abbrev pub JobsAreBounded : Type 0

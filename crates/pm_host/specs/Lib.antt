@@ -2,6 +2,7 @@
 pub mod Answers
 pub mod Cells
 pub mod Command
+pub mod Ended
 pub mod FaultWords
 pub mod Frames
 pub mod Image

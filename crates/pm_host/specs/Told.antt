@@ -1,5 +1,5 @@
 -- What a host is told, as an entry of its transcript, and what a call that tells it answers.
-use Rattle.std.specs.Prelude.{Bool, not}
+use Rattle.std.specs.Prelude.{Bool, true, false, not}
 use Rattle.pm_frame.specs.Layout.{is_read_message}
 use Rattle.pm_host.specs.declared.stage.Stage.{Stage}
 use Rattle.pm_host.specs.declared.step.Step.{Step}
@@ -7,11 +7,18 @@ use Rattle.pm_host.specs.declared.step.Step.TheVariants.{Next, Ended}
 use Rattle.pm_host.specs.declared.told.Told.{Told}
 use Rattle.pm_host.specs.declared.told.Told.TheVariants as told
 use Rattle.pm_host.specs.Summary.{stage_message}
-use Rattle.pm_host.specs.Transcript.{Entry, Finished, Got}
+use Rattle.pm_host.specs.Transcript.{Entry, Accepted, Finished, Got, Restarted}
 
 abbrev pub entry_told : Told → Entry
 entry_told (told.Finished acked) = Finished acked
 entry_told (told.Got bytes) = Got bytes.now
+
+-- the entry says what came of a frame
+abbrev pub is_of_frame : Entry → Bool
+is_of_frame (Accepted job) = false
+is_of_frame (Finished acked) = true
+is_of_frame (Got bytes) = true
+is_of_frame Restarted = false
 
 -- it is of the kind of the stage's frame: the end of a write, or what came back for a request
 abbrev pub is_awaited : Stage → Told → Bool

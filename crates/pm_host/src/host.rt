@@ -4,6 +4,7 @@ ghost use Rattle.std.specs.Result.{result_err};
 ghost use Rattle.pm_num.specs.AnyFormat.{shape_of};
 ghost use Rattle.pm_table.specs.Address.{IsAddress};
 ghost use Rattle.pm_table.specs.Cell.{IsCell};
+ghost use Rattle.pm_host.specs.Ended.{StepTells};
 ghost use Rattle.pm_host.specs.Frames.{frames_left};
 ghost use Rattle.pm_host.specs.Jobs.{Begins};
 ghost use Rattle.pm_host.specs.Messages.{IsFrameOf};
@@ -26,7 +27,7 @@ use crate::told::Told;
 use crate::turn::Turn;
 use pm_frame::Frame;
 use pm_num::AnyFormat;
-use pm_table::Cell;
+use pm_table::{Cell, cells_have_places};
 use std::marker::Model;
 
 /// The host: it says which frame to send next, and is told what came of it. It believes a setting only
@@ -91,6 +92,9 @@ impl Host {
     /// of 16 words and this is another. An order in microvolts is refused, in this order, with H5 where the
     /// cell isn't a voltage, H7 where the format isn't known, N5 where the number is beyond 10^15 in size,
     /// N3 or N4 where it lies outside the format's range, and H6 as for an order.
+    ///
+    /// Once it is accepted it is the open job (`begun`), and the word of an order is one that its cell may hold, of
+    /// which none is confirmed (`uncertain`).
     pub fn begin(&mut self, job: Job) -> Result<(), HostFault>
         ensures { Begins self.old job result self.new }
     {
@@ -209,14 +213,24 @@ impl Host {
     /// where a frame of that kind is being sent. `Step::Next` asks to send what `turn` shows now;
     /// `Step::Ended` says how the job ended, and that nothing is being sent. With each call the job
     /// has fewer frames left to send, so that a loop of these two calls ends.
+    ///
+    /// What an end says (`tells`): an order that is `Done` has its cell confirmed with its word, and possible is that
+    /// word alone; one that `Differs` the same with the word that was read, which is another; one that is `Unknown` has
+    /// its word among the possible ones, and none confirmed. A check that is `Done` has its cell confirmed with the word
+    /// that came, one that is `Unknown` changes nothing of what is known. A learn that has `Learned` has left a format,
+    /// any other end keeps the formats. `Step::Next` keeps the job.
     pub fn told(&mut self, told: Told<'_>) -> Step
         requires { may_come self.old (entry_told told) ≡ true }
         ensures after { self.new ≡ next self.old (entry_told told.entry) }
         ensures step { result ≡ step_of self.old (entry_told told.entry) }
+        ensures tells { StepTells self.old (entry_told told.entry) result self.new }
         ensures kept { self.new.setup ≡ self.old.setup }
         ensures left { frames_left self.new < frames_left self.old }
         ensures over { OnEnded result (frames_left self.new ≡ 0) }
     {
+        // These calls hand the prover that what is known of a cell has a place of its own.
+        cells_have_places();
+        self.state.known.has_places();
         let Some(sending) = &self.sending else {
             // What is told is of a frame that is being sent.
             unreachable!()

@@ -2,7 +2,7 @@ ghost use Rattle.std.specs.Prelude.{◌≡◌, true, false, slice_set};
 ghost use Rattle.pm_table.specs.Cell.{place_of, IsCell};
 ghost use Rattle.pm_host.specs.Image.{known_held, words_held, standing_held};
 ghost use Rattle.pm_host.specs.Possible.{is_possible, has_room, only};
-ghost use Rattle.pm_host.specs.Known.{known_possible, known_standing, known_after, nothing_known};
+ghost use Rattle.pm_host.specs.Known.{HasPlaces, known_possible, known_standing, known_after, nothing_known};
 ghost use Rattle.pm_host.specs.Marks.{Put, Good, Restored};
 
 use crate::possible::Possible;
@@ -33,6 +33,12 @@ impl Knowledge {
         self.standing.fill(StandingImage::UNKNOWN);
         self.seen = 0;
     }
+
+    /// Says that there is a place for each cell. Does nothing.
+    #[tactic(auto, unfolding(crate::specs::Image::known_held))]
+    pub(crate) fn has_places(&self)
+        ensures { HasPlaces (known_held self.now) }
+    {}
 
     /// The words that a cell may hold, as `Host::possible` says.
     #[tactic(auto, unfolding(crate::specs::Image::known_held))]

@@ -1,7 +1,7 @@
 //! The laws of a host over its whole transcript, over the definitions alone. A transcript is newest
 //! first.
 
-ghost use Rattle.pm_host.specs.Laws.{TranscriptsAreFollowed, JobsAreBounded, FramesAreNamed, OpenOrdersAreUncertain, OpenRestoresAreUncertain, PossibleWordsAreFollowed};
+ghost use Rattle.pm_host.specs.Laws.{TranscriptsAreFollowed, EndsAreTold, JobsAreBounded, FramesAreNamed, OpenOrdersAreUncertain, OpenRestoresAreUncertain, PossibleWordsAreFollowed};
 
 use pm_table::cells_have_places;
 
@@ -13,6 +13,17 @@ pub fn transcripts_are_followed()
 {
     // Each cell has a place of its own, where what is known of it stands.
     cells_have_places();
+}
+
+/// What the end of a job says of what a host then knows, over its whole transcript: the open job is the one that its
+/// stage says (`job`), and each entry that says what came of a frame leaves it open, or ends it with what
+/// [`Host::told`](crate::Host::told) says then (`tells`).
+pub fn ends_are_told()
+    ensures { EndsAreTold }
+{
+    // Each cell has a place of its own, where what is known of it stands.
+    cells_have_places();
+    transcripts_are_followed();
 }
 
 /// No job sends more than twice as many frames as a job has passes.

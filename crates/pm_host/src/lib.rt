@@ -71,8 +71,8 @@ pub use job::Job;
 pub use job_end::JobEnd;
 pub use knowledge::Knowledge;
 pub use laws::{
-    frames_are_named, jobs_are_bounded, open_orders_are_uncertain, open_restores_are_uncertain,
-    possible_words_are_followed, transcripts_are_followed,
+    ends_are_told, frames_are_named, jobs_are_bounded, open_orders_are_uncertain,
+    open_restores_are_uncertain, possible_words_are_followed, transcripts_are_followed,
 };
 pub use possible::Possible;
 pub use progress::Progress;

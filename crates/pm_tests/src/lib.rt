@@ -1,6 +1,5 @@
-//! Tests over the public calls of the world, a module for each thing that is tested; in `further` what is
-//! proved of a world that goes on after a run; and what tests ask of a world (`Look`), with the events that
-//! they tell most.
+//! Tests over the public calls of the world, a module for each thing that is tested; and what tests ask of a
+//! world (`Look`), with the events that they tell most.
 #![tactic(auto)]
 
 #[cfg(test)]
@@ -16,7 +15,6 @@ mod example;
 mod faults;
 #[cfg(test)]
 mod fixtures;
-pub mod further;
 mod look;
 #[cfg(test)]
 mod refusals;

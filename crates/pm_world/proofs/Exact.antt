@@ -21,6 +21,7 @@ use Rattle.pm_world.specs.Uncertainty.{witness_start}
 use Rattle.pm_world.proofs.Answered.{stage_cell-is}
 use Rattle.pm_world.proofs.CameBack.{AreCome, Came, life-came}
 use Rattle.pm_world.proofs.DueWords.{AreAccepted, is-start}
+use Rattle.pm_world.proofs.FirstWords.{can-be-made}
 use Rattle.pm_world.proofs.LeftWords.{now-possible}
 use Rattle.pm_world.proofs.Lives.{IsLived, life-told}
 use Rattle.pm_world.proofs.Retold.{IsMade}
@@ -113,6 +114,7 @@ witness-leaves laws {config = config} {passes = passes} {events = events} chosen
     record {
       alike = witness-like config first lived.sound;
       sound = sound;
+      made = can-be-made laws config (witness_start config first) passes sound lived.made refl;
       steady = r.steady;
       legal = r.legal;
       told = r.told;

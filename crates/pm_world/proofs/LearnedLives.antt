@@ -1,5 +1,5 @@
 -- The formats that a host learns in a life.
-use Rattle.std.proofs.Common.{◌≡◌, ℕ, ℤ, List, [], ◌∷◌, Option, Some, None, IsSome, option_and_then, option_map, refl, sym, ◌∙◌, ap, subst}
+use Rattle.std.proofs.Common.{◌≡◌, ℕ, ℤ, List, [], ◌∷◌, ◌++◌, get_or, Option, Some, None, IsSome, option_and_then, option_map, refl, sym, ◌∙◌, ap, subst}
 use Rattle.std.proofs.Common.{arith}
 use Rattle.std.specs.Option.{option_map_or}
 use Rattle.pm_num.specs.AnyFormat.{Shape, shape_value, shape_rank}
@@ -20,6 +20,7 @@ use Rattle.pm_world.specs.Honest.{IsSpelled, FormatsAgree, OrdersNearest, Micros
 use Rattle.pm_world.specs.Life.{life, now, state_of}
 use Rattle.pm_world.specs.Setup.{setup_of, start}
 use Rattle.pm_world.specs.State.{State, next, nothing, tells}
+use Rattle.pm_world.proofs.KeptFormats.{format-ended, formats-kept}
 use Rattle.pm_world.proofs.Learned.{IsTrueHost}
 use Rattle.pm_world.proofs.Lives.{IsLived, earlier, newest, lived-before, now-config, now-next, now-nil, now-setup}
 use Rattle.pm_world.proofs.TrueHost.{Stands, agree-none, next-true}
@@ -66,6 +67,15 @@ formats-agree laws config passes events lived spelled = record {
   held = (true-host laws config passes events lived spelled).formats;
   learned = λ output shape there found. laws.transcripts_are_followed.format (setup_of config passes) (life config passes events).entries
       output (let few = lived.sound.few in omega arith) ∙ found;
+  ended = λ newer later before event output is asks alone ended stays.
+      subst (λ es. format_at (now config passes es).host output ≡ Some (shape_for config output)) (sym is)
+      (format-ended laws config passes newer later before event output (subst (IsLived config passes) is lived) asks alone ended stays
+      (subst (λ es. (shape : Shape) → format_at (now config passes es).host output ≡ Some shape → shape ≡ shape_for config output) is
+      ((true-host laws config passes events lived spelled).formats output)));
+  kept = λ newer later before event job output is asks alone other.
+      ap (λ fs. get_or fs output None)
+      (formats-kept laws config passes later before event job
+      (lived-before config passes newer (later ++ event ∷ before) (subst (IsLived config passes) is lived)) asks alone other);
 }
 
 -- the word of an order in microvolts

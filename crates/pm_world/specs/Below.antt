@@ -2,8 +2,8 @@
 use Rattle.pm_table.specs.Laws.{CellsAreToldApart, CellsHavePlaces, RegistersAreInTheTable}
 use Rattle.pm_frame.specs.Laws.{AnswersAreExact, BetrayalIsRefused, BurstsAreBetrayed, DamageIsBetrayed, DamageIsRefused, RequestsAreExact, WritesAreExact}
 use Rattle.pm_model.specs.Laws.{OrdersStayInTheirCells, SettingsAreAMap}
-use Rattle.pm_device.specs.Laws.{PastsAreFollowed, ReadsAreAnswered, WordsHaveAnOrigin, WritesReachOneCell}
-use Rattle.pm_host.specs.Laws.{FramesAreNamed, JobsAreBounded, OpenRestoresAreUncertain, PossibleWordsAreFollowed, TranscriptsAreFollowed}
+use Rattle.pm_device.specs.Laws.{PastsAreFollowed, ReadsAreAnswered, SoundConfigurationsHaveNoFault, WordsHaveAnOrigin, WritesReachOneCell}
+use Rattle.pm_host.specs.Laws.{EndsAreTold, FramesAreNamed, JobsAreBounded, OpenRestoresAreUncertain, PossibleWordsAreFollowed, TranscriptsAreFollowed}
 
 pub record Below : Type 0 where
   -- of cells and registers
@@ -26,8 +26,10 @@ pub record Below : Type 0 where
   pub words_have_an_origin : WordsHaveAnOrigin
   pub writes_reach_one_cell : WritesReachOneCell
   pub reads_are_answered : ReadsAreAnswered
+  pub sound_configurations_have_no_fault : SoundConfigurationsHaveNoFault
   -- of the host
   pub transcripts_are_followed : TranscriptsAreFollowed
+  pub ends_are_told : EndsAreTold
   pub jobs_are_bounded : JobsAreBounded
   pub frames_are_named : FramesAreNamed
   pub open_restores_are_uncertain : OpenRestoresAreUncertain

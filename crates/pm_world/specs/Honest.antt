@@ -1,6 +1,6 @@
 -- What undisturbed frames come to in a world: this project's own choice of how an order, a check, a
 -- learn and a clear go.
-use Rattle.std.specs.Prelude.{◌≡◌, ◌<◌, ◌≤◌, ◌*◌, ◌^◌, ℕ, ℤ, Bool, true, ◌&&◌, not, bytes_eq, List, ◌∷◌, ◌++◌, map, Some}
+use Rattle.std.specs.Prelude.{◌≡◌, ◌≢◌, ◌<◌, ◌≤◌, ◌*◌, ◌^◌, ℕ, ℤ, Bool, true, false, ◌&&◌, not, bytes_eq, List, ◌∷◌, ◌++◌, map, Some}
 use Rattle.std.specs.List.{list_any}
 use Rattle.pm_num.specs.AnyFormat.{Shape, shape_rank}
 use Rattle.pm_num.specs.NearestWord.{nearest_word}
@@ -15,7 +15,7 @@ use Rattle.pm_device.specs.declared.config.Config.{Config}
 use Rattle.pm_device.specs.declared.ending.Ending.TheVariants.{Stop}
 use Rattle.pm_device.specs.Held.{mode_for, shape_for, value_for}
 use Rattle.pm_host.specs.declared.standing.Standing.TheVariants.{Confirmed}
-use Rattle.pm_host.specs.declared.job_end.JobEnd.TheVariants.{Done}
+use Rattle.pm_host.specs.declared.job_end.JobEnd.TheVariants.{Done, Learned}
 use Rattle.pm_host.specs.Answers.{good_word}
 use Rattle.pm_host.specs.Frames.{frames_of}
 use Rattle.pm_host.specs.Messages.{cell_write}
@@ -27,8 +27,10 @@ use Rattle.pm_world.specs.declared.event.Event.TheVariants.{OrderMicro, Deliver,
 use Rattle.pm_world.specs.declared.arrival.Arrival.{Arrival}
 use Rattle.pm_world.specs.declared.arrival.Arrival.TheVariants.{Whole}
 use Rattle.pm_world.specs.declared.back.Back.TheVariants as back
+use Rattle.pm_world.specs.Ended.{begins_other}
 use Rattle.pm_world.specs.Legal.{frame_of, heard_bytes, ending_of, is_restart}
 use Rattle.pm_world.specs.Life.{life, now}
+use Rattle.pm_world.specs.Possible.{restarts_host}
 use Rattle.pm_world.specs.Setup.{setup_of}
 use Rattle.pm_world.specs.State.{asked}
 
@@ -80,13 +82,28 @@ pub record IsSpelled (config : Config) : Type 0 where
   pub coefficients : coefficients_of (coefficient_bytes config.coefficients) ≡ config.coefficients
 
 -- The formats that a host holds are the converter's, and what it learned since its start it holds: the
--- format of an output's last learn that ended Learned.
+-- format of an output's last learn that ended Learned. A learn that ended so leaves the converter's format until
+-- the host restarts (`ended`). Any other job, while it is open and however it ended, leaves each format as it was
+-- before (`kept`).
 pub record FormatsAgree (config : Config) (passes : ℕ) (events : List Event) : Type 0 where
   pub held : (output : ℕ) (shape : Shape) →
       format_at (now config passes events).host output ≡ Some shape → shape ≡ shape_for config output
   pub learned : (output : ℕ) (shape : Shape) → output < config.count →
       format_of_output (setup_of config passes) (life config passes events).entries output ≡ Some shape →
       format_at (now config passes events).host output ≡ Some shape
+  pub ended : (newer later before : List Event) (event : Event) (output : ℕ) →
+      events ≡ newer ++ (later ++ event ∷ before) →
+      asked (now config passes before) event ≡ Some (host.Learn output) →
+      list_any begins_other later ≡ false →
+      (now config passes (later ++ event ∷ before)).end ≡ Some Learned →
+      list_any restarts_host newer ≡ false →
+      format_at (now config passes events).host output ≡ Some (shape_for config output)
+  pub kept : (newer later before : List Event) (event : Event) (job : host.Job) (output : ℕ) →
+      events ≡ newer ++ (later ++ event ∷ before) → asked (now config passes before) event ≡ Some job →
+      list_any begins_other later ≡ false →
+      (now config passes (later ++ event ∷ before)).end ≢ Some Learned →
+      format_at (now config passes (later ++ event ∷ before)).host output
+      ≡ format_at (now config passes before).host output
 
 -- An order in microvolts came to the order of the nearest word in the converter's format.
 pub record OrdersNearest (config : Config) (passes : ℕ) (cell : Cell) (microvolts : ℤ) (before : List Event) : Type 0 where

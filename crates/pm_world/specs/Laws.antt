@@ -1,5 +1,6 @@
 -- The laws of a world, over the definitions alone. Events are newest first.
-use Rattle.std.specs.Prelude.{◌≡◌, ◌↔◌, ◌<◌, ◌≤◌, ◌+◌, ℕ, Bool, true, false, List, [], ◌∷◌, Some, length}
+use Rattle.std.specs.Prelude.{◌≡◌, ◌↔◌, ◌<◌, ◌≤◌, ◌+◌, ◌*◌, ℕ, Bool, true, false, List, [], ◌∷◌, Some, length}
+use Rattle.std.specs.List.{list_any}
 use Rattle.pm_table.specs.declared.cell.Cell.{Cell}
 use Rattle.pm_table.specs.Cell.{IsCell}
 use Rattle.pm_frame.specs.declared.message.Message.{Message}
@@ -12,9 +13,11 @@ use Rattle.pm_device.specs.declared.config.Config.{Config}
 use Rattle.pm_device.specs.declared.ending.Ending.{Ending}
 use Rattle.pm_device.specs.declared.ending.Ending.TheVariants.{Restart}
 use Rattle.pm_device.specs.Held.{Held, value_for}
-use Rattle.pm_device.specs.Reply.{reply_of}
-use Rattle.pm_device.specs.Start.{IsSound}
+use Rattle.pm_device.specs.Reply.{payload_for, reply_of}
+use Rattle.pm_device.specs.Start.{IsSound, start_word}
+use Rattle.pm_device.specs.Verdict.{is_answered}
 use Rattle.pm_host.specs.Marks.{marks}
+use Rattle.pm_host.specs.Messages.{cell_read}
 use Rattle.pm_host.specs.Now.{AreTold}
 use Rattle.pm_host.specs.Refusals.{IsSetup}
 use Rattle.pm_host.specs.Summary.{sending_in}
@@ -24,8 +27,9 @@ use Rattle.pm_world.specs.declared.arrival.Arrival.TheVariants as arrival
 use Rattle.pm_world.specs.declared.back.Back.TheVariants as back
 use Rattle.pm_world.specs.declared.event.Event.{Event}
 use Rattle.pm_world.specs.declared.event.Event.TheVariants.{Deliver, Exchange}
-use Rattle.pm_world.specs.Confirmed.{ConfirmedIsHeld}
+use Rattle.pm_world.specs.Confirmed.{ConfirmedIsHeld, restarted_since, restarts_converter}
 use Rattle.pm_world.specs.Damage.{AreOthers, IsBetrayedDamage}
+use Rattle.pm_world.specs.Ended.{DiffersNeverTook}
 use Rattle.pm_world.specs.Honest.{AreFewFrames, FormatsAgree, IsSpelled, MicrosAreNearest, OrdersGoThrough, honest, sent_by}
 use Rattle.pm_world.specs.Legal.{answer_in, frame_of, is_legal_hearing, is_legal_return}
 use Rattle.pm_world.specs.Life.{AreTaken, AreTakenFrom, after_all, life, now}
@@ -33,7 +37,7 @@ use Rattle.pm_world.specs.Possible.{PossibleIsHeld, SeenIsTrue, restarted_since_
 use Rattle.pm_world.specs.Retelling.{CommandsOwn, IsOrderRun, IsOwnWord}
 use Rattle.pm_world.specs.Setup.{setup_of, start}
 use Rattle.pm_world.specs.State.{IsTaken, answer_to, asked, event_limit, next}
-use Rattle.pm_world.specs.Uncertainty.{AreLegal, AreOpen, ArePossible, Choice, Leaves, due_before, since_restart, witness_events, witness_start}
+use Rattle.pm_world.specs.Uncertainty.{AreLegal, AreOfBytes, AreOpen, ArePossible, AreWordsChosen, Choice, Leaves, due_before, since_restart, witness_events, witness_start}
 
 -- What a world holds after its life is what one event after another makes of its start: of no event, and of
 -- one more. What the host was told is a transcript that might come. Events that are taken one after another
@@ -121,7 +125,8 @@ pub record PossibleWordsAreHeld : Type 0 where
 -- What the host calls possible is exact, for all cells of all outputs together. Let the converter not have
 -- restarted since the host did, and since then let WRITE_PROTECT have been ordered and read as 00h alone, and
 -- no restore been ordered. Where the chosen words are all possible, the retelling tells the host just what it
--- was told since it started, and leaves all of them (`witness`). And words that any life leaves which tells
+-- was told since it started, and leaves all of them (`witness`): in a world that can be made, and where the chosen
+-- words are below 2 ^ 16, and what came back are bytes, so are the words that it starts with (`words`). And words that any life leaves which tells
 -- the host just that, without a restart, are all possible (`only`). Legal events are those that are taken,
 -- where there is room for them (`legal`).
 pub record PossibleWordsAreExact : Type 0 where
@@ -137,6 +142,11 @@ pub record PossibleWordsAreExact : Type 0 where
       IsSound config → IsSetup (setup_of config passes) → AreTaken config passes events →
       Leaves config passes (since_restart (life config passes events).entries) chosen other retold →
       ArePossible config (now config passes events).host chosen
+  pub words : (config : Config) (passes : ℕ) (events : List Event) (chosen : Choice) →
+      IsSound config → let entries = since_restart (life config passes events).entries in
+      let told = marks (setup_of config passes) entries in
+      AreOfBytes entries → AreWordsChosen config chosen →
+      AreWordsChosen config (start_word (witness_start config (due_before chosen told)))
   pub legal : (config : Config) (passes : ℕ) (events : List Event) →
       IsSound config → IsSetup (setup_of config passes) → length events ≤ event_limit →
       AreLegal config passes events ↔ AreTaken config passes events
@@ -190,6 +200,9 @@ pub record LegalLivesAreFollowed : Type 0 where
   pub seen : (config : Config) (passes : ℕ) (events : List Event) →
       IsSound config → IsSetup (setup_of config passes) → AreLegal config passes events →
       SeenIsTrue config passes events (now config passes events)
+  pub never : (config : Config) (passes : ℕ) (events : List Event) →
+      IsSound config → IsSetup (setup_of config passes) → AreLegal config passes events →
+      DiffersNeverTook config passes events
   pub witness : (config : Config) (passes : ℕ) (events : List Event) (chosen : Choice) →
       IsSound config → IsSetup (setup_of config passes) → AreLegal config passes events →
       restarted_since_host events ≡ false →
@@ -242,3 +255,35 @@ pub record BetrayedDamageIsTaken : Type 0 where
       let heard = arrival.Bytes (record { items = bytes }) Restart in
       AreBytes (answer_to (now config passes events).device config.addr request heard) →
       IsTaken (now config passes events) (Exchange heard back.Whole)
+
+-- An order differs only where it never took, or the converter restarted since it was accepted.
+abbrev pub DifferingOrdersNeverTook : Type 0
+DifferingOrdersNeverTook = (config : Config) (passes : ℕ) (events : List Event) →
+    IsSound config → IsSetup (setup_of config passes) → AreTaken config passes events →
+    DiffersNeverTook config passes events
+
+-- What a list of events says by itself. Without a restart of the converter none is since any good answer (`since`),
+-- and none since the host's start (`host`). What the retelling of the possible words has at most (`short`): so it can
+-- be taken, where that is no more than the limit of events.
+pub record ListsSayEnough : Type 0 where
+  pub since : (config : Config) (passes : ℕ) (cell : Cell) (events : List Event) →
+      list_any restarts_converter events ≡ false → restarted_since config passes cell events ≡ false
+  pub host : (events : List Event) →
+      list_any restarts_converter events ≡ false → restarted_since_host events ≡ false
+  pub short : (config : Config) (passes : ℕ) (events : List Event) (chosen : Choice) →
+      length (witness_events (setup_of config passes) chosen (since_restart (life config passes events).entries))
+      ≤ 2 * length events
+
+-- What the converter answers to the host's own request that arrives whole is an answer to it: where the output is
+-- there, or the coefficients are (`answered`), and so to each read of a cell (`cell`).
+pub record OwnRequestsAreAnswered : Type 0 where
+  pub answered : (config : Config) (passes : ℕ) (events : List Event) (request : Message) →
+      IsSound config → IsSetup (setup_of config passes) → AreTaken config passes events →
+      sending_in (now config passes events).host ≡ Some request → is_answered config request ≡ true →
+      IsAnswer config.addr request (payload_for (now config passes events).device request)
+      (answer_to (now config passes events).device config.addr request arrival.Whole)
+  pub cell : (config : Config) (passes : ℕ) (events : List Event) (cell : Cell) →
+      IsSound config → IsSetup (setup_of config passes) → AreTaken config passes events →
+      sending_in (now config passes events).host ≡ Some (cell_read cell) →
+      IsAnswer config.addr (cell_read cell) (payload_for (now config passes events).device (cell_read cell))
+      (answer_to (now config passes events).device config.addr (cell_read cell) arrival.Whole)

@@ -7,6 +7,7 @@ pub mod Life
 pub mod Retelling
 pub mod Confirmed
 pub mod Possible
+pub mod Ended
 pub mod Uncertainty
 pub mod Honest
 pub mod Damage

@@ -1,13 +1,14 @@
 -- What the words that the host calls possible are worth for all cells together: they are exactly those that
 -- some other life, which tells the host just the same, leaves in the cells. This project's own choice. Lists
 -- are newest first.
-use Rattle.std.specs.Prelude.{◌≡◌, ◌<◌, ℕ, ◌==◌, Bool, true, false, ◌||◌, if◌then◌else◌, List, [], ◌∷◌, ◌++◌, map, None, is_some}
+use Rattle.std.specs.Prelude.{◌≡◌, ◌<◌, ◌^◌, ℕ, ◌==◌, Bool, true, false, ◌||◌, if◌then◌else◌, List, [], ◌∷◌, ◌++◌, map, None, is_some}
 use Rattle.std.specs.List.{range_with_len}
 use Rattle.std.specs.Option.{option_map_or}
 use Rattle.pm_table.specs.declared.reg.Reg.{Reg}
 use Rattle.pm_table.specs.declared.cell.Cell.{Cell}
 use Rattle.pm_table.specs.declared.cell.Cell.TheVariants.{Out, Protect}
 use Rattle.pm_table.specs.Cell.{cell_accepts, same_cell}
+use Rattle.pm_frame.specs.Layout.{AreBytes}
 use Rattle.pm_model.specs.Settings.{word_at}
 use Rattle.pm_device.specs.declared.config.Config.{Config}
 use Rattle.pm_device.specs.declared.output_start.OutputStart.{OutputStart}
@@ -31,6 +32,7 @@ use Rattle.pm_world.specs.declared.event.Event.TheVariants.{Order, Check, Learn,
 use Rattle.pm_world.specs.Confirmed.{restarts_converter}
 use Rattle.pm_world.specs.Life.{life, now}
 use Rattle.pm_world.specs.Possible.{restarts_host}
+use Rattle.pm_world.specs.Setup.{setup_fault}
 use Rattle.pm_world.specs.State.{State, HasWord, event_cause}
 
 -- nothing is against an event but perhaps that the world is full
@@ -64,6 +66,17 @@ abbrev pub ArePossible : Config → Summary → Choice → Type 0
 ArePossible config s chosen = (output : ℕ) (register : Reg) → output < config.count →
     may_hold (Out output register) (chosen (Out output register)) (possible_at s (Out output register)) ≡ true
 
+-- each of the chosen words has two bytes
+abbrev pub AreWordsChosen : Config → Choice → Type 0
+AreWordsChosen config chosen = (output : ℕ) (register : Reg) → output < config.count →
+    chosen (Out output register) < 2 ^ 16
+
+-- what came back were bytes
+abbrev pub AreOfBytes : List Entry → Type 0
+AreOfBytes [] = Unit {0}
+AreOfBytes (Got bytes ∷ before) = AreBytes bytes × AreOfBytes before
+AreOfBytes (entry ∷ before) = AreOfBytes before
+
 -- what the host was told since it last restarted
 abbrev pub since_restart : List Entry → List Entry
 since_restart [] = []
@@ -92,12 +105,13 @@ pub record IsLike (config other : Config) : Type 0 where
   pub count : other.count ≡ config.count
   pub shapes : (output : ℕ) → output < config.count → shape_for other output ≡ shape_for config output
 
--- Events that are legal one after another in a new world of this start, which is like the configuration:
--- neither end restarts, the host is told just these entries, and each cell of each output is left with its
+-- Events that are legal one after another in a new world of this start, which is like the configuration and which
+-- can be made: neither end restarts, the host is told just these entries, and each cell of each output is left with its
 -- chosen word.
 pub record Leaves (config : Config) (passes : ℕ) (entries : List Entry) (chosen : Choice) (start : Config) (events : List Event) : Type 0 where
   pub alike : IsLike config start
   pub sound : IsSound start
+  pub made : setup_fault start passes ≡ None
   pub steady : AreSteady events
   pub legal : AreLegal start passes events
   pub told : (life start passes events).entries ≡ entries

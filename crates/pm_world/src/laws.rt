@@ -3,20 +3,21 @@
 
 ghost use Rattle.pm_world.specs.Below.{Below};
 ghost use Rattle.pm_world.specs.Honest.{IsSpelled};
-ghost use Rattle.pm_world.specs.Laws.{BetrayedDamageIsLegal, BetrayedDamageIsTaken, ConfirmedSettingsAreHeld, FramesAreFew, HonestOrdersGoThrough, LearnedFormatsAreTrue, LegalLivesAreFollowed, LivesAreFollowed, LivesAreOrders, PossibleWordsAreExact, PossibleWordsAreHeld};
+ghost use Rattle.pm_world.specs.Laws.{BetrayedDamageIsLegal, BetrayedDamageIsTaken, ConfirmedSettingsAreHeld, DifferingOrdersNeverTook, FramesAreFew, HonestOrdersGoThrough, LearnedFormatsAreTrue, LegalLivesAreFollowed, ListsSayEnough, LivesAreFollowed, LivesAreOrders, OwnRequestsAreAnswered, PossibleWordsAreExact, PossibleWordsAreHeld};
 ghost use Rattle.pm_world.specs.LimitLaws.{BandsAreExact, BandsAreHeld, LivesStayLimited};
 ghost use Rattle.std.specs.Prelude.{◌<◌, ◌^◌};
 
 use pm_device::{
-    Config, pasts_are_followed, reads_are_answered, words_have_an_origin, writes_reach_one_cell,
+    Config, pasts_are_followed, reads_are_answered, sound_configurations_have_no_fault,
+    words_have_an_origin, writes_reach_one_cell,
 };
 use pm_frame::{
     answers_are_exact, betrayal_is_refused, bursts_are_betrayed, damage_is_betrayed,
     damage_is_refused, requests_are_exact, writes_are_exact,
 };
 use pm_host::{
-    frames_are_named, jobs_are_bounded, open_restores_are_uncertain, possible_words_are_followed,
-    transcripts_are_followed,
+    ends_are_told, frames_are_named, jobs_are_bounded, open_restores_are_uncertain,
+    possible_words_are_followed, transcripts_are_followed,
 };
 use pm_model::{orders_stay_in_their_cells, settings_are_a_map};
 use pm_table::{cells_are_told_apart, cells_have_places, registers_are_in_the_table};
@@ -192,6 +193,31 @@ pub fn bands_are_exact()
     lower_laws();
 }
 
+/// Where an order differs, and the converter didn't restart since it was accepted, it never took: its cell had the
+/// word that was read at each moment since then, and that isn't the ordered one. Of any legal events, those that a
+/// world took among them ([`possible_words_are_exact`] `legal`).
+pub fn differing_orders_never_took()
+    ensures { DifferingOrdersNeverTook }
+{
+    lower_laws();
+}
+
+/// What a list of events says by itself. Where the converter doesn't restart in it, it didn't since any good answer
+/// (`since`), nor since the host's start (`host`). The retelling of [`possible_words_are_exact`] has at most twice as
+/// many events (`short`), so that it can be taken where that is no more than a world takes.
+pub fn lists_say_enough()
+    ensures { ListsSayEnough }
+{}
+
+/// What the converter answers to the host's own request that arrives whole is an answer to it, of the payload that it
+/// has for the request (`answered`): to each read of a cell (`cell`), and to that of the coefficients where an output
+/// has the DIRECT format. So the damage of which [`betrayed_damage_is_taken`] speaks has something to damage.
+pub fn own_requests_are_answered()
+    ensures { OwnRequestsAreAnswered }
+{
+    lower_laws();
+}
+
 /// The laws of the crates below that those of this crate rest on.
 pub(crate) fn lower_laws()
     ensures { Below }
@@ -212,7 +238,9 @@ pub(crate) fn lower_laws()
     words_have_an_origin();
     writes_reach_one_cell();
     reads_are_answered();
+    sound_configurations_have_no_fault();
     transcripts_are_followed();
+    ends_are_told();
     jobs_are_bounded();
     frames_are_named();
     open_restores_are_uncertain();

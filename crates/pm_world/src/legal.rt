@@ -5,6 +5,7 @@ ghost use Rattle.std.specs.Prelude.{◌≡◌, take};
 ghost use Rattle.pm_device.specs.Effect.{Hearing};
 ghost use Rattle.pm_device.specs.History.{next as device_next};
 ghost use Rattle.pm_device.specs.Reply.{reply_of};
+ghost use Rattle.pm_frame.specs.Layout.{AreBytes};
 ghost use Rattle.pm_world.specs.Legal.{heard_bytes as spec_heard_bytes, ending_of, back_bytes as spec_back_bytes, answer_in as spec_answer_in, is_heard_whole as spec_is_heard_whole, is_legal_hearing as spec_is_legal_hearing, is_legal_return as spec_is_legal_return};
 
 use crate::arrival::Arrival;
@@ -34,14 +35,23 @@ pub fn heard_ending(whole: Ending, arrival: &Arrival) -> Ending
     }
 }
 
-/// The bytes that a converter answers.
+/// The bytes that a converter answers, which are bytes.
 pub fn answer_in(heard: &Heard) -> &[u8]
-    ensures { result.now ≡ spec_answer_in heard.now }
+    ensures value { result.now ≡ spec_answer_in heard.now }
+    ensures bytes { AreBytes (spec_answer_in heard.now) }
 {
     match heard {
-        Heard::Answer(frame) => frame.as_slice(),
+        Heard::Answer(frame) => spelled(frame.as_slice()),
         Heard::Silent | Heard::Taken | Heard::Refused(_) => &[],
     }
+}
+
+// Bytes are below 256.
+fn spelled(bytes: &[u8]) -> &[u8]
+    ensures same { result.now ≡ bytes.entry.now }
+    ensures bytes { AreBytes bytes.entry.now }
+{
+    bytes
 }
 
 /// What comes back of an answer.

@@ -1,8 +1,9 @@
-ghost use Rattle.std.specs.Prelude.{◌≡◌, ◌<◌, ◌≤◌, ℕ, true, None, IfOk, OnOk};
+ghost use Rattle.std.specs.Prelude.{◌≡◌, ◌<◌, ◌≤◌, ◌+◌, ℕ, true, length, None, IfOk, OnOk};
 ghost use Rattle.std.specs.Result.{result_err};
 ghost use Rattle.pm_device.specs.Start.{IsSound};
 ghost use Rattle.pm_host.specs.Refusals.{IsSetup, may_come};
 ghost use Rattle.pm_world.specs.Confirmed.{ConfirmedIsHeld};
+ghost use Rattle.pm_world.specs.Ended.{DiffersNeverTook};
 ghost use Rattle.pm_world.specs.Honest.{AreFewFrames, FormatsAgree, IsSpelled, MicrosAreNearest, OrdersGoThrough};
 ghost use Rattle.pm_world.specs.Possible.{PossibleIsHeld, SeenIsTrue};
 ghost use Rattle.pm_world.specs.Setup.{setup_of, start, setup_fault};
@@ -26,9 +27,9 @@ use crate::back::Back;
 use crate::cause::Cause;
 use crate::event::Event;
 use crate::laws::{
-    confirmed_settings_are_held, frames_are_few, honest_orders_go_through,
-    learned_formats_are_true, lives_are_followed, lives_are_orders, lives_stay_limited,
-    possible_words_are_held, spell,
+    confirmed_settings_are_held, differing_orders_never_took, frames_are_few,
+    honest_orders_go_through, learned_formats_are_true, lives_are_followed, lives_are_orders,
+    lives_stay_limited, possible_words_are_held, spell,
 };
 use crate::legal::{
     answer_in, back_bytes, hear_replied, heard_bytes, heard_ending, is_heard_whole,
@@ -76,6 +77,7 @@ impl World {
     #[tactic(auto, unfolding(crate::specs::Setup::start, crate::specs::Setup::setup_fault))]
     pub fn new(c: Config, passes: u8) -> Result<World, SetupFault>
         ensures made { IfOk result (λ world. world ≡ start c passes) }
+        ensures taken { IfOk result (λ world. world.taken ≡ 0) }
         ensures config { IfOk result (λ world. world.device.config ≡ c) }
         ensures setup { IfOk result (λ world. world.host.setup ≡ setup_of c passes) }
         ensures sound { OnOk result (IsSound c × IsSetup (setup_of c passes) × IsSpelled c) }
@@ -120,7 +122,10 @@ impl World {
     /// - `few`: no job sends more than twice as many frames as it has passes.
     /// - `through`: an undisturbed order that WRITE_PROTECT allows ends done, confirmed and held.
     /// - `formats`, `nearest`: a format that the host learned is the converter's, and an order in
-    ///   microvolts is that of the nearest word in it.
+    ///   microvolts is that of the nearest word in it. A learn that learned leaves a format until the host restarts,
+    ///   and no other job changes one.
+    /// - `never`: an order that differs never took, where the converter didn't restart since it was accepted.
+    /// - `taken`, `room`: how many events the world took, no more than there are.
     /// - `now`, `all`, `stop`: the world is what its definition says of the taken events, each of them was
     ///   taken, and the first other one has a cause, which is the stop's.
     /// - `config`, `setup`: the converter has this configuration, the host its address, its outputs and
@@ -161,6 +166,12 @@ impl World {
             PossibleIsHeld c passes (taken_events events.now run.1) run.0) }
         ensures seen { IfOk result (λ run.
             SeenIsTrue c passes (taken_events events.now run.1) run.0) }
+        ensures never { IfOk result (λ run.
+            DiffersNeverTook c passes (taken_events events.now run.1)) }
+        ensures taken { IfOk result (λ run.
+            run.0.taken ≡ length (taken_events events.now run.1)) }
+        ensures room { IfOk result (λ run.
+            (now c passes (taken_events events.now run.1)).taken ≤ length events.now) }
         ensures sound { OnOk result (IsSound c × IsSetup (setup_of c passes) × IsSpelled c) }
     {
         // These calls hand their laws to the prover, and do nothing else.
@@ -171,6 +182,7 @@ impl World {
         learned_formats_are_true();
         confirmed_settings_are_held();
         possible_words_are_held();
+        differing_orders_never_took();
         World::lived(c, passes, events)
     }
 
@@ -184,6 +196,10 @@ impl World {
             run.0 ≡ now c passes (taken_events events.now run.1)) }
         ensures all { IfOk result (λ run. AreTaken c passes (taken_events events.now run.1)) }
         ensures stop { IfOk result (λ run. StopsAt c passes events.now run.1) }
+        ensures taken { IfOk result (λ run.
+            run.0.taken ≡ length (taken_events events.now run.1)) }
+        ensures room { IfOk result (λ run.
+            (now c passes (taken_events events.now run.1)).taken ≤ length events.now) }
     {
         // Hands its law to the prover.
         lives_are_followed();
@@ -193,11 +209,12 @@ impl World {
     }
 
     /// Lets an event happen. `Err` is the first cause against it, in the order of [`Cause`]; then
-    /// nothing has changed (`taken`). The host stays that of the same outputs (`kept`), and the converter
+    /// nothing has changed (`taken`). An event that is taken counts (`counted`). The host stays that of the same outputs (`kept`), and the converter
     /// that of the same configuration (`config`).
     #[tactic(auto, unfolding(crate::specs::State::cause_of, crate::specs::State::next))]
     pub fn step(&mut self, e: &Event) -> Result<(), Cause>
         ensures taken { Steps self.old e.now result self.new }
+        ensures counted { OnOk result (self.new.taken ≡ self.old.taken + 1) }
         ensures kept { self.new.host.setup ≡ self.old.host.setup }
         ensures config { self.new.device.config ≡ self.old.device.config }
     {

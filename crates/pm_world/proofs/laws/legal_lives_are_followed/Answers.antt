@@ -12,6 +12,7 @@ use Rattle.pm_world.proofs.HeldWords.{confirmed-held}
 use Rattle.pm_world.proofs.LearnedLives.{formats-agree, micros-nearest}
 use Rattle.pm_world.proofs.LeftWords.{left-possible}
 use Rattle.pm_world.proofs.Lives.{IsLived, life-told, lived-before, now-next, now-nil}
+use Rattle.pm_world.proofs.NeverTook.{differs-never}
 use Rattle.pm_world.proofs.OwnWords.{life-commands, life-own, life-stored}
 use Rattle.pm_world.proofs.Retellings.{life-run}
 use Rattle.pm_world.proofs.Seen.{possible-held, seen-true}
@@ -54,6 +55,7 @@ returns c =
       confirmed = λ config passes events sound made legal. confirmed-held laws config passes events (lived sound made legal);
       possible = λ config passes events sound made legal. possible-held laws config passes events (lived sound made legal);
       seen = λ config passes events sound made legal. seen-true laws config passes events (lived sound made legal);
+      never = λ config passes events sound made legal. differs-never laws config passes events (lived sound made legal);
       witness = λ config passes events chosen sound made legal fresh free possible.
           witness-leaves laws chosen (lived sound made legal) fresh free possible;
       only = λ config passes events retold chosen other sound made legal leaves.

@@ -1,6 +1,13 @@
+use Rattle.std.proofs.Common.{arith, ◌<◌, ◌^◌, sym, subst}
+use Rattle.pm_host.specs.Marks.{marks}
+use Rattle.pm_world.specs.Life.{life}
+use Rattle.pm_world.specs.Setup.{setup_of}
+use Rattle.pm_world.specs.Uncertainty.{due_before, since_restart}
 use Rattle.pm_world.proofs.Exact.{witness-leaves}
+use Rattle.pm_world.proofs.FirstWords.{first-small}
 use Rattle.pm_world.proofs.LeftWords.{left-possible, legal-taken}
 use Rattle.pm_world.proofs.Lives.{are-legal, lived-by}
+use Rattle.pm_world.proofs.Starts.{witness-word}
 use Rattle.pm_world.proofs.laws.possible_words_are_exact.Goals as goal
 
 pub returns : goal.returns
@@ -9,5 +16,11 @@ returns c = record {
       witness-leaves c.lower_laws.ensures chosen (lived-by config passes events sound made taken) fresh open' possible;
   only = λ config passes events retold chosen other sound made taken leaves.
       left-possible c.lower_laws.ensures (lived-by config passes events sound made taken) leaves;
+  words = λ config passes events chosen sound bytes words output register below.
+      let entries = since_restart (life config passes events).entries in
+      subst (λ n. n < 2 ^ 16)
+      (sym (witness-word config (due_before chosen (marks (setup_of config passes) entries)) output register
+      (let few = sound.few in omega arith)))
+      (first-small config (setup_of config passes) entries chosen bytes words output register below);
   legal = λ config passes events sound made room. (legal-taken config passes events room, are-legal config passes events);
 }

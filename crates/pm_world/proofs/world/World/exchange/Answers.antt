@@ -50,7 +50,7 @@ returns-then-not-is_legal_return-clause-acts c =
       came = c.back_bytes-came.result.now;
       whole = c.is_heard_whole-whole.result;
       asks = asks;
-      answer_is = c.answer_in-answer.ensures ∙ ap answer_in c.reply-reply.ensures;
+      answer_is = c.answer_in-answer.ensures.value ∙ ap answer_in c.reply-reply.ensures;
       came_is = c.back_bytes-came.ensures;
       whole_is = c.is_heard_whole-whole.ensures;
     } in
@@ -82,7 +82,7 @@ returns-clause-acts c =
       came = c.back_bytes-came.result.now;
       whole = c.is_heard_whole-whole.result;
       asks = asks;
-      answer_is = c.answer_in-answer.ensures ∙ ap answer_in c.reply-reply.ensures;
+      answer_is = c.answer_in-answer.ensures.value ∙ ap answer_in c.reply-reply.ensures;
       came_is = c.back_bytes-came.ensures;
       whole_is = c.is_heard_whole-whole.ensures;
     } in

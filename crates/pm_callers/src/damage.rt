@@ -1,0 +1,99 @@
+//! Damage that the packet error code betrays stops no run.
+
+ghost use Rattle.std.specs.Prelude.{◌≡◌, ◌<◌, ℕ, List, Some, false, true, IfOk, IfSome, OnSome, OnOk, reverse};
+ghost use Rattle.pm_frame.specs.declared.message.Message.{Message};
+ghost use Rattle.pm_frame.specs.Damage.{DifferWithinEight};
+ghost use Rattle.pm_frame.specs.Layout.{AreBytes, is_read_message};
+ghost use Rattle.pm_device.specs.declared.ending.Ending.{Ending};
+ghost use Rattle.pm_device.specs.declared.ending.Ending.TheVariants.{Restart};
+ghost use Rattle.pm_device.specs.Reply.{reply_of};
+ghost use Rattle.pm_device.specs.Start.{IsSound};
+ghost use Rattle.pm_host.specs.Messages.{cell_read};
+ghost use Rattle.pm_host.specs.Refusals.{IsSetup};
+ghost use Rattle.pm_host.specs.Summary.{sending_in};
+ghost use Rattle.pm_table.specs.declared.cell.Cell.{Cell};
+ghost use Rattle.pm_world.specs.declared.arrival.Arrival.TheVariants as arrival;
+ghost use Rattle.pm_world.specs.declared.back.Back.TheVariants as back;
+ghost use Rattle.pm_world.specs.declared.event.Event.TheVariants.{Deliver, Exchange};
+ghost use Rattle.pm_world.specs.Damage.{AreOthers, IsBetrayedDamage};
+ghost use Rattle.pm_world.specs.Legal.{answer_in as spec_answer_in, frame_of};
+ghost use Rattle.pm_world.specs.Life.{AreTaken, now};
+ghost use Rattle.pm_world.specs.Setup.{setup_of};
+ghost use Rattle.pm_world.specs.State.{IsTaken, answer_to, event_limit};
+
+use pm_device::{Config, Converter, Ending as End};
+use pm_world::{
+    Event, SetupFault, World, answer_in, betrayed_damage_is_taken, own_requests_are_answered,
+};
+
+/// After a run of fewer than a million events, a damaged write is taken, which the converter then ignores.
+pub fn a_damaged_write(c: Config, passes: u8, events: &[Event]) -> Result<Option<World>, SetupFault>
+    ensures { IfOk result (λ found. OnSome found ((message : Message) (bytes : List ℕ) (ending : Ending) →
+        sending_in (now c passes (reverse events.now)).host ≡ Some message → is_read_message message ≡ false →
+        IsBetrayedDamage (frame_of c.addr message) bytes →
+        IsTaken (now c passes (reverse events.now)) (Deliver (arrival.Bytes (record { items = bytes }) ending)))) }
+{
+    // Hands its law to the prover.
+    betrayed_damage_is_taken();
+    ran(c, passes, events)
+}
+
+/// So is the exchange of a cell's read whose answer is damaged, which the host then doesn't believe.
+pub fn a_damaged_answer(
+    c: Config,
+    passes: u8,
+    events: &[Event],
+) -> Result<Option<World>, SetupFault>
+    ensures { IfOk result (λ found. OnSome found ((cell : Cell) (bytes : List ℕ) →
+        sending_in (now c passes (reverse events.now)).host ≡ Some (cell_read cell) →
+        IsBetrayedDamage (answer_to (now c passes (reverse events.now)).device c.addr (cell_read cell) arrival.Whole) bytes →
+        IsTaken (now c passes (reverse events.now)) (Exchange arrival.Whole (back.Bytes (record { items = bytes }))))) }
+{
+    // These hand their laws to the prover.
+    betrayed_damage_is_taken();
+    own_requests_are_answered();
+    ran(c, passes, events)
+}
+
+/// And that of a request which is damaged within eight neighbouring bits, whatever the converter answers to it.
+pub fn a_damaged_request(
+    c: Config,
+    passes: u8,
+    events: &[Event],
+    bytes: &[u8],
+) -> Result<Option<World>, SetupFault>
+    ensures { IfOk result (λ found. OnSome found ((request : Message) →
+        sending_in (now c passes (reverse events.now)).host ≡ Some request → is_read_message request ≡ true →
+        AreOthers (frame_of c.addr request) bytes.now → DifferWithinEight (frame_of c.addr request) bytes.now →
+        IsTaken (now c passes (reverse events.now))
+        (Exchange (arrival.Bytes (record { items = bytes.now }) Restart) back.Whole))) }
+{
+    // Hands its law to the prover.
+    betrayed_damage_is_taken();
+    let found = ran(c, passes, events)?;
+    if let Some(world) = &found {
+        answers_in_bytes(world.device(), bytes);
+    }
+    Ok(found)
+}
+
+/// What a converter answers are bytes.
+pub fn answers_in_bytes(device: &Converter, bytes: &[u8])
+    ensures { AreBytes (spec_answer_in (reply_of device.now bytes.now Restart)) }
+{
+    let _ = answer_in(&device.reply(bytes, End::Restart));
+}
+
+// The world after these events, all of which were taken, and which aren't a million.
+fn ran(c: Config, passes: u8, events: &[Event]) -> Result<Option<World>, SetupFault>
+    ensures now { IfOk result (λ found. IfSome found (λ world. world ≡ now c passes (reverse events.now))) }
+    ensures all { IfOk result (λ found. OnSome found (AreTaken c passes (reverse events.now))) }
+    ensures room { IfOk result (λ found. OnSome found ((now c passes (reverse events.now)).taken < event_limit)) }
+    ensures sound { OnOk result (IsSound c × IsSetup (setup_of c passes)) }
+{
+    let (world, stop) = World::run(c, passes, events)?;
+    if stop.is_some() || events.len() >= 1_000_000 {
+        return Ok(None);
+    }
+    Ok(Some(world))
+}

@@ -1,0 +1,75 @@
+//! What the host calls possible is exact, for all cells of all outputs together.
+
+ghost use Rattle.std.specs.Prelude.{◌≡◌, ◌∷◌, ◌<◌, ◌≤◌, ◌*◌, ◌^◌, ℕ, List, None, false, IfOk, IfSome, length, reverse};
+ghost use Rattle.std.specs.List.{list_any};
+ghost use Rattle.pm_device.specs.declared.config.Config.{Config as AnyConfig};
+ghost use Rattle.pm_device.specs.Start.{start_word};
+ghost use Rattle.pm_host.specs.Marks.{marks};
+ghost use Rattle.pm_world.specs.declared.event.Event.{Event as Happening};
+ghost use Rattle.pm_world.specs.Confirmed.{restarts_converter};
+ghost use Rattle.pm_world.specs.Life.{AreTaken, life, now};
+ghost use Rattle.pm_world.specs.Setup.{setup_fault, setup_of};
+ghost use Rattle.pm_world.specs.State.{event_limit};
+ghost use Rattle.pm_world.specs.Uncertainty.{AreLegal, AreOfBytes, AreOpen, ArePossible, AreWordsChosen, Choice, Leaves, due_before, since_restart, witness_events, witness_start};
+
+use crate::further::run_and_step;
+use pm_device::Config;
+use pm_world::{Event, SetupFault, World, lists_say_enough, possible_words_are_exact};
+
+/// Let the converter not restart in these events, and WRITE_PROTECT be ordered and read as 00h alone. Then words that
+/// are all possible are left together by a life that is named, which tells the host just the same.
+pub fn words_that_are_possible(
+    c: Config,
+    passes: u8,
+    events: &[Event],
+    more: &Event,
+) -> Result<Option<World>, SetupFault>
+    ensures { IfOk result (λ found. IfSome found (λ world. (chosen : Choice) →
+        list_any restarts_converter (more.now ∷ reverse events.now) ≡ false →
+        let entries = since_restart (life c passes (more.now ∷ reverse events.now)).entries in
+        let told = marks (setup_of c passes) entries in
+        AreOpen told → ArePossible c world.host chosen →
+        Leaves c passes entries chosen (witness_start c (due_before chosen told)) (witness_events (setup_of c passes) chosen entries))) }
+{
+    // These hand their laws to the prover.
+    lists_say_enough();
+    possible_words_are_exact();
+    run_and_step(c, passes, events, more)
+}
+
+/// That life begins in a world that can be made.
+pub fn a_world_that_can_be_made(
+    c: Config,
+    passes: u8,
+    events: &[Event],
+    more: &Event,
+) -> Result<Option<World>, SetupFault>
+    ensures made { IfOk result (λ found. IfSome found (λ world. (chosen : Choice) →
+        list_any restarts_converter (more.now ∷ reverse events.now) ≡ false →
+        let entries = since_restart (life c passes (more.now ∷ reverse events.now)).entries in
+        let told = marks (setup_of c passes) entries in
+        AreOpen told → ArePossible c world.host chosen →
+        setup_fault (witness_start c (due_before chosen told)) passes ≡ None)) }
+    ensures short { (chosen : Choice) → length (witness_events (setup_of c passes) chosen
+        (since_restart (life c passes (more.now ∷ reverse events.now)).entries)) ≤ 2 * length (more.now ∷ reverse events.now) }
+{
+    // Hands its law to the prover.
+    lists_say_enough();
+    words_that_are_possible(c, passes, events, more)
+}
+
+/// And words that any life leaves which tells the host just the same are possible.
+pub fn words_that_a_life_leaves(
+    c: Config,
+    passes: u8,
+    events: &[Event],
+    more: &Event,
+) -> Result<Option<World>, SetupFault>
+    ensures { IfOk result (λ found. IfSome found (λ world. (retold : List Happening) (chosen : Choice) (other : AnyConfig) →
+        Leaves c passes (since_restart (life c passes (more.now ∷ reverse events.now)).entries) chosen other retold →
+        ArePossible c world.host chosen)) }
+{
+    // Hands its law to the prover.
+    possible_words_are_exact();
+    run_and_step(c, passes, events, more)
+}
