@@ -17,6 +17,7 @@ mod LearnedLives
 mod LeftWords
 mod LimitedLives
 mod Lives
+mod Moves
 mod OpenOrders
 mod OrderEvents
 mod OwnWords

@@ -112,7 +112,7 @@ retold-ordered config passes (event ∷ before) cell word h =
     ]
 
 -- there is a start word for each cell
-full : Below → (config : Config) → AreWords (start_words config)
+pub full : Below → (config : Config) → AreWords (start_words config)
 unfolding start_words
 full laws config = (laws.settings_are_a_map.made (start_word config)).0
 

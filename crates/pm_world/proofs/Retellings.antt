@@ -34,7 +34,7 @@ use Rattle.pm_world.proofs.OrderEvents.{event-stays, exchanged-order, job-order,
 use Rattle.pm_world.proofs.Undisturbed.{now-sound}
 
 -- the message whose frame is being sent fits its layout
-sent-fits : Below → (config : Config) (passes : ℕ) (events : List Event) → IsLived config passes events → (message : Message) →
+pub sent-fits : Below → (config : Config) (passes : ℕ) (events : List Event) → IsLived config passes events → (message : Message) →
     sending_in (now config passes events).host ≡ Some message → fits_layout message ≡ true
 unfolding now state_of
 sent-fits laws config passes events lived message e =

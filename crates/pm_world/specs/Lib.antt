@@ -15,5 +15,6 @@ pub mod Limited
 pub mod Bands
 pub mod LimitLaws
 pub mod FaultWords
+pub mod Moves
 -- How it is kept.
 pub mod Below

@@ -5,6 +5,7 @@ ghost use Rattle.pm_world.specs.Below.{Below};
 ghost use Rattle.pm_world.specs.Honest.{IsSpelled};
 ghost use Rattle.pm_world.specs.Laws.{BetrayedDamageIsLegal, BetrayedDamageIsTaken, ConfirmedSettingsAreHeld, FramesAreFew, HonestOrdersGoThrough, LearnedFormatsAreTrue, LegalLivesAreFollowed, LivesAreFollowed, LivesAreOrders, PossibleWordsAreExact, PossibleWordsAreHeld};
 ghost use Rattle.pm_world.specs.LimitLaws.{BandsAreExact, BandsAreHeld, LivesStayLimited};
+ghost use Rattle.pm_world.specs.Moves.{SettingsMoveByTheOpenJob};
 ghost use Rattle.std.specs.Prelude.{◌<◌, ◌^◌};
 
 use pm_device::{
@@ -188,6 +189,19 @@ pub fn bands_are_held()
 /// band at the chosen end, as that very fraction, all at once.
 pub fn bands_are_exact()
     ensures { BandsAreExact }
+{
+    lower_laws();
+}
+
+/// Nothing moves but by the open job, at each moment of a life, whatever was lost, cut, damaged, repeated or falsely
+/// acknowledged. A cell's word is another one after an event only where the converter restarted and the word is the
+/// stored one, or where a delivery let the open job take, its frame heard whole and its code allowed: an order of this
+/// word for this very cell, or a restore, and the word is the stored one (`moves`). The store is another one only where a
+/// delivery let an open store take, which copies all outputs' words at once (`stores`). So it has the words of one
+/// earlier moment, or of the start, never a mixture, and of WRITE_PROTECT the start word (`moment`). This holds of
+/// legal events, as many as there may be (`legal`), and so of those that a world took (`taken`).
+pub fn settings_move_by_the_open_job()
+    ensures { SettingsMoveByTheOpenJob }
 {
     lower_laws();
 }
