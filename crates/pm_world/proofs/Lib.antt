@@ -11,6 +11,8 @@ mod Exact
 mod Exchanges
 mod Frames
 mod Hearings
+mod GoodPasses
+mod GoodReads
 mod HeldWords
 mod Learned
 mod LearnedLives

@@ -16,5 +16,6 @@ pub mod Bands
 pub mod LimitLaws
 pub mod FaultWords
 pub mod Moves
+pub mod GoodBus
 -- How it is kept.
 pub mod Below

@@ -5,6 +5,7 @@ ghost use Rattle.pm_world.specs.Below.{Below};
 ghost use Rattle.pm_world.specs.Honest.{IsSpelled};
 ghost use Rattle.pm_world.specs.Laws.{BetrayedDamageIsLegal, BetrayedDamageIsTaken, ConfirmedSettingsAreHeld, FramesAreFew, HonestOrdersGoThrough, LearnedFormatsAreTrue, LegalLivesAreFollowed, LivesAreFollowed, LivesAreOrders, PossibleWordsAreExact, PossibleWordsAreHeld};
 ghost use Rattle.pm_world.specs.LimitLaws.{BandsAreExact, BandsAreHeld, LivesStayLimited};
+ghost use Rattle.pm_world.specs.GoodBus.{GoodFramesEndJobs};
 ghost use Rattle.pm_world.specs.Moves.{SettingsMoveByTheOpenJob};
 ghost use Rattle.std.specs.Prelude.{◌<◌, ◌^◌};
 
@@ -202,6 +203,13 @@ pub fn bands_are_exact()
 /// legal events, as many as there may be (`legal`), and so of those that a world took (`taken`).
 pub fn settings_move_by_the_open_job()
     ensures { SettingsMoveByTheOpenJob }
+{
+    lower_laws();
+}
+
+/// What a bus comes to that is good again.
+pub fn good_frames_end_jobs()
+    ensures { GoodFramesEndJobs }
 {
     lower_laws();
 }

@@ -42,7 +42,7 @@ pub use cause::Cause;
 pub use event::Event;
 pub use laws::{
     bands_are_exact, bands_are_held, betrayed_damage_is_legal, betrayed_damage_is_taken,
-    confirmed_settings_are_held, frames_are_few, honest_orders_go_through,
+    confirmed_settings_are_held, frames_are_few, good_frames_end_jobs, honest_orders_go_through,
     learned_formats_are_true, legal_lives_are_followed, lives_are_followed, lives_are_orders,
     lives_stay_limited, possible_words_are_exact, possible_words_are_held,
     settings_move_by_the_open_job, spell,
