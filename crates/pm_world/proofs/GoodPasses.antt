@@ -64,13 +64,13 @@ more-beside : Below → {config : Config} {passes : ℕ} {before events : List E
     (delivers_whole (frame_of config.addr (cell_write cell word)) event || whole)
 more-beside laws {config = config} {passes = passes} {before = before} {events = events} {cell = cell} {word = word} {pass = pass}
     {whole = whole} (Deliver arrival) fixed lived is so_far = record {
-  sends = subst (λ (s : State). Sends s cell word pass (is_whole (frame_of config.addr (cell_write cell word)) arrival || whole))
-      (sym (now-next laws config passes events (Deliver arrival) lived))
-      (subst (λ (k : Config). Sends (next (now config passes events) (Deliver arrival)) cell word pass
-      (is_whole (frame_of k.addr (cell_write cell word)) arrival || whole))
-      (now-config config passes events) (deliver-sends laws arrival fixed so_far.sends (newest lived)));
-  entries = deliver-entries config passes events arrival ∙ so_far.entries;
-}
+      sends = subst (λ (s : State). Sends s cell word pass (is_whole (frame_of config.addr (cell_write cell word)) arrival || whole))
+          (sym (now-next laws config passes events (Deliver arrival) lived))
+          (subst (λ (k : Config). Sends (next (now config passes events) (Deliver arrival)) cell word pass
+          (is_whole (frame_of k.addr (cell_write cell word)) arrival || whole))
+          (now-config config passes events) (deliver-sends laws arrival fixed so_far.sends (newest lived)));
+      entries = deliver-entries config passes events arrival ∙ so_far.entries;
+    }
 more-beside laws {config = config} {passes = passes} {before = before} {events = events} {cell = cell} {word = word} {pass = pass}
     {whole = whole} (Reading output code value) fixed lived is so_far =
     let quiet = quiet-reading laws events (Reading output code value) lived refl in
@@ -155,6 +155,75 @@ pass-done laws {config = config} {passes = passes} {after = after} {cell = cell}
       alone = e.read.alone ∙ ap only held;
       held = held;
     }
+
+-- where the word that is read back isn't the order's, the next pass does it
+pub three-done : Below → {config : Config} {passes : ℕ} {before first middle after : List Event} {cell : Cell} {word pass : ℕ} {acked : Bool} →
+    IsLived config passes before → IsLived config passes first → IsLived config passes middle → IsLived config passes after →
+    (now config passes before).host.stage ≡ Some (Reads cell word pass) → (held_after config passes before cell ≢ word) × (pass + 1 < passes) →
+    is_allowed (held_after config passes before Protect) (cell_code cell) ≡ true →
+    IsRead config passes (cell_read cell) before first →
+    IsWritten (frame_of config.addr (cell_write cell word)) acked first middle →
+    IsRead config passes (cell_read cell) middle after →
+    WentInPass config passes cell word acked first after
+    × ((answer : List ℕ) × ((life config passes first).entries ≡ host.Got answer ∷ (life config passes before).entries))
+three-done laws {cell = cell} lived one half all stage (differs, left) allowed read w r =
+    let again = order-again laws lived one stage read differs left in (
+      pass-done laws one half all again.0 (ap (λ (x : Words). is_allowed (word_at x Protect) (cell_code cell)) again.1.words ∙ allowed) w r,
+      (again.1.answer, again.1.entries),
+    )
+
+-- what leaves the host
+record LeavesHost (config : Config) (passes : ℕ) (before events : List Event) : Type 0 where
+  summary : (now config passes events).host ≡ (now config passes before).host
+  entries : (life config passes events).entries ≡ (life config passes before).entries
+
+-- one event beside a write
+host-beside : Below → {config : Config} {passes : ℕ} (events : List Event) (event : Event) → IsLived config passes (event ∷ events) →
+    is_beside event ≡ true → LeavesHost config passes events (event ∷ events)
+host-beside laws {config = config} {passes = passes} events (Deliver arrival) lived is = record {
+  summary = ap (λ (s : State). s.host) (now-next laws config passes events (Deliver arrival) lived)
+      ∙ next-deliver-host (now config passes events) arrival;
+  entries = deliver-entries config passes events arrival;
+}
+host-beside laws events (Reading output code value) lived is =
+    let quiet = quiet-reading laws events (Reading output code value) lived refl in
+    record { summary = quiet.host; entries = quiet.entries }
+host-beside laws events event lived is = cc
+
+-- and one after another
+hosts-beside : Below → {config : Config} {passes : ℕ} (before between : List Event) → IsLived config passes (between ++ before) →
+    list_all is_beside between ≡ true → LeavesHost config passes before (between ++ before)
+hosts-beside laws before [] lived all = record { summary = refl; entries = refl }
+hosts-beside laws before (event ∷ between) lived all =
+    let parts = and_parts (is_beside event) (list_all is_beside between) all in
+    let so_far = hosts-beside laws before between (earlier lived) parts.1 in
+    let one = host-beside laws (between ++ before) event lived parts.0 in
+    record { summary = one.summary ∙ so_far.summary; entries = one.entries ∙ so_far.entries }
+
+-- a command that is acknowledged is done
+abbrev SentDone : Config → ℕ → List Event → List Event → Type 0
+SentDone config passes before after = ((now config passes after).end ≡ Some Done)
+    × ((life config passes after).entries ≡ host.Finished true ∷ (life config passes before).entries)
+
+-- by its step
+next-sent : (s : State) (command : Command) (tries : ℕ) → s.host.stage ≡ Some (SendsCommand command tries) →
+    (next s (Finish true)).end ≡ Some Done
+unfolding next step_of
+next-sent s command tries stage = ap (λ o. end_by (finished (idle s.host) o true).step) stage
+
+-- by its write
+pub send-done : Below → {config : Config} {passes : ℕ} {frame : List ℕ} {before after : List Event} {command : Command} {tries : ℕ} →
+    IsLived config passes after → (now config passes before).host.stage ≡ Some (SendsCommand command tries) →
+    IsWritten frame true before after → SentDone config passes before after
+send-done laws {config = config} {passes = passes} {before = before} {command = command} {tries = tries} all stage w =
+    let middle = w.between ++ before in
+    let whole = subst (IsLived config passes) w.is all in
+    let so = hosts-beside laws before w.between (earlier whole) w.beside in
+    subst (SentDone config passes before) (sym w.is) (
+      ap (λ (t : State). t.end) (now-next laws config passes middle (Finish true) whole)
+          ∙ next-sent (now config passes middle) command tries (ap (λ (h : Summary). h.stage) so.summary ∙ stage),
+      share-entries config passes middle (Finish true) (Some (host.Finished true)) refl ∙ ap (λ l. host.Finished true ∷ l) so.entries,
+    )
 
 -- what came before such a write was lived through
 pub written-lived : {config : Config} {passes : ℕ} {frame : List ℕ} {acked : Bool} {before events : List Event} →

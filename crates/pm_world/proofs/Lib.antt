@@ -11,6 +11,7 @@ mod Exact
 mod Exchanges
 mod Frames
 mod Hearings
+mod GoodLearns
 mod GoodPasses
 mod GoodReads
 mod HeldWords

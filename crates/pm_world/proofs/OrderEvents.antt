@@ -194,9 +194,9 @@ heard-kept laws held message arrival job writes fits legal makes = go (is_whole 
   go false e = elim (hears-write laws held message bytes (ending_of Stop arrival) writes fits legal) [
     | inl same ↦ same ∙ ap (kept_taken held) (sym (none job))
     | inr (stop, whole) ↦
-      (let so : is_whole frame arrival ≡ true =
-      whole-so frame bytes (ending_of Stop arrival) stop (whole.spelled ∙ sym (frame-write held.config.addr message writes)) in
-      let bad : true ≡ false = sym so ∙ e in cc)
+        (let so : is_whole frame arrival ≡ true =
+        whole-so frame bytes (ending_of Stop arrival) stop (whole.spelled ∙ sym (frame-write held.config.addr message writes)) in
+        let bad : true ≡ false = sym so ∙ e in cc)
   ]
 
 -- two tests, one after the other
