@@ -11,6 +11,7 @@ mod Exact
 mod Exchanges
 mod Frames
 mod Hearings
+mod GoodFrames
 mod GoodLearns
 mod GoodPasses
 mod GoodReads

@@ -17,7 +17,7 @@ use Rattle.pm_frame.specs.Layout.{IsWrite, is_read_message, fits_layout}
 use Rattle.pm_model.specs.declared.pending_job.PendingJob.{PendingJob}
 use Rattle.pm_model.specs.declared.pending_job.PendingJob.TheVariants as pending
 use Rattle.pm_model.specs.OrderMachine.{words_taken, store_taken}
-use Rattle.pm_model.specs.Settings.{with_outputs, with_word, word_at}
+use Rattle.pm_model.specs.Settings.{Words, with_outputs, with_word, word_at}
 use Rattle.pm_device.specs.declared.ending.Ending.{Ending}
 use Rattle.pm_device.specs.declared.ending.Ending.TheVariants.{Stop, Restart}
 use Rattle.pm_device.specs.Held.{Held}
@@ -43,7 +43,7 @@ use Rattle.pm_world.specs.declared.back.Back.{Back as Return}
 use Rattle.pm_world.specs.declared.cause.Cause.TheVariants.{NotBetrayed, WrongKind}
 use Rattle.pm_world.specs.Honest.{is_whole}
 use Rattle.pm_world.specs.Legal.{ending_of, frame_of, heard_bytes, heard_ending, is_legal_hearing, is_restart}
-use Rattle.pm_world.specs.Retelling.{command_pending, pending_code, taken_by}
+use Rattle.pm_world.specs.Retelling.{command_pending, pending_code, taken_by, takes_frame}
 use Rattle.pm_world.specs.State.{State, rule, device_after, host_after, delivered, exchanged, delivery_cause, exchange_cause, hearing_cause}
 use Rattle.pm_world.specs.State.{return_cause}
 use Rattle.pm_world.proofs.Causes.{or-none, rule-none, not-false}
@@ -205,6 +205,15 @@ both-so true true job = refl
 both-so true false job = refl
 both-so false true job = refl
 both-so false false job = refl
+
+-- what takes is the job that is open
+pub taken-open : (addr : ℕ) (words : Words) (arrival : Arrival) (open_one : Option PendingJob) (job : PendingJob) →
+    taken_by addr words arrival open_one ≡ Some job → open_one ≡ Some job
+taken-open addr words arrival None job e = cc
+taken-open addr words arrival (Some one) job e = go (takes_frame addr words arrival one) e where
+  go : (b : Bool) → cond b (Some one) None ≡ Some job → Some one ≡ Some job
+  go true h = h
+  go false h = cc
 
 -- what is known of a world whose host sends
 pub record Sending (s : State) : Type 0 where

@@ -23,13 +23,13 @@ use Rattle.pm_world.specs.declared.event.Event.{Event}
 use Rattle.pm_world.specs.declared.event.Event.TheVariants.{Deliver, Finish, Exchange, RestartDevice, RestartHost, Reading}
 use Rattle.pm_world.specs.Life.{life, now, state_of}
 use Rattle.pm_world.specs.Retelling.{start_settings, open_pending, pending_of, accepts, ends_between, told, told_beside, retold, takes}
-use Rattle.pm_world.specs.Retelling.{takes_frame, taken_at, taken_by, IsOrderRun}
+use Rattle.pm_world.specs.Retelling.{taken_at, taken_by, IsOrderRun}
 use Rattle.pm_world.specs.Setup.{setup_of, start}
 use Rattle.pm_world.specs.State.{State, asked, event_cause, next}
 use Rattle.pm_world.proofs.Causes.{job-free, asked-next, beside-next}
 use Rattle.pm_world.proofs.Lives.{IsLived, earlier, newest, life-told, now-config, now-next, now-nil}
 use Rattle.pm_world.proofs.OpenOrders.{stage_pending, open_pending-is, finished-order, Goes}
-use Rattle.pm_world.proofs.OrderEvents.{Sending, Stays, TookJob, delivered-stage, delivered-takes, exchanged-stays}
+use Rattle.pm_world.proofs.OrderEvents.{Sending, Stays, TookJob, delivered-stage, delivered-takes, exchanged-stays, taken-open}
 use Rattle.pm_world.proofs.OrderEvents.{event-stays, exchanged-order, job-order, order-free}
 use Rattle.pm_world.proofs.Undisturbed.{now-sound}
 
@@ -255,15 +255,6 @@ gone-on config passes before event f is_told same (inr over) = go (open_pending 
       (is_told ∙ ends-none (open_pending config passes before) (open_pending config passes (event ∷ before)) after
       (ap is_some e))
       same over
-
--- what takes is the job that is open
-taken-open : (addr : ℕ) (words : Words) (arrival : Arrival) (open_one : Option PendingJob) (job : PendingJob) →
-    taken_by addr words arrival open_one ≡ Some job → open_one ≡ Some job
-taken-open addr words arrival None job e = cc
-taken-open addr words arrival (Some one) job e = go (takes_frame addr words arrival one) e where
-  go : (b : Bool) → cond b (Some one) None ≡ Some job → Some one ≡ Some job
-  go true h = h
-  go false h = cc
 
 -- and over a delivery
 delivered-on : {config : Config} {passes : ℕ} {before : List Event} {arrival : Arrival} →

@@ -30,7 +30,7 @@ use Rattle.pm_world.specs.declared.event.Event.{Event}
 use Rattle.pm_world.specs.declared.event.Event.TheVariants.{Deliver, Exchange, Finish, Reading}
 use Rattle.pm_world.specs.Honest.{IsSpelled, is_whole}
 use Rattle.pm_world.specs.Legal.{back_bytes, frame_of, heard_bytes, heard_ending, is_heard_whole}
-use Rattle.pm_world.specs.Life.{life, now}
+use Rattle.pm_world.specs.Life.{AreTaken, life, now}
 use Rattle.pm_world.specs.Setup.{setup_of}
 use Rattle.pm_world.specs.State.{State, answer_to}
 use Rattle.pm_world.specs.Uncertainty.{AreLegal}
@@ -125,31 +125,28 @@ pub record WasLearned (config : Config) (passes : ℕ) (output : ℕ) (after : L
   pub learned : (now config passes after).end ≡ Some Learned
   pub format : format_at (now config passes after).host output ≡ Some (shape_for config output)
 
--- What frames that nothing disturbs make of an open job in legal events, whatever went before.
-pub record GoodFramesEndJobs : Type 0 where
+-- What frames that nothing disturbs make of an open job among these events, whatever went before. Each clause has
+-- the events before such frames and after them.
+pub record GoodFrames (config : Config) (passes : ℕ) (events : List Event) : Type 0 where
   -- a check is done by one read
-  pub check : (config : Config) (passes : ℕ) (before after : List Event) (cell : Cell) (tries : ℕ) →
-      IsSound config → IsSetup (setup_of config passes) → AreLegal config passes after →
+  pub check : (later before after : List Event) (cell : Cell) (tries : ℕ) → events ≡ later ++ after →
       stage_after config passes before ≡ Some (Asks (Word cell) tries) →
       IsRead config passes (cell_read cell) before after → ReadDone config passes cell before after
   -- an order that WRITE_PROTECT allows is done by the write and the read of one pass, whichever it is
-  pub order : (config : Config) (passes : ℕ) (before middle after : List Event) (cell : Cell) (word pass : ℕ) (acked : Bool) →
-      IsSound config → IsSetup (setup_of config passes) → AreLegal config passes after →
-      stage_after config passes before ≡ Some (Writes cell word pass) →
+  pub order : (later before middle after : List Event) (cell : Cell) (word pass : ℕ) (acked : Bool) →
+      events ≡ later ++ after → stage_after config passes before ≡ Some (Writes cell word pass) →
       is_allowed (held_after config passes before Protect) (cell_code cell) ≡ true →
       IsWritten (frame_of config.addr (cell_write cell word)) acked before middle →
       IsRead config passes (cell_read cell) middle after → WentInPass config passes cell word acked before after
   -- one that is to be read back, and whose word the converter holds, is done by that read
-  pub read_back : (config : Config) (passes : ℕ) (before after : List Event) (cell : Cell) (word pass : ℕ) →
-      IsSound config → IsSetup (setup_of config passes) → AreLegal config passes after →
+  pub read_back : (later before after : List Event) (cell : Cell) (word pass : ℕ) → events ≡ later ++ after →
       stage_after config passes before ≡ Some (Reads cell word pass) →
       held_after config passes before cell ≡ word →
       IsRead config passes (cell_read cell) before after → ReadDone config passes cell before after
   -- and one whose word it doesn't hold is done by three frames where a pass is left: by that read, and by the
   -- write and the read of the next pass
-  pub three : (config : Config) (passes : ℕ) (before first middle after : List Event) (cell : Cell) (word pass : ℕ) (acked : Bool) →
-      IsSound config → IsSetup (setup_of config passes) → AreLegal config passes after →
-      stage_after config passes before ≡ Some (Reads cell word pass) →
+  pub three : (later before first middle after : List Event) (cell : Cell) (word pass : ℕ) (acked : Bool) →
+      events ≡ later ++ after → stage_after config passes before ≡ Some (Reads cell word pass) →
       held_after config passes before cell ≢ word → pass + 1 < passes →
       is_allowed (held_after config passes before Protect) (cell_code cell) ≡ true →
       IsRead config passes (cell_read cell) before first →
@@ -158,20 +155,26 @@ pub record GoodFramesEndJobs : Type 0 where
       WentInPass config passes cell word acked first after
       × ((answer : List ℕ) × ((life config passes first).entries ≡ Got answer ∷ (life config passes before).entries))
   -- a clear, a store or a restore is done by one write that is acknowledged
-  pub send : (config : Config) (passes : ℕ) (before after : List Event) (command : Command) (tries : ℕ) →
-      IsSound config → IsSetup (setup_of config passes) → AreLegal config passes after →
+  pub send : (later before after : List Event) (command : Command) (tries : ℕ) → events ≡ later ++ after →
       stage_after config passes before ≡ Some (Sends command tries) →
       IsWritten (frame_of config.addr (command_message command)) true before after →
       ((now config passes after).end ≡ Some Done)
       × ((life config passes after).entries ≡ Finished true ∷ (life config passes before).entries)
   -- a learn ends Learned by one read of VOUT_MODE, or by that and one of the coefficients
-  pub mode : (config : Config) (passes : ℕ) (before after : List Event) (output tries : ℕ) →
-      IsSound config → IsSpelled config → IsSetup (setup_of config passes) → AreLegal config passes after →
-      stage_after config passes before ≡ Some (Asks (Mode output) tries) →
+  pub mode : (later before after : List Event) (output tries : ℕ) → events ≡ later ++ after →
+      IsSpelled config → stage_after config passes before ≡ Some (Asks (Mode output) tries) →
       IsRead config passes (mode_read output) before after →
       WasLearned config passes output after
       ⊎ (stage_after config passes after ≡ Some (Asks (Coefficients output) 0))
-  pub coefficients : (config : Config) (passes : ℕ) (before after : List Event) (output tries : ℕ) →
-      IsSound config → IsSpelled config → IsSetup (setup_of config passes) → AreLegal config passes after →
-      stage_after config passes before ≡ Some (Asks (Coefficients output) tries) →
+  pub coefficients : (later before after : List Event) (output tries : ℕ) → events ≡ later ++ after →
+      IsSpelled config → stage_after config passes before ≡ Some (Asks (Coefficients output) tries) →
       IsRead config passes coefficients_read before after → WasLearned config passes output after
+
+-- of legal events, and so of those that a world took
+pub record GoodFramesEndJobs : Type 0 where
+  pub legal : (config : Config) (passes : ℕ) (events : List Event) →
+      IsSound config → IsSetup (setup_of config passes) → AreLegal config passes events →
+      GoodFrames config passes events
+  pub taken : (config : Config) (passes : ℕ) (events : List Event) →
+      IsSound config → IsSetup (setup_of config passes) → AreTaken config passes events →
+      GoodFrames config passes events

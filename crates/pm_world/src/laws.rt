@@ -207,7 +207,15 @@ pub fn settings_move_by_the_open_job()
     lower_laws();
 }
 
-/// What a bus comes to that is good again.
+/// A bus that is good again. Let a frame be undisturbed: a write is heard whole at least once, whatever else is
+/// delivered of it, or all of a request is heard and the converter's answer comes back, by the bytes and by how they end.
+/// Readings may change in between, and nothing else happens. Then, at any moment of a life and whatever went before:
+/// one read ends an open check Done, its cell confirmed and its word alone possible; where that word wasn't possible
+/// before, the host says from then on that it saw a restart (`check`). The write and the read of one pass end an order
+/// that WRITE_PROTECT allows Done, whichever pass it is (`order`); where it is to be read back first, that read does, or
+/// that and the next pass (`read_back`, `three`). A clear, a store or a restore ends Done by one write that is
+/// acknowledged (`send`), a learn ends Learned by one read or by two (`mode`, `coefficients`). This holds of legal events
+/// (`legal`), and so of those that a world took (`taken`).
 pub fn good_frames_end_jobs()
     ensures { GoodFramesEndJobs }
 {
