@@ -8,6 +8,7 @@ use Rattle.pm_world.proofs.GoodLearns.{coefficients-learned, mode-learned}
 use Rattle.pm_world.proofs.GoodPasses.{pass-done, send-done, three-done, written-lived}
 use Rattle.pm_world.proofs.GoodReads.{check-done, order-done, read-lived}
 use Rattle.pm_world.proofs.Lives.{IsLived, lived-before}
+use Rattle.pm_world.proofs.Sweeps.{shows, swept}
 
 -- the events up to some moment were lived through
 up-to : {config : Config} {passes : ℕ} {events : List Event} (later after : List Event) → IsLived config passes events →
@@ -40,4 +41,6 @@ frames-good laws {config = config} {passes = passes} {events = events} lived = r
   coefficients = λ later before after output tries is spelled stage read.
       let all = up-to later after lived is in
       coefficients-learned laws (read-lived all read) all spelled stage read;
+  sweep = λ later before after cells last is. swept laws before after cells last (up-to later after lived is);
+  shown = λ later before after cells cell is. shows laws cells before after cell (up-to later after lived is);
 }

@@ -34,6 +34,7 @@ mod Sending
 mod SinceRestart
 mod Standings
 mod Starts
+mod Sweeps
 mod TakenWhole
 mod Tellings
 mod TrueHost

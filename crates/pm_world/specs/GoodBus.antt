@@ -1,6 +1,6 @@
 -- What a bus comes to that is good again, whatever went before: frames that nothing disturbs, and what each of them
 -- makes of an open job. This project's own choice. Lists are newest first.
-use Rattle.std.specs.Prelude.{◌≡◌, ◌≢◌, ◌⊎◌, ◌+◌, ◌<◌, ℕ, Bool, true, false, not, ◌&&◌, ◌||◌, bytes_eq, if◌then◌else◌, List, ◌∷◌, ◌++◌, Option, Some}
+use Rattle.std.specs.Prelude.{◌≡◌, ◌≢◌, ◌⊎◌, ◌+◌, ◌<◌, ℕ, Bool, true, false, not, ◌&&◌, ◌||◌, bytes_eq, if◌then◌else◌, List, [], ◌∷◌, ◌++◌, Option, Some}
 use Rattle.std.specs.List.{list_all, list_any}
 use Rattle.pm_table.specs.declared.cell.Cell.{Cell}
 use Rattle.pm_table.specs.declared.cell.Cell.TheVariants.{Protect}
@@ -27,7 +27,7 @@ use Rattle.pm_host.specs.Transcript.{Finished, Got}
 use Rattle.pm_world.specs.declared.arrival.Arrival.{Arrival}
 use Rattle.pm_world.specs.declared.back.Back.{Back}
 use Rattle.pm_world.specs.declared.event.Event.{Event}
-use Rattle.pm_world.specs.declared.event.Event.TheVariants.{Deliver, Exchange, Finish, Reading}
+use Rattle.pm_world.specs.declared.event.Event.TheVariants.{Check, Deliver, Exchange, Finish, Reading}
 use Rattle.pm_world.specs.Honest.{IsSpelled, is_whole}
 use Rattle.pm_world.specs.Legal.{back_bytes, frame_of, heard_bytes, heard_ending, is_heard_whole}
 use Rattle.pm_world.specs.Life.{AreTaken, life, now}
@@ -125,6 +125,25 @@ pub record WasLearned (config : Config) (passes : ℕ) (output : ℕ) (after : L
   pub learned : (now config passes after).end ≡ Some Learned
   pub format : format_at (now config passes after).host output ≡ Some (shape_for config output)
 
+-- a cell was asked for and read by an exchange that nothing disturbs; readings may have changed before
+pub record Checks (config : Config) (passes : ℕ) (cell : Cell) (before after : List Event) : Type 0 where
+  pub readings : List Event
+  pub beside : list_all is_reading readings ≡ true
+  pub read : IsRead config passes (cell_read cell) (Check cell ∷ readings ++ before) after
+
+-- these cells were, one after another, in this order
+abbrev pub Sweeps : Config → ℕ → List Cell → List Event → List Event → Type 0
+Sweeps config passes [] before after = after ≡ before
+Sweeps config passes (cell ∷ cells) before after = (middle : List Event)
+    × Checks config passes cell before middle × Sweeps config passes cells middle after
+
+-- a cell is one of these; and each of these is there
+abbrev pub is_among : Cell → List Cell → Bool
+is_among cell cells = list_any (λ one. same_cell one cell) cells
+
+abbrev pub AreThere : ℕ → List Cell → Type 0
+AreThere count cells = (cell : Cell) → is_among cell cells ≡ true → IsCell count cell
+
 -- What frames that nothing disturbs make of an open job among these events, whatever went before. Each clause has
 -- the events before such frames and after them.
 pub record GoodFrames (config : Config) (passes : ℕ) (events : List Event) : Type 0 where
@@ -169,6 +188,16 @@ pub record GoodFrames (config : Config) (passes : ℕ) (events : List Event) : T
   pub coefficients : (later before after : List Event) (output tries : ℕ) → events ≡ later ++ after →
       IsSpelled config → stage_after config passes before ≡ Some (Asks (Coefficients output) tries) →
       IsRead config passes coefficients_read before after → WasLearned config passes output after
+  -- After 2n - 1 checks of n cells, all of them and then all but the last once more, each of them has the converter's
+  -- word alone possible.
+  pub sweep : (later before after : List Event) (cells : List Cell) (last : Cell) → events ≡ later ++ after →
+      AreThere config.count (last ∷ cells) → Sweeps config passes (cells ++ last ∷ cells) before after →
+      (cell : Cell) → is_among cell (last ∷ cells) ≡ true →
+      possible_at (now config passes after).host cell ≡ only (held_after config passes after cell)
+  -- Checks of cells show a restart where the word of one of them wasn't possible.
+  pub shown : (later before after : List Event) (cells : List Cell) (cell : Cell) → events ≡ later ++ after →
+      AreThere config.count cells → Sweeps config passes cells before after → is_among cell cells ≡ true →
+      is_surprising config passes before cell ≡ true → (now config passes after).host.known.seen ≡ true
 
 -- of legal events, and so of those that a world took
 pub record GoodFramesEndJobs : Type 0 where
