@@ -1,5 +1,5 @@
 -- A learn whose requests nothing disturbs.
-use Rattle.std.proofs.Common.{◌≡◌, ◌⊎◌, inl, inr, ℕ, ◌<◌, ◌≤◌, true, List, length, Option, Some, None, Ok, refl, sym, ◌∙◌, ap, subst}
+use Rattle.std.proofs.Common.{◌≡◌, ◌⊎◌, inl, inr, ℕ, ◌<◌, true, List, Some, None, Ok, refl, sym, ◌∙◌, ap, subst}
 use Rattle.std.proofs.Common.{option_map, arith}
 use Rattle.std.specs.Prelude.{Result, Err}
 use Rattle.std.specs.Option.{option_and_then}
@@ -18,9 +18,8 @@ use Rattle.pm_table.specs.VoutMode.{mode_of}
 use Rattle.pm_frame.specs.Layout.{fits_layout}
 use Rattle.pm_device.specs.declared.config.Config.{Config}
 use Rattle.pm_device.specs.declared.ending.Ending.TheVariants.{Restart}
-use Rattle.pm_device.specs.Held.{mode_for, shape_for, shape_made}
+use Rattle.pm_device.specs.Held.{mode_for, shape_for}
 use Rattle.pm_device.specs.Reply.{register_bytes, reply_of}
-use Rattle.pm_host.specs.declared.job_end.JobEnd.TheVariants.{Learned}
 use Rattle.pm_host.specs.declared.question.Question.TheVariants.{Mode, Coefficients}
 use Rattle.pm_host.specs.declared.stage.Stage.TheVariants.{Asks}
 use Rattle.pm_host.specs.Answers.{good_payload, word_in}
@@ -108,11 +107,16 @@ learned-so laws {config = config} {passes = passes} {before = before} {output = 
           ∙ ap (λ (s : Shape). Some s) is));
     }
 
+-- VOUT_MODE is DIRECT, and the coefficients are asked for
+abbrev AsksOn : Config → ℕ → ℕ → List Event → Type 0
+AsksOn config passes output after = (mode_of (mode_for config output) ≡ Ok Direct)
+    × (stage_after config passes after ≡ Some (Asks (Coefficients output) 0))
+
 -- a learn that reads VOUT_MODE
 pub mode-learned : Below → {config : Config} {passes : ℕ} {before after : List Event} {output tries : ℕ} →
     IsLived config passes before → IsLived config passes after → IsSpelled config →
     (now config passes before).host.stage ≡ Some (Asks (Mode output) tries) → IsRead config passes (mode_read output) before after →
-    WasLearned config passes output after ⊎ (stage_after config passes after ≡ Some (Asks (Coefficients output) 0))
+    WasLearned config passes output after ⊎ AsksOn config passes output after
 unfolding host_next
 mode-learned laws {config = config} {passes = passes} {before = before} {after = after} {output = output} {tries = tries} lived all spelled
     stage read = go (mode_of (mode_for config output)) refl
@@ -138,7 +142,7 @@ mode-learned laws {config = config} {passes = passes} {before = before} {after =
         ∙ (ap (question_asked (idle h) (Mode output) tries) answer.good ∙ ap (λ n. mode_taken (idle h) output (mode_of n)) answer.byte))
 
     go : (mode : Result VoutMode TableFault) → mode_of (mode_for config output) ≡ mode →
-        WasLearned config passes output after ⊎ (stage_after config passes after ≡ Some (Asks (Coefficients output) 0))
+        WasLearned config passes output after ⊎ AsksOn config passes output after
     go (Err fault) e = absurd (none-some (shape_for config output)
         (sym (ap (λ r. option_and_then (λ (m : VoutMode). result_ok (shape_in m config.coefficients)) (result_ok r)) e)
         ∙ lived.sound.formats output below))
@@ -146,7 +150,10 @@ mode-learned laws {config = config} {passes = passes} {before = before} {after =
         inl (learned-so laws (InUlinear16 exponent) a.answer lived below
         (mode-shape config output (Linear exponent) (InUlinear16 exponent) (lived.sound.formats output below) e refl)
         a.summary a.end (turn ∙ ap (mode_taken (idle h) output) e))
-    go (Ok Direct) e = inr (ap (λ (t : Summary). t.stage) a.summary ∙ ap (λ (t : Change). t.after.stage) (turn ∙ ap (mode_taken (idle h) output) e))
+    go (Ok Direct) e = inr (
+      e,
+      ap (λ (t : Summary). t.stage) a.summary ∙ ap (λ (t : Change). t.after.stage) (turn ∙ ap (mode_taken (idle h) output) e),
+    )
 
 -- what a good answer to the read of the coefficients is
 record GoodCoefficients (config : Config) (answer : List ℕ) : Type 0 where

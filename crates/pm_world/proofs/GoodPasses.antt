@@ -1,36 +1,35 @@
 -- The turns of an order, and of a command, in a pass that nothing disturbs.
-use Rattle.std.proofs.Common.{◌≡◌, ◌≢◌, ◌≤◌, ◌<◌, ◌+◌, ℕ, Bool, true, false, ◌&&◌, ◌||◌, List, [], ◌∷◌, ◌++◌, Option, Some, None, refl, sym, ◌∙◌, ap}
-use Rattle.std.proofs.Common.{subst, option_map}
+use Rattle.std.proofs.Common.{◌≡◌, ◌≢◌, ◌≤◌, ◌<◌, ◌+◌, ℕ, Bool, true, false, ◌||◌, List, [], ◌∷◌, ◌++◌, Some, refl, sym, ◌∙◌, ap}
+use Rattle.std.proofs.Common.{subst}
 use Rattle.std.specs.List.{list_all, list_any}
 use Rattle.std.proofs.lemmas.Bool.{and_parts}
 use Rattle.pm_table.specs.declared.cell.Cell.{Cell}
 use Rattle.pm_table.specs.declared.cell.Cell.TheVariants.{Protect}
-use Rattle.pm_table.specs.Cell.{IsCell, cell_accepts, cell_code}
+use Rattle.pm_table.specs.Cell.{IsCell, cell_code}
 use Rattle.pm_table.specs.Protection.{is_allowed}
 use Rattle.pm_model.specs.Settings.{Words, word_at}
 use Rattle.pm_device.specs.declared.config.Config.{Config}
-use Rattle.pm_device.specs.Held.{Held}
 use Rattle.pm_host.specs.declared.command.Command.{Command}
 use Rattle.pm_host.specs.declared.job_end.JobEnd.TheVariants.{Done}
 use Rattle.pm_host.specs.declared.stage.Stage.TheVariants.{Reads, Sends as SendsCommand, Writes}
 use Rattle.pm_host.specs.declared.standing.Standing.TheVariants.{Confirmed}
-use Rattle.pm_host.specs.Messages.{cell_read, cell_write, command_message}
+use Rattle.pm_host.specs.Messages.{cell_read, cell_write}
 use Rattle.pm_host.specs.Possible.{only}
 use Rattle.pm_host.specs.Sound.{IsOrdering, IsStage}
-use Rattle.pm_host.specs.Summary.{Change, Summary, finished, idle, next as host_next, possible_at, standing_at, step_of}
+use Rattle.pm_host.specs.Summary.{Summary, finished, idle, next as host_next, step_of}
 use Rattle.pm_host.specs.Transcript as host
 use Rattle.pm_world.specs.Below.{Below}
 use Rattle.pm_world.specs.declared.event.Event.{Event}
 use Rattle.pm_world.specs.declared.event.Event.TheVariants.{Deliver, Finish, Reading}
-use Rattle.pm_world.specs.GoodBus.{IsRead, IsWritten, WentInPass, delivers_whole, held_after, is_beside, is_reading}
+use Rattle.pm_world.specs.GoodBus.{IsRead, IsWritten, WentInPass, delivers_whole, held_after, is_beside}
 use Rattle.pm_world.specs.Honest.{is_whole}
 use Rattle.pm_world.specs.Legal.{frame_of}
 use Rattle.pm_world.specs.Life.{life, now}
 use Rattle.pm_world.specs.Setup.{setup_of}
 use Rattle.pm_world.specs.State.{State, end_by, next}
-use Rattle.pm_world.proofs.GoodReads.{IsQuiet, order-again, order-done, quiet-both, quiet-none, quiet-reading}
+use Rattle.pm_world.proofs.GoodReads.{order-again, order-done, quiet-reading}
 use Rattle.pm_world.proofs.Lives.{IsLived, earlier, lived-before, newest, now-config, now-next, now-setup}
-use Rattle.pm_world.proofs.Sending.{Fixed, Sends, deliver-sends, next-deliver-host, read-fits, told-nothing, write-fits}
+use Rattle.pm_world.proofs.Sending.{Fixed, Sends, deliver-sends, next-deliver-host, read-fits, write-fits}
 use Rattle.pm_world.proofs.Undisturbed.{deliver-entries, now-are, now-sound, share-entries}
 
 -- what holds of a world while the order that was open is

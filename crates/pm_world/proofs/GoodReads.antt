@@ -1,7 +1,7 @@
 -- What an exchange that nothing disturbs makes of a world, and readings before it.
-use Rattle.std.proofs.Common.{◌≡◌, ◌≢◌, ◌≤◌, ℕ, Bool, true, false, not, ◌&&◌, ◌||◌, cond, eqb, ◌+◌, ◌<◌, List, [], ◌∷◌, ◌++◌, length, Option, Some, None, refl}
-use Rattle.std.proofs.Common.{option_map, sym, ◌∙◌, ap, ap₂, subst, arith}
-use Rattle.std.specs.Prelude.{bytes_eq, slice_index_or}
+use Rattle.std.proofs.Common.{◌≡◌, ◌≢◌, ℕ, Bool, true, false, not, ◌||◌, cond, eqb, ◌+◌, ◌<◌, List, [], ◌∷◌, ◌++◌, length, Some, None, refl}
+use Rattle.std.proofs.Common.{option_map, sym, ◌∙◌, ap, subst, arith}
+use Rattle.std.specs.Prelude.{slice_index_or}
 use Rattle.std.specs.List.{list_all}
 use Rattle.std.proofs.lemmas.Bool.{and_parts, cond-false, cond-true, eq-eqb, ne_eqb}
 use Rattle.std.proofs.lemmas.List.{get_or-replicate, get_or-set_other, get_or-set_same}
@@ -18,9 +18,7 @@ use Rattle.pm_device.specs.Reply.{reply_of}
 use Rattle.pm_host.specs.declared.possible.Possible.{Possible}
 use Rattle.pm_host.specs.declared.possible.Possible.TheVariants.{Any}
 use Rattle.pm_host.specs.declared.question.Question.TheVariants.{Word}
-use Rattle.pm_host.specs.declared.stage.Stage.{Stage}
 use Rattle.pm_host.specs.declared.stage.Stage.TheVariants.{Asks, Reads, Writes}
-use Rattle.pm_host.specs.declared.standing.Standing.{Standing}
 use Rattle.pm_host.specs.declared.standing.Standing.TheVariants.{Confirmed, Unknown}
 use Rattle.pm_host.specs.declared.job_end.JobEnd.TheVariants.{Done}
 use Rattle.pm_host.specs.Answers.{good_payload, good_word, word_in}
@@ -30,7 +28,7 @@ use Rattle.pm_host.specs.Marks.{Good, marks}
 use Rattle.pm_host.specs.Messages.{cell_read}
 use Rattle.pm_host.specs.Now.{now as host_now}
 use Rattle.pm_host.specs.Possible.{is_possible, only, possible_of}
-use Rattle.pm_host.specs.Summary.{Change, Summary, answer_taken, answered, asked as question_asked, change, ends, idle, marked}
+use Rattle.pm_host.specs.Summary.{Change, Summary, answered, asked as question_asked, change, ends, idle, marked}
 use Rattle.pm_host.specs.Sound.{IsStage}
 use Rattle.pm_host.specs.Summary.{next as host_next, read_another, read_back, sending_in, stage_message, step_of}
 use Rattle.pm_host.specs.Transcript as host
@@ -43,14 +41,13 @@ use Rattle.pm_world.specs.GoodBus.{IsRead, ReadDone, WasRead, comes_whole, held_
 use Rattle.pm_world.specs.Legal.{answer_in, back_bytes, frame_of, heard_bytes, heard_ending}
 use Rattle.pm_world.specs.Life.{life, now, state_of}
 use Rattle.pm_world.specs.Setup.{setup_of}
-use Rattle.pm_world.specs.State.{State, Share, answer_to, end_after, end_by, exchanged, host_after, next, share_of}
+use Rattle.pm_world.specs.State.{State, answer_to, end_after, end_by, exchanged, host_after, next, share_of}
 use Rattle.pm_world.proofs.Learned.{from_some, whole-same}
 use Rattle.pm_world.proofs.Lives.{IsLived, earlier, lived-before, newest, now-config, now-next, now-setup}
-use Rattle.pm_world.proofs.OrderEvents.{TookJob, event-stays, exchanged-stays}
+use Rattle.pm_world.proofs.OrderEvents.{event-stays, exchanged-stays}
 use Rattle.pm_world.proofs.ReadBack.{read-word}
 use Rattle.pm_world.proofs.Retellings.{sent-fits}
 use Rattle.pm_world.proofs.Sending.{eight, read-fits, same_cell-itself}
-use Rattle.pm_world.proofs.Standings.{same-cells}
 use Rattle.pm_world.proofs.Undisturbed.{now-sound, now-standings, share-entries}
 
 -- nothing happened that the host was told of, or that moved a word

@@ -16,7 +16,7 @@ use Rattle.pm_frame.specs.declared.payload.Payload.TheVariants.{Byte, Word}
 use Rattle.pm_frame.specs.Betrayal.{is_betrayed}
 use Rattle.pm_frame.specs.Fault.{write_fault, request_fault}
 use Rattle.pm_frame.specs.Layout.{IsWrite, IsRequest, is_read_message, fits_layout, sent, with_pec}
-use Rattle.pm_model.specs.Settings.{Words, word_at, with_word}
+use Rattle.pm_model.specs.Settings.{word_at, with_word}
 use Rattle.pm_device.specs.declared.ending.Ending.{Ending}
 use Rattle.pm_device.specs.declared.ending.Ending.TheVariants.{Stop, Restart}
 use Rattle.pm_device.specs.Held.{Held}

@@ -1,7 +1,6 @@
 -- One check after another, by exchanges that nothing disturbs.
-use Rattle.std.proofs.Common.{◌≡◌, ◌⊎◌, inl, inr, ℕ, Bool, true, false, not, ◌||◌, cond, eqb, List, [], ◌∷◌, ◌++◌, Some, refl, sym, ◌∙◌, ap}
+use Rattle.std.proofs.Common.{◌≡◌, ◌⊎◌, inl, inr, ℕ, Bool, true, false, not, ◌||◌, cond, List, [], ◌∷◌, ◌++◌, Some, refl, sym, ◌∙◌, ap}
 use Rattle.std.proofs.Common.{ap₂, subst}
-use Rattle.std.specs.List.{list_any}
 use Rattle.std.proofs.lemmas.Bool.{eq-eqb, or_cases, or_left, or_right}
 use Rattle.pm_table.specs.declared.cell.Cell.{Cell}
 use Rattle.pm_table.specs.Cell.{IsCell, same_cell}
@@ -18,7 +17,7 @@ use Rattle.pm_host.specs.Transcript as host
 use Rattle.pm_world.specs.Below.{Below}
 use Rattle.pm_world.specs.declared.event.Event.{Event}
 use Rattle.pm_world.specs.declared.event.Event.TheVariants.{Check}
-use Rattle.pm_world.specs.GoodBus.{AreThere, Checks, ReadDone, Sweeps, held_after, is_among, is_surprising}
+use Rattle.pm_world.specs.GoodBus.{AreThere, Checks, Sweeps, held_after, is_among, is_surprising}
 use Rattle.pm_world.specs.Life.{now}
 use Rattle.pm_world.specs.State.{State}
 use Rattle.pm_world.proofs.Causes.{asked-next}

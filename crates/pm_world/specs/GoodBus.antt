@@ -1,15 +1,17 @@
 -- What a bus comes to that is good again, whatever went before: frames that nothing disturbs, and what each of them
 -- makes of an open job. This project's own choice. Lists are newest first.
-use Rattle.std.specs.Prelude.{◌≡◌, ◌≢◌, ◌⊎◌, ◌+◌, ◌<◌, ℕ, Bool, true, false, not, ◌&&◌, ◌||◌, bytes_eq, if◌then◌else◌, List, [], ◌∷◌, ◌++◌, Option, Some}
+use Rattle.std.specs.Prelude.{◌≡◌, ◌≢◌, ◌⊎◌, ◌+◌, ◌<◌, ℕ, Bool, true, false, not, ◌&&◌, ◌||◌, bytes_eq, if◌then◌else◌, List, [], ◌∷◌, ◌++◌, Option, Some, Ok}
 use Rattle.std.specs.List.{list_all, list_any}
 use Rattle.pm_table.specs.declared.cell.Cell.{Cell}
 use Rattle.pm_table.specs.declared.cell.Cell.TheVariants.{Protect}
 use Rattle.pm_table.specs.Cell.{IsCell, cell_code, same_cell}
 use Rattle.pm_table.specs.Protection.{is_allowed}
+use Rattle.pm_table.specs.declared.vout_mode.VoutMode.TheVariants.{Direct}
+use Rattle.pm_table.specs.VoutMode.{mode_of}
 use Rattle.pm_frame.specs.declared.message.Message.{Message}
 use Rattle.pm_model.specs.Settings.{word_at}
 use Rattle.pm_device.specs.declared.config.Config.{Config}
-use Rattle.pm_device.specs.Held.{shape_for}
+use Rattle.pm_device.specs.Held.{mode_for, shape_for}
 use Rattle.pm_device.specs.Start.{IsSound}
 use Rattle.pm_host.specs.declared.command.Command.{Command}
 use Rattle.pm_host.specs.declared.job_end.JobEnd.TheVariants.{Done, Learned}
@@ -179,12 +181,13 @@ pub record GoodFrames (config : Config) (passes : ℕ) (events : List Event) : T
       IsWritten (frame_of config.addr (command_message command)) true before after →
       ((now config passes after).end ≡ Some Done)
       × ((life config passes after).entries ≡ Finished true ∷ (life config passes before).entries)
-  -- a learn ends Learned by one read of VOUT_MODE, or by that and one of the coefficients
+  -- a learn ends Learned by one read of VOUT_MODE, or where that is DIRECT by it and one of the coefficients
   pub mode : (later before after : List Event) (output tries : ℕ) → events ≡ later ++ after →
       IsSpelled config → stage_after config passes before ≡ Some (Asks (Mode output) tries) →
       IsRead config passes (mode_read output) before after →
       WasLearned config passes output after
-      ⊎ (stage_after config passes after ≡ Some (Asks (Coefficients output) 0))
+      ⊎ ((mode_of (mode_for config output) ≡ Ok Direct)
+      × (stage_after config passes after ≡ Some (Asks (Coefficients output) 0)))
   pub coefficients : (later before after : List Event) (output tries : ℕ) → events ≡ later ++ after →
       IsSpelled config → stage_after config passes before ≡ Some (Asks (Coefficients output) tries) →
       IsRead config passes coefficients_read before after → WasLearned config passes output after
