@@ -3,9 +3,10 @@
 all kinds, with damage, false acknowledgements, repeats and restarts of either end, holds the plain model of
 scripts/plain to every promise after each event, and the program's report to that of the model and to the
 promises on its own. A host that keeps limits takes the same events, and the model is held to what limits and
-bands promise; and to what the end of a job says it is held in a world of its own. Two prefixes of each tenth list
-are run by the program too. Some lists have a faulty setup, of which the program must say the fault, and nothing
-else. What is broken is printed, and the status is then 1; at the end stands how many lists met what.
+bands promise, to what may move at each moment, and to what a bus that is good again ends; and to what the end of a
+job says it is held in a world of its own. Two prefixes of each tenth list are run by the program too. Some lists have
+a faulty setup, of which the program must say the fault, and nothing else. What is broken is printed, and the status is
+then 1; at the end stands how many lists met what.
 
     scripts/search_promises.py [SEED [LISTS]]
 
@@ -23,6 +24,7 @@ import refusals  # noqa: E402
 from plain.draw_faulty_setups import draw_faulty  # noqa: E402
 from plain.draw_scenarios import chance, draw_events, draw_setup, draw_uncertain, event_words, setup_lines  # noqa: E402
 from plain.end_promises import end_faults  # noqa: E402
+from plain.life_promises import life_faults  # noqa: E402
 from plain.limit_promises import limit_faults  # noqa: E402
 from plain.promises import Watch  # noqa: E402
 from plain.report import report  # noqa: E402
@@ -39,7 +41,9 @@ def figures():
     yield from ("a restart that was seen", "16 possible words", "an order that went through in a later pass",
                 "a Differs", "an undisturbed order", "an order in microvolts", "a store",
                 "a restore that changed words", "a band that stands", "a band with VOUT_MIN above VOUT_MAX",
-                "a band of VOUT_COMMAND and a margin")
+                "a band of VOUT_COMMAND and a margin", "a store that took", "an undisturbed check", "an undisturbed learn",
+                "an undisturbed clear", "an undisturbed store", "an undisturbed restore", "an undisturbed later pass",
+                "an undisturbed surprise", "a bus that is good again")
     for name in ("L2 FormatUnknown", "L3 BelowLimit", "L4 AboveLimit", "L5 NotKnownWithin"):
         yield f"an order that limits refuse: {name}"
     for letter, name, _ in refusals.rows():
@@ -145,8 +149,9 @@ def searched(dice, is_tenth):
     watch, cause, broken = watched(setup, passes, events)
     text, met = text_of(dice, setup, passes, events), watch.reached | set(kinds_of(events))
     limited, kept = limit_faults(random.Random(text), setup, passes, [plain for _, plain in events])
+    moved, lived = life_faults(random.Random(text), setup, passes, [plain for _, plain in events])
     ended, seen = end_faults(setup, passes, [plain for _, plain in events])
-    broken, met = broken + limited + ended, met | kept | seen
+    broken, met = broken + limited + moved + ended, met | kept | lived | seen
     if program.PROGRAM:
         broken += program_faults(text, watch, cause)
     if program.PROGRAM and is_tenth:

@@ -11,9 +11,11 @@ ghost use Rattle.pm_device.specs.Held.{value_for};
 ghost use Rattle.pm_world.specs.Confirmed.{ConfirmedIsHeld};
 ghost use Rattle.pm_device.specs.Start.{IsSound};
 ghost use Rattle.pm_host.specs.Refusals.{IsSetup};
+ghost use Rattle.pm_world.specs.GoodBus.{GoodFrames};
 ghost use Rattle.pm_world.specs.Honest.{AreFewFrames, FormatsAgree, IsSpelled, MicrosAreNearest, OrdersGoThrough};
 ghost use Rattle.pm_world.specs.Setup.{setup_fault, setup_of};
 ghost use Rattle.pm_world.specs.Life.{AreTaken, now};
+ghost use Rattle.pm_world.specs.Moves.{MovesByTheOpenJob};
 ghost use Rattle.pm_world.specs.Possible.{PossibleIsHeld, SeenIsTrue};
 ghost use Rattle.pm_world.specs.Retelling.{CommandsOwn, IsOrderRun, IsOwnWord};
 ghost use Rattle.pm_world.specs.State.{State, cause_of, event_cause};
@@ -24,9 +26,9 @@ use pm_device::Config;
 use pm_host::Standing;
 use pm_table::Cell as Place;
 use pm_world::{
-    Event, SetupFault, World, confirmed_settings_are_held, frames_are_few,
+    Event, SetupFault, World, confirmed_settings_are_held, frames_are_few, good_frames_end_jobs,
     honest_orders_go_through, learned_formats_are_true, lives_are_followed, lives_are_orders,
-    possible_words_are_held,
+    possible_words_are_held, settings_move_by_the_open_job,
 };
 
 /// Runs the events, and lets one more happen; `None` where one of them isn't taken.
@@ -52,7 +54,7 @@ pub fn run_and_step(
     }
 }
 
-/// So its settings and its store are those of the order machine.
+/// So its settings and its store are those of the order machine, and move by the open job alone.
 pub fn orders_after_a_step(
     c: Config,
     passes: u8,
@@ -68,13 +70,15 @@ pub fn orders_after_a_step(
     ensures commanded { IfOk result (λ found. IfSome found (λ world. (output : ℕ) → output < c.count →
         CommandsOwn c passes (more.now ∷ reverse events.now) output
         (commanded (value_for world.device.config output) world.device.words output))) }
+    ensures moves { IfOk result (λ found. OnSome found (MovesByTheOpenJob c passes (more.now ∷ reverse events.now))) }
 {
-    // Hands its law to the prover.
+    // These hand their laws to the prover.
     lives_are_orders();
+    settings_move_by_the_open_job();
     run_and_step(c, passes, events, more)
 }
 
-/// Its jobs send few frames, and undisturbed orders go through.
+/// Its jobs send few frames, undisturbed orders go through, and so does each job on a bus that is good again.
 pub fn orders_go_through_after_a_step(
     c: Config,
     passes: u8,
@@ -83,10 +87,12 @@ pub fn orders_go_through_after_a_step(
 ) -> Result<Option<World>, SetupFault>
     ensures few { IfOk result (λ found. OnSome found (AreFewFrames c passes (more.now ∷ reverse events.now))) }
     ensures through { IfOk result (λ found. OnSome found (OrdersGoThrough c passes (more.now ∷ reverse events.now))) }
+    ensures good { IfOk result (λ found. OnSome found (GoodFrames c passes (more.now ∷ reverse events.now))) }
 {
     // These hand their laws to the prover.
     frames_are_few();
     honest_orders_go_through();
+    good_frames_end_jobs();
     run_and_step(c, passes, events, more)
 }
 

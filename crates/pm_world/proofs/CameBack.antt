@@ -135,20 +135,20 @@ came-back laws {s = s} {setup = setup} {entries = entries} arrival back stage me
   reads = reads;
   bad = lost-by laws s.device request heard (heard_ending request arrival) bytes (
     reads,
-    knows.fits request sending,
+    knows.sends.fits request sending,
     subst (λ a. is_legal_return (frame_of a request) (whole_answer request)
         (is_heard_whole (frame_of a request) heard (heard_ending request arrival))
-        (answer_in (reply_of s.device heard (heard_ending request arrival))) bytes ≡ true) knows.addr
+        (answer_in (reply_of s.device heard (heard_ending request arrival))) bytes ≡ true) knows.sends.addr
         (exchange-legal s arrival back request free),
   );
   good = λ t payload kin good has.
-      good-same laws s arrival back request bytes (record { addr = knows.addr; reads = reads; free = free; is = refl }) good
+      good-same laws s arrival back request bytes (record { addr = knows.sends.addr; reads = reads; free = free; is = refl }) good
       ∙ sym (stage-answers laws {h = s.host} s.device t stage kin
       (record {
         outputs = meets.outputs;
         is = subst (IsStage s.host) at meets.stage;
         reads = reads;
-        fits = knows.fits request sending;
+        fits = knows.sends.fits request sending;
       })
       (λ read e.
       let word : good_word s.device.config.addr read bytes ≡ Some (word_in payload) =

@@ -16,7 +16,7 @@ use Rattle.pm_frame.specs.declared.payload.Payload.TheVariants.{Byte, Word}
 use Rattle.pm_frame.specs.Betrayal.{is_betrayed}
 use Rattle.pm_frame.specs.Fault.{write_fault, request_fault}
 use Rattle.pm_frame.specs.Layout.{IsWrite, IsRequest, is_read_message, fits_layout, sent, with_pec}
-use Rattle.pm_model.specs.Settings.{Words, word_at, with_word}
+use Rattle.pm_model.specs.Settings.{word_at, with_word}
 use Rattle.pm_device.specs.declared.ending.Ending.{Ending}
 use Rattle.pm_device.specs.declared.ending.Ending.TheVariants.{Stop, Restart}
 use Rattle.pm_device.specs.Held.{Held}
@@ -91,32 +91,9 @@ hears-request laws held addr message bytes Stop (reads, fits) legal =
     go (inr wrong) = laws.writes_reach_one_cell.faulty held bytes (laws.betrayal_is_refused.write held.config.addr bytes wrong)
 
 -- the payload of a write has the word
-payload-number : (voltage : Bool) (word : ℕ) → payload_word (cond voltage (Word word) (Byte word)) ≡ word
+pub payload-number : (voltage : Bool) (word : ℕ) → payload_word (cond voltage (Word word) (Byte word)) ≡ word
 payload-number true word = refl
 payload-number false word = refl
-
--- what is kept with other words
-abbrev pub with_words : Held → Words → Kept
-with_words held words = record (kept_in held) { words = words }
-
--- a whole write of a cell leaves all, or gives that cell the word
-either : (held : Held) (b : Bool) (words : Words) (after : Kept) → after ≡ with_words held (cond b words held.words) →
-    (after ≡ kept_in held) ⊎ (after ≡ with_words held words)
-either held true words after e = inr e
-either held false words after e = inl e
-
--- by either way of writing a cell
-pub cell-reached : Below → (held : Held) (cell : Cell) (word : ℕ) (bytes : List ℕ) → IsWrite held.config.addr (cell_write cell word) bytes →
-    (kept_after held (Hearing bytes Stop) ≡ kept_in held)
-    ⊎ (kept_after held (Hearing bytes Stop) ≡ with_words held (with_word held.words cell word))
-cell-reached laws held (Out output register) word bytes is =
-    let found = laws.registers_are_in_the_table.found register output in
-    subst (λ w. (kept_after held (Hearing bytes Stop) ≡ kept_in held) ⊎
-    (kept_after held (Hearing bytes Stop) ≡ with_words held (with_word held.words (Out output register) w)))
-    (payload-number (is_voltage register) word)
-    (either held _ _ _ (laws.writes_reach_one_cell.carried held output (register_code register) (register_payload register word)
-    (Out output register) bytes is found))
-cell-reached laws held Protect word bytes is = either held _ _ _ (laws.writes_reach_one_cell.plain held word bytes is)
 
 -- a write that a converter takes: its cell is there and accepts the word, and WRITE_PROTECT allows its
 -- code

@@ -41,7 +41,7 @@ use Rattle.pm_world.specs.declared.event.Event.TheVariants.{Deliver, Finish, Exc
 use Rattle.pm_world.specs.Confirmed.{reads_cell, restarts_converter, restarted_since, ConfirmedIsHeld}
 use Rattle.pm_world.specs.Legal.{back_bytes}
 use Rattle.pm_world.specs.Life.{life, now, state_of}
-use Rattle.pm_world.specs.Retelling.{command_pending, pending_of}
+use Rattle.pm_world.specs.Retelling.{command_pending, pending_of, taken_by}
 use Rattle.pm_world.specs.Setup.{setup_of}
 use Rattle.pm_world.specs.State.{State, asked, share_of, share_beside, tells, exchanged, delivered, device_after, next, event_cause}
 use Rattle.pm_world.specs.State.{exchange_cause, answer_to}
@@ -49,7 +49,8 @@ use Rattle.pm_world.proofs.Causes.{asked-restarts}
 use Rattle.pm_world.proofs.Learned.{from_some}
 use Rattle.pm_world.proofs.Lives.{IsLived, earlier, newest, entries-more, life-told, now-next}
 use Rattle.pm_world.proofs.OpenOrders.{pending-of_stage, stage_pending}
-use Rattle.pm_world.proofs.OrderEvents.{delivered-takes, event-stays, exchanged-stays, Takes}
+use Rattle.pm_world.proofs.OrderEvents.{Sending, TookJob, delivered-takes, event-stays, exchanged-stays, taken-open}
+use Rattle.pm_world.proofs.Retellings.{sends}
 use Rattle.pm_world.proofs.ReadBack.{reads-cell, read-word}
 use Rattle.pm_world.proofs.Sending.{eight, told-nothing}
 use Rattle.pm_world.proofs.Standings.{IsKnown, IsKnownAfter, ReadsTrue, same-cells, accepted-known, finished-known, got-known}
@@ -75,13 +76,12 @@ IsPending setup entries pending.Restore = IsRestoring setup entries
 
 -- what is known of a world and of what its host was told
 pub record Knows (s : State) (setup : host.Setup) (entries : List host.Entry) : Type 0 where
-  pub addr : s.host.setup.addr ≡ s.device.config.addr
+  pub sends : Sending s
   pub address : setup.addr ≡ s.device.config.addr
   -- the cell that the open job reads is there, and its read is being sent
   pub asks : (read : Cell) → read_by (host.open_job setup entries) (host.told_since entries) ≡ Some read →
       (sending_in s.host ≡ Some (cell_read read)) × IsCell s.device.config.count read
   pub accepted : (cell : Cell) → IsCell s.device.config.count cell → cell_accepts cell (word_at s.device.words cell) ≡ true
-  pub fits : (message : Message) → sending_in s.host ≡ Some message → fits_layout message ≡ true
   pub pending : (job : PendingJob) → stage_pending s.host.stage ≡ Some job → IsPending setup entries job
   pub are : AreWords s.device.words
   pub stored : AreWords s.device.store
@@ -97,9 +97,9 @@ good-read laws {s = s} {word = word} arrival back read knows asked free good =
     let bytes = back_bytes (answer_to s.device s.host.setup.addr (cell_read read) arrival) back in
     let payload = from_some word_in (good_payload s.device.config.addr (cell_read read) bytes) word good in
     let same = good-same laws s arrival back (cell_read read) bytes
-    (record { addr = knows.addr; reads = reads-cell read; free = free; is = refl }) payload.1 in
+    (record { addr = knows.sends.addr; reads = reads-cell read; free = free; is = refl }) payload.1 in
     same_Some (word_at s.device.words read) word
-    (sym (read-word laws s.device read asks.1 (knows.accepted read asks.1) (knows.fits (cell_read read) asks.0))
+    (sym (read-word laws s.device read asks.1 (knows.accepted read asks.1) (knows.sends.fits (cell_read read) asks.0))
     ∙ (ap (good_word s.device.config.addr read) (sym same) ∙ good))
 
 -- what comes back is true of the cell that is read
@@ -126,7 +126,7 @@ exchange-known laws arrival back None knows e free so_far = cc
 exchange-known laws {s = s} {setup = setup} {entries = entries} {cell = cell} {restarted = restarted} arrival back (Some message) knows e
     free so_far =
     subst (λ (w : Words). IsKnownAfter setup entries cell restarted (exchanged s arrival back (Some message)).told w)
-    (sym (exchanged-stays laws s arrival back (Some message) (λ m is. knows.fits m (e ∙ is)) free).words)
+    (sym (exchanged-stays laws s arrival back (Some message) (λ m is. knows.sends.fits m (e ∙ is)) free).words)
     (got-known laws setup entries (back_bytes (answer_to s.device s.host.setup.addr message arrival) back)
     (reads-true laws arrival back message knows e free) so_far)
 
@@ -189,14 +189,19 @@ took-known laws {cell = cell} (Some pending.Restore) knows there is so_far =
     restored-known laws cell knows (knows.pending pending.Restore is) so_far
 
 -- or nothing does
-taken-known : Below → {s : State} {setup : host.Setup} {entries : List host.Entry} {cell : Cell} {restarted : Bool} (new : Held) →
-    Knows s setup entries → IsCell 8 cell → Takes s new →
+taken-known : Below → {s : State} {setup : host.Setup} {entries : List host.Entry} {cell : Cell} {restarted : Bool}
+    (arrival : Arrival) (new : Held) → Knows s setup entries → IsCell 8 cell →
+    TookJob s.device new (taken_by s.device.config.addr s.device.words arrival (stage_pending s.host.stage)) →
     IsKnown (marks setup entries) cell restarted s.device.words → IsKnown (marks setup entries) cell restarted new.words
-taken-known laws {setup = setup} {entries = entries} {cell = cell} {restarted = restarted} new knows there (inl same) so_far =
-    subst (IsKnown (marks setup entries) cell restarted) (sym same.words) so_far
-taken-known laws {s = s} {setup = setup} {entries = entries} {cell = cell} {restarted = restarted} new knows there (inr took) so_far =
+taken-known laws {s = s} {setup = setup} {entries = entries} {cell = cell} {restarted = restarted} arrival new knows there took so_far =
     subst (IsKnown (marks setup entries) cell restarted) (sym took.words)
-    (took-known laws (stage_pending s.host.stage) knows there refl so_far)
+    (go (taken_by s.device.config.addr s.device.words arrival (stage_pending s.host.stage)) refl)
+  where
+    go : (job : Option PendingJob) → taken_by s.device.config.addr s.device.words arrival (stage_pending s.host.stage) ≡ job →
+        IsKnown (marks setup entries) cell restarted (words_taken s.device.words s.device.store job)
+    go None e = so_far
+    go (Some job) e = took-known laws (Some job) knows there
+        (taken-open s.device.config.addr s.device.words arrival (stage_pending s.host.stage) job e) so_far
 
 -- a delivery leaves what is known
 deliver-known : Below → {s : State} {setup : host.Setup} {entries : List host.Entry} {cell : Cell} {restarted : Bool}
@@ -208,8 +213,8 @@ deliver-known laws {s = s} {setup = setup} {entries = entries} {cell = cell} {re
     subst (λ told. IsKnownAfter setup entries cell restarted told
     (device_after s.device (delivered s arrival (sending_in s.host)).heard).words)
     (sym (told-nothing s arrival (sending_in s.host)))
-    (taken-known laws (device_after s.device (delivered s arrival (sending_in s.host)).heard) knows there
-    (delivered-takes laws s arrival (sending_in s.host) knows.addr refl knows.fits free) so_far)
+    (taken-known laws arrival (device_after s.device (delivered s arrival (sending_in s.host)).heard) knows there
+    (delivered-takes laws s arrival (sending_in s.host) knows.sends refl free) so_far)
 
 -- one event that asks for no job
 beside-known : Below → {s : State} (event : Event) {setup : host.Setup} {entries : List host.Entry} {cell : Cell} {restarted : Bool} →
@@ -333,13 +338,10 @@ knows laws config passes events lived =
     let told = life-told config passes events lived.legal in
     let is = laws.transcripts_are_followed.sound setup entries lived.made told in
     record {
-      addr = refl;
+      sends = sends laws config passes events lived;
       address = refl;
       asks = λ read e. read-sent setup (host_now setup entries) (host.open_job setup entries) (host.told_since entries) read e is.stage;
       accepted = λ cell there. laws.words_have_an_origin.accepted config past cell lived.sound there;
-      fits = λ message e. laws.frames_are_named.fits setup message
-          (laws.frames_are_named.named setup entries message lived.made told
-          (sym (laws.transcripts_are_followed.sending setup entries) ∙ e));
       pending = job-known laws config passes events lived;
       are = laws.pasts_are_followed.words config past;
       stored = laws.pasts_are_followed.store config past;

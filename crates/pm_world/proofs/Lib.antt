@@ -12,6 +12,10 @@ mod Exchanges
 mod FirstWords
 mod Frames
 mod Hearings
+mod GoodFrames
+mod GoodLearns
+mod GoodPasses
+mod GoodReads
 mod HeldWords
 mod JobSpans
 mod KeptFormats
@@ -20,6 +24,7 @@ mod LearnedLives
 mod LeftWords
 mod LimitedLives
 mod Lives
+mod Moves
 mod NeverTook
 mod OpenOrders
 mod OrderEvents
@@ -35,6 +40,7 @@ mod ShortWitness
 mod SinceRestart
 mod Standings
 mod Starts
+mod Sweeps
 mod TakenWhole
 mod Tellings
 mod TrueHost

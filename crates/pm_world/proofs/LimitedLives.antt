@@ -21,6 +21,7 @@ use Rattle.pm_table.specs.Cell.{is_voltage}
 use Rattle.pm_table.specs.Format.{is_decimal, shape_in}
 use Rattle.pm_table.specs.VoutMode.{mode_of}
 use Rattle.pm_model.specs.Commanded.{commanded, limited, selected_register}
+use Rattle.pm_model.specs.declared.pending_job.PendingJob.{PendingJob}
 use Rattle.pm_model.specs.declared.pending_job.PendingJob.TheVariants as pending
 use Rattle.pm_model.specs.OrderMachine.{Accept, End}
 use Rattle.pm_device.specs.declared.config.Config.{Config}
@@ -40,12 +41,12 @@ use Rattle.pm_limits.specs.Lemmas.Order.{through}
 use Rattle.pm_limits.specs.Lemmas.Selected.{each-selected}
 use Rattle.pm_world.specs.Below.{Below}
 use Rattle.pm_world.specs.declared.event.Event.{Event}
-use Rattle.pm_world.specs.declared.event.Event.TheVariants.{Exchange, Finish, RestartHost, RestartDevice}
+use Rattle.pm_world.specs.declared.event.Event.TheVariants.{Deliver, Exchange, Finish, RestartHost, RestartDevice}
 use Rattle.pm_world.specs.Honest.{IsSpelled}
 use Rattle.pm_world.specs.Job.{asked_by}
 use Rattle.pm_world.specs.Life.{now}
 use Rattle.pm_world.specs.Limited.{AreGuarded, MaxAtMost, MinAtLeast, OwnWithin, StartsWithin, StaysLimited, commands}
-use Rattle.pm_world.specs.Retelling.{CommandsOwn, IsOwnWord, accepts, open_pending, pending_of, told, told_beside}
+use Rattle.pm_world.specs.Retelling.{CommandsOwn, IsOwnWord, accepts, open_pending, pending_of, taken_at, takes, told, told_beside}
 use Rattle.pm_world.specs.State.{asked}
 use Rattle.pm_world.proofs.LearnedLives.{formats-agree}
 use Rattle.pm_world.proofs.Lives.{IsLived, lived-before, now-config}
@@ -193,6 +194,10 @@ not-beside config passes before cell word (Finish acked) h =
     ends : (b : Bool) → cond b (End ∷ []) [] ≡ Accept (pending.Order cell word) ∷ [] → ⊥
     ends true e = cc
     ends false e = cc
+not-beside config passes before cell word (Deliver arrival) h = go (taken_at config passes before (Deliver arrival)) h where
+  go : (o : Option PendingJob) → takes o ≡ Accept (pending.Order cell word) ∷ [] → ⊥
+  go (Some job) e = cc
+  go None e = cc
 not-beside config passes before cell word RestartHost h = cc
 not-beside config passes before cell word RestartDevice h = cc
 not-beside config passes before cell word event h = cc

@@ -46,6 +46,11 @@ pub lived-by : (config : Config) (passes : ℕ) (events : List Event) → IsSoun
     AreTaken config passes events → IsLived config passes events
 lived-by config passes events sound made taken = record { sound = sound; made = made; legal = are-legal config passes events taken }
 
+-- and so were legal events
+pub lived-legal : {config : Config} {passes : ℕ} {events : List Event} → IsSound config → IsSetup (setup_of config passes) →
+    AreLegal config passes events → IsLived config passes events
+lived-legal sound made legal = record { sound = sound; made = made; legal = legal }
+
 -- the events before the newest were lived through, and the newest has no cause
 pub earlier : {config : Config} {passes : ℕ} {before : List Event} {event : Event} → IsLived config passes (event ∷ before) →
     IsLived config passes before

@@ -1,11 +1,14 @@
 -- What an event makes of the converter's words, of its store and of the open job, in a world that takes it.
-use Rattle.std.proofs.Common.{◌≡◌, ◌⊎◌, inl, inr, ℕ, Bool, true, false, not, List, Option, Some, None, is_some, IsSome, unwrap_or, refl}
-use Rattle.std.proofs.Common.{cond, sym, ◌∙◌, ap, subst}
-use Rattle.std.specs.Option.{option_or, option_map}
-use Rattle.std.proofs.lemmas.Bool.{ltb-true}
+use Rattle.std.proofs.Common.{◌≡◌, inl, inr, ℕ, Bool, true, false, not, ◌&&◌, List, Option, Some, None, is_some, unwrap_or, refl}
+use Rattle.std.proofs.Common.{cond, sym, ◌∙◌, ap, ap₂, subst}
+use Rattle.std.specs.Prelude.{bytes_eq, nat_lt}
+use Rattle.std.specs.Option.{option_and_then, option_or, option_map}
+use Rattle.std.proofs.lemmas.Bool.{and_parts, lt-ltb, ltb-true}
+use Rattle.std.proofs.lemmas.Slice.Eq.{bytes_eq-Decides}
 use Rattle.pm_table.specs.declared.cell.Cell.{Cell}
 use Rattle.pm_table.specs.declared.cell.Cell.TheVariants.{Out, Protect}
-use Rattle.pm_table.specs.Cell.{cell_accepts, is_cell, IsCell}
+use Rattle.pm_table.specs.Cell.{cell_accepts, is_cell, is_voltage, register_code, IsCell}
+use Rattle.pm_table.specs.Protection.{is_allowed}
 use Rattle.pm_frame.specs.declared.message.Message.{Message}
 use Rattle.pm_frame.specs.declared.message.Message.TheVariants.{SendByte}
 use Rattle.pm_table.specs.Codes as command
@@ -14,9 +17,9 @@ use Rattle.pm_frame.specs.Layout.{IsWrite, is_read_message, fits_layout}
 use Rattle.pm_model.specs.declared.pending_job.PendingJob.{PendingJob}
 use Rattle.pm_model.specs.declared.pending_job.PendingJob.TheVariants as pending
 use Rattle.pm_model.specs.OrderMachine.{words_taken, store_taken}
-use Rattle.pm_model.specs.Settings.{with_outputs}
+use Rattle.pm_model.specs.Settings.{Words, with_outputs, with_word, word_at}
 use Rattle.pm_device.specs.declared.ending.Ending.{Ending}
-use Rattle.pm_device.specs.declared.ending.Ending.TheVariants.{Stop}
+use Rattle.pm_device.specs.declared.ending.Ending.TheVariants.{Stop, Restart}
 use Rattle.pm_device.specs.Held.{Held}
 use Rattle.pm_device.specs.Effect as device
 use Rattle.pm_device.specs.Effect.{Hearing, Kept, kept_in, kept_after}
@@ -27,21 +30,24 @@ use Rattle.pm_host.specs.declared.question.Question.{Question}
 use Rattle.pm_host.specs.declared.question.Question.TheVariants.{Word}
 use Rattle.pm_host.specs.declared.stage.Stage.{Stage}
 use Rattle.pm_host.specs.declared.stage.Stage.TheVariants.{Writes, Reads, Asks, Sends}
-use Rattle.pm_host.specs.Messages.{cell_read, cell_write, command_message}
+use Rattle.pm_host.specs.Messages.{cell_read, cell_write, command_message, register_payload}
 use Rattle.pm_host.specs.Question.{question_message}
 use Rattle.pm_host.specs.Refusals.{is_busy, asking_fault, cell_fault, order_fault, job_fault}
+use Rattle.pm_host.specs.Sound.{IsStage}
 use Rattle.pm_host.specs.Summary.{Summary, next as host_next, sending_in, stage_message, idle}
 use Rattle.pm_host.specs.Transcript as host
 use Rattle.pm_world.specs.Below.{Below}
 use Rattle.pm_world.specs.declared.arrival.Arrival.{Arrival}
 use Rattle.pm_world.specs.declared.back.Back.{Back as Return}
 use Rattle.pm_world.specs.declared.cause.Cause.TheVariants.{NotBetrayed, WrongKind}
-use Rattle.pm_world.specs.Legal.{frame_of, heard_bytes, heard_ending, is_legal_hearing}
-use Rattle.pm_world.specs.Retelling.{command_pending}
+use Rattle.pm_world.specs.Honest.{is_whole}
+use Rattle.pm_world.specs.Legal.{ending_of, frame_of, heard_bytes, heard_ending, is_legal_hearing, is_restart}
+use Rattle.pm_world.specs.Retelling.{command_pending, pending_code, taken_by, takes_frame}
 use Rattle.pm_world.specs.State.{State, rule, device_after, host_after, delivered, exchanged, delivery_cause, exchange_cause, hearing_cause}
 use Rattle.pm_world.specs.State.{return_cause}
 use Rattle.pm_world.proofs.Causes.{or-none, rule-none, not-false}
-use Rattle.pm_world.proofs.Hearings.{hears-write, hears-request, cell-reached}
+use Rattle.pm_world.proofs.Frames.{heard_ending-write}
+use Rattle.pm_world.proofs.Hearings.{frame-write, hears-write, hears-request, payload-number}
 use Rattle.pm_world.proofs.OpenOrders.{stage_pending, Goes, answered-order}
 
 -- the message that exists
@@ -58,133 +64,254 @@ reads-cell : (cell : Cell) (message : Message) → Some (cell_read cell) ≡ Som
 reads-cell (Out output register) message e writes = reads (cell_read (Out output register)) message refl e writes
 reads-cell Protect message e writes = reads (cell_read Protect) message refl e writes
 
--- what is kept after a job took
+-- what is kept after a job took, or none
 abbrev pub kept_taken : Held → Option PendingJob → Kept
 kept_taken held job = record (kept_in held) {
   words = words_taken held.words held.store job;
   store = store_taken held.words held.store job;
 }
 
--- all that is kept stays, or a job took
-abbrev pub Reaches : Held → Option PendingJob → Kept → Type 0
-Reaches held job after = (after ≡ kept_in held) ⊎ (IsSome job × (after ≡ kept_taken held job))
+-- the job where a test says so
+abbrev where_so : Bool → Option PendingJob → Option PendingJob
+where_so b job = option_and_then (λ open_one. cond b (Some open_one) None) job
 
--- a store that WRITE_PROTECT allows or not
-stored : (held : Held) (b : Bool) (after : Kept) →
-    after ≡ record (kept_in held) { store = cond b (with_outputs held.store held.words) held.store } →
-    Reaches held (Some pending.Store) after
-stored held true after e = inr (refl, e)
-stored held false after e = inl e
+-- a whole write of a cell that is there and accepts the word: by whether WRITE_PROTECT allows it
+cell-kept : (held : Held) (cell : Cell) (word : ℕ) (there allowed fits : Bool) → there ≡ true → fits ≡ true →
+    record (kept_in held) { words = cond (there && allowed && fits) (with_word held.words cell word) held.words }
+    ≡ kept_taken held (where_so allowed (Some (pending.Order cell word)))
+cell-kept held cell word there true fits p q = rw (p, q) refl
+cell-kept held cell word there false fits p q = rw p refl
 
--- a restore likewise
-restored : (held : Held) (b : Bool) (after : Kept) →
-    after ≡ record (kept_in held) { words = cond b (with_outputs held.words held.store) held.words } →
-    Reaches held (Some pending.Restore) after
-restored held true after e = inr (refl, e)
-restored held false after e = inl e
+-- of WRITE_PROTECT
+plain-kept : (held : Held) (word : ℕ) (allowed fits : Bool) → fits ≡ true →
+    record (kept_in held) { words = cond (allowed && fits) (with_word held.words Protect word) held.words }
+    ≡ kept_taken held (where_so allowed (Some (pending.Order Protect word)))
+plain-kept held word true fits q = rw q refl
+plain-kept held word false fits q = refl
 
--- a command that is heard whole
-sent-whole : Below → (held : Held) (sent : Command) (bytes : List ℕ) → IsWrite held.config.addr (command_message sent) bytes →
-    Reaches held (command_pending sent) (kept_after held (Hearing bytes Stop))
-sent-whole laws held (ClearFaults output) bytes h = inl (laws.writes_reach_one_cell.clears held output Empty bytes h)
-sent-whole laws held StoreUserAll bytes h =
-    stored held _ _ (laws.writes_reach_one_cell.stores held (SendByte command.store_user_all) bytes h refl)
-sent-whole laws held RestoreUserAll bytes h =
-    restored held _ _ (laws.writes_reach_one_cell.restores held (SendByte command.restore_user_all) bytes h refl)
+-- a store, and a restore
+store-kept : (held : Held) (allowed : Bool) →
+    record (kept_in held) { store = cond allowed (with_outputs held.store held.words) held.store }
+    ≡ kept_taken held (where_so allowed (Some pending.Store))
+store-kept held true = refl
+store-kept held false = refl
+
+-- likewise
+restore-kept : (held : Held) (allowed : Bool) →
+    record (kept_in held) { words = cond allowed (with_outputs held.words held.store) held.words }
+    ≡ kept_taken held (where_so allowed (Some pending.Restore))
+restore-kept held true = refl
+restore-kept held false = refl
+
+-- whether WRITE_PROTECT allows the frame of a job
+abbrev allows : Held → PendingJob → Bool
+allows held job = is_allowed (word_at held.words Protect) (pending_code job)
+
+-- what a whole write of an order's cell makes, and of a command
+abbrev Makes : Held → Message → Option PendingJob → Type 0
+Makes held message job = (bytes : List ℕ) → IsWrite held.config.addr message bytes →
+    kept_after held (Hearing bytes Stop) ≡ kept_taken held job
+
+-- of an order
+order-makes : Below → (held : Held) (cell : Cell) (word : ℕ) → IsCell held.config.count cell → cell_accepts cell word ≡ true →
+    Makes held (cell_write cell word) (where_so (allows held (pending.Order cell word)) (Some (pending.Order cell word)))
+order-makes laws held (Out output register) word there accepted bytes h =
+    let found = laws.registers_are_in_the_table.found register output in
+    let cell = Out output register in
+    let same = payload-number (is_voltage register) word in
+    laws.writes_reach_one_cell.carried held output (register_code register) (register_payload register word) cell bytes h found
+    ∙ (ap (λ w. record (kept_in held) {
+      words = cond (nat_lt output held.config.count && is_allowed (word_at held.words Protect) (register_code register)
+          && cell_accepts cell w) (with_word held.words cell w) held.words;
+    }) same
+    ∙ cell-kept held cell word _ _ _ (lt-ltb output held.config.count there) accepted)
+order-makes laws held Protect word there accepted bytes h =
+    laws.writes_reach_one_cell.plain held word bytes h ∙ plain-kept held word _ _ accepted
+
+-- of a command
+command-makes : Below → (held : Held) (sent : Command) →
+    Makes held (command_message sent) (option_and_then (λ job. where_so (allows held job) (Some job)) (command_pending sent))
+command-makes laws held (ClearFaults output) bytes h = laws.writes_reach_one_cell.clears held output Empty bytes h
+command-makes laws held StoreUserAll bytes h =
+    laws.writes_reach_one_cell.stores held (SendByte command.store_user_all) bytes h refl ∙ store-kept held _
+command-makes laws held RestoreUserAll bytes h =
+    laws.writes_reach_one_cell.restores held (SendByte command.restore_user_all) bytes h refl ∙ restore-kept held _
 
 -- each question is a read
 question-reads : (question : Question) → is_read_message (question_message question) ≡ true
 question-reads (Word (Out output register)) = refl
 question-reads _ = refl
 
--- a whole write that is being sent leaves all, or the open job took
-written : Below → (held : Held) (stage : Option Stage) (message : Message) (bytes : List ℕ) →
-    option_map stage_message stage ≡ Some message → is_read_message message ≡ false →
-    IsWrite held.config.addr message bytes →
-    Reaches held (stage_pending stage) (kept_after held (Hearing bytes Stop))
-written laws held None message bytes e writes h = cc
-written laws held (Some (Writes cell word pass)) message bytes e writes h =
-    elim (cell-reached laws held cell word bytes
-    (subst (λ m. IsWrite held.config.addr m bytes) (sym (some-is (cell_write cell word) message e)) h)) [
-      | inl same ↦ inl same
-      | inr put ↦ inr (refl, put)
-    ]
-written laws held (Some (Sends sent tries)) message bytes e writes h =
-    sent-whole laws held sent bytes
-    (subst (λ m. IsWrite held.config.addr m bytes) (sym (some-is (command_message sent) message e)) h)
-written laws held (Some (Reads cell word pass)) message bytes e writes h = absurd (reads-cell cell message e writes)
-written laws held (Some (Asks question tries)) message bytes e writes h =
+-- an ending is a stop by the test
+stop-so : (ending : Ending) → not (is_restart ending) ≡ true → ending ≡ Stop
+stop-so Stop h = refl
+stop-so Restart h = cc
+
+-- a write that was heard whole is so by the test
+whole-so : (frame bytes : List ℕ) (ending : Ending) → ending ≡ Stop → bytes ≡ frame →
+    (bytes_eq bytes frame && not (is_restart ending)) ≡ true
+whole-so frame bytes ending e is = rw (e, is) (ap (λ b. b && true) ((bytes_eq-Decides frame frame).1 refl))
+
+-- What a legal hearing of a write's frame leaves: what its whole makes where it is heard whole, and all where it isn't.
+heard-kept : Below → (held : Held) (message : Message) (arrival : Arrival) (job : Option PendingJob) →
+    is_read_message message ≡ false → fits_layout message ≡ true →
+    is_legal_hearing (frame_of held.config.addr message) (heard_bytes (frame_of held.config.addr message) arrival)
+    (ending_of Stop arrival) ≡ true →
+    Makes held message job →
+    kept_after held (Hearing (heard_bytes (frame_of held.config.addr message) arrival) (ending_of Stop arrival))
+    ≡ kept_taken held (where_so (is_whole (frame_of held.config.addr message) arrival) job)
+heard-kept laws held message arrival job writes fits legal makes = go (is_whole frame arrival) refl where
+  frame : List ℕ
+  frame = frame_of held.config.addr message
+
+  bytes : List ℕ
+  bytes = heard_bytes (frame_of held.config.addr message) arrival
+
+  is_frame : IsWrite held.config.addr message (frame_of held.config.addr message)
+  is_frame = record { writes = writes; fits = fits; spelled = frame-write held.config.addr message writes }
+
+  some : (o : Option PendingJob) → where_so true o ≡ o
+  some None = refl
+  some (Some one) = refl
+
+  none : (o : Option PendingJob) → where_so false o ≡ None
+  none None = refl
+  none (Some one) = refl
+
+  go : (b : Bool) → is_whole (frame_of held.config.addr message) arrival ≡ b →
+      kept_after held (Hearing (heard_bytes (frame_of held.config.addr message) arrival) (ending_of Stop arrival))
+      ≡ kept_taken held (where_so b job)
+  go true e =
+      let parts = and_parts (bytes_eq bytes frame) (not (is_restart (ending_of Stop arrival))) e in
+      ap₂ (λ b s. kept_after held (Hearing b s)) ((bytes_eq-Decides bytes frame).0 parts.0) (stop-so (ending_of Stop arrival) parts.1)
+      ∙ (makes frame is_frame ∙ ap (kept_taken held) (sym (some job)))
+  go false e = elim (hears-write laws held message bytes (ending_of Stop arrival) writes fits legal) [
+    | inl same ↦ same ∙ ap (kept_taken held) (sym (none job))
+    | inr (stop, whole) ↦
+        (let so : is_whole frame arrival ≡ true =
+        whole-so frame bytes (ending_of Stop arrival) stop (whole.spelled ∙ sym (frame-write held.config.addr message writes)) in
+        let bad : true ≡ false = sym so ∙ e in cc)
+  ]
+
+-- two tests, one after the other
+both-so : (a b : Bool) (job : PendingJob) → where_so a (where_so b (Some job)) ≡ cond (a && b) (Some job) None
+both-so true true job = refl
+both-so true false job = refl
+both-so false true job = refl
+both-so false false job = refl
+
+-- what takes is the job that is open
+pub taken-open : (addr : ℕ) (words : Words) (arrival : Arrival) (open_one : Option PendingJob) (job : PendingJob) →
+    taken_by addr words arrival open_one ≡ Some job → open_one ≡ Some job
+taken-open addr words arrival None job e = cc
+taken-open addr words arrival (Some one) job e = go (takes_frame addr words arrival one) e where
+  go : (b : Bool) → cond b (Some one) None ≡ Some job → Some one ≡ Some job
+  go true h = h
+  go false h = cc
+
+-- what is known of a world whose host sends
+pub record Sending (s : State) : Type 0 where
+  pub addr : s.host.setup.addr ≡ s.device.config.addr
+  pub outputs : s.host.setup.outputs ≡ s.device.config.count
+  pub stage : IsStage s.host s.host.stage
+  pub fits : (message : Message) → sending_in s.host ≡ Some message → fits_layout message ≡ true
+
+-- what is kept after the frame that a stage sends was heard as it arrives
+stage-kept : Below → (s : State) (arrival : Arrival) (stage : Option Stage) (message : Message) →
+    s.host.setup.outputs ≡ s.device.config.count → IsStage s.host stage → option_map stage_message stage ≡ Some message →
+    fits_layout message ≡ true →
+    is_read_message message ≡ false →
+    is_legal_hearing (frame_of s.device.config.addr message) (heard_bytes (frame_of s.device.config.addr message) arrival)
+    (ending_of Stop arrival) ≡ true →
+    kept_after s.device (Hearing (heard_bytes (frame_of s.device.config.addr message) arrival) (ending_of Stop arrival))
+    ≡ kept_taken s.device (taken_by s.device.config.addr s.device.words arrival (stage_pending stage))
+stage-kept laws s arrival None message outputs is e fits writes legal = cc
+stage-kept laws s arrival (Some (Writes cell word pass)) message outputs is e fits writes legal =
+    subst (λ m. kept_after s.device (Hearing (heard_bytes (frame_of s.device.config.addr m) arrival) (ending_of Stop arrival))
+    ≡ kept_taken s.device (taken_by s.device.config.addr s.device.words arrival (Some (pending.Order cell word))))
+    (some-is (cell_write cell word) message e)
+    (heard-kept laws s.device (cell_write cell word) arrival _ (ap is_read_message same ∙ writes) (ap fits_layout same ∙ fits)
+    (subst (λ m. is_legal_hearing (frame_of s.device.config.addr m) (heard_bytes (frame_of s.device.config.addr m) arrival)
+    (ending_of Stop arrival) ≡ true) (sym same) legal)
+    (order-makes laws s.device cell word (subst (λ n. IsCell n cell) outputs is.there) is.accepted)
+    ∙ ap (kept_taken s.device) (both-so _ _ (pending.Order cell word)))
+  where
+    same : cell_write cell word ≡ message
+    same = some-is (cell_write cell word) message e
+stage-kept laws s arrival (Some (Sends sent tries)) message outputs is e fits writes legal =
+    subst (λ m. kept_after s.device (Hearing (heard_bytes (frame_of s.device.config.addr m) arrival) (ending_of Stop arrival))
+    ≡ kept_taken s.device (taken_by s.device.config.addr s.device.words arrival (command_pending sent)))
+    same
+    (heard-kept laws s.device (command_message sent) arrival _ (ap is_read_message same ∙ writes) (ap fits_layout same ∙ fits)
+    (subst (λ m. is_legal_hearing (frame_of s.device.config.addr m) (heard_bytes (frame_of s.device.config.addr m) arrival)
+    (ending_of Stop arrival) ≡ true) (sym same) legal)
+    (command-makes laws s.device sent)
+    ∙ ap (kept_taken s.device) (by_command sent))
+  where
+    same : command_message sent ≡ message
+    same = some-is (command_message sent) message e
+
+    by_command : (sent : Command) →
+        where_so (is_whole (frame_of s.device.config.addr (command_message sent)) arrival)
+        (option_and_then (λ job. where_so (allows s.device job) (Some job)) (command_pending sent))
+        ≡ taken_by s.device.config.addr s.device.words arrival (command_pending sent)
+    by_command (ClearFaults output) = refl
+    by_command StoreUserAll = both-so _ _ pending.Store
+    by_command RestoreUserAll = both-so _ _ pending.Restore
+stage-kept laws s arrival (Some (Reads cell word pass)) message outputs is e fits writes legal = absurd (reads-cell cell message e writes)
+stage-kept laws s arrival (Some (Asks question tries)) message outputs is e fits writes legal =
     absurd (reads (question_message question) message (question-reads question) e writes)
 
--- the words of the cells, and those in the store, stay
-pub record Stays (old new : Held) : Type 0 where
-  pub words : new.words ≡ old.words
-  pub store : new.store ≡ old.store
-
--- they are what a job makes of them
+-- the words of the cells, and those in the store, are what a job makes of them, or stay where it is none
 pub record TookJob (old new : Held) (job : Option PendingJob) : Type 0 where
-  pub some : IsSome job
   pub words : new.words ≡ words_taken old.words old.store job
   pub store : new.store ≡ store_taken old.words old.store job
 
--- a delivery leaves them, or lets the open job take
-abbrev pub Takes : State → Held → Type 0
-Takes s new = Stays s.device new ⊎ TookJob s.device new (stage_pending s.host.stage)
+-- they stay
+abbrev pub Stays : Held → Held → Type 0
+Stays old new = TookJob old new None
+
+-- an event by which a job took, or none
+event-took : Below → (held : Held) (event : device.Event) (job : Option PendingJob) → kept_after held event ≡ kept_taken held job →
+    TookJob held (device_next held event) job
+event-took laws held event job e =
+    let same = laws.writes_reach_one_cell.kept held event ∙ e in
+    record { words = ap (λ (k : Kept). k.words) same; store = ap (λ (k : Kept). k.store) same }
 
 -- an event that leaves all that is kept
 pub event-stays : Below → (held : Held) (event : device.Event) → kept_after held event ≡ kept_in held →
     Stays held (device_next held event)
-event-stays laws held event e =
-    let same = laws.writes_reach_one_cell.kept held event ∙ e in
-    record { words = ap (λ (k : Kept). k.words) same; store = ap (λ (k : Kept). k.store) same }
+event-stays laws held event e = event-took laws held event None e
 
--- or by which a job took
-event-takes : Below → (held : Held) (event : device.Event) (job : Option PendingJob) → Reaches held job (kept_after held event) →
-    Stays held (device_next held event) ⊎ TookJob held (device_next held event) job
-event-takes laws held event job (inl e) = inl (event-stays laws held event e)
-event-takes laws held event job (inr (some, e)) =
-    let same = laws.writes_reach_one_cell.kept held event ∙ e in
-    inr (record { some = some; words = ap (λ (k : Kept). k.words) same; store = ap (λ (k : Kept). k.store) same })
-
--- by the legal hearing of what is being sent
-pub delivered-takes : Below → (s : State) (arrival : Arrival) (sending : Option Message) → s.host.setup.addr ≡ s.device.config.addr →
-    sending_in s.host ≡ sending →
-    ((message : Message) → sending ≡ Some message → fits_layout message ≡ true) → delivery_cause s arrival sending ≡ None →
-    Takes s (device_after s.device (delivered s arrival sending).heard)
-delivered-takes laws s arrival None same e fits h = cc
-delivered-takes laws s arrival (Some message) same e fits h =
-    event-takes laws s.device (Hearing bytes ending) (stage_pending s.host.stage)
-    (go (hears-write laws s.device message bytes ending writes (fits message refl) legal))
+-- A delivery lets the open job take where its frame is heard whole and its code is allowed, and leaves all where not.
+pub delivered-takes : Below → (s : State) (arrival : Arrival) (sending : Option Message) → Sending s →
+    sending_in s.host ≡ sending → delivery_cause s arrival sending ≡ None →
+    TookJob s.device (device_after s.device (delivered s arrival sending).heard)
+    (taken_by s.device.config.addr s.device.words arrival (stage_pending s.host.stage))
+delivered-takes laws s arrival None is e h = cc
+delivered-takes laws s arrival (Some message) is e h =
+    event-took laws s.device
+    (Hearing (heard_bytes (frame_of s.host.setup.addr message) arrival) (heard_ending message arrival)) _
+    (subst (λ a. kept_after s.device (Hearing (heard_bytes (frame_of a message) arrival) (heard_ending message arrival))
+    ≡ kept_taken s.device (taken_by s.device.config.addr s.device.words arrival (stage_pending s.host.stage))) (sym is.addr)
+    (ap (λ n. kept_after s.device (Hearing (heard_bytes (frame_of s.device.config.addr message) arrival) n)) (sym ending)
+    ∙ stage-kept laws s arrival s.host.stage message is.outputs is.stage e (is.fits message e) writes legal))
   where
-    bytes : List ℕ
-    bytes = heard_bytes (frame_of s.host.setup.addr message) arrival
-
-    ending : Ending
-    ending = heard_ending message arrival
-
     parts : (rule (is_read_message message) WrongKind ≡ None) × (hearing_cause s.host.setup.addr message arrival ≡ None)
     parts = or-none (rule (is_read_message message) WrongKind) (hearing_cause s.host.setup.addr message arrival) h
 
     writes : is_read_message message ≡ false
     writes = rule-none (is_read_message message) WrongKind parts.0
 
-    legal : is_legal_hearing (frame_of s.device.config.addr message) (heard_bytes (frame_of s.host.setup.addr message) arrival)
-        (heard_ending message arrival) ≡ true
-    legal = subst (λ a. is_legal_hearing (frame_of a message) (heard_bytes (frame_of s.host.setup.addr message) arrival)
-        (heard_ending message arrival) ≡ true) same
-        (not-false _ (rule-none _ NotBetrayed parts.1))
+    ending : ending_of Stop arrival ≡ heard_ending message arrival
+    ending = heard_ending-write message arrival writes
 
-    go : (kept_after s.device
-        (Hearing (heard_bytes (frame_of s.host.setup.addr message) arrival) (heard_ending message arrival)) ≡ kept_in s.device)
-        ⊎ ((heard_ending message arrival ≡ Stop) × IsWrite s.device.config.addr message
-        (heard_bytes (frame_of s.host.setup.addr message) arrival)) →
-        Reaches s.device (stage_pending s.host.stage) (kept_after s.device
-        (Hearing (heard_bytes (frame_of s.host.setup.addr message) arrival) (heard_ending message arrival)))
-    go (inl e) = inl e
-    go (inr (stop, whole)) =
-        subst (λ x. Reaches s.device (stage_pending s.host.stage) (kept_after s.device
-        (Hearing (heard_bytes (frame_of s.host.setup.addr message) arrival) x))) (sym stop)
-        (written laws s.device s.host.stage message (heard_bytes (frame_of s.host.setup.addr message) arrival) e writes whole)
+    legal : is_legal_hearing (frame_of s.device.config.addr message) (heard_bytes (frame_of s.device.config.addr message) arrival)
+        (ending_of Stop arrival) ≡ true
+    legal = subst (λ a. is_legal_hearing (frame_of a message) (heard_bytes (frame_of a message) arrival)
+        (ending_of Stop arrival) ≡ true) is.addr
+        (ap (is_legal_hearing (frame_of s.host.setup.addr message) (heard_bytes (frame_of s.host.setup.addr message) arrival)) ending
+        ∙ not-false _ (rule-none _ NotBetrayed parts.1))
 
 -- and leaves the host
 pub delivered-stage : (s : State) (arrival : Arrival) (sending : Option Message) →

@@ -9,6 +9,7 @@ use Rattle.pm_table.specs.declared.cell.Cell.TheVariants.{Out}
 use Rattle.pm_table.specs.declared.reg.Reg.TheVariants.{Operation, VoutMax, VoutMin}
 use Rattle.pm_table.specs.Cell.{IsCell}
 use Rattle.pm_model.specs.Commanded.{selected_register, selected, is_cut, commanded}
+use Rattle.pm_model.specs.declared.pending_job.PendingJob.{PendingJob}
 use Rattle.pm_model.specs.declared.pending_job.PendingJob.TheVariants as pending
 use Rattle.pm_model.specs.OrderMachine.{Step, Accept, Take, End, Back, IsOwnWord as IsMachineOwn}
 use Rattle.pm_model.specs.Settings.{Words, AreWords, word_at}
@@ -21,7 +22,7 @@ use Rattle.pm_world.specs.Below.{Below}
 use Rattle.pm_world.specs.declared.event.Event.{Event}
 use Rattle.pm_world.specs.declared.event.Event.TheVariants.{Deliver, Finish, Exchange, RestartDevice, RestartHost}
 use Rattle.pm_world.specs.Life.{now}
-use Rattle.pm_world.specs.Retelling.{start_settings, open_pending, pending_of, accepts, told, told_beside, Retells, nothing, tells, takes}
+use Rattle.pm_world.specs.Retelling.{start_settings, open_pending, pending_of, accepts, takes, taken_at, told, told_beside, retold}
 use Rattle.pm_world.specs.Retelling.{WasOrdered, IsOwnWord, CommandsOwn}
 use Rattle.pm_world.specs.State.{asked}
 use Rattle.pm_world.proofs.Lives.{IsLived, now-config}
@@ -58,6 +59,10 @@ told-nothing config passes before (Finish acked) cell word h =
         cond b (End ∷ []) [] ≡ Ordered cell word ∷ []
     go true h = let bad : End ≡ Ordered cell word = single End (Ordered cell word) h in cc
     go false h = absurd (none (Ordered cell word) h)
+told-nothing config passes before (Deliver arrival) cell word h = go (taken_at config passes before (Deliver arrival)) h where
+  go : (o : Option PendingJob) → Contains (takes o) (Ordered cell word) → takes o ≡ Ordered cell word ∷ []
+  go (Some job) h = let bad : Take ≡ Ordered cell word = single Take (Ordered cell word) h in cc
+  go None h = absurd (none (Ordered cell word) h)
 told-nothing config passes before RestartHost cell word h = let bad : End ≡ Ordered cell word = single End (Ordered cell word) h in cc
 told-nothing config passes before RestartDevice cell word h = let bad : Back ≡ Ordered cell word = single Back (Ordered cell word) h in cc
 told-nothing config passes before event cell word h = absurd (none (Ordered cell word) h)
@@ -95,23 +100,19 @@ later-ordered config passes event events cell word h = record {
 }
 
 -- an order that the steps accept
-retold : (config : Config) (passes : ℕ) (events : List Event) (steps : List Step) (cell : Cell) (word : ℕ) →
-    Retells config passes events steps → Contains steps (Ordered cell word) → WasOrdered config passes events cell word
-retold config passes events steps cell word nothing h = absurd (none (Ordered cell word) h)
-retold config passes events steps cell word (tells event before rest r) h =
-    elim (Contains-append_cases (told config passes before event) rest (Ordered cell word) h) [
+retold-ordered : (config : Config) (passes : ℕ) (events : List Event) (cell : Cell) (word : ℕ) →
+    Contains (retold config passes events) (Ordered cell word) → WasOrdered config passes events cell word
+unfolding retold
+retold-ordered config passes [] cell word h = absurd (none (Ordered cell word) h)
+retold-ordered config passes (event ∷ before) cell word h =
+    elim (Contains-append_cases (told config passes before event) (retold config passes before) (Ordered cell word) h) [
       | inl now_told ↦ record
           { later = []; event = event; before = before; is = refl; orders = told-accept config passes before event cell word now_told }
-      | inr earlier ↦ later-ordered config passes event before cell word (retold config passes before rest cell word r earlier)
-    ]
-retold config passes events steps cell word (takes arrival before rest r) h =
-    elim (Contains-append_cases (Take ∷ []) rest (Ordered cell word) h) [
-      | inl now_took ↦ (let bad : Take ≡ Ordered cell word = single Take (Ordered cell word) now_took in cc)
-      | inr earlier ↦ later-ordered config passes (Deliver arrival) before cell word (retold config passes before rest cell word r earlier)
+      | inr earlier ↦ later-ordered config passes event before cell word (retold-ordered config passes before cell word earlier)
     ]
 
 -- there is a start word for each cell
-full : Below → (config : Config) → AreWords (start_words config)
+pub full : Below → (config : Config) → AreWords (start_words config)
 unfolding start_words
 full laws config = (laws.settings_are_a_map.made (start_word config)).0
 
@@ -121,13 +122,11 @@ unfolding start_words
 start-at laws config cell here = (laws.settings_are_a_map.made (start_word config)).1 cell here
 
 -- a word of a run that is the cell's own there is so among the events
-run-own : Below → {config : Config} {passes : ℕ} {events : List Event} (steps : List Step) (cell : Cell) (word : ℕ) → IsSound config →
-    Retells config passes events steps → IsCell config.count cell →
-    IsMachineOwn (start_settings config) steps cell word → IsOwnWord config passes events cell word
-run-own laws {config = config} steps cell word sound retells here (inl e) =
+run-own : Below → (config : Config) (passes : ℕ) (events : List Event) (cell : Cell) (word : ℕ) → IsSound config → IsCell config.count cell →
+    IsMachineOwn (start_settings config) (retold config passes events) cell word → IsOwnWord config passes events cell word
+run-own laws config passes events cell word sound here (inl e) =
     inl (e ∙ start-at laws config cell (eight config.count cell sound.few here))
-run-own laws {config = config} {passes = passes} {events = events} steps cell word sound retells here (inr h) =
-    inr (retold config passes events steps cell word retells h)
+run-own laws config passes events cell word sound here (inr h) = inr (retold-ordered config passes events cell word h)
 
 -- by the life
 pub life-own : Below → (config : Config) (passes : ℕ) (events : List Event) (cell : Cell) → IsLived config passes events →
@@ -136,8 +135,9 @@ pub life-own : Below → (config : Config) (passes : ℕ) (events : List Event) 
 life-own laws config passes events cell lived here =
     let r = life-run laws config passes events lived in
     subst (λ (w : Words). IsOwnWord config passes events cell (word_at w cell)) r.words_are
-    (run-own laws r.steps cell _ lived.sound r.retells here
-    (laws.orders_stay_in_their_cells.own (start_settings config) r.steps cell lived.sound.few (full laws config) r.run here))
+    (run-own laws config passes events cell _ lived.sound here
+    (laws.orders_stay_in_their_cells.own (start_settings config) (retold config passes events) cell lived.sound.few (full laws config) r.run
+    here))
 
 -- and of the store
 pub life-stored : Below → (config : Config) (passes : ℕ) (events : List Event) (cell : Cell) → IsLived config passes events →
@@ -146,8 +146,9 @@ pub life-stored : Below → (config : Config) (passes : ℕ) (events : List Even
 life-stored laws config passes events cell lived here =
     let r = life-run laws config passes events lived in
     subst (λ (w : Words). IsOwnWord config passes events cell (word_at w cell)) r.store_is
-    (run-own laws r.steps cell _ lived.sound r.retells here
-    (laws.orders_stay_in_their_cells.stored (start_settings config) r.steps cell lived.sound.few (full laws config) r.run here))
+    (run-own laws config passes events cell _ lived.sound here
+    (laws.orders_stay_in_their_cells.stored (start_settings config) (retold config passes events) cell lived.sound.few (full laws config)
+    r.run here))
 
 -- so each output commands a value of its own
 pub life-commands : Below → (config : Config) (passes : ℕ) (events : List Event) (output : ℕ) → IsLived config passes events →

@@ -1,12 +1,12 @@
 -- A life is a run of the order machine, event by event.
-use Rattle.std.proofs.Common.{◌≡◌, inl, inr, ℕ, true, List, [], ◌∷◌, ◌++◌, Option, Some, None, is_some, IsSome, refl, sym, ◌∙◌, ap}
-use Rattle.std.proofs.Common.{subst}
+use Rattle.std.proofs.Common.{◌≡◌, inl, inr, ℕ, true, List, [], ◌∷◌, ◌++◌, Option, Some, None, is_some, IsSome, refl}
+use Rattle.std.proofs.Common.{sym, ◌∙◌, ap, subst}
 use Rattle.std.specs.Option.{option_map_or}
 use Rattle.pm_frame.specs.declared.message.Message.{Message}
 use Rattle.pm_frame.specs.Layout.{fits_layout}
 use Rattle.pm_model.specs.declared.pending_job.PendingJob.{PendingJob}
 use Rattle.pm_model.specs.declared.pending_job.PendingJob.TheVariants as pending
-use Rattle.pm_model.specs.OrderMachine.{Step, Accept, Take, End, Back, machine_of, words_taken, store_taken, CanAccept, CanTake}
+use Rattle.pm_model.specs.OrderMachine.{Step, Accept, Take, End, Back, IsRun, machine_of, words_taken, store_taken, CanAccept, CanTake}
 use Rattle.pm_model.specs.Settings.{Settings, Words}
 use Rattle.pm_device.specs.declared.config.Config.{Config}
 use Rattle.pm_device.specs.Effect as device
@@ -22,18 +22,19 @@ use Rattle.pm_world.specs.declared.arrival.Arrival.{Arrival}
 use Rattle.pm_world.specs.declared.event.Event.{Event}
 use Rattle.pm_world.specs.declared.event.Event.TheVariants.{Deliver, Finish, Exchange, RestartDevice, RestartHost, Reading}
 use Rattle.pm_world.specs.Life.{life, now, state_of}
-use Rattle.pm_world.specs.Retelling.{start_settings, open_pending, pending_of, accepts, ends_between, told, told_beside, Retells, nothing}
-use Rattle.pm_world.specs.Retelling.{tells, takes, IsOrderRun}
+use Rattle.pm_world.specs.Retelling.{start_settings, open_pending, pending_of, accepts, ends_between, told, told_beside, retold, takes}
+use Rattle.pm_world.specs.Retelling.{taken_at, taken_by, IsOrderRun}
 use Rattle.pm_world.specs.Setup.{setup_of, start}
 use Rattle.pm_world.specs.State.{State, asked, event_cause, next}
 use Rattle.pm_world.proofs.Causes.{job-free, asked-next, beside-next}
-use Rattle.pm_world.proofs.Lives.{IsLived, earlier, newest, life-told, now-next, now-nil}
+use Rattle.pm_world.proofs.Lives.{IsLived, earlier, newest, life-told, now-config, now-next, now-nil}
 use Rattle.pm_world.proofs.OpenOrders.{stage_pending, open_pending-is, finished-order, Goes}
-use Rattle.pm_world.proofs.OrderEvents.{Stays, TookJob, Takes, delivered-stage, delivered-takes, exchanged-stays}
+use Rattle.pm_world.proofs.OrderEvents.{Sending, Stays, TookJob, delivered-stage, delivered-takes, exchanged-stays, taken-open}
 use Rattle.pm_world.proofs.OrderEvents.{event-stays, exchanged-order, job-order, order-free}
+use Rattle.pm_world.proofs.Undisturbed.{now-sound}
 
 -- the message whose frame is being sent fits its layout
-sent-fits : Below → (config : Config) (passes : ℕ) (events : List Event) → IsLived config passes events → (message : Message) →
+pub sent-fits : Below → (config : Config) (passes : ℕ) (events : List Event) → IsLived config passes events → (message : Message) →
     sending_in (now config passes events).host ≡ Some message → fits_layout message ≡ true
 unfolding now state_of
 sent-fits laws config passes events lived message e =
@@ -53,6 +54,28 @@ same-addr config passes events = refl
 same-outputs : (config : Config) (passes : ℕ) (events : List Event) → (now config passes events).host.setup.outputs ≡ config.count
 unfolding now state_of host_now
 same-outputs config passes events = refl
+
+-- what is known of a world whose host sends
+pub sends : Below → (config : Config) (passes : ℕ) (events : List Event) → IsLived config passes events →
+    Sending (now config passes events)
+sends laws config passes events lived = record {
+  addr = same-addr config passes events;
+  outputs = same-outputs config passes events ∙ sym (ap (λ (k : Config). k.count) (now-config config passes events));
+  stage = (now-sound laws config passes events lived).stage;
+  fits = sent-fits laws config passes events lived;
+}
+
+-- a delivery lets the open job take where it hears its frame whole
+pub delivered-took : Below → (config : Config) (passes : ℕ) (before : List Event) (arrival : Arrival) → IsLived config passes before →
+    event_cause (now config passes before) (Deliver arrival) ≡ None →
+    TookJob (now config passes before).device (next (now config passes before) (Deliver arrival)).device
+    (taken_by config.addr (now config passes before).device.words arrival (stage_pending (now config passes before).host.stage))
+unfolding next
+delivered-took laws config passes before arrival lived free =
+    let s = now config passes before in
+    subst (λ (k : Config). TookJob s.device (next s (Deliver arrival)).device
+    (taken_by k.addr s.device.words arrival (stage_pending s.host.stage))) (now-config config passes before)
+    (delivered-takes laws s arrival (sending_in s.host) (sends laws config passes before lived) refl free)
 
 -- an event that asks for a job is told as the order, store or restore that it is
 asked-told : (config : Config) (passes : ℕ) (before : List Event) (event : Event) (job : host.Job) →
@@ -79,12 +102,28 @@ record Follows (config : Config) (passes : ℕ) (before : List Event) (event : E
   same : now config passes (event ∷ before) ≡ next (now config passes before) event
   run : Runs config passes before
 
--- the run goes on by the steps that the event is told as
-told-on : {config : Config} {passes : ℕ} {before : List Event} {event : Event} (new : List Step) →
-    (f : Follows config passes before event) → told config passes before event ≡ new →
-    Retells config passes (event ∷ before) (new ++ f.run.steps)
-told-on {config = config} {passes = passes} {before = before} {event = event} new f e =
-    subst (λ (x : List Step). Retells config passes (event ∷ before) (x ++ f.run.steps)) e (tells event before f.run.steps f.run.retells)
+-- the steps go on by those that the event is told as
+retold-on : (config : Config) (passes : ℕ) (before : List Event) (event : Event) (new : List Step) →
+    told config passes before event ≡ new → retold config passes (event ∷ before) ≡ new ++ retold config passes before
+unfolding retold
+retold-on config passes before event new e = ap (λ (x : List Step). x ++ retold config passes before) e
+
+-- these steps are a run that leaves the converter's words, those in its store, and the open job
+record Leaves (config : Config) (passes : ℕ) (events : List Event) (steps : List Step) : Type 0 where
+  run : IsRun (start_settings config) steps
+  words_are : (machine_of (start_settings config) steps).words ≡ (now config passes events).device.words
+  store_is : (machine_of (start_settings config) steps).store ≡ (now config passes events).device.store
+  job_is : (machine_of (start_settings config) steps).pending ≡ open_pending config passes events
+
+-- and they retell the events
+runs-by : {config : Config} {passes : ℕ} {events : List Event} {steps : List Step} → retold config passes events ≡ steps →
+    Leaves config passes events steps → Runs config passes events
+runs-by {config = config} e l = record {
+  run = subst (IsRun (start_settings config)) (sym e) l.run;
+  words_are = ap (λ (x : List Step). (machine_of (start_settings config) x).words) e ∙ l.words_are;
+  store_is = ap (λ (x : List Step). (machine_of (start_settings config) x).store) e ∙ l.store_is;
+  job_is = ap (λ (x : List Step). (machine_of (start_settings config) x).pending) e ∙ l.job_is;
+}
 
 -- the job that is open after the event
 open-after : {config : Config} {passes : ℕ} {before : List Event} {event : Event} → (f : Follows config passes before event) →
@@ -94,7 +133,7 @@ open-after {config = config} {passes = passes} {before = before} {event = event}
 
 -- the job that pends in the run
 pends : {config : Config} {passes : ℕ} {before : List Event} {event : Event} → (f : Follows config passes before event) →
-    (machine_of (start_settings config) f.run.steps).pending ≡ stage_pending (now config passes before).host.stage
+    (machine_of (start_settings config) (retold config passes before)).pending ≡ stage_pending (now config passes before).host.stage
 pends {config = config} {passes = passes} {before = before} f = f.run.job_is ∙ open_pending-is config passes before
 
 -- nothing is told: words, store and job stay
@@ -103,14 +142,12 @@ stays : (config : Config) (passes : ℕ) (before : List Event) (event : Event) �
     Stays (now config passes before).device (next (now config passes before) event).device →
     stage_pending (next (now config passes before) event).host.stage ≡ stage_pending (now config passes before).host.stage →
     Runs config passes (event ∷ before)
-stays config passes before event f none same job = record {
-  steps = f.run.steps;
+stays config passes before event f none same job = runs-by (retold-on config passes before event [] none) (record {
   run = f.run.run;
-  retells = told-on [] f none;
   words_are = f.run.words_are ∙ sym (ap (λ (s : State). s.device.words) f.same ∙ same.words);
   store_is = f.run.store_is ∙ sym (ap (λ (s : State). s.device.store) f.same ∙ same.store);
   job_is = pends f ∙ sym (open-after f ∙ job);
-}
+})
 
 -- a job is accepted
 accepted : Below → {config : Config} {passes : ℕ} {before : List Event} {event : Event} (job : PendingJob) →
@@ -122,20 +159,19 @@ accepted : Below → {config : Config} {passes : ℕ} {before : List Event} {eve
     Runs config passes (event ∷ before)
 unfolding machine_of
 accepted laws {config = config} {passes = passes} {before = before} {event = event} job f is same begun free can =
-    let at_start = laws.orders_stay_in_their_cells.start (start_settings config) f.run.steps in
-    let may : CanAccept (machine_of (start_settings config) f.run.steps) job = record {
+    let steps = retold config passes before in
+    let at_start = laws.orders_stay_in_their_cells.start (start_settings config) steps in
+    let may : CanAccept (machine_of (start_settings config) steps) job = record {
       free = pends f ∙ free;
       can = subst (λ (s : Settings). CanTake s.count (Some job)) (sym at_start)
           (subst (λ n. CanTake n (Some job)) (same-outputs config passes before) can);
     } in
-    record {
-      steps = Accept job ∷ f.run.steps;
+    runs-by (retold-on config passes before event (Accept job ∷ []) is) (record {
       run = (may, f.run.run);
-      retells = told-on (Accept job ∷ []) f is;
       words_are = f.run.words_are ∙ sym (ap (λ (s : State). s.device.words) f.same ∙ same.words);
       store_is = f.run.store_is ∙ sym (ap (λ (s : State). s.device.store) f.same ∙ same.store);
       job_is = sym (open-after f ∙ begun);
-    }
+    })
 
 -- a job ends
 ended : (config : Config) (passes : ℕ) (before : List Event) (event : Event) → (f : Follows config passes before event) →
@@ -144,14 +180,12 @@ ended : (config : Config) (passes : ℕ) (before : List Event) (event : Event) �
     stage_pending (next (now config passes before) event).host.stage ≡ None →
     Runs config passes (event ∷ before)
 unfolding machine_of
-ended config passes before event f is same over = record {
-  steps = End ∷ f.run.steps;
+ended config passes before event f is same over = runs-by (retold-on config passes before event (End ∷ []) is) (record {
   run = (tt, f.run.run);
-  retells = told-on (End ∷ []) f is;
   words_are = f.run.words_are ∙ sym (ap (λ (s : State). s.device.words) f.same ∙ same.words);
   store_is = f.run.store_is ∙ sym (ap (λ (s : State). s.device.store) f.same ∙ same.store);
   job_is = sym (open-after f ∙ over);
-}
+})
 
 -- the converter starts again
 came-back : Below → (config : Config) (passes : ℕ) (before : List Event) → (f : Follows config passes before RestartDevice) →
@@ -159,14 +193,12 @@ came-back : Below → (config : Config) (passes : ℕ) (before : List Event) →
 unfolding machine_of told_beside next
 came-back laws config passes before f =
     let kept = laws.writes_reach_one_cell.kept (now config passes before).device device.Restarted in
-    record {
-      steps = Back ∷ f.run.steps;
+    runs-by (retold-on config passes before RestartDevice (Back ∷ []) (beside-told config passes before RestartDevice refl)) (record {
       run = (tt, f.run.run);
-      retells = told-on (Back ∷ []) f (beside-told config passes before RestartDevice refl);
       words_are = f.run.store_is ∙ sym (ap (λ (s : State). s.device.words) f.same ∙ ap (λ (k : Kept). k.words) kept);
       store_is = f.run.store_is ∙ sym (ap (λ (s : State). s.device.store) f.same ∙ ap (λ (k : Kept). k.store) kept);
       job_is = pends f ∙ sym (open-after f);
-    }
+    })
 
 -- what a job makes of the same words and store is the same
 same-taken : {words words' store store' : Words} {job job' : Option PendingJob} → words ≡ words' → store ≡ store' → job ≡ job' →
@@ -174,22 +206,21 @@ same-taken : {words words' store store' : Words} {job job' : Option PendingJob} 
 same-taken w s j = (cc, cc)
 
 -- the pending job takes
-took : (config : Config) (passes : ℕ) (before : List Event) (arrival : Arrival) → (f : Follows config passes before (Deliver arrival)) →
-    TookJob (now config passes before).device (next (now config passes before) (Deliver arrival)).device
-    (stage_pending (now config passes before).host.stage) →
+took : {config : Config} {passes : ℕ} {before : List Event} {arrival : Arrival} (job : PendingJob) →
+    (f : Follows config passes before (Deliver arrival)) → told config passes before (Deliver arrival) ≡ Take ∷ [] →
+    TookJob (now config passes before).device (next (now config passes before) (Deliver arrival)).device (Some job) →
+    stage_pending (now config passes before).host.stage ≡ Some job →
     stage_pending (next (now config passes before) (Deliver arrival)).host.stage ≡ stage_pending (now config passes before).host.stage →
     Runs config passes (Deliver arrival ∷ before)
 unfolding machine_of
-took config passes before arrival f by job =
-    let taken = same-taken f.run.words_are f.run.store_is (pends f) in
-    record {
-      steps = Take ∷ f.run.steps;
-      run = (ap is_some (pends f) ∙ by.some, f.run.run);
-      retells = takes arrival before f.run.steps f.run.retells;
+took {config = config} {passes = passes} {before = before} {arrival = arrival} job f is by open_one stay =
+    let taken = same-taken f.run.words_are f.run.store_is (pends f ∙ open_one) in
+    runs-by (retold-on config passes before (Deliver arrival) (Take ∷ []) is) (record {
+      run = (ap is_some (pends f ∙ open_one), f.run.run);
       words_are = taken.0 ∙ sym (ap (λ (s : State). s.device.words) f.same ∙ by.words);
       store_is = taken.1 ∙ sym (ap (λ (s : State). s.device.store) f.same ∙ by.store);
-      job_is = pends f ∙ sym (open-after f ∙ job);
-    }
+      job_is = pends f ∙ sym (open-after f ∙ stay);
+    })
 
 -- what ends the open job, or leaves it
 ends-same : (p q : Option PendingJob) → q ≡ p → ends_between p q ≡ []
@@ -226,15 +257,34 @@ gone-on config passes before event f is_told same (inr over) = go (open_pending 
       same over
 
 -- and over a delivery
-delivered-on : (config : Config) (passes : ℕ) (before : List Event) (arrival : Arrival) →
+delivered-on : {config : Config} {passes : ℕ} {before : List Event} {arrival : Arrival} →
     (f : Follows config passes before (Deliver arrival)) →
-    Takes (now config passes before) (next (now config passes before) (Deliver arrival)).device →
+    TookJob (now config passes before).device (next (now config passes before) (Deliver arrival)).device
+    (taken_by config.addr (now config passes before).device.words arrival (stage_pending (now config passes before).host.stage)) →
     stage_pending (next (now config passes before) (Deliver arrival)).host.stage ≡ stage_pending (now config passes before).host.stage →
     Runs config passes (Deliver arrival ∷ before)
-unfolding told_beside
-delivered-on config passes before arrival f (inl same) job =
-    stays config passes before (Deliver arrival) f (beside-told config passes before (Deliver arrival) refl) same job
-delivered-on config passes before arrival f (inr by) job = took config passes before arrival f by job
+unfolding told_beside taken_at
+delivered-on {config = config} {passes = passes} {before = before} {arrival = arrival} f by stay =
+    go (taken_by config.addr words arrival stage) refl by
+  where
+    words : Words
+    words = (now config passes before).device.words
+
+    stage : Option PendingJob
+    stage = stage_pending (now config passes before).host.stage
+
+    told_so : (o : Option PendingJob) →
+        taken_by config.addr (now config passes before).device.words arrival (stage_pending (now config passes before).host.stage) ≡ o →
+        told config passes before (Deliver arrival) ≡ takes o
+    told_so o e = beside-told config passes before (Deliver arrival) refl
+        ∙ ap takes (ap (taken_by config.addr words arrival) (open_pending-is config passes before) ∙ e)
+
+    go : (o : Option PendingJob) →
+        taken_by config.addr (now config passes before).device.words arrival (stage_pending (now config passes before).host.stage) ≡ o →
+        TookJob (now config passes before).device (next (now config passes before) (Deliver arrival)).device o →
+        Runs config passes (Deliver arrival ∷ before)
+    go None e h = stays config passes before (Deliver arrival) f (told_so None e) h stay
+    go (Some job) e h = took job f (told_so (Some job) e) h (taken-open config.addr words arrival stage job e) stay
 
 -- one more event, which asks for a job
 one-asked : Below → (config : Config) (passes : ℕ) (before : List Event) (event : Event) (job : host.Job) →
@@ -288,10 +338,7 @@ one-beside : Below → (config : Config) (passes : ℕ) (before : List Event) (e
     Runs config passes (event ∷ before)
 unfolding told_beside next host_next
 one-beside laws config passes before (Deliver arrival) lived f is =
-    delivered-on config passes before arrival f
-    (delivered-takes laws (now config passes before) arrival (sending_in (now config passes before).host) (same-addr config passes before)
-    refl
-    (sent-fits laws config passes before lived) f.free)
+    delivered-on f (delivered-took laws config passes before arrival lived f.free)
     (delivered-stage (now config passes before) arrival (sending_in (now config passes before).host))
 one-beside laws config passes before (Finish acked) lived f is =
     gone-on config passes before (Finish acked) f (beside-told config passes before (Finish acked) refl)
@@ -325,11 +372,9 @@ one laws config passes before event lived f = go (asked (now config passes befor
 
 -- nothing has happened
 first-run : Below → (config : Config) (passes : ℕ) → IsSetup (setup_of config passes) → Runs config passes []
-unfolding machine_of open_pending life host.open_job host.end_of start start_of
+unfolding machine_of retold open_pending life host.open_job host.end_of start start_of
 first-run laws config passes made = record {
-  steps = [];
   run = tt;
-  retells = nothing;
   words_are = sym (ap (λ (s : State). s.device.words) (now-nil laws config passes made));
   store_is = sym (ap (λ (s : State). s.device.store) (now-nil laws config passes made));
   job_is = refl;

@@ -120,7 +120,7 @@ can-deliver laws {config = config} {passes = passes} {first = first} {events = e
     is r sent =
     let again = witness_start config first in
     record {
-      addr = (knows laws again passes events (retold-lived is r)).addr;
+      addr = (knows laws again passes events (retold-lived is r)).sends.addr;
       outputs = ap (λ (s : host.Setup). s.outputs) (now-setup again passes events)
           ∙ ap (λ (k : Config). k.count) (sym (now-config again passes events));
       protect = r.protect;

@@ -107,8 +107,8 @@ stop-is Stop h = refl
 stop-is Restart h = cc
 
 -- what holds of a world while the write of an order is being sent
-pub record Sends (s : State) (cell : Cell) (word : ℕ) (whole : Bool) : Type 0 where
-  pub stage : s.host.stage ≡ Some (Writes cell word 0)
+pub record Sends (s : State) (cell : Cell) (word pass : ℕ) (whole : Bool) : Type 0 where
+  pub stage : s.host.stage ≡ Some (Writes cell word pass)
   pub allowed : is_allowed (word_at s.device.words Protect) (cell_code cell) ≡ true
   pub held : whole ≡ true → word_at s.device.words cell ≡ word
 
@@ -123,14 +123,14 @@ pub record Fixed (s : State) (cell : Cell) (word : ℕ) : Type 0 where
   pub are : AreWords s.device.words
 
 -- then the write is taken
-can-take : {s : State} {cell : Cell} {word : ℕ} {whole : Bool} → Fixed s cell word → Sends s cell word whole → CanTake s.device cell word
+can-take : {s : State} {cell : Cell} {word pass : ℕ} {whole : Bool} → Fixed s cell word → Sends s cell word pass whole → CanTake s.device cell word
 can-take fixed sends = record
     { there = fixed.there; accepted = fixed.accepted; allowed = sends.allowed; fits = fixed.write_fits }
 
 -- a delivery that leaves the words, or writes them
-sends-words : Below → {s : State} (t : State) {cell : Cell} {word : ℕ} {whole : Bool} → Fixed s cell word → Sends s cell word whole →
+sends-words : Below → {s : State} (t : State) {cell : Cell} {word pass : ℕ} {whole : Bool} → Fixed s cell word → Sends s cell word pass whole →
     t.host ≡ s.host →
-    (t.device.words ≡ s.device.words) ⊎ (t.device.words ≡ with_word s.device.words cell word) → Sends t cell word whole
+    (t.device.words ≡ s.device.words) ⊎ (t.device.words ≡ with_word s.device.words cell word) → Sends t cell word pass whole
 sends-words laws t {cell = cell} fixed sends host (inl same) = record {
   stage = ap (λ (h : Summary). h.stage) host ∙ sends.stage;
   allowed = ap (λ w. is_allowed (word_at w Protect) (cell_code cell)) same ∙ sends.allowed;
@@ -146,9 +146,9 @@ sends-words laws {s = s} t {cell = cell} {word = word} fixed sends host (inr wro
 }
 
 -- a delivery that writes them
-sends-whole : Below → {s : State} (t : State) {cell : Cell} {word : ℕ} {whole : Bool} → Fixed s cell word → Sends s cell word whole →
+sends-whole : Below → {s : State} (t : State) {cell : Cell} {word pass : ℕ} {whole : Bool} → Fixed s cell word → Sends s cell word pass whole →
     t.host ≡ s.host →
-    t.device.words ≡ with_word s.device.words cell word → Sends t cell word true
+    t.device.words ≡ with_word s.device.words cell word → Sends t cell word pass true
 sends-whole laws {s = s} t {cell = cell} {word = word} fixed sends host wrote = record {
   stage = ap (λ (h : Summary). h.stage) host ∙ sends.stage;
   allowed = ap (λ w. is_allowed (word_at w Protect) (cell_code cell)) wrote
@@ -159,18 +159,18 @@ sends-whole laws {s = s} t {cell = cell} {word = word} fixed sends host wrote = 
 }
 
 -- its write is being sent
-sending-write : (s : State) (cell : Cell) (word : ℕ) → s.host.stage ≡ Some (Writes cell word 0) →
+pub sending-write : (s : State) (cell : Cell) (word pass : ℕ) → s.host.stage ≡ Some (Writes cell word pass) →
     sending_in s.host ≡ Some (cell_write cell word)
-sending-write s cell word stage = ap (option_map stage_message) stage
+sending-write s cell word pass stage = ap (option_map stage_message) stage
 
 -- a delivery leaves the words or sets that one
-delivered-words : Below → {s : State} {cell : Cell} {word : ℕ} {whole : Bool} (arrival : Arrival) → Fixed s cell word →
-    Sends s cell word whole → event_cause s (Deliver arrival) ≡ None →
+delivered-words : Below → {s : State} {cell : Cell} {word pass : ℕ} {whole : Bool} (arrival : Arrival) → Fixed s cell word →
+    Sends s cell word pass whole → event_cause s (Deliver arrival) ≡ None →
     ((next s (Deliver arrival)).device.words ≡ s.device.words) ⊎
     ((next s (Deliver arrival)).device.words ≡ with_word s.device.words cell word)
 delivered-words laws {s = s} {cell = cell} {word = word} arrival fixed sends free =
     let message = cell_write cell word in
-    let sending = sending-write s cell word sends.stage in
+    let sending = sending-write s cell word _ sends.stage in
     let legal = subst (λ a. is_legal_hearing (frame_of a message) (heard_bytes (frame_of a message) arrival)
     (heard_ending message arrival) ≡ true) fixed.addr (delivery-legal s arrival message sending free) in
     let after : (next s (Deliver arrival)).device.words ≡ words_after s.device (hearing s.device.config.addr message arrival) =
@@ -182,8 +182,8 @@ delivered-words laws {s = s} {cell = cell} {word = word} arrival fixed sends fre
     ]
 
 -- a delivery of the write, heard whole or not
-whole-words : Below → {s : State} {cell : Cell} {word : ℕ} {whole : Bool} (arrival : Arrival) → Fixed s cell word →
-    Sends s cell word whole →
+whole-words : Below → {s : State} {cell : Cell} {word pass : ℕ} {whole : Bool} (arrival : Arrival) → Fixed s cell word →
+    Sends s cell word pass whole →
     is_whole (frame_of s.device.config.addr (cell_write cell word)) arrival ≡ true →
     (next s (Deliver arrival)).device.words ≡ with_word s.device.words cell word
 whole-words laws {s = s} {cell = cell} {word = word} arrival fixed sends is =
@@ -191,22 +191,22 @@ whole-words laws {s = s} {cell = cell} {word = word} arrival fixed sends is =
     let frame = frame_of s.device.config.addr message in
     let parts = and_parts (bytes_eq (heard_bytes frame arrival) frame) (not (is_restart (ending_of Stop arrival))) is in
     let ending = write-ending cell word arrival ∙ stop-is (ending_of Stop arrival) parts.1 in
-    next-deliver-words laws s arrival message (sending-write s cell word sends.stage)
+    next-deliver-words laws s arrival message (sending-write s cell word _ sends.stage)
     ∙ (ap (λ a. words_after s.device (hearing a message arrival)) fixed.addr
     ∙ (ap₂ (λ b e. words_after s.device (device.Hearing b e)) ((bytes_eq-Decides (heard_bytes frame arrival) frame).0 parts.0) ending
     ∙ whole-write laws s.device cell word frame (can-take fixed sends)
     (is_write s.device.config.addr cell word fixed.write_fits)))
 
 -- after one more delivery
-pub deliver-sends : Below → {s : State} {cell : Cell} {word : ℕ} {whole : Bool} (arrival : Arrival) → Fixed s cell word →
-    Sends s cell word whole →
+pub deliver-sends : Below → {s : State} {cell : Cell} {word pass : ℕ} {whole : Bool} (arrival : Arrival) → Fixed s cell word →
+    Sends s cell word pass whole →
     event_cause s (Deliver arrival) ≡ None →
-    Sends (next s (Deliver arrival)) cell word (is_whole (frame_of s.device.config.addr (cell_write cell word)) arrival || whole)
-deliver-sends laws {s = s} {cell = cell} {word = word} {whole = whole} arrival fixed sends free =
+    Sends (next s (Deliver arrival)) cell word pass (is_whole (frame_of s.device.config.addr (cell_write cell word)) arrival || whole)
+deliver-sends laws {s = s} {cell = cell} {word = word} {pass = pass} {whole = whole} arrival fixed sends free =
     go (is_whole (frame_of s.device.config.addr (cell_write cell word)) arrival) refl
   where
     go : (b : Bool) → is_whole (frame_of s.device.config.addr (cell_write cell word)) arrival ≡ b →
-        Sends (next s (Deliver arrival)) cell word (b || whole)
+        Sends (next s (Deliver arrival)) cell word pass (b || whole)
     go true e = sends-whole laws (next s (Deliver arrival)) fixed sends (next-deliver-host s arrival)
         (whole-words laws arrival fixed sends e)
     go false e = sends-words laws (next s (Deliver arrival)) fixed sends (next-deliver-host s arrival)

@@ -109,7 +109,7 @@ learned-true config s output (Some shape) agree inside is =
     record { formats = agree-set config s.formats output shape agree inside (is shape refl); asks = tt }
 
 -- the format that a mode and the coefficients make
-mode-shape : (config : Config) (output : ℕ) (mode : VoutMode) (shape : Shape) →
+pub mode-shape : (config : Config) (output : ℕ) (mode : VoutMode) (shape : Shape) →
     shape_made config output ≡ Some (shape_for config output) → mode_of (mode_for config output) ≡ Ok mode →
     result_ok (shape_in mode config.coefficients) ≡ Some shape → shape ≡ shape_for config output
 mode-shape config output mode shape made is found =

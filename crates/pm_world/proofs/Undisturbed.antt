@@ -59,7 +59,7 @@ turn-done h cell word bytes stage good =
     ∙ cond-true (eqb word word) _ _ (eq-eqb word word refl))
 
 -- the host holds a standing for each place
-now-standings : (config : Config) (passes : ℕ) (events : List Event) → length (now config passes events).host.known.standing ≡ places
+pub now-standings : (config : Config) (passes : ℕ) (events : List Event) → length (now config passes events).host.known.standing ≡ places
 unfolding now state_of host_now known_now table
 now-standings config passes events = length-map-range_with_len {X = Standing}
     (λ place. standing_of (marks (setup_of config passes) (life config passes events).entries) (cell_in place)) 0 places
@@ -195,7 +195,7 @@ order-entries config passes before order cell word asks =
     (ap (λ (share : Share). share.told) (asked-share (now config passes before) order (host.Order cell word) asks))
 
 -- after a delivery
-deliver-entries : (config : Config) (passes : ℕ) (before : List Event) (arrival : Arrival) →
+pub deliver-entries : (config : Config) (passes : ℕ) (before : List Event) (arrival : Arrival) →
     (life config passes (Deliver arrival ∷ before)).entries ≡ (life config passes before).entries
 deliver-entries config passes before arrival =
     let s = now config passes before in
@@ -236,7 +236,7 @@ fixed laws {config = config} {passes = passes} {before = before} {order = order}
 
 -- after some deliveries of its write, one of which was heard whole or none
 record Sent (config : Config) (passes : ℕ) (cell : Cell) (word : ℕ) (before events : List Event) (whole : Bool) : Type 0 where
-  pub sends : Sends (now config passes events) cell word whole
+  pub sends : Sends (now config passes events) cell word 0 whole
   pub entries : (life config passes events).entries ≡ host.Accepted (host.Order cell word) ∷ (life config passes before).entries
 
 -- the life up to the order, within that up to its deliveries
@@ -273,9 +273,9 @@ sent-so laws {config = config} {passes = passes} {before = before} {order = orde
     (fixed laws o events)
     so_far.sends (newest lived) in
     record {
-      sends = subst (λ (s : State). Sends s cell word (is_whole (frame_of config.addr (cell_write cell word)) arrival || whole))
+      sends = subst (λ (s : State). Sends s cell word 0 (is_whole (frame_of config.addr (cell_write cell word)) arrival || whole))
           (sym (now-next laws config passes events (Deliver arrival) lived))
-          (subst (λ (k : Config). Sends (next (now config passes events) (Deliver arrival)) cell word
+          (subst (λ (k : Config). Sends (next (now config passes events) (Deliver arrival)) cell word 0
           (is_whole (frame_of k.addr (cell_write cell word)) arrival || whole))
           (now-config config passes events) after);
       entries = deliver-entries config passes events arrival ∙ so_far.entries;

@@ -179,7 +179,7 @@ takes-again laws {config = config} {passes = passes} {first = first} {before = b
       came = subst (λ (h : Summary). Came config h bytes) (sym same) came;
       has = subst (λ (h : Summary). HaveRead config.addr h bytes words) (sym same)
           (have-read laws due bytes sound (came, open') r);
-      fits = (knows laws again passes events (retold-lived is r)).fits;
+      fits = (knows laws again passes events (retold-lived is r)).sends.fits;
     }
 
 -- the event that tells them

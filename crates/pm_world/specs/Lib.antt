@@ -16,5 +16,7 @@ pub mod Limited
 pub mod Bands
 pub mod LimitLaws
 pub mod FaultWords
+pub mod Moves
+pub mod GoodBus
 -- How it is kept.
 pub mod Below

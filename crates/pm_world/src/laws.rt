@@ -5,6 +5,8 @@ ghost use Rattle.pm_world.specs.Below.{Below};
 ghost use Rattle.pm_world.specs.Honest.{IsSpelled};
 ghost use Rattle.pm_world.specs.Laws.{BetrayedDamageIsLegal, BetrayedDamageIsTaken, ConfirmedSettingsAreHeld, DifferingOrdersNeverTook, FramesAreFew, HonestOrdersGoThrough, LearnedFormatsAreTrue, LegalLivesAreFollowed, ListsSayEnough, LivesAreFollowed, LivesAreOrders, OwnRequestsAreAnswered, PossibleWordsAreExact, PossibleWordsAreHeld};
 ghost use Rattle.pm_world.specs.LimitLaws.{BandsAreExact, BandsAreHeld, LivesStayLimited};
+ghost use Rattle.pm_world.specs.GoodBus.{GoodFramesEndJobs};
+ghost use Rattle.pm_world.specs.Moves.{SettingsMoveByTheOpenJob};
 ghost use Rattle.std.specs.Prelude.{◌<◌, ◌^◌};
 
 use pm_device::{
@@ -202,6 +204,19 @@ pub fn differing_orders_never_took()
     lower_laws();
 }
 
+/// Nothing moves but by the open job, at each moment of a life, whatever was lost, cut, damaged, repeated or falsely
+/// acknowledged. A cell's word is another one after an event only where the converter restarted and the word is the
+/// stored one, or where a delivery let the open job take, its frame heard whole and its code allowed: an order of this
+/// word for this very cell, or a restore, and the word is the stored one (`moves`). The store is another one only where a
+/// delivery let an open store take, which copies all outputs' words at once (`stores`). So it has the words of one
+/// earlier moment, or of the start, never a mixture, and of WRITE_PROTECT the start word (`moment`). This holds of
+/// legal events, as many as there may be (`legal`), and so of those that a world took (`taken`).
+pub fn settings_move_by_the_open_job()
+    ensures { SettingsMoveByTheOpenJob }
+{
+    lower_laws();
+}
+
 /// What a list of events says by itself. Where the converter doesn't restart in it, it didn't since any good answer
 /// (`since`), nor since the host's start (`host`). The retelling of [`possible_words_are_exact`] has at most twice as
 /// many events (`short`), so that it can be taken where that is no more than a world takes.
@@ -214,6 +229,21 @@ pub fn lists_say_enough()
 /// has the DIRECT format. So the damage of which [`betrayed_damage_is_taken`] speaks has something to damage.
 pub fn own_requests_are_answered()
     ensures { OwnRequestsAreAnswered }
+{
+    lower_laws();
+}
+
+/// A bus that is good again. Let a frame be undisturbed: a write is heard whole at least once, whatever else is
+/// delivered of it, or all of a request is heard and the converter's answer comes back, by the bytes and by how they end.
+/// Readings may change in between, and nothing else happens. Then, at any moment of a life and whatever went before:
+/// one read ends an open check Done, its cell confirmed and its word alone possible; where that word wasn't possible
+/// before, the host says from then on that it saw a restart (`check`). The write and the read of one pass end an order
+/// that WRITE_PROTECT allows Done, whichever pass it is (`order`); where it is to be read back first, that read does, or
+/// that and the next pass (`read_back`, `three`). A clear, a store or a restore ends Done by one write that is
+/// acknowledged (`send`), a learn ends Learned by one read or by two (`mode`, `coefficients`). This holds of legal events
+/// (`legal`), and so of those that a world took (`taken`).
+pub fn good_frames_end_jobs()
+    ensures { GoodFramesEndJobs }
 {
     lower_laws();
 }

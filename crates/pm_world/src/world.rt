@@ -4,12 +4,14 @@ ghost use Rattle.pm_device.specs.Start.{IsSound};
 ghost use Rattle.pm_host.specs.Refusals.{IsSetup, may_come};
 ghost use Rattle.pm_world.specs.Confirmed.{ConfirmedIsHeld};
 ghost use Rattle.pm_world.specs.Ended.{DiffersNeverTook};
+ghost use Rattle.pm_world.specs.GoodBus.{GoodFrames};
 ghost use Rattle.pm_world.specs.Honest.{AreFewFrames, FormatsAgree, IsSpelled, MicrosAreNearest, OrdersGoThrough};
 ghost use Rattle.pm_world.specs.Possible.{PossibleIsHeld, SeenIsTrue};
 ghost use Rattle.pm_world.specs.Setup.{setup_of, start, setup_fault};
 ghost use Rattle.pm_world.specs.Life.{now, taken_events, after_all, AreTaken, AreTakenFrom, StopsAt, StopsFrom};
 ghost use Rattle.pm_world.specs.Job.{asked_by};
 ghost use Rattle.pm_world.specs.Limited.{StaysLimited};
+ghost use Rattle.pm_world.specs.Moves.{MovesByTheOpenJob};
 ghost use Rattle.pm_world.specs.State.{Steps, Acts, shared, tells, hears};
 ghost use Rattle.pm_host.specs.Told.{entry_told};
 ghost use Rattle.pm_host.specs.Transcript as told;
@@ -27,9 +29,9 @@ use crate::back::Back;
 use crate::cause::Cause;
 use crate::event::Event;
 use crate::laws::{
-    confirmed_settings_are_held, differing_orders_never_took, frames_are_few,
+    confirmed_settings_are_held, differing_orders_never_took, frames_are_few, good_frames_end_jobs,
     honest_orders_go_through, learned_formats_are_true, lives_are_followed, lives_are_orders,
-    lives_stay_limited, possible_words_are_held, spell,
+    lives_stay_limited, possible_words_are_held, settings_move_by_the_open_job, spell,
 };
 use crate::legal::{
     answer_in, back_bytes, hear_replied, heard_bytes, heard_ending, is_heard_whole,
@@ -101,26 +103,29 @@ impl World {
     /// The *taken events* are those before the stop, or all where there is none. Whatever was lost, cut,
     /// damaged, repeated or falsely acknowledged, and whichever end started again:
     ///
-    /// - `orders`: the converter's words, and those in its store, are those of a run of the order machine
-    ///   that retells the taken events. In it exactly the orders, stores and restores are accepted, each in
-    ///   its place, an order with its word, and each takes only at a delivery between its acceptance and
-    ///   the end of its job.
+    /// - `orders`: the converter's words, and those in its store, are those of the run of the order machine that
+    ///   retells the taken events. In it exactly the orders, stores and restores are accepted, each in its place, an
+    ///   order with its word, and each takes exactly at those deliveries between its acceptance and its job's end by
+    ///   which its frame is heard whole while WRITE_PROTECT allows its code.
     /// - `own`, `stored`: each cell has its start word, or the word of an order for that very cell, and so
     ///   it has in the store.
-    /// - `commanded`: each output commands the value of one of its own words, cut to its own VOUT_MIN and
-    ///   VOUT_MAX.
+    /// - `moves`: at each moment a cell gets another word only by a restart of the converter, or by a delivery that lets
+    ///   an order of this word for this very cell, or a restore, take; the store only by one that lets an open store
+    ///   take, so it has the settings of one earlier moment.
+    /// - `commanded`: each output commands the value of one of its own words, cut to its own VOUT_MIN and VOUT_MAX.
     /// - `confirmed`: a word that the host calls confirmed is the one that the converter holds, unless
     ///   the converter restarted since the host read the cell.
     /// - `possible`: where the host lists the words that are possible for a cell, the converter's is among
     ///   them, unless the converter restarted since the host's last good answer for the cell.
-    /// - `seen`: a good answer that the host didn't think possible comes only where the converter
-    ///   restarted since the one before it for the same cell. So where the host saw a restart, there
-    ///   was one since the host started.
+    /// - `seen`: a good answer that the host didn't think possible comes only where the converter restarted since the
+    ///   one before it for the same cell. So where the host saw a restart, there was one since the host started.
     /// - `limited`: at each moment of the taken events an output commands a voltage within limits that all of its
     ///   own words lie within, and no more than the most of all words of its VOUT_MAX; words that a guard let be
     ///   ordered lie within its limits.
     /// - `few`: no job sends more than twice as many frames as it has passes.
     /// - `through`: an undisturbed order that WRITE_PROTECT allows ends done, confirmed and held.
+    /// - `good`: at any moment, whatever went before, frames that nothing disturbs end the open job as it is meant to,
+    ///   an allowed order in any pass; and a read shows a word that wasn't possible.
     /// - `formats`, `nearest`: a format that the host learned is the converter's, and an order in
     ///   microvolts is that of the nearest word in it. A learn that learned leaves a format until the host restarts,
     ///   and no other job changes one.
@@ -150,12 +155,15 @@ impl World {
         ensures commanded { IfOk result (λ run. (output : ℕ) → output < c.count →
             CommandsOwn c passes (taken_events events.now run.1) output
             (commanded (value_for run.0.device.config output) run.0.device.words output)) }
+        ensures moves { IfOk result (λ run.
+            MovesByTheOpenJob c passes (taken_events events.now run.1)) }
         ensures limited { IfOk result (λ run.
             StaysLimited c passes (taken_events events.now run.1)) }
         ensures stop { IfOk result (λ run. StopsAt c passes events.now run.1) }
         ensures few { IfOk result (λ run. AreFewFrames c passes (taken_events events.now run.1)) }
         ensures through { IfOk result (λ run.
             OrdersGoThrough c passes (taken_events events.now run.1)) }
+        ensures good { IfOk result (λ run. GoodFrames c passes (taken_events events.now run.1)) }
         ensures formats { IfOk result (λ run.
             FormatsAgree c passes (taken_events events.now run.1)) }
         ensures nearest { IfOk result (λ run.
@@ -176,9 +184,11 @@ impl World {
     {
         // These calls hand their laws to the prover, and do nothing else.
         lives_are_orders();
+        settings_move_by_the_open_job();
         lives_stay_limited();
         frames_are_few();
         honest_orders_go_through();
+        good_frames_end_jobs();
         learned_formats_are_true();
         confirmed_settings_are_held();
         possible_words_are_held();
