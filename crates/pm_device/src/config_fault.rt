@@ -1,4 +1,4 @@
-ghost use Rattle.std.specs.Prelude.{◌≡◌};
+ghost use Rattle.std.specs.Prelude.{◌≡◌, ◌≢◌};
 ghost use Rattle.pm_device.specs.Start.{outputs};
 
 use pm_num::NumFault;
@@ -27,7 +27,7 @@ pub enum ConfigFault {
 
 impl ConfigFault {
     ghost use Rattle.std.specs.Option.{option_map};
-    ghost use Rattle.pm_device.specs.FaultWords.{config_fault_words, config_fault_output, config_fault_detail};
+    ghost use Rattle.pm_device.specs.FaultWords.{config_fault_number, config_fault_words, config_fault_output, config_fault_detail};
 
     /// The letter and the name of the fault, as programs print them: `V2 BadStart`. After them stand
     /// its output and its detail, where it has them.
@@ -40,6 +40,20 @@ impl ConfigFault {
             ConfigFault::Address => "V3 Address",
             ConfigFault::BadMode(..) => "V4 BadMode",
             ConfigFault::BadCoefficients(_) => "V5 BadCoefficients",
+        }
+    }
+
+    /// The number of the fault as `pm_part.h` has it, 21h to 25h. No other fault has it.
+    pub fn number(self) -> u8
+        ensures number { result ≡ config_fault_number self }
+        ensures some { result ≢ 0 }
+    {
+        match self {
+            ConfigFault::OutputCount => 0x21,
+            ConfigFault::BadStart(_) => 0x22,
+            ConfigFault::Address => 0x23,
+            ConfigFault::BadMode(..) => 0x24,
+            ConfigFault::BadCoefficients(_) => 0x25,
         }
     }
 
