@@ -74,7 +74,8 @@ of-device code e = parts (go (line_of code) refl e) where
   told false true t p = cc
   told true of_output t p = cc
 
-  go : (found : Option Line) → line_of code ≡ found → option_map_or (λ line. not (is_paged line.scope)) found false ≡ true → is_of_output code ≡ false
+  go : (found : Option Line) → line_of code ≡ found → option_map_or (λ line. not (is_paged line.scope)) found false ≡ true
+      → is_of_output code ≡ false
   go None is p = cc
   go (Some line) is p =
       let passes : is_told code line ≡ true = line-passes is_told rows code line refl is in

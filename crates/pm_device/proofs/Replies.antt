@@ -49,7 +49,8 @@ line-passes test (row ∷ others) code line all is =
 
 -- a code that is written has an act, but for PAGE_PLUS_WRITE, which only carries one
 has-act : ℕ → ℕ → ℕ → Line → Bool
-has-act output word code line = not (is_ever_written line.protection) || (eqb code command.page_plus_write || is_some (act_in code output word))
+has-act output word code line =
+    not (is_ever_written line.protection) || (eqb code command.page_plus_write || is_some (act_in code output word))
 
 -- so a code that is written has an act
 written-act : (code output word : ℕ) → is_written code ≡ true → eqb code command.page_plus_write ≡ false →
@@ -65,7 +66,8 @@ written-act code output word written plain none = go (line_of code) refl written
   go None is w = cc
   go (Some line) is w =
       let passes : has-act output word code line ≡ true = line-passes (has-act output word) rows code line refl is in
-      let some = last (is_ever_written line.protection) (eqb code command.page_plus_write) (is_some (act_in code output word)) passes w plain in
+      let some = last (is_ever_written line.protection) (eqb code command.page_plus_write) (is_some (act_in code output word)) passes w
+          plain in
       let not_some : is_some (act_in code output word) ≡ false = ap (λ a. is_some a) none in
       cc
 

@@ -10,7 +10,8 @@ use Rattle.memchr.specs.Find.{IsFirstByte}
 pub first_is : (p : ℕ → Bool) (xs : List ℕ) (found : Option ℕ) → IsFirstByte p xs found → found ≡ position p xs
 first_is p xs None none =
     let end : position_or_len p xs ≡ length xs =
-    position_or_len_is p xs (length xs) 0 (omega arith) (λ k below. false_from_ne_true _ (none k (omega arith) below)) (λ past. absurd (omega arith)) in
+    position_or_len_is p xs (length xs) 0 (omega arith) (λ k below. false_from_ne_true _ (none k (omega arith) below))
+        (λ past. absurd (omega arith)) in
     grind (arith, nat_tests)
 first_is p xs (Some at) first =
     let (before, passes) = first in
