@@ -33,6 +33,7 @@ mod event;
 mod laws;
 mod legal;
 mod setup_fault;
+mod short;
 mod stop;
 mod world;
 
@@ -52,5 +53,6 @@ pub use legal::{
     is_legal_return,
 };
 pub use setup_fault::SetupFault;
+pub use short::words_are_short;
 pub use stop::Stop;
 pub use world::World;
