@@ -1,13 +1,16 @@
 //! After `World::run` one goes on with `World::step`, and has each of its promises for the longer list of
 //! events too, by the laws of worlds and with no proof by hand.
 
-ghost use Rattle.std.specs.Prelude.{◌≡◌, ◌∷◌, ◌<◌, ◌≤◌, ℕ, [], Some, IfOk, IfSome, OnSome, OnOk, reverse, true};
+ghost use Rattle.std.specs.Prelude.{◌≡◌, ◌∷◌, ◌<◌, ℕ, Some, IfOk, IfSome, OnSome, OnOk, reverse, true};
 ghost use Rattle.std.specs.Result.{result_err};
 ghost use Rattle.pm_table.specs.declared.cell.Cell.{Cell};
 ghost use Rattle.pm_table.specs.Cell.{cell_accepts, IsCell};
 ghost use Rattle.pm_model.specs.Commanded.{commanded};
 ghost use Rattle.pm_model.specs.Settings.{word_at};
 ghost use Rattle.pm_device.specs.Held.{value_for};
+ghost use Rattle.pm_limits.specs.declared.band.Band.{Band};
+ghost use Rattle.pm_limits.specs.Band.{InBand, band_at};
+ghost use Rattle.pm_world.specs.Bands.{BandStands};
 ghost use Rattle.pm_world.specs.Confirmed.{ConfirmedIsHeld};
 ghost use Rattle.pm_device.specs.Start.{IsSound};
 ghost use Rattle.pm_host.specs.Refusals.{IsSetup};
@@ -15,20 +18,19 @@ ghost use Rattle.pm_world.specs.GoodBus.{GoodFrames};
 ghost use Rattle.pm_world.specs.Honest.{AreFewFrames, FormatsAgree, IsSpelled, MicrosAreNearest, OrdersGoThrough};
 ghost use Rattle.pm_world.specs.Setup.{setup_fault, setup_of};
 ghost use Rattle.pm_world.specs.Life.{AreTaken, now};
+ghost use Rattle.pm_world.specs.Limited.{StaysLimited, commands};
 ghost use Rattle.pm_world.specs.Moves.{MovesByTheOpenJob};
 ghost use Rattle.pm_world.specs.Possible.{PossibleIsHeld, SeenIsTrue};
 ghost use Rattle.pm_world.specs.Retelling.{CommandsOwn, IsOrderRun, IsOwnWord};
-ghost use Rattle.pm_world.specs.State.{State, cause_of, event_cause};
-ghost use Rattle.pm_world.specs.declared.event.Event.{Event as Happening};
-ghost use Rattle.pm_world.specs.declared.cause.Cause.TheVariants.{Full};
 
 use pm_device::Config;
 use pm_host::Standing;
 use pm_table::Cell as Place;
 use pm_world::{
-    Event, SetupFault, World, confirmed_settings_are_held, frames_are_few, good_frames_end_jobs,
-    honest_orders_go_through, learned_formats_are_true, lives_are_followed, lives_are_orders,
-    possible_words_are_held, settings_move_by_the_open_job,
+    Event, SetupFault, World, bands_are_held, confirmed_settings_are_held, frames_are_few,
+    good_frames_end_jobs, honest_orders_go_through, learned_formats_are_true, lives_are_followed,
+    lives_are_orders, lives_stay_limited, possible_words_are_held, settings_move_by_the_open_job,
+    words_are_short,
 };
 
 /// Runs the events, and lets one more happen; `None` where one of them isn't taken.
@@ -40,6 +42,7 @@ pub fn run_and_step(
 ) -> Result<Option<World>, SetupFault>
     ensures now { IfOk result (λ found. IfSome found (λ world. world ≡ now c passes (more.now ∷ reverse events.now))) }
     ensures all { IfOk result (λ found. OnSome found (AreTaken c passes (more.now ∷ reverse events.now))) }
+    ensures config { IfOk result (λ found. IfSome found (λ world. world.device.config ≡ c)) }
     ensures sound { OnOk result (IsSound c × IsSetup (setup_of c passes) × IsSpelled c) }
 {
     // Hands the prover what a step makes of a life.
@@ -131,6 +134,42 @@ pub fn words_after_a_step(
     run_and_step(c, passes, events, more)
 }
 
+/// Its outputs stay within limits that their own words lie within.
+pub fn limits_after_a_step(
+    c: Config,
+    passes: u8,
+    events: &[Event],
+    more: &Event,
+) -> Result<Option<World>, SetupFault>
+    ensures { IfOk result (λ found. OnSome found (StaysLimited c passes (more.now ∷ reverse events.now))) }
+{
+    // Hands its law to the prover.
+    lives_stay_limited();
+    run_and_step(c, passes, events, more)
+}
+
+/// What an output commands lies in the band that the host gives.
+pub fn a_band_after_a_step(
+    c: Config,
+    passes: u8,
+    events: &[Event],
+    more: &Event,
+    output: u8,
+) -> Result<Option<World>, SetupFault>
+    requires { output < c.count }
+    ensures { IfOk result (λ found. IfSome found (λ world. (band : Band) →
+        BandStands c passes (more.now ∷ reverse events.now) world.host output → band_at world.host output ≡ Some band →
+        InBand band (commands c passes (more.now ∷ reverse events.now) output))) }
+{
+    // Hands its law to the prover.
+    bands_are_held();
+    let found = run_and_step(c, passes, events, more)?;
+    if let Some(world) = &found {
+        words_are_short(world.device(), output);
+    }
+    Ok(found)
+}
+
 /// A cell of the configuration's outputs is one of both ends after a run, and after each step: what the
 /// converter holds there, and what the host says of it.
 pub fn cell_after_a_step(
@@ -150,14 +189,3 @@ pub fn cell_after_a_step(
     let standing = world.host().standing(cell);
     Ok((word, standing))
 }
-
-/// A world takes 281,474,976,710,656 events: from then on each is refused as that, whatever else is
-/// against it, and before it none is. No list of events is so long, so this row is one of the
-/// definition, and proved.
-#[tactic(auto, unfolding(pm_world::specs::State::cause_of))]
-pub fn a_full_world_takes_no_event()
-    ensures full { (s : State) (event : Happening) →
-        281474976710656 ≤ s.taken → cause_of s event ≡ Some Full }
-    ensures room { (s : State) (event : Happening) →
-        s.taken < 281474976710656 → cause_of s event ≡ event_cause s event }
-{}

@@ -59,14 +59,6 @@ config_fault_words Address = codes "V3 Address"
 config_fault_words (BadMode output fault) = codes "V4 BadMode"
 config_fault_words (BadCoefficients fault) = codes "V5 BadCoefficients"
 
--- its number as `pm_part.h` has it, which no other fault has
-abbrev pub config_fault_number : ConfigFault → ℕ
-config_fault_number OutputCount = 0x21
-config_fault_number (BadStart cell) = 0x22
-config_fault_number Address = 0x23
-config_fault_number (BadMode output fault) = 0x24
-config_fault_number (BadCoefficients fault) = 0x25
-
 -- the output that it names, where it names one
 abbrev pub config_fault_output : ConfigFault → Option ℕ
 config_fault_output OutputCount = None

@@ -15,6 +15,7 @@ mod example;
 mod faults;
 #[cfg(test)]
 mod fixtures;
+pub mod full;
 mod look;
 #[cfg(test)]
 mod refusals;

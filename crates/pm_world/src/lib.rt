@@ -32,6 +32,7 @@ mod cause;
 mod event;
 mod laws;
 mod legal;
+mod short;
 mod stop;
 mod world;
 
@@ -51,5 +52,6 @@ pub use legal::{
     is_legal_return,
 };
 pub use pm_setup::SetupFault;
+pub use short::words_are_short;
 pub use stop::Stop;
 pub use world::World;

@@ -1,0 +1,31 @@
+//! That the words of a converter are those of a program.
+
+ghost use Rattle.std.specs.Prelude.{◌<◌, ◌^◌};
+ghost use Rattle.pm_table.specs.declared.cell.Cell.TheVariants.{Out};
+ghost use Rattle.pm_model.specs.Settings.{word_at};
+ghost use Rattle.pm_world.specs.Bands.{AreShort};
+
+use pm_device::Converter;
+use pm_table::{Cell, Reg};
+
+/// The words of an output's registers have 16 bits. It does nothing when it runs, and tells a caller what
+/// [`bands_are_held`](crate::bands_are_held) asks of them.
+pub fn words_are_short(device: &Converter, output: u8)
+    requires { output < device.now.config.count }
+    ensures { AreShort device.now.words output }
+{
+    word_is_short(device, output, Reg::Operation);
+    word_is_short(device, output, Reg::VoutCommand);
+    word_is_short(device, output, Reg::VoutMax);
+    word_is_short(device, output, Reg::MarginHigh);
+    word_is_short(device, output, Reg::MarginLow);
+    word_is_short(device, output, Reg::VoutMin);
+}
+
+// So has that of one of them.
+fn word_is_short(device: &Converter, output: u8, register: Reg)
+    requires { output < device.now.config.count }
+    ensures { word_at device.now.words (Out output register) < 2 ^ 16 }
+{
+    let _word = device.word(Cell::Out(output, register));
+}
