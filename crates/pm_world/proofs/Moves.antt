@@ -1,6 +1,6 @@
 -- What one event makes of the converter's words and of its store, and what the store has after a whole life.
-use Rattle.std.proofs.Common.{◌≡◌, ◌⊎◌, inl, inr, ℕ, ◌<◌, Bool, true, false, ◌&&◌, cond, List, [], ◌∷◌, ◌++◌, Option, Some, None, refl, sym, ◌∙◌}
-use Rattle.std.proofs.Common.{ap, subst}
+use Rattle.std.proofs.Common.{◌≡◌, ◌⊎◌, inl, inr, ℕ, ◌<◌, Bool, true, false, ◌&&◌, cond, List, [], ◌∷◌, ◌++◌, Option, Some, None}
+use Rattle.std.proofs.Common.{refl, sym, ◌∙◌, ap, subst}
 use Rattle.std.proofs.lemmas.Bool.{and_parts}
 use Rattle.pm_table.specs.declared.cell.Cell.{Cell}
 use Rattle.pm_table.specs.declared.cell.Cell.TheVariants.{Out, Protect}
@@ -191,7 +191,8 @@ cell-moves laws {config = config} {passes = passes} {before = before} {arrival =
 -- how a cell moves at an event by which a job took, or none
 moves-taken : Below → {config : Config} {passes : ℕ} {before : List Event} (event : Event) {cell : Cell} {word : ℕ} →
     IsLived config passes before → IsCell 8 cell →
-    word ≡ word_at (words_taken (words_at config passes before) (store_at config passes before) (taken_at config passes before event)) cell →
+    word ≡ word_at (words_taken (words_at config passes before) (store_at config passes before) (taken_at config passes before event))
+    cell →
     (word ≡ word_at (words_at config passes before) cell) ⊎ MovesBy config passes before cell word event
 unfolding taken_at
 moves-taken laws {config = config} {passes = passes} {before = before} (Deliver arrival) lived here e =
