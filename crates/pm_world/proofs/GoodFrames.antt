@@ -13,7 +13,8 @@ use Rattle.pm_world.proofs.Sweeps.{shows, swept}
 -- the events up to some moment were lived through
 up-to : {config : Config} {passes : ℕ} {events : List Event} (later after : List Event) → IsLived config passes events →
     events ≡ later ++ after → IsLived config passes after
-up-to {config = config} {passes = passes} later after lived is = lived-before config passes later after (subst (IsLived config passes) is lived)
+up-to {config = config} {passes = passes} later after lived is =
+    lived-before config passes later after (subst (IsLived config passes) is lived)
 
 -- each job
 pub frames-good : Below → {config : Config} {passes : ℕ} {events : List Event} → IsLived config passes events →

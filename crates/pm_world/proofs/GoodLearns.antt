@@ -81,7 +81,8 @@ mode-answer laws {config = config} {output = output} lived spelled below fits a 
     there in
     let payload = register_bytes command.vout_mode (mode_for held.config output) in
     let good : good_payload addr (mode_read output) a.answer ≡ Some payload =
-    ap (good_payload addr (mode_read output)) (is ∙ ap answer_in found.1) ∙ good-answer laws addr (mode_read output) payload found.0 found.2 in
+    ap (good_payload addr (mode_read output)) (is ∙ ap answer_in found.1)
+    ∙ good-answer laws addr (mode_read output) payload found.0 found.2 in
     record {
       payload = payload;
       good = good;
@@ -176,7 +177,8 @@ coefficients-answer laws {config = config} {passes = passes} output spelled ther
     (direct-found held.config.starts held.config.count output here.0 here.1) in
     let payload = coefficient_bytes held.config.coefficients in
     let good : good_payload addr coefficients_read a.answer ≡ Some payload =
-    ap (good_payload addr coefficients_read) (is ∙ ap answer_in found.1) ∙ good-answer laws addr coefficients_read payload found.0 found.2 in
+    ap (good_payload addr coefficients_read) (is ∙ ap answer_in found.1)
+    ∙ good-answer laws addr coefficients_read payload found.0 found.2 in
     record {
       payload = payload;
       good = good;

@@ -156,9 +156,11 @@ pass-done laws {config = config} {passes = passes} {after = after} {cell = cell}
     }
 
 -- where the word that is read back isn't the order's, the next pass does it
-pub three-done : Below → {config : Config} {passes : ℕ} {before first middle after : List Event} {cell : Cell} {word pass : ℕ} {acked : Bool} →
-    IsLived config passes before → IsLived config passes first → IsLived config passes middle → IsLived config passes after →
-    (now config passes before).host.stage ≡ Some (Reads cell word pass) → (held_after config passes before cell ≢ word) × (pass + 1 < passes) →
+pub three-done : Below → {config : Config} {passes : ℕ} {before first middle after : List Event} {cell : Cell} {word pass : ℕ}
+    {acked : Bool} → IsLived config passes before → IsLived config passes first → IsLived config passes middle →
+    IsLived config passes after →
+    (now config passes before).host.stage ≡ Some (Reads cell word pass) →
+    (held_after config passes before cell ≢ word) × (pass + 1 < passes) →
     is_allowed (held_after config passes before Protect) (cell_code cell) ≡ true →
     IsRead config passes (cell_read cell) before first →
     IsWritten (frame_of config.addr (cell_write cell word)) acked first middle →

@@ -133,7 +133,8 @@ at-once laws {config = config} {passes = passes} before request arrival back liv
     let same = now-next laws config passes before event lived in
     let addr : s.host.setup.addr ≡ config.addr = ap (λ (u : host.Setup). u.addr) (now-setup config passes before) in
     let told = whole-told s request arrival back sending whole in
-    let stays = exchanged-stays laws s arrival back (sending_in s.host) (sent-fits laws config passes before (earlier lived)) (newest lived) in
+    let stays = exchanged-stays laws s arrival back (sending_in s.host) (sent-fits laws config passes before (earlier lived))
+    (newest lived) in
     record {
       held = s.device;
       config_is = now-config config passes before;
@@ -309,7 +310,8 @@ check-done laws {config = config} {passes = passes} {before = before} {after = a
     let h = (now config passes before).host in
     let a = was-answered laws (cell_read cell) all (ap (option_map stage_message) stage) read in
     let here = check-there laws lived stage in
-    let good = ap (λ (u : host.Setup). good_word u.addr cell a.answer) (now-setup config passes before) ∙ answered-word laws cell lived here a in
+    let good = ap (λ (u : host.Setup). good_word u.addr cell a.answer) (now-setup config passes before)
+    ∙ answered-word laws cell lived here a in
     let turn = check-change h cell (held_after config passes before cell) tries a.answer stage good in
     record {
       read = was-read laws lived here a (ap (λ (t : Summary). t.known) a.summary ∙ ap (λ (t : Change). t.after.known) turn);
@@ -328,7 +330,8 @@ order-done laws {config = config} {passes = passes} {before = before} {after = a
     let found = held_after config passes before cell in
     let a = was-answered laws (cell_read cell) all (ap (option_map stage_message) stage) read in
     let here = order-there laws lived stage in
-    let good = ap (λ (u : host.Setup). good_word u.addr cell a.answer) (now-setup config passes before) ∙ answered-word laws cell lived here a in
+    let good = ap (λ (u : host.Setup). good_word u.addr cell a.answer) (now-setup config passes before)
+    ∙ answered-word laws cell lived here a in
     let turn = order-change h cell word found pass a.answer stage good
     ∙ cond-true (eqb found word) _ _ (eq-eqb found word held) in
     record {
@@ -351,8 +354,10 @@ order-again laws {config = config} {passes = passes} {before = before} {after = 
     let a = was-answered laws (cell_read cell) all (ap (option_map stage_message) stage) read in
     let here = order-there laws lived stage in
     let more : pass + 1 ≢ h.setup.passes = λ e.
-    (let same : pass + 1 ≡ passes = e ∙ ap (λ (u : host.Setup). u.passes) (now-setup config passes before) in absurd (omega (arith, left, same))) in
-    let good = ap (λ (u : host.Setup). good_word u.addr cell a.answer) (now-setup config passes before) ∙ answered-word laws cell lived here a in
+    (let same : pass + 1 ≡ passes = e ∙ ap (λ (u : host.Setup). u.passes) (now-setup config passes before) in
+    absurd (omega (arith, left, same))) in
+    let good = ap (λ (u : host.Setup). good_word u.addr cell a.answer) (now-setup config passes before)
+    ∙ answered-word laws cell lived here a in
     let turn = order-change h cell word found pass a.answer stage good
     ∙ (cond-false (eqb found word) _ _ (ne_eqb found word differs)
     ∙ cond-false (eqb (pass + 1) h.setup.passes) _ _ (ne_eqb (pass + 1) h.setup.passes more)) in

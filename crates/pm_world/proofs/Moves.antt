@@ -1,6 +1,6 @@
 -- What one event makes of the converter's words and of its store, and what the store has after a whole life.
-use Rattle.std.proofs.Common.{◌≡◌, ◌⊎◌, inl, inr, ℕ, ◌<◌, Bool, true, false, cond, List, [], ◌∷◌, ◌++◌, Option, Some, None, refl, sym, ◌∙◌}
-use Rattle.std.proofs.Common.{ap, subst}
+use Rattle.std.proofs.Common.{◌≡◌, ◌⊎◌, inl, inr, ℕ, ◌<◌, Bool, true, false, ◌&&◌, cond, List, [], ◌∷◌, ◌++◌, Option, Some, None}
+use Rattle.std.proofs.Common.{refl, sym, ◌∙◌, ap, subst}
 use Rattle.std.proofs.lemmas.Bool.{and_parts}
 use Rattle.pm_table.specs.declared.cell.Cell.{Cell}
 use Rattle.pm_table.specs.declared.cell.Cell.TheVariants.{Out, Protect}
@@ -129,6 +129,24 @@ takes-by config passes before arrival job is = go (open_pending config passes be
       (is_allowed (word_at words Protect) (pending_code job)) so in
       record { opened = e ∙ ap (λ j. Some j) found.1; whole = parts.0; allowed = parts.1 }
 
+-- and such a job takes
+pub takes-back : (config : Config) (passes : ℕ) (before : List Event) (arrival : Arrival) (job : PendingJob) →
+    JobTakes config passes before arrival job → taken_at config passes before (Deliver arrival) ≡ Some job
+unfolding taken_at
+takes-back config passes before arrival job t =
+    let words = (now config passes before).device.words in
+    let whole = is_whole (frame_of config.addr (pending_message job)) arrival in
+    let allowed = is_allowed (word_at words Protect) (pending_code job) in
+    ap (taken_by config.addr words arrival) t.opened
+    ∙ (ap (λ b. cond (b && allowed) (Some job) None) t.whole ∙ ap (λ b. cond (true && b) (Some job) None) t.allowed)
+
+-- which leaves what it makes of the words and the store
+took-so : {config : Config} {passes : ℕ} {before : List Event} {arrival : Arrival} (job : PendingJob) (old new : Held) →
+    JobTakes config passes before arrival job → Went config passes before (Deliver arrival) old new → TookJob old new (Some job)
+took-so job old new t (inl (is, back)) = cc
+took-so {config = config} {passes = passes} {before = before} {arrival = arrival} job old new t (inr took) =
+    subst (TookJob old new) (takes-back config passes before arrival job t) took
+
 -- the cell of an open order is there
 order-there : Below → {config : Config} {passes : ℕ} {before : List Event} {arrival : Arrival} {cell : Cell} {word : ℕ} →
     IsLived config passes before → JobTakes config passes before arrival (Order cell word) → IsCell 8 cell
@@ -173,7 +191,8 @@ cell-moves laws {config = config} {passes = passes} {before = before} {arrival =
 -- how a cell moves at an event by which a job took, or none
 moves-taken : Below → {config : Config} {passes : ℕ} {before : List Event} (event : Event) {cell : Cell} {word : ℕ} →
     IsLived config passes before → IsCell 8 cell →
-    word ≡ word_at (words_taken (words_at config passes before) (store_at config passes before) (taken_at config passes before event)) cell →
+    word ≡ word_at (words_taken (words_at config passes before) (store_at config passes before) (taken_at config passes before event))
+    cell →
     (word ≡ word_at (words_at config passes before) cell) ⊎ MovesBy config passes before cell word event
 unfolding taken_at
 moves-taken laws {config = config} {passes = passes} {before = before} (Deliver arrival) lived here e =
@@ -332,5 +351,9 @@ moves-so laws config passes events lived = record {
   stores = λ later before event is.
       store-went (went laws config passes before event
       (lived-before config passes later (event ∷ before) (subst (IsLived config passes) is lived)));
+  takes = λ later before arrival job is t.
+      let took = took-so job _ _ t (went laws config passes before (Deliver arrival)
+      (lived-before config passes later (Deliver arrival ∷ before) (subst (IsLived config passes) is lived))) in
+      (took.words, took.store);
   moment = λ later before is. one-moment laws (lived-before config passes later before (subst (IsLived config passes) is lived));
 }

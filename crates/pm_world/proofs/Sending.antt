@@ -123,13 +123,14 @@ pub record Fixed (s : State) (cell : Cell) (word : ℕ) : Type 0 where
   pub are : AreWords s.device.words
 
 -- then the write is taken
-can-take : {s : State} {cell : Cell} {word pass : ℕ} {whole : Bool} → Fixed s cell word → Sends s cell word pass whole → CanTake s.device cell word
+can-take : {s : State} {cell : Cell} {word pass : ℕ} {whole : Bool} → Fixed s cell word → Sends s cell word pass whole →
+    CanTake s.device cell word
 can-take fixed sends = record
     { there = fixed.there; accepted = fixed.accepted; allowed = sends.allowed; fits = fixed.write_fits }
 
 -- a delivery that leaves the words, or writes them
-sends-words : Below → {s : State} (t : State) {cell : Cell} {word pass : ℕ} {whole : Bool} → Fixed s cell word → Sends s cell word pass whole →
-    t.host ≡ s.host →
+sends-words : Below → {s : State} (t : State) {cell : Cell} {word pass : ℕ} {whole : Bool} → Fixed s cell word →
+    Sends s cell word pass whole → t.host ≡ s.host →
     (t.device.words ≡ s.device.words) ⊎ (t.device.words ≡ with_word s.device.words cell word) → Sends t cell word pass whole
 sends-words laws t {cell = cell} fixed sends host (inl same) = record {
   stage = ap (λ (h : Summary). h.stage) host ∙ sends.stage;
@@ -146,8 +147,8 @@ sends-words laws {s = s} t {cell = cell} {word = word} fixed sends host (inr wro
 }
 
 -- a delivery that writes them
-sends-whole : Below → {s : State} (t : State) {cell : Cell} {word pass : ℕ} {whole : Bool} → Fixed s cell word → Sends s cell word pass whole →
-    t.host ≡ s.host →
+sends-whole : Below → {s : State} (t : State) {cell : Cell} {word pass : ℕ} {whole : Bool} → Fixed s cell word →
+    Sends s cell word pass whole → t.host ≡ s.host →
     t.device.words ≡ with_word s.device.words cell word → Sends t cell word pass true
 sends-whole laws {s = s} t {cell = cell} {word = word} fixed sends host wrote = record {
   stage = ap (λ (h : Summary). h.stage) host ∙ sends.stage;

@@ -56,8 +56,10 @@ asked-so laws {config = config} {passes = passes} cell before lived =
 
 -- what surprises is found by what is known and held
 same-surprise : (words words' : Words) (known known' : Known) (cell : Cell) → words' ≡ words → known' ≡ known →
-    not (is_possible (word_at words' cell) (known_possible known' cell)) ≡ not (is_possible (word_at words cell) (known_possible known cell))
-same-surprise words words' known known' cell w k = ap₂ (λ (x : Words) (n : Known). not (is_possible (word_at x cell) (known_possible n cell))) w k
+    not (is_possible (word_at words' cell) (known_possible known' cell))
+    ≡ not (is_possible (word_at words cell) (known_possible known cell))
+same-surprise words words' known known' cell w k =
+    ap₂ (λ (x : Words) (n : Known). not (is_possible (word_at x cell) (known_possible n cell))) w k
 
 -- what came before a check was lived through
 checks-lived : {config : Config} {passes : ℕ} {cell : Cell} {before after : List Event} → IsLived config passes after →
@@ -151,8 +153,8 @@ sweeps-lived {config = config} {passes = passes} [] before after lived s = subst
 sweeps-lived (cell ∷ cells) before after lived s = checks-lived (sweeps-lived cells s.0 after lived s.2) s.1
 
 -- the first of them, and a cell that is among them
-first-checked : Below → {config : Config} {passes : ℕ} (cell : Cell) (cells : List Cell) (before after : List Event) → IsLived config passes after →
-    (s : Sweeps config passes (cell ∷ cells) before after) → Checked config passes cell before s.0
+first-checked : Below → {config : Config} {passes : ℕ} (cell : Cell) (cells : List Cell) (before after : List Event) →
+    IsLived config passes after → (s : Sweeps config passes (cell ∷ cells) before after) → Checked config passes cell before s.0
 first-checked laws cell cells before after lived s = checked laws (sweeps-lived cells s.0 after lived s.2) s.1
 
 -- it is the first, or among the rest
@@ -236,8 +238,8 @@ sweeps-parts config passes (cell ∷ cells) others before after s =
     record { middle = rest.middle; first = (s.0, s.1, rest.first); second = rest.second }
 
 -- all cells, and all but the last once more
-pub swept : Below → {config : Config} {passes : ℕ} (before after : List Event) (cells : List Cell) (last : Cell) → IsLived config passes after →
-    AreThere config.count (last ∷ cells) → Sweeps config passes (cells ++ last ∷ cells) before after →
+pub swept : Below → {config : Config} {passes : ℕ} (before after : List Event) (cells : List Cell) (last : Cell) →
+    IsLived config passes after → AreThere config.count (last ∷ cells) → Sweeps config passes (cells ++ last ∷ cells) before after →
     (cell : Cell) → is_among cell (last ∷ cells) ≡ true →
     possible_at (now config passes after).host cell ≡ only (held_after config passes after cell)
 swept laws {config = config} {passes = passes} before after cells last lived all s cell h =
@@ -289,8 +291,8 @@ awaits laws {config = config} {passes = passes} {before = before} {after = after
         (one.others cell there differ ∙ ap (λ b. cond b Any (possible_at (now config passes before).host cell)) e) ∙ is)
 
 -- checks show a restart where one of the cells has a word that wasn't possible
-pub shows : Below → {config : Config} {passes : ℕ} (cells : List Cell) (before after : List Event) (cell : Cell) → IsLived config passes after →
-    AreThere config.count cells → Sweeps config passes cells before after → is_among cell cells ≡ true →
+pub shows : Below → {config : Config} {passes : ℕ} (cells : List Cell) (before after : List Event) (cell : Cell) →
+    IsLived config passes after → AreThere config.count cells → Sweeps config passes cells before after → is_among cell cells ≡ true →
     is_surprising config passes before cell ≡ true → (now config passes after).host.known.seen ≡ true
 shows laws [] before after cell lived all s h is = cc
 shows laws {config = config} {passes = passes} (first ∷ cells) before after cell lived all s h is =

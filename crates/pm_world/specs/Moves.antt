@@ -8,6 +8,7 @@ use Rattle.pm_table.specs.Cell.{IsCell, is_output_cell}
 use Rattle.pm_table.specs.Protection.{is_allowed}
 use Rattle.pm_model.specs.declared.pending_job.PendingJob.{PendingJob}
 use Rattle.pm_model.specs.declared.pending_job.PendingJob.TheVariants.{Order, Store, Restore}
+use Rattle.pm_model.specs.OrderMachine.{store_taken, words_taken}
 use Rattle.pm_model.specs.Settings.{Words, with_outputs, word_at}
 use Rattle.pm_device.specs.declared.config.Config.{Config}
 use Rattle.pm_device.specs.Start.{IsSound, start_word}
@@ -74,7 +75,8 @@ pub record StoreIsOfOneMoment (config : Config) (passes : ℕ) (events : List Ev
   pub protect : word_at (store_at config passes events) Protect ≡ start_word config Protect
 
 -- At each moment of the events: a cell keeps its word at an event or gets another as above (`moves`), and so
--- does the store (`stores`), which has the words of one moment (`moment`).
+-- does the store (`stores`), which has the words of one moment (`moment`). And a delivery by which the open job
+-- takes leaves what that job makes of the words and the store (`takes`).
 pub record MovesByTheOpenJob (config : Config) (passes : ℕ) (events : List Event) : Type 0 where
   pub moves : (later before : List Event) (event : Event) (cell : Cell) →
       events ≡ later ++ event ∷ before → IsCell config.count cell →
@@ -83,6 +85,12 @@ pub record MovesByTheOpenJob (config : Config) (passes : ℕ) (events : List Eve
   pub stores : (later before : List Event) (event : Event) → events ≡ later ++ event ∷ before →
       let store = store_at config passes (event ∷ before) in
       (store ≡ store_at config passes before) ⊎ StoresBy config passes before store event
+  pub takes : (later before : List Event) (arrival : Arrival) (job : PendingJob) →
+      events ≡ later ++ Deliver arrival ∷ before → JobTakes config passes before arrival job →
+      (words_at config passes (Deliver arrival ∷ before)
+      ≡ words_taken (words_at config passes before) (store_at config passes before) (Some job))
+      × (store_at config passes (Deliver arrival ∷ before)
+      ≡ store_taken (words_at config passes before) (store_at config passes before) (Some job))
   pub moment : (later before : List Event) → events ≡ later ++ before → StoreIsOfOneMoment config passes before
 
 -- of legal events, and so of those that a world took

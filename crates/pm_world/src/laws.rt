@@ -209,8 +209,9 @@ pub fn differing_orders_never_took()
 /// stored one, or where a delivery let the open job take, its frame heard whole and its code allowed: an order of this
 /// word for this very cell, or a restore, and the word is the stored one (`moves`). The store is another one only where a
 /// delivery let an open store take, which copies all outputs' words at once (`stores`). So it has the words of one
-/// earlier moment, or of the start, never a mixture, and of WRITE_PROTECT the start word (`moment`). This holds of
-/// legal events, as many as there may be (`legal`), and so of those that a world took (`taken`).
+/// earlier moment, or of the start, never a mixture, and of WRITE_PROTECT the start word (`moment`). And each delivery
+/// that hears the open job's frame whole, while its code is allowed, leaves what that job makes of them (`takes`). This
+/// holds of legal events, as many as there may be (`legal`), and so of those that a world took (`taken`).
 pub fn settings_move_by_the_open_job()
     ensures { SettingsMoveByTheOpenJob }
 {

@@ -107,14 +107,12 @@ impl World {
     ///   retells the taken events. In it exactly the orders, stores and restores are accepted, each in its place, an
     ///   order with its word, and each takes exactly at those deliveries between its acceptance and its job's end by
     ///   which its frame is heard whole while WRITE_PROTECT allows its code.
-    /// - `own`, `stored`: each cell has its start word, or the word of an order for that very cell, and so
-    ///   it has in the store.
+    /// - `own`, `stored`: each cell has its start word, or that of an order for that very cell, also in the store.
     /// - `moves`: at each moment a cell gets another word only by a restart of the converter, or by a delivery that lets
     ///   an order of this word for this very cell, or a restore, take; the store only by one that lets an open store
     ///   take, so it has the settings of one earlier moment.
     /// - `commanded`: each output commands the value of one of its own words, cut to its own VOUT_MIN and VOUT_MAX.
-    /// - `confirmed`: a word that the host calls confirmed is the one that the converter holds, unless
-    ///   the converter restarted since the host read the cell.
+    /// - `confirmed`: a word that the host calls confirmed is held, unless the converter restarted since it was read.
     /// - `possible`: where the host lists the words that are possible for a cell, the converter's is among
     ///   them, unless the converter restarted since the host's last good answer for the cell.
     /// - `seen`: a good answer that the host didn't think possible comes only where the converter restarted since the
@@ -133,8 +131,7 @@ impl World {
     /// - `taken`, `room`: how many events the world took, no more than there are.
     /// - `now`, `all`, `stop`: the world is what its definition says of the taken events, each of them was
     ///   taken, and the first other one has a cause, which is the stop's.
-    /// - `config`, `setup`: the converter has this configuration, the host its address, its outputs and
-    ///   this number of passes.
+    /// - `config`, `setup`: the converter has this configuration, the host its address, its outputs and these passes.
     /// - `sound`: what the laws ask, by which all this is had of further calls of [`World::step`] too.
     pub fn run(c: Config, passes: u8, events: &[Event]) -> Result<(World, Option<Stop>), SetupFault>
         ensures fault { result_err result ≡ setup_fault c passes }
