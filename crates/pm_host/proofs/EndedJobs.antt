@@ -44,7 +44,7 @@ use Rattle.pm_host.specs.Told.{entry_told, is_of_frame}
 use Rattle.pm_host.specs.Transcript.{Setup, Job, Order, Check, Learn, Send, Entry, Accepted, Finished, Got, Restarted, open_job, end_of, told_since, is_write_turn}
 use Rattle.pm_host.specs.Transcript.{mode_told, coefficients_tries}
 use Rattle.pm_host.proofs.CellLemmas.{length-table}
-use Rattle.pm_host.proofs.Follows.{IsCell-eight}
+use Rattle.pm_table.specs.Lemmas.{IsCell-eight}
 
 -- what a change says of the job, from this stage on
 abbrev Tells : Summary → Option Stage → Entry → Change → Type 0

@@ -8,6 +8,7 @@ use Rattle.pm_table.specs.declared.cell.Cell.{Cell}
 use Rattle.pm_table.specs.declared.cell.Cell.TheVariants.{Out, Protect}
 use Rattle.pm_table.specs.Cell.{IsCell, cell_accepts, cell_in, is_cell, place_of, places}
 use Rattle.pm_table.specs.Laws.{CellsHavePlaces}
+use Rattle.pm_table.specs.Lemmas.{IsCell-eight}
 use Rattle.pm_model.specs.Settings.{Settings, Words, AreSettings, AreWords, are_accepted, is_accepted_at, settings_in, word_at}
 
 -- nothing is added
@@ -26,11 +27,6 @@ there-true count Protect here = refl
 true-there : (count : ℕ) (cell : Cell) → is_cell count cell ≡ true → IsCell count cell
 true-there count (Out output register) e = ltb-true output count e
 true-there count Protect e = tt
-
--- a cell of fewer outputs is one of eight
-within-eight : (count : ℕ) (cell : Cell) → count ≤ 8 → IsCell count cell → IsCell 8 cell
-within-eight count (Out output register) few here = omega (arith, few, here)
-within-eight count Protect few here = tt
 
 -- what is accepted at each place is accepted at this one
 accepted-at : (count : ℕ) (words : Words) (place : ℕ) → are_accepted count words ≡ true → place < places →
@@ -56,7 +52,7 @@ accepted_settings stand count words some few whole all = record {
   few = few;
   words = whole;
   accepted = λ cell here.
-      let eight = within-eight count cell few here in
+      let eight = IsCell-eight count cell few here in
       let back = stand.back cell eight in
       let test = accepted-at count words (place_of cell) all (stand.below cell eight) in
       subst (λ (other : Cell). cell_accepts other (get_or words (place_of cell) 0) ≡ true) back
