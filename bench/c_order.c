@@ -1,7 +1,9 @@
 /* How long an order takes over the static library, and how much stack its calls take; beside it an order by
- * plain code: the frame and its PEC, the answer judged, no words kept. bench/c_order.sh runs it. */
+ * plain code: the frame and its PEC, the answer judged, no words kept. bench/c_order.sh runs it. With a number as its
+ * argument it gives so many orders and ends: bench/instructions.py counts these. */
 #include "pm.h"
 #include <stdio.h>
+#include <stdlib.h>
 #include <string.h>
 #include <time.h>
 
@@ -64,7 +66,7 @@ __attribute__((noinline)) static size_t written(void) {
         printf("stack %-16s %5zu bytes\n", name, bytes);           \
     } while (0)
 
-int main(void) {
+int main(int count, char **arguments) {
     uint8_t answers[2][5] = {{0xB1, 0x02, 0xCD, 0x34, 0}, {0xB1, 0x02, 0xCE, 0x34, 0}};
     static const uint8_t request[5] = {0xB0, 0x06, 0x02, 0x00, 0x21};
     uint8_t both[9], kept[8];
@@ -78,6 +80,12 @@ int main(void) {
         answers[i][4] = pm_pec(both, 9);
     }
     pm_host_new(&host, 0x58, 8, 3);
+    if (count > 1) {
+        for (long i = 0, all = atol(arguments[1]); i < all; i++)
+            done += order(&host, answers[i & 1], (uint16_t)(0x34CD + (i & 1)));
+        printf("%ld orders done\n", done);
+        return 0;
+    }
     double best = 1e9, plain = 1e9;
     for (int round = 0; round < ROUNDS; round++) {
         double start = now();

@@ -1,92 +1,88 @@
 #!/usr/bin/env python3
-"""Counts the instructions that `pmb` takes for three texts of 1 MiB, by valgrind's callgrind: 45,000 lines of
-`hear`, as many of `decode` (three in ten are reads), and a scenario of 11,000 orders that go through. A count is
-the same from run to run, whatever else the machine does.
+"""Counts instructions by valgrind's callgrind: those of `pmb` for three texts of 1 MiB (45,000 lines of `hear`, as
+many of `decode`, of which three in ten are reads, and a scenario of 14,500 orders that go through), and those of one
+order over the C library and over pm_driver. A count is the same from run to run, whatever else the machine does.
 
-    bench/instructions.py [--by COMMAND]
+    bench/instructions.py [--earlier PMB] [--archive FILE] [--earlier-archive FILE] [--driver FILE] [--by COMMAND]
 
-`--by` lists a command's most expensive functions. It needs valgrind, and runs the built
-program, or the one that the environment variable PMB names.
+It runs the built program, or the one that the environment variable PMB names, and beside it the one that `--earlier`
+names. `--archive` is the static library of crates/pm_c, `--driver` the program that bench/driver/build.sh makes; without
+them no order is counted. `--by` lists a command's most expensive functions. It needs valgrind, and gcc for the C library.
 """
 import os
-import random
 import re
 import shutil
 import subprocess
 import sys
 import tempfile
 
-sys.path.append(os.path.join(os.path.dirname(os.path.dirname(os.path.abspath(__file__))), "scripts"))
-sys.dont_write_bytecode = True
+import measured
+import program
 
-import program  # noqa: E402
-
-SIZE = 1_048_000
-HEAD = """scenario 1
-address 58
-passes 2
-protect 00
-coefficients 1 0 0
-output 14 80 1000 4000 1100 0F00
-output 14 80 1000 4000 1100 0F00
-begin
-"""
-READ = "B0 06 02 00 21 / B1 02 CD 34 B9\n"
+FEW, MANY = 500, 2500
 
 
-def pec(message):
-    code = 0
-    for byte in message:
-        code ^= byte
-        for _ in range(8):
-            code = (code << 1 ^ 0x07) & 0xFF if code & 0x80 else code << 1
-    return code
-
-
-def write_line(dice):
-    message = [0xB0, 0x05, 0x04, dice.randrange(2), 0x21, dice.randrange(256), dice.randrange(64)]
-    return " ".join(f"{byte:02X}" for byte in [*message, pec(message)]) + "\n"
-
-
-def order_lines(dice):
-    output, word = dice.randrange(2), dice.randrange(0x4000)
-    return f"order {output} VOUT_COMMAND {word:04X}\ndeliver whole\nfinish ack\nexchange whole whole\n"
-
-
-def text_of(command):
-    dice, lines = random.Random(command), [HEAD if command == "replay" else ""]
-    size = len(lines[0])
-    while True:
-        if command == "replay":
-            line = order_lines(dice)
-        else:
-            line = READ if command == "decode" and dice.random() < 0.3 else write_line(dice)
-        size += len(line)
-        if size > SIZE:
-            return "".join(lines).encode()
-        lines.append(line)
-
-
-def counted(command, folder, is_listed):
-    found = os.path.join(folder, command)
-    run = subprocess.run(
-        ["valgrind", "--tool=callgrind", f"--callgrind-out-file={found}", program.PROGRAM, command],
-        input=text_of(command), capture_output=True)
+def counted(command, folder, text=b""):
+    """How many instructions a command takes, and where callgrind's listing stands."""
+    found = os.path.join(folder, "found")
+    run = subprocess.run(["valgrind", "--tool=callgrind", f"--callgrind-out-file={found}", *command], input=text, capture_output=True)
     total = re.search(rb"Collected : (\d+)", run.stderr)
-    print(f"{command:8}{int(total[1]) / 1e6:6.1f} million instructions")
-    if is_listed:
-        listing = subprocess.run(["callgrind_annotate", found], capture_output=True, text=True).stdout
-        print("\n".join(line for line in listing.splitlines() if re.match(r" *[\d,]+ \(", line)))
+    if not total or run.returncode:
+        sys.exit(f"callgrind has no count of {command[0]}: {run.stderr.decode()[-300:]}")
+    return int(total[1]), found
+
+
+def texts(folder, listed):
+    programs = measured.programs()
+    for command in measured.COMMANDS:
+        text, counts = measured.usual_text(command), {}
+        for name, pmb in programs.items():
+            count, found = counted([pmb, command], folder, text)
+            counts[name] = count / 1e6
+            if name == "this" and command == listed:
+                listing = subprocess.run(["callgrind_annotate", found], capture_output=True, text=True).stdout
+                print("\n".join(line for line in listing.splitlines() if re.match(r" *[\d,]+ \(", line)), file=sys.stderr)
+        measured.row(f"{command}, a text of 1 MiB", "million instructions", counts)
+
+
+def an_order(name, orders, folder):
+    """A row of what one order takes, by two runs of a program that is told how many to give."""
+    counts = {}
+    for which, path in orders.items():
+        few, _ = counted([path, str(FEW)], folder)
+        many, _ = counted([path, str(MANY)], folder)
+        counts[which] = round((many - few) / (MANY - FEW))
+    measured.row(name, "instructions", counts)
+
+
+def c_orders(folder):
+    """The programs of bench/c_order.c over the archives that the arguments name."""
+    made, here = {}, os.path.dirname(os.path.abspath(__file__))
+    for which, word in ("this", "--archive"), ("earlier", "--earlier-archive"):
+        archive = measured.value_behind(word)
+        if archive:
+            made[which] = os.path.join(folder, which)
+            include = os.path.join(program.ROOT, "crates/pm_c/include")
+            subprocess.run(["gcc", "-O2", f"-I{include}", os.path.join(here, "c_order.c"), archive, "-o", made[which]], check=True)
+    return made
 
 
 def main():
     program.answer_help(__doc__)
     program.needed()
     if not shutil.which("valgrind"):
-        sys.exit("no valgrind on this machine")
+        measured.lacks("valgrind", "no instruction")
+        return
     with tempfile.TemporaryDirectory() as folder:
-        for command in ("hear", "decode", "replay"):
-            counted(command, folder, "--by" in sys.argv and sys.argv[-1] == command)
+        texts(folder, measured.value_behind("--by"))
+        if measured.value_behind("--archive"):
+            if shutil.which("gcc"):
+                an_order("an order over pm_c", c_orders(folder), folder)
+            else:
+                measured.lacks("gcc", "an order over pm_c")
+        driver = measured.value_behind("--driver")
+        if driver:
+            an_order("an order over pm_driver and the model converter", {"this": driver}, folder)
 
 
 main()

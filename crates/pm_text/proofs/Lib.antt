@@ -5,3 +5,4 @@ pub mod Joins
 pub mod LineLemmas
 mod OutputLemmas
 pub mod ReplayLemmas
+mod UsualLemmas

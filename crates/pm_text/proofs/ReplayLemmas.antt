@@ -1,36 +1,39 @@
 -- What a scenario that was read, and the run of its events, come to.
-use Rattle.std.proofs.Common.{◌≡◌, ◌∙◌, ◌+◌, ◌<◌, ℕ, zero, suc, List, [], ◌∷◌, ◌++◌, length, take, Option, Some, None, Result, Ok, Err}
+use Rattle.std.proofs.Common.{◌≡◌, ◌∙◌, ◌+◌, ◌<◌, ◌≤◌, ℕ, zero, suc, Bool, true, false, List, [], ◌∷◌, ◌++◌, length, take, Option, Some, None, Result, Ok, Err}
 use Rattle.std.proofs.Common.{refl, sym, ap, inl, inr, arith, subst, append_assoc, append-nil}
-use Rattle.std.specs.Prelude.{IsSomeAnd, reverse, slice_get}
-use mathlib.Core.List.{reverse-cons}
+use Rattle.std.specs.Prelude.{IsOk, IsSomeAnd, if◌then◌else◌, nat_lt, reverse, slice_get}
+use Rattle.std.proofs.lemmas.Bool.Decides.{nat_tests}
 use Rattle.std.proofs.lemmas.List.{length-reverse, length-take-le}
 use Rattle.std.proofs.lemmas.Option.{slice_get_cases}
 use Rattle.pm_device.specs.declared.config.Config.{Config}
+use Rattle.pm_device.specs.Start.{IsSound}
+use Rattle.pm_host.specs.Refusals.{IsSetup}
 use Rattle.pm_world.specs.declared.event.Event.{Event}
 use Rattle.pm_world.specs.declared.cause.Cause.{Cause}
 use Rattle.pm_setup.specs.declared.setup_fault.SetupFault.{SetupFault}
 use Rattle.pm_world.specs.declared.stop.Stop.{Stop}
-use Rattle.pm_world.specs.Setup.{setup_fault}
-use Rattle.pm_world.specs.Life.{AreTaken, StopsAt, now, taken_events}
-use Rattle.pm_world.specs.State.{cause_of}
+use Rattle.pm_world.specs.Laws.{LivesAreFollowed}
+use Rattle.pm_world.specs.Setup.{setup_fault, setup_of, start}
+use Rattle.pm_world.specs.Life.{AreTaken, StopsAt, StopsFrom, after_all, now, taken_events}
+use Rattle.pm_world.specs.State.{State, cause_of}
 use Rattle.pm_lines.specs.declared.fault.TextFault.{TextFault}
-use Rattle.pm_lines.specs.declared.fault.TextFault.TheVariants.{Syntax, Setup}
+use Rattle.pm_lines.specs.declared.fault.TextFault.TheVariants.{Syntax, BadHex, TooLong, Read, Write, Memory, Setup}
+use Rattle.pm_lines.specs.Faults.{IsOfInput}
 use Rattle.pm_lines.specs.Lines.{lines_of, unskipped_from}
-use Rattle.pm_text.specs.Readers.{row}
-use Rattle.pm_text.specs.ScenarioText.{HasEvent, scenario_of}
+use Rattle.pm_lines.specs.Streams.{max_text}
+use Rattle.pm_text.proofs.EventLemmas.{reversed}
+use Rattle.pm_text.specs.Readers.{Rest, row}
+use Rattle.pm_text.specs.ScenarioText.{as_text_fault, events_in, header, rest_of, scenario_by, scenario_of, text_fault, with_events}
+use Rattle.pm_text.specs.declared.scenario.fault.ScenarioFault.{ScenarioFault}
+use Rattle.pm_text.specs.declared.scenario.header.Header.{Header}
 use Rattle.pm_text.specs.declared.ran.Ran.{Ran}
 use Rattle.pm_text.specs.declared.scenario.Scenario.{Scenario}
-use Rattle.pm_text.specs.Kinds.{form_of}
+use Rattle.pm_text.specs.Kinds.{form_of, version_of}
 use Rattle.pm_text.specs.Report.{report_text}
-use Rattle.pm_text.specs.Replay.{end_by, ran_by, replay_by, replay_of, run_of, stop_after, taken_by, told, told_or}
+use Rattle.pm_text.specs.Replay.{IsOfRun, IsRun, Lives, end_by, ran_by, replay_by, replay_of, run_of, stop_after, taken_by, told, told_or}
 use Rattle.pm_text.specs.declared.replay_end.ReplayEnd.{ReplayEnd}
 
 -- ---- where a run stops
-
--- events before others, the latest first
-reversed : (event : Event) (events taken : List Event) → reverse (event ∷ events) ++ taken ≡ reverse events ++ event ∷ taken
-reversed event events taken =
-    ap (λ l. l ++ taken) (reverse-cons event events) ∙ append_assoc (reverse events) (event ∷ []) taken
 
 module _ (config : Config) (passes : ℕ) where
   -- what has a cause against an event after these
@@ -92,8 +95,16 @@ taken-length config passes events (Some stop) stops =
     let there : stop.at < length events = within _ events stop.at stops in
     sym (length-reverse (take stop.at events) ∙ length-take-le stop.at events (omega (arith, there)))
 
+-- where a run from the start stops
+stops-at : (config : Config) (passes : ℕ) (events : List Event) (stop : Option Stop)
+    → now config passes (taken_events events stop) ≡ after_all (start config passes) (taken_events events stop)
+    → StopsFrom (start config passes) events stop → StopsAt config passes events stop
+stops-at config passes events None same stops = tt
+stops-at config passes events (Some stop) same stops =
+    subst (λ s. IsSomeAnd (slice_get events stop.at) (λ event. cause_of s event ≡ Some stop.cause)) (sym same) stops
+
 -- what a run of these events left is the run of the scenario that has them
-pub run-is : (scenario : Scenario) (ran : Ran) (events : List Event)
+run-is : (scenario : Scenario) (ran : Ran) (events : List Event)
     → (ran.version ≡ scenario.version) × (events ≡ scenario.events)
     → AreTaken scenario.config scenario.passes (taken_events events ran.stop) → StopsAt scenario.config scenario.passes events ran.stop
     → ran.world ≡ now scenario.config scenario.passes (taken_events events ran.stop)
@@ -108,6 +119,70 @@ run-is scenario ran events same are stops world taken =
     λ i. record { version = same.0 i; world = world i; taken = counted i; stop = ran.stop } in
     made ∙ ap (ran_by v c p events) (sym (stop-is c p events ran.stop are stops))
     ∙ ap (λ es. ran_by v c p es (stop_after c p [] es)) same.1
+
+-- ---- a text that is run as it is read
+
+-- a text that isn't too long is read line by line
+fits-by : (input : List ℕ) → length input ≤ max_text → scenario_of input ≡ as_text_fault (scenario_by (header (rest_of input)))
+unfolding scenario_of
+fits-by input fits = pick (nat_lt max_text (length input)) (grind (arith, nat_tests))
+  where
+    pick : (b : Bool) → b ≡ false → (if b then Err TooLong else as_text_fault (scenario_by (header (rest_of input))))
+        ≡ as_text_fault (scenario_by (header (rest_of input)))
+    pick true is = absurd (cc)
+    pick false is = refl
+
+module _ (input : List ℕ) (fits : length input ≤ max_text) where
+  -- a fault of the lines before the events
+  pub header-refused : (fault : ScenarioFault) → header (rest_of input) ≡ Err fault → replay_of input ≡ Err (text_fault fault)
+  unfolding replay_of
+  header-refused fault is = ap replay_by (fits-by input fits ∙ ap (λ r. as_text_fault (scenario_by r)) is)
+
+  module _ (head : Header) (rest : Rest) (read : header (rest_of input) ≡ Ok (head, rest)) where
+    -- the scenario of the lines behind them, or their first fault
+    scenario-read : (events : Result (List Event) ScenarioFault) → events_in head.form rest.lines ≡ events
+        → scenario_of input ≡ as_text_fault (with_events head events)
+    scenario-read events is =
+        fits-by input fits ∙ ap (λ r. as_text_fault (scenario_by r)) read ∙ ap (λ r. as_text_fault (with_events head r)) is
+
+    -- a fault of the lines behind them
+    pub lines-refused : (fault : ScenarioFault) → events_in head.form rest.lines ≡ Err fault → replay_of input ≡ Err (text_fault fault)
+    unfolding replay_of
+    lines-refused fault is = ap replay_by (scenario-read (Err fault) is)
+
+    -- lines without a fault, of which no world is made
+    pub setup-refused : (fault : SetupFault) → IsOk (events_in head.form rest.lines) → Some fault ≡ setup_fault head.config head.passes
+        → replay_of input ≡ Err (Setup fault)
+    unfolding replay_of
+    setup-refused fault judged refused = with_events_of (events_in head.form rest.lines) judged refl
+      where
+        with_events_of : (r : Result (List Event) ScenarioFault) → IsOk r → events_in head.form rest.lines ≡ r
+            → replay_of input ≡ Err (Setup fault)
+        with_events_of (Err first) judged is = let no : false ≡ true = judged in absurd (cc)
+        with_events_of (Ok events) judged is =
+            let scenario : Scenario =
+            record { version = version_of head.form; config = head.config; passes = head.passes; events = events } in
+            ap replay_by (scenario-read (Ok events) is) ∙ ap (λ o. told_or o scenario) (sym refused)
+
+    -- the run of lines whose events came upon the world that they start
+    pub run-lived : (law : LivesAreFollowed) (taken : ℕ) (stop : Option Stop) (world : State)
+        → IsSound head.config → IsSetup (setup_of head.config head.passes) → None ≡ setup_fault head.config head.passes
+        → Lives head.form rest.lines (start head.config head.passes) (Ok (taken, stop)) world
+        → IsRun input (record { version = version_of head.form; world = world; taken = taken; stop = stop })
+    run-lived law taken stop world sound made unrefused lived =
+        let c = head.config in
+        let p = head.passes in
+        let events = lived.0 in
+        let has = lived.1 in
+        let scenario : Scenario = record { version = version_of head.form; config = c; passes = p; events = events } in
+        let ran : Ran = record { version = version_of head.form; world = world; taken = taken; stop = stop } in
+        let followed = law.from_start c p (taken_events events stop) sound made has.all in (
+          scenario,
+          scenario-read (Ok events) has.reads,
+          sym unrefused,
+          run-is scenario ran events (refl, refl) followed.0 (stops-at c p events stop followed.1 has.stops)
+              (has.after ∙ sym followed.1) has.counts,
+        )
 
 -- ---- the replay of a text
 
@@ -140,6 +215,16 @@ replay-told input text end scenario ran is =
 
 -- ---- texts and faults
 
+-- the faults of a run are those of an input
+pub of-input : (fault : TextFault) → IsOfRun fault → IsOfInput fault
+of-input (Syntax line) is = tt
+of-input (BadHex line) is = tt
+of-input TooLong is = absurd is
+of-input Read is = absurd is
+of-input Write is = absurd is
+of-input Memory is = absurd is
+of-input (Setup fault) is = tt
+
 -- no fault is a scenario
 no_error : (scenario : Scenario) → ◌≡◌ {A = Result Scenario TextFault} (Err (Syntax 1)) (Ok scenario) → ⊥
 no_error scenario is = cc
@@ -149,9 +234,3 @@ pub read-some : (text : List ℕ) (scenario : Scenario) → scenario_of text ≡
 unfolding scenario_of row unskipped_from lines_of
 read-some [] scenario is = absurd (no_error scenario is)
 read-some (byte ∷ text) scenario is = omega arith
-
--- nor is one with an event
-pub event-some : (text : List ℕ) → HasEvent text → 0 < length text
-unfolding row unskipped_from lines_of
-event-some [] has = absurd has
-event-some (byte ∷ text) has = omega arith

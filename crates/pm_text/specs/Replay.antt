@@ -1,22 +1,25 @@
 -- What a replay results in: the report of the run of a text's scenario. This project's own choice.
-use Rattle.std.specs.Prelude.{◌≡◌, ℕ, List, [], ◌∷◌, length, Option, Some, None, Result, Ok, Err}
+use Rattle.std.specs.Prelude.{⊤, ◌≡◌, ℕ, List, [], ◌∷◌, length, Option, Some, None, Result, Ok, Err}
 use Rattle.pm_device.specs.declared.config.Config.{Config}
-use Rattle.pm_world.specs.Life.{now, taken_events}
+use Rattle.pm_world.specs.Life.{AreTakenFrom, StopsFrom, after_all, now, taken_events}
 use Rattle.pm_world.specs.Setup.{setup_fault}
-use Rattle.pm_world.specs.State.{cause_of}
+use Rattle.pm_world.specs.State.{State, cause_of}
 use Rattle.pm_world.specs.declared.event.Event.{Event}
 use Rattle.pm_world.specs.declared.cause.Cause.{Cause}
 use Rattle.pm_setup.specs.declared.setup_fault.SetupFault.{SetupFault}
 use Rattle.pm_world.specs.declared.stop.Stop.{Stop}
 use Rattle.pm_lines.specs.Engine.{Engine}
+use Rattle.pm_lines.specs.Lines.{Numbered}
 use Rattle.pm_lines.specs.declared.fault.TextFault.{TextFault}
-use Rattle.pm_lines.specs.declared.fault.TextFault.TheVariants.{Setup}
+use Rattle.pm_lines.specs.declared.fault.TextFault.TheVariants.{Syntax, BadHex, TooLong, Read, Write, Memory, Setup}
 use Rattle.pm_text.specs.Kinds.{form_of}
 use Rattle.pm_text.specs.Report.{report_text}
-use Rattle.pm_text.specs.ScenarioText.{scenario_of}
+use Rattle.pm_text.specs.ScenarioText.{events_in, scenario_of}
 use Rattle.pm_text.specs.declared.ran.Ran.{Ran}
 use Rattle.pm_text.specs.declared.replay_end.ReplayEnd.{ReplayEnd}
 use Rattle.pm_text.specs.declared.replay_end.ReplayEnd.TheVariants.{Ran as AllTaken, Stopped}
+use Rattle.pm_text.specs.declared.form.Form.{Form}
+use Rattle.pm_text.specs.declared.scenario.fault.ScenarioFault.{ScenarioFault}
 use Rattle.pm_text.specs.declared.scenario.Scenario.{Scenario}
 
 -- ---- the run of events
@@ -54,6 +57,21 @@ unfoldable pub run_of : Scenario → Ran
 run_of scenario = ran_by scenario.version scenario.config scenario.passes scenario.events
     (stop_after scenario.config scenario.passes [] scenario.events)
 
+-- The events of lines came upon a world, one after another, up to the first that isn't taken: the lines say
+-- these events, the taken ones were taken, so many, and left this world, and they stopped so.
+pub record HasLived (form : Form) (lines : List Numbered) (old : State) (events : List Event) (taken : ℕ) (stop : Option Stop) (new : State) : Type 0 where
+  pub reads : events_in form lines ≡ Ok events
+  pub after : new ≡ after_all old (taken_events events stop)
+  pub all : AreTakenFrom old (taken_events events stop)
+  pub stops : StopsFrom old events stop
+  pub counts : taken ≡ taken_by stop (length events)
+
+-- a call that lets the events of lines happen, and says how many were taken and where they stopped: the first
+-- faulty line is told wherever it stands, and then nothing is said of the world
+abbrev pub Lives : Form → List Numbered → State → Result (ℕ × Option Stop) ScenarioFault → State → Type 0
+Lives form lines old (Ok ended) new = (events : List Event) × HasLived form lines old events ended.0 ended.1 new
+Lives form lines old (Err fault) new = events_in form lines ≡ Err fault
+
 -- ---- the replay of a text
 
 -- a replay is stopped where its run is
@@ -77,6 +95,21 @@ replay_by (Ok scenario) = told_or (setup_fault scenario.config scenario.passes) 
 -- the report of what the input's scenario results in, or the first fault
 unfoldable pub replay_of : List ℕ → Result (List ℕ × ReplayEnd) TextFault
 replay_of input = replay_by (scenario_of input)
+
+-- this is the run of the input's scenario, of which a world is made
+abbrev pub IsRun : List ℕ → Ran → Type 0
+IsRun input ran = (scenario : Scenario) × (scenario_of input ≡ Ok scenario)
+    × (setup_fault scenario.config scenario.passes ≡ None) × (ran ≡ run_of scenario)
+
+-- the faults of a text that is run as it is read, which takes no memory
+abbrev pub IsOfRun : TextFault → Type 0
+IsOfRun (Syntax line) = ⊤
+IsOfRun (BadHex line) = ⊤
+IsOfRun TooLong = ⊥
+IsOfRun Read = ⊥
+IsOfRun Write = ⊥
+IsOfRun Memory = ⊥
+IsOfRun (Setup fault) = ⊤
 
 -- the text is the report of the run of the input's scenario
 abbrev pub IsReplay : List ℕ → List ℕ → ReplayEnd → Type 0

@@ -1,6 +1,6 @@
 -- The text of a scenario, line by line: what both ends are made from, and what happens between them.
 -- The form is this project's own choice.
-use Rattle.std.specs.Prelude.{⊤, ℕ, suc, nat_lt, min, if◌then◌else◌, List, [], ◌∷◌, ◌++◌, length, replicate, slice_index, slice_set, take, Option, Some, None, Result, Ok, Err, IsOk, IsOkAnd, codes}
+use Rattle.std.specs.Prelude.{⊤, ◌≡◌, ℕ, suc, nat_lt, min, if◌then◌else◌, List, [], ◌∷◌, ◌++◌, length, replicate, slice_index, slice_set, take, Option, Some, None, Result, Ok, Err, IsOk, IsOkAnd, codes}
 use Rattle.pm_num.specs.Value.{direct_least}
 use Rattle.pm_table.specs.Cell.{register_count, register_number}
 use Rattle.pm_table.specs.declared.cell.Cell.TheVariants.{Out}
@@ -119,6 +119,11 @@ abbrev pub events_in : Form → List Numbered → Result (List Event) ScenarioFa
 events_in form [] = Ok []
 events_in form (line ∷ lines) =
     event_before (line_as (event_line form) line) (events_in form lines)
+
+-- a call that judges lines: they are event lines, or the first that is none has this fault
+abbrev pub Judges : Form → List Numbered → Result (Unit {0}) ScenarioFault → Type 0
+Judges form lines (Ok done) = IsOk (events_in form lines)
+Judges form lines (Err fault) = events_in form lines ≡ Err fault
 
 -- ---- the whole
 

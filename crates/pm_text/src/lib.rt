@@ -1,7 +1,7 @@
 //! Scenarios, and the names of all texts that the program reads and writes. A scenario is a text that
 //! says what both ends of a bus are made from, and what happens between them, event by event. It is
 //! read ([`read_scenario`]), its events happen, and a report says what they come to ([`render_report`]);
-//! [`replay`] does all three, from a reader to a writer. By its parts, for a text of four events:
+//! [`replay`] does all three, from a reader to a writer, and keeps no event. By its parts, for a text of four events:
 //!
 //! ```
 //! fn report_by_parts(alloc: Global, text: &str) -> Result<String, TextFault> {
@@ -28,6 +28,7 @@ mod ran;
 mod replay_end;
 mod replays;
 mod report;
+mod runs;
 mod scenario;
 
 pub use form::Form;

@@ -7,19 +7,18 @@ ghost use Rattle.pm_lines.specs.Faults.{IsOfInput};
 ghost use Rattle.pm_lines.specs.Streams.{max_text};
 ghost use Rattle.pm_text.specs.Replay.{IsReplay, end_by, replay_of, replaying, run_of as run_spec, taken_by};
 
-use crate::ran::Ran;
 use crate::replay_end::ReplayEnd;
 use crate::report::render_report;
-use crate::scenario::{Scenario, read_scenario};
+use crate::runs::run_text;
 use pm_lines::{Sink, Source, TextFault, read_text};
-use pm_world::{SetupFault, Stop, World};
+use pm_world::Stop;
 use std::alloc::Global;
 use std::io::{Read, Write};
 
 /// Reads a scenario, lets its events happen between a host and a converter, up to the first that isn't
 /// taken, and writes the report. Neither stream may have failed before.
 ///
-/// Takes memory for the text as it is read, and once each for the events and the report.
+/// Takes memory for the text as it is read, and once for the report: each event happens as its line is read.
 ///
 /// # Errors
 ///
@@ -54,36 +53,9 @@ fn report_on(alloc: Global, input: &[u8]) -> Result<(String, ReplayEnd), TextFau
     ensures memory { IsErrOf result TextFault.Memory → 0 < length input.now }
     ensures faults { IfErr result IsOfInput }
 {
-    let scenario = read_scenario(alloc, input)?;
-    let run = run_of(&scenario)?;
+    let run = run_text(input)?;
     let text = render_report(alloc, &run)?;
     Ok((text, end_of(&run.stop)))
-}
-
-// What the events of a scenario come to.
-fn run_of(scenario: &Scenario) -> Result<Ran, SetupFault>
-    ensures ran { IfOk result (λ ran. ran ≡ run_spec scenario.now) }
-    ensures fault { result_err result ≡ setup_fault scenario.now.config scenario.now.passes }
-{
-    let events = scenario.events.as_slice();
-    let (world, stop) = World::run(scenario.config, scenario.passes, events)?;
-    let taken = taken_of(&stop, events.len());
-    Ok(Ran {
-        version: scenario.version,
-        world,
-        taken,
-        stop,
-    })
-}
-
-// How many of all events a run took that stops so.
-fn taken_of(stop: &Option<Stop>, all: usize) -> u64
-    ensures { result ≡ taken_by stop.now all }
-{
-    match stop {
-        Some(stop) => stop.at as u64,
-        None => all as u64,
-    }
 }
 
 // How a replay ends that stops so.

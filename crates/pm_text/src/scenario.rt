@@ -10,10 +10,11 @@ pub(crate) mod events;
 pub(crate) mod fault;
 pub(crate) mod fields;
 pub(crate) mod frames;
-mod header;
+pub(crate) mod header;
 pub(crate) mod job_line;
-mod rows;
+pub(crate) mod rows;
 mod starts;
+pub(crate) mod usual_line;
 
 use crate::form::Form;
 use event_line::event_line;

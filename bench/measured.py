@@ -1,0 +1,92 @@
+"""What the scripts here share: the programs that they measure, the texts, and the rows of their tables."""
+import os
+import random
+import shutil
+import sys
+
+sys.path.append(os.path.join(os.path.dirname(os.path.dirname(os.path.abspath(__file__))), "scripts"))
+sys.dont_write_bytecode = True
+
+import program  # noqa: E402
+
+SIZE = 1_048_000
+COMMANDS = ("hear", "decode", "replay")
+HEAD = """scenario 1
+address 58
+passes 2
+protect 00
+coefficients 1 0 0
+output 14 80 1000 4000 1100 0F00
+output 14 80 1000 4000 1100 0F00
+begin
+"""
+READ = "B0 06 02 00 21 / B1 02 CD 34 B9\n"
+
+
+def pec(message):
+    code = 0
+    for byte in message:
+        code ^= byte
+        for _ in range(8):
+            code = (code << 1 ^ 0x07) & 0xFF if code & 0x80 else code << 1
+    return code
+
+
+def write_line(dice):
+    message = [0xB0, 0x05, 0x04, dice.randrange(2), 0x21, dice.randrange(256), dice.randrange(64)]
+    return " ".join(f"{byte:02X}" for byte in [*message, pec(message)]) + "\n"
+
+
+def order_lines(dice):
+    output, word = dice.randrange(2), dice.randrange(0x4000)
+    return f"order {output} VOUT_COMMAND {word:04X}\ndeliver whole\nfinish ack\nexchange whole whole\n"
+
+
+def usual_text(command, limit=SIZE):
+    """A text of 1 MiB of the lines that the command usually has, the same at each call."""
+    dice, lines = random.Random(command), [HEAD if command == "replay" else ""]
+    size = len(lines[0])
+    while True:
+        if command == "replay":
+            line = order_lines(dice)
+        else:
+            line = READ if command == "decode" and dice.random() < 0.3 else write_line(dice)
+        size += len(line)
+        if size > limit:
+            return "".join(lines).encode()
+        lines.append(line)
+
+
+def value_behind(word):
+    """The argument behind this one, or None where it isn't there."""
+    words = sys.argv[1:]
+    if word not in words:
+        return None
+    at = words.index(word) + 1
+    if at == len(words):
+        sys.exit(f"{word} needs what it names behind it")
+    return words[at]
+
+
+def programs():
+    """The built program, and beside it the one that `--earlier` names, by what they are called in a table."""
+    found = {"this": program.needed()}
+    earlier = value_behind("--earlier")
+    if earlier:
+        if not shutil.which(earlier):
+            sys.exit(f"--earlier: no program at {earlier}")
+        found["earlier"] = os.path.abspath(earlier)
+    return found
+
+
+def row(name, unit, found, is_time=False):
+    """A row of the table: what `this` and `earlier` took, and what the one is of the other."""
+    this, earlier = found.get("this"), found.get("earlier")
+    ratio = f"{this / earlier:.2f}" if this and earlier else ""
+    shown = ["" if it is None else f"{it:.1f}" if isinstance(it, float) else str(it) for it in (this, earlier)]
+    print(f"| {name} | {unit} | {shown[0]} | {shown[1]} | {ratio} |", flush=True)
+
+
+def lacks(tool, what):
+    """Says what this machine doesn't have, and what isn't measured so."""
+    print(f"lacks: {tool}, so {what} isn't measured", file=sys.stderr, flush=True)

@@ -1,0 +1,84 @@
+#!/usr/bin/env python3
+"""How long `pmb` takes for three texts of 1 MiB, to a pipe, to a file and to nothing, and its page faults and system
+calls. The time is the median and, in brackets, the best of many runs; where `--earlier` names another program, the runs of
+the two alternate, so that what else the machine does falls on both. The ratio is that of the medians.
+
+    bench/times.py [--earlier PMB] [--rounds N]
+
+It runs the built program, or the one that the environment variable PMB names. System calls are counted by strace.
+"""
+import os
+import re
+import shutil
+import statistics
+import subprocess
+import sys
+import tempfile
+import time
+
+import measured
+import program
+
+TARGETS = ("a pipe", "a file", "nothing")
+
+
+def ran(pmb, command, path, target, out):
+    """One run: its milliseconds until all is written and the program ended, and its page faults."""
+    into = {"a pipe": subprocess.PIPE, "a file": None, "nothing": subprocess.DEVNULL}[target]
+    with open(path, "rb") as text, open(out, "wb") as file:
+        start = time.perf_counter()
+        child = subprocess.Popen([pmb, command], stdin=text, stdout=file if into is None else into)
+        while into == subprocess.PIPE and os.read(child.stdout.fileno(), 1 << 16):
+            pass
+        _, status, used = os.wait4(child.pid, 0)
+        took = (time.perf_counter() - start) * 1000
+    child.returncode = os.waitstatus_to_exitcode(status)
+    if child.stdout:
+        child.stdout.close()
+    if child.returncode:
+        sys.exit(f"{pmb} {command}: status {child.returncode}")
+    return took, used.ru_minflt
+
+
+def timed(programs, command, path, target, out, rounds):
+    times, faults = {name: [] for name in programs}, {}
+    for at in range(rounds):
+        # each goes first as often as the other
+        for name in sorted(programs, reverse=at % 2 == 1):
+            took, faults[name] = ran(programs[name], command, path, target, out)
+            times[name].append(took)
+    best = ", ".join(f"{min(found):.1f}" for found in times.values())
+    measured.row(f"{command} to {target} (best {best})", "ms", {name: statistics.median(found) for name, found in times.items()})
+    return faults
+
+
+def system_calls(pmb, command, path, folder):
+    """How many system calls of each name a run makes, and `total` of them."""
+    found = os.path.join(folder, "calls")
+    with open(path, "rb") as text:
+        subprocess.run(["strace", "-c", "-o", found, pmb, command], stdin=text, stdout=subprocess.DEVNULL, check=True)
+    with open(found, encoding="utf-8") as listing:
+        lines = [line.split() for line in listing]
+    return {line[-1]: int(line[3]) for line in lines if len(line) > 4 and line[3].isdigit()}
+
+
+def main():
+    program.answer_help(__doc__)
+    programs, rounds = measured.programs(), int(measured.value_behind("--rounds") or 15)
+    with tempfile.TemporaryDirectory() as folder:
+        path, out = os.path.join(folder, "text"), os.path.join(folder, "out")
+        for command in measured.COMMANDS:
+            with open(path, "wb") as file:
+                file.write(measured.usual_text(command))
+            for target in TARGETS:
+                faults = timed(programs, command, path, target, out, rounds)
+            measured.row(f"{command}, page faults", "", faults)
+            if shutil.which("strace"):
+                calls = {name: system_calls(pmb, command, path, folder) for name, pmb in programs.items()}
+                for name in ("read", "write", "total"):
+                    measured.row(f"{command}, system calls: {name}", "", {which: found.get(name, 0) for which, found in calls.items()})
+        if not shutil.which("strace"):
+            measured.lacks("strace", "the number of system calls")
+
+
+main()
