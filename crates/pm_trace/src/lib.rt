@@ -24,6 +24,7 @@ mod line_fault;
 mod shown;
 mod shown_text;
 mod tally;
+mod told_lines;
 mod trace_line;
 mod traces;
 

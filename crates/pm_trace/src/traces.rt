@@ -14,12 +14,16 @@ use crate::counts_text::push_counts;
 use crate::decode_end::DecodeEnd;
 use crate::decoder::Decoder;
 use crate::shown_text::push_told;
+use crate::told_lines::ToldLines;
 use pm_lines::{Sink, Source, TextFault};
 use std::alloc::{AllocError, Global};
 use std::io::{Read, Write};
 
 /// The most bytes that are read at a time.
 const PIECE: usize = 512;
+
+/// The bytes of lines that are written at once, where the reader brings as many as it is asked for.
+const GATHERED: usize = 16_384;
 
 /// Reads a trace and writes what it says: a line for each of its lines that isn't skipped, as soon
 /// as it was read; at the end `count NAME k` for each code that accepted lines carry, in the order
@@ -76,25 +80,61 @@ fn decode_pieces<R: Read, W: Write>(
     ensures broken { IfErr result (λ fault. IsOfDecode fault × EngineEnds decoding
         (over R.remaining reader.old reader.new W.contents writer.old writer.new) (Err fault)) }
 {
-    let mut text = String::new(alloc);
+    let mut told = ToldLines::new(alloc);
     let mut piece = [0u8; PIECE];
     'reads: loop {
-        let count = reader.read(&mut piece)?;
-        if count == 0 {
+        let read = tell_piece(reader, decoder, &mut told, &mut piece);
+        put_due(writer, &mut told, !is_full(&read))?;
+        if read? == 0 {
             return Ok(());
         }
-        text.clear();
-        let is_whole = push_lines(&mut text, decoder, &piece[..count])?;
-        writer.put(text.as_str().as_bytes())?;
-        if !is_whole {
-            return Err(TextFault::TooLong);
+    }
+}
+
+// Whether a read brought as many bytes as were asked for.
+fn is_full(read: &Result<usize, TextFault>) -> bool
+    ensures { result ≡ true → read.now ≡ Ok PIECE }
+{
+    matches!(read, Ok(PIECE))
+}
+
+// Writes the lines that were gathered, where they are to be written now or are many.
+fn put_due<W: Write>(
+    writer: &mut Sink<W>,
+    told: &mut ToldLines,
+    is_now: bool,
+) -> Result<(), TextFault>
+{
+    if is_now || told.len() >= GATHERED {
+        writer.put(told.bytes())?;
+        told.clear();
+    }
+    Ok(())
+}
+
+// Reads a piece, and gathers what the lines say that a line feed ended.
+fn tell_piece<R: Read>(
+    reader: &mut Source<R>,
+    decoder: &mut Decoder,
+    told: &mut ToldLines,
+    piece: &mut [u8],
+) -> Result<usize, TextFault>
+{
+    let count = reader.read(piece)?;
+    let before = told.len();
+    match push_lines(told, decoder, &piece[..count]) {
+        Ok(true) => Ok(count),
+        Ok(false) => Err(TextFault::TooLong),
+        Err(fault) => {
+            told.truncate(before);
+            Err(fault)
         }
     }
 }
 
 // Feeds the decoder until the piece is used up, and appends the text of each line that ends. False
 // where the trace grows past its limit; the lines that ended before that are in the text.
-fn push_lines(text: &mut String, decoder: &mut Decoder, piece: &[u8]) -> Result<bool, TextFault>
+fn push_lines(text: &mut ToldLines, decoder: &mut Decoder, piece: &[u8]) -> Result<bool, TextFault>
     requires open { decoder.old.intake ≡ Intake.Open }
     requires room { decoder.old.kept.taken ≤ max_text }
     ensures pushed { IfOk result (PushesFront (string_bytes text.old) (string_bytes text.new)
