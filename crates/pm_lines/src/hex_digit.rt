@@ -50,6 +50,28 @@ pub fn spaced_pair(digits: &[u8]) -> Option<(u8, &[u8])>
     }
 }
 
+/// The bytes of the four pairs of digits that stand first, with a space between each, and what
+/// follows them. None where no four such pairs stand first.
+pub fn four_pairs(digits: &[u8]) -> Option<([u8; 4], &[u8])>
+    ensures bytes { IfSome result (λ four. paired_bytes digits.now ≡ four.0 ++ paired_bytes four.1.now) }
+    ensures rest { IfSome result (λ four. behind_pairs digits.now ≡ behind_pairs four.1.now) }
+    ensures fewer { IfSome result (λ four. length four.1.now < length digits.now) }
+{
+    match digits {
+        [a, b, b' ', c, d, b' ', e, f, b' ', g, h, more @ ..] => {
+            let (a, b) = (value_or_none(*a), value_or_none(*b));
+            let (c, d) = (value_or_none(*c), value_or_none(*d));
+            let (e, f) = (value_or_none(*e), value_or_none(*f));
+            let (g, h) = (value_or_none(*g), value_or_none(*h));
+            if a | b | c | d | e | f | g | h >= 16 {
+                return None;
+            }
+            Some(([a * 16 + b, c * 16 + d, e * 16 + f, g * 16 + h], more))
+        }
+        _ => None,
+    }
+}
+
 /// Whether the byte is a digit.
 pub fn is_digit(byte: u8) -> bool
     ensures { result ≡ is_hex_digit byte }

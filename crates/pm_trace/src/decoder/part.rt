@@ -1,6 +1,6 @@
 ghost use Rattle.std.specs.Prelude.{◌≡◌};
 
-use pm_lines::{pair_of, spaced_pair};
+use pm_lines::{four_pairs, pair_of};
 use std::marker::Model;
 
 /// The most bytes that a part of a trace line may have.
@@ -58,6 +58,21 @@ impl Part {
         self.length += 1;
     }
 
+    // Takes four bytes more.
+    fn take_four(&mut self, bytes: [u8; 4])
+        ensures { self.new ≡ fold part_takes self.old bytes }
+    {
+        let end = self.length + 4;
+        if end > PART_BYTES {
+            for byte in bytes {
+                self.take(byte);
+            }
+            return;
+        }
+        self.bytes[self.length..end].copy_from_slice(&bytes);
+        self.length = end;
+    }
+
     /// Takes the bytes that the pairs of digits at the front write, up to what is no such pair, and
     /// gives what follows them.
     pub(crate) fn take_pairs<'a>(&mut self, digits: &'a [u8]) -> &'a [u8]
@@ -66,9 +81,12 @@ impl Part {
     {
         let mut rest = digits;
         'pairs: loop {
-            // most pairs have a space after them
-            if let Some((byte, more)) = spaced_pair(rest) {
-                self.take(byte);
+            if let [b' ', more @ ..] = rest {
+                rest = more;
+            }
+            // most bytes come as pairs with a space between them
+            if let Some((bytes, more)) = four_pairs(rest) {
+                self.take_four(bytes);
                 rest = more;
                 continue 'pairs;
             }
