@@ -14,6 +14,7 @@ use crate::decoder::printer::{Printer, Unprinted};
 use crate::fed::Fed;
 use crate::shown::Shown;
 use crate::tally::Tally;
+use crate::usual::Usual;
 use pm_lines::{MAX_TEXT, TextFault};
 use std::alloc::{AllocError, Global};
 use std::marker::Model;
@@ -204,6 +205,22 @@ impl Decoder {
         ensures memory { OnErr result (CarriesNew self.old.kept.counts (some_told (line_told self.old.kept)) ⊎ P.WantsMemory) }
         ensures unchanged { OnErr result (self.new ≡ self.old) }
     {
+        match self.line.usual() {
+            Some(usual) => self.end_usual(usual, printer),
+            None => self.end_shown(printer),
+        }
+    }
+
+    fn end_usual<P: Printer>(&mut self, usual: Usual, printer: &mut P) -> Result<(), AllocError> {
+        printer.print_usual(self.ended + 1, usual)?;
+        self.tally.count_accepted(usual.code)?;
+        self.is_shown = true;
+        self.ended += 1;
+        Ok(())
+    }
+
+    #[inline(never)]
+    fn end_shown<P: Printer>(&mut self, printer: &mut P) -> Result<(), AllocError> {
         match self.line.shown() {
             Some(shown) => {
                 printer.print(self.ended + 1, &shown)?;

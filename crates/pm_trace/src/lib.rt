@@ -21,12 +21,14 @@ mod decoder;
 mod fed;
 mod laws;
 mod line_fault;
+mod line_text;
 mod shown;
 mod shown_text;
 mod tally;
 mod told_lines;
 mod trace_line;
 mod traces;
+mod usual;
 
 pub use byte_list::ByteList;
 pub use decode_end::DecodeEnd;

@@ -74,6 +74,13 @@ impl Tally {
         Ok(())
     }
 
+    /// Counts an accepted line of this code.
+    pub(crate) fn count_accepted(&mut self, code: u8) -> Result<(), AllocError> {
+        count_code(&mut self.codes, code)?;
+        self.accepted += 1;
+        Ok(())
+    }
+
     /// The codes that were carried, in the order of first appearance, each with the number of its
     /// lines.
     pub(crate) fn codes(&self) -> &IndexMap<u8, u64>

@@ -4,7 +4,9 @@ ghost use Rattle.pm_trace.specs.TraceText.{told_line};
 
 use crate::decoder::printer::Printer;
 use crate::shown::Shown;
+use crate::line_text::{LineText, Tens};
 use crate::shown_text::push_told;
+use crate::usual::Usual;
 use std::alloc::{AllocError, Global};
 use std::marker::Model;
 
@@ -14,6 +16,8 @@ pub(crate) struct ToldLines {
     text: Vec<u8>,
     // Where the text of a line is made that isn't told at once.
     line: String,
+    usual: LineText,
+    tens: Tens,
 }
 
 impl Model for ToldLines {
@@ -32,6 +36,8 @@ impl ToldLines {
         ToldLines {
             text: Vec::new(alloc),
             line: String::new(alloc),
+            usual: LineText::new(),
+            tens: Tens::new(),
         }
     }
 
@@ -75,5 +81,11 @@ impl Printer for ToldLines {
         self.line.clear();
         push_told(&mut self.line, number, shown)?;
         self.text.extend_from_slice(self.line.as_str().as_bytes())
+    }
+
+    fn print_usual(&mut self, number: u64, usual: Usual) -> Result<(), AllocError> {
+        self.tens.reach(number);
+        self.usual.tell(self.tens.front(), self.tens.digits(), number, usual);
+        self.text.extend_from_slice(self.usual.bytes())
     }
 }

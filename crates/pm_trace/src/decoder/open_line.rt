@@ -5,6 +5,7 @@ use crate::decoder::part::Part;
 use crate::decoder::slashes::Slashes;
 use crate::line_fault::LineFault;
 use crate::shown::{Shown, packet_shown};
+use crate::usual::{Usual, usual_read, usual_write};
 use pm_lines::{byte_of, is_digit};
 
 /// What is kept of a line of a trace while its bytes come one after another.
@@ -210,6 +211,18 @@ impl OpenLine {
             Err(LineFault::Syntax) => Shown::BadSyntax,
             Err(LineFault::BadHex) => Shown::BadHex,
         })
+    }
+
+    /// The packet of the line as it stands, where it is a usual one.
+    pub(crate) fn usual(&self) -> Option<Usual> {
+        if self.kind.is_skipped() || self.is_bad || self.digit.is_some() || self.write.is_long() || self.read.is_long() {
+            return None;
+        }
+        match self.slashes {
+            Slashes::None => usual_write(self.write.bytes()),
+            Slashes::One => usual_read(self.write.bytes(), self.read.bytes()),
+            Slashes::More => None,
+        }
     }
 
     /// Whether the line has a byte.

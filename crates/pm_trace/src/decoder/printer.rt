@@ -3,6 +3,7 @@ ghost use Rattle.pm_trace.specs.ShownLines.{judged_in};
 ghost use Rattle.pm_trace.specs.Trace.{Told};
 
 use crate::shown::Shown;
+use crate::usual::Usual;
 use std::alloc::AllocError;
 
 /// Where a decoder prints the lines that end.
@@ -21,6 +22,9 @@ pub(crate) trait Printer {
         ensures printed { OnOk result (text self.new ≡ text self.old ++ line (number, judged_in shown.now)) }
         ensures kept { OnErr result (text self.new ≡ text self.old) }
         ensures memory { OnErr result WantsMemory };
+
+    /// The same of a usual packet.
+    fn print_usual(&mut self, number: u64, usual: Usual) -> Result<(), AllocError>;
 }
 
 /// No line is printed.
@@ -35,6 +39,10 @@ impl Printer for Unprinted {
     ghost WantsMemory = { ⊥ };
 
     fn print(&mut self, _number: u64, _shown: &Shown<'_>) -> Result<(), AllocError> {
+        Ok(())
+    }
+
+    fn print_usual(&mut self, _number: u64, _usual: Usual) -> Result<(), AllocError> {
         Ok(())
     }
 }
