@@ -91,6 +91,7 @@ impl Part {
                 continue 'pairs;
             }
             match rest {
+                [b'\n', ..] => return rest,
                 [b' ', more @ ..] => rest = more,
                 [high, low, more @ ..] => {
                     let Some(byte) = pair_of(*high, *low) else {
