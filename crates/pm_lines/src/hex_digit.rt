@@ -1,5 +1,5 @@
 //! Hexadecimal digits, in either case, and the pairs that write a byte.
-ghost use Rattle.std.specs.Prelude.{◌≡◌, ◌≤◌, ◌<◌, ◌∷◌, length, unwrap_or, IfSome};
+ghost use Rattle.std.specs.Prelude.{◌≡◌, ◌≤◌, ◌<◌, ◌∷◌, ◌++◌, true, length, nat_lt, unwrap_or, if◌then◌else◌, IfSome, Some, None};
 ghost use Rattle.hex.specs.Hex.{hex_digit_value, is_hex_digit};
 ghost use Rattle.pm_lines.specs.Pairs.{byte_of as spec_byte_of, digit_value, pair_of as spec_pair_of, paired_bytes, behind_pairs};
 
@@ -33,6 +33,7 @@ pub fn pair_of(high: u8, low: u8) -> Option<u8>
 }
 
 // The byte that two digits write, and 256 or more where one of them is no digit.
+#[tactic(auto, using(crate::proofs::FourPairs::pair_value_is))]
 fn pair_value(high: u8, low: u8) -> u16
     ensures { spec_pair_of high low ≡ (if nat_lt result 256 then Some result else None) }
 {
@@ -65,13 +66,21 @@ pub fn four_pairs(digits: &[u8]) -> Option<([u8; 4], &[u8])>
             let second = pair_value(*c, *d);
             let third = pair_value(*e, *f);
             let fourth = pair_value(*g, *h);
-            if first | second | third | fourth >= 256 {
+            if !are_bytes(first, second, third, fourth) {
                 return None;
             }
             Some(([first as u8, second as u8, third as u8, fourth as u8], more))
         }
         _ => None,
     }
+}
+
+// Whether each of four numbers is a byte.
+#[tactic(auto, using(crate::proofs::FourPairs::four_bytes))]
+fn are_bytes(first: u16, second: u16, third: u16, fourth: u16) -> bool
+    ensures { result ≡ true → (first < 256) × (second < 256) × (third < 256) × (fourth < 256) }
+{
+    first | second | third | fourth < 256
 }
 
 /// Whether the byte is a digit.
@@ -99,7 +108,8 @@ fn value(byte: u8) -> u8
 
 // The value of a digit, and 256 for another byte.
 fn value_or_none(byte: u8) -> u16
-    ensures { result ≡ unwrap_or (hex_digit_value byte) 256 }
+    ensures value { result ≡ unwrap_or (hex_digit_value byte) 256 }
+    ensures few { result ≤ 256 }
 {
     DIGIT_VALUES[usize::from(byte)]
 }

@@ -21,10 +21,13 @@ impl LineText {
         &self.bytes[..self.length]
     }
 
-    fn put<const N: usize>(&mut self, text: &[u8; N]) {
+    #[inline(always)]
+    fn put(&mut self, text: &[u8]) {
         let at = self.length;
-        self.bytes[at..at + N].copy_from_slice(text);
-        self.length = at + N;
+        for (i, byte) in text.iter().enumerate() {
+            self.bytes[at + i] = *byte;
+        }
+        self.length = at + text.len();
     }
 
     fn put_slice(&mut self, text: &[u8]) {
@@ -41,14 +44,16 @@ impl LineText {
         let [tens, ones] = hex_digits(usual.addr);
         self.put(&[b' ', tens, ones, b' ', b'p', b'a', b'g', b'e', b' ', b'0' + usual.page, b' ']);
         self.put_slice(Code(usual.code).name().as_bytes());
+        let [a, b] = hex_digits(usual.high);
+        let [c, d] = hex_digits(usual.low);
         if usual.is_read {
             self.put(b" read ");
         } else {
             self.put(b" write ");
         }
-        let [a, b] = hex_digits(usual.high);
-        let [c, d] = hex_digits(usual.low);
-        self.put(&[a, b, c, d, b'\n']);
+        let [first, second] = hex_digits(usual.high);
+        let [third, fourth] = hex_digits(usual.low);
+        self.put(&[first, second, third, fourth, b'\n']);
     }
 }
 

@@ -69,7 +69,11 @@ impl Part {
             }
             return;
         }
-        self.bytes[self.length..end].copy_from_slice(&bytes);
+        let at = self.length;
+        self.bytes[at] = bytes[0];
+        self.bytes[at + 1] = bytes[1];
+        self.bytes[at + 2] = bytes[2];
+        self.bytes[at + 3] = bytes[3];
         self.length = end;
     }
 
