@@ -1,5 +1,5 @@
 //! Hexadecimal digits, in either case, and the pairs that write a byte.
-ghost use Rattle.std.specs.Prelude.{◌≡◌, ◌≤◌, ◌<◌, ◌∷◌, ◌++◌, true, length, nat_lt, unwrap_or, if◌then◌else◌, IfSome, Some, None};
+ghost use Rattle.std.specs.Prelude.{◌≡◌, ◌≤◌, ◌<◌, ◌∷◌, true, length, nat_lt, unwrap_or, if◌then◌else◌, IfSome, Some, None};
 ghost use Rattle.hex.specs.Hex.{hex_digit_value, is_hex_digit};
 ghost use Rattle.pm_lines.specs.Pairs.{byte_of as spec_byte_of, digit_value, pair_of as spec_pair_of, paired_bytes, behind_pairs};
 
@@ -55,10 +55,11 @@ pub fn spaced_pair(digits: &[u8]) -> Option<(u8, &[u8])>
 
 /// The bytes of the four pairs of digits that stand first, with a space between each, and what
 /// follows them. None where no four such pairs stand first.
-pub fn four_pairs(digits: &[u8]) -> Option<([u8; 4], &[u8])>
-    ensures bytes { IfSome result (λ four. paired_bytes digits.now ≡ four.0 ++ paired_bytes four.1.now) }
-    ensures rest { IfSome result (λ four. behind_pairs digits.now ≡ behind_pairs four.1.now) }
-    ensures fewer { IfSome result (λ four. length four.1.now < length digits.now) }
+pub fn four_pairs(digits: &[u8]) -> Option<(u8, u8, u8, u8, &[u8])>
+    ensures bytes { IfSome result (λ four. paired_bytes digits.now
+        ≡ four.0 ∷ four.1 ∷ four.2 ∷ four.3 ∷ paired_bytes four.4.now) }
+    ensures rest { IfSome result (λ four. behind_pairs digits.now ≡ behind_pairs four.4.now) }
+    ensures fewer { IfSome result (λ four. length four.4.now < length digits.now) }
 {
     match digits {
         [a, b, b' ', c, d, b' ', e, f, b' ', g, h, more @ ..] => {
@@ -69,7 +70,7 @@ pub fn four_pairs(digits: &[u8]) -> Option<([u8; 4], &[u8])>
             if !are_bytes(first, second, third, fourth) {
                 return None;
             }
-            Some(([first as u8, second as u8, third as u8, fourth as u8], more))
+            Some((first as u8, second as u8, third as u8, fourth as u8, more))
         }
         _ => None,
     }

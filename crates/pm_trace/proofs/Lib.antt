@@ -1,4 +1,3 @@
-pub mod PlainLineLemmas
 pub mod CountLemmas
 pub mod DecodeLemmas
 pub mod HoldingLemmas
@@ -7,6 +6,9 @@ pub mod MarkLemmas
 pub mod OpenLineLemmas
 pub mod OutcomeLemmas
 pub mod PairLemmas
+pub mod PartLemmas
 pub mod PieceLemmas
+pub mod PlainLineLemmas
 pub mod RunLemmas
 pub mod SaidLemmas
+pub mod UsualLemmas

@@ -22,6 +22,7 @@ mod fed;
 mod laws;
 mod line_fault;
 mod line_text;
+mod numbering;
 mod shown;
 mod shown_text;
 mod tally;
@@ -29,6 +30,7 @@ mod told_lines;
 mod trace_line;
 mod traces;
 mod usual;
+mod usual_packets;
 
 pub use byte_list::ByteList;
 pub use decode_end::DecodeEnd;

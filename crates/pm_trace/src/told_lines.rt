@@ -4,7 +4,8 @@ ghost use Rattle.pm_trace.specs.TraceText.{told_line};
 
 use crate::decoder::printer::Printer;
 use crate::shown::Shown;
-use crate::line_text::{LineText, Tens};
+use crate::line_text::LineText;
+use crate::numbering::Numbering;
 use crate::shown_text::push_told;
 use crate::usual::Usual;
 use std::alloc::{AllocError, Global};
@@ -16,8 +17,9 @@ pub(crate) struct ToldLines {
     text: Vec<u8>,
     // Where the text of a line is made that isn't told at once.
     line: String,
+    // Where the text of a usual line is made, and the digits that its number has before the last one.
     usual: LineText,
-    tens: Tens,
+    numbering: Numbering,
 }
 
 impl Model for ToldLines {
@@ -37,7 +39,7 @@ impl ToldLines {
             text: Vec::new(alloc),
             line: String::new(alloc),
             usual: LineText::new(),
-            tens: Tens::new(),
+            numbering: Numbering::new(),
         }
     }
 
@@ -84,8 +86,8 @@ impl Printer for ToldLines {
     }
 
     fn print_usual(&mut self, number: u64, usual: Usual) -> Result<(), AllocError> {
-        self.tens.reach(number);
-        self.usual.tell(self.tens.front(), self.tens.digits(), number, usual);
+        self.numbering.reach(number);
+        self.usual.tell(&self.numbering, number, usual);
         self.text.extend_from_slice(self.usual.bytes())
     }
 }

@@ -1,13 +1,13 @@
 //! Traces from a reader, and what they say, to a writer.
-ghost use Rattle.std.specs.Prelude.{◌≡◌, ◌≤◌, ℕ, List, ◌++◌, length, drop};
-ghost use Rattle.std.specs.Prelude.{Err, IfOk, IfErr, OnOk, IsFalse, string_bytes};
+ghost use Rattle.std.specs.Prelude.{◌≡◌, ◌≤◌, ◌<◌, ◌↔◌, ℕ, List, [], ◌++◌, length, drop, true, is_err};
+ghost use Rattle.std.specs.Prelude.{Ok, Err, IfOk, IfErr, OnOk, OnErr, MatchResult, IsTrue, IsFalse, string_bytes};
 ghost use Rattle.std.specs.Io.KnownBytes.{IsAtEnd};
 ghost use Rattle.pm_lines.specs.Engine.{EngineEnds, over};
-ghost use Rattle.pm_lines.specs.Streams.{max_text};
+ghost use Rattle.pm_lines.specs.Streams.{AppendsFront, max_text};
 ghost use Rattle.pm_trace.specs.Decoding.{some_told, told_at_end, kept_at_end, IsFresh};
 ghost use Rattle.pm_trace.specs.Outcome.{decoding};
 ghost use Rattle.pm_trace.specs.TraceText.{told_lines, counts_text, end_of, IsOfDecode};
-ghost use Rattle.pm_trace.specs.Written.{PushesFront, Written};
+ghost use Rattle.pm_trace.specs.Written.{Puts, PushesFront, StopsTelling, Tells, Written};
 ghost use Rattle.pm_trace.specs.declared.decoder.intake.Intake.{Intake};
 
 use crate::counts_text::push_counts;
@@ -83,42 +83,31 @@ fn decode_pieces<R: Read, W: Write>(
     let mut told = ToldLines::new(alloc);
     let mut piece = [0u8; PIECE];
     'reads: loop {
-        let read = tell_piece(reader, decoder, &mut told, &mut piece);
-        put_due(writer, &mut told, !is_full(&read))?;
-        if read? == 0 {
+        let count = tell_piece(reader, decoder, &mut told, &mut piece);
+        put_due(writer, &mut told, !is_full(&count))?;
+        if count? == 0 {
             return Ok(());
         }
     }
 }
 
-// Whether a read brought as many bytes as were asked for.
-fn is_full(read: &Result<usize, TextFault>) -> bool
-    ensures { result ≡ true → read.now ≡ Ok PIECE }
-{
-    matches!(read, Ok(PIECE))
-}
-
-// Writes the lines that were gathered, where they are to be written now or are many.
-fn put_due<W: Write>(
-    writer: &mut Sink<W>,
-    told: &mut ToldLines,
-    is_now: bool,
-) -> Result<(), TextFault>
-{
-    if is_now || told.len() >= GATHERED {
-        writer.put(told.bytes())?;
-        told.clear();
-    }
-    Ok(())
-}
-
-// Reads a piece, and gathers what the lines say that a line feed ended.
+// Reads a piece, and gathers what the lines say that a line feed ends in it: how many bytes were read. For want
+// of memory none of these lines is gathered.
 fn tell_piece<R: Read>(
     reader: &mut Source<R>,
     decoder: &mut Decoder,
     told: &mut ToldLines,
-    piece: &mut [u8],
+    piece: &mut [u8; PIECE],
 ) -> Result<usize, TextFault>
+    requires reader { IsFalse reader.old.failed }
+    requires open { decoder.old.intake ≡ Intake.Open }
+    requires room { decoder.old.kept.taken ≤ max_text }
+    ensures told { IfOk result (λ count. Tells (R.remaining reader.old.inner) (R.remaining reader.new.inner)
+        told.old told.new decoder.old decoder.new count) }
+    ensures stops { IfErr result (λ fault. StopsTelling (R.remaining reader.old.inner) (R.remaining reader.new.inner)
+        told.old told.new decoder.old fault) }
+    ensures failed { MatchResult result (λ _. IsFalse reader.new.failed)
+        (λ fault. IsTrue reader.new.failed ↔ (fault ≡ TextFault.Read)) }
 {
     let count = reader.read(piece)?;
     let before = told.len();
@@ -132,18 +121,48 @@ fn tell_piece<R: Read>(
     }
 }
 
+// Whether a read brought as many bytes as were asked for, so that more may wait.
+fn is_full(count: &Result<usize, TextFault>) -> bool
+    ensures { result ≡ true → count.now ≡ Ok PIECE }
+{
+    matches!(count, Ok(PIECE))
+}
+
+// Writes what was gathered, where it is due or is much.
+fn put_due<W: Write>(
+    writer: &mut Sink<W>,
+    told: &mut ToldLines,
+    is_due: bool,
+) -> Result<(), TextFault>
+    requires { IsFalse writer.old.failed }
+    ensures puts { OnOk result
+        (Puts (W.contents writer.old.inner) (W.contents writer.new.inner) told.old told.new) }
+    ensures due { OnOk result (is_due ≡ true → told.new ≡ []) }
+    ensures front { OnErr result
+        (AppendsFront (W.contents writer.old.inner) (W.contents writer.new.inner) told.old) }
+    ensures failed { writer.new.failed ≡ is_err result }
+    ensures fault { IfErr result (λ fault. fault ≡ TextFault.Write) }
+{
+    if is_due || told.len() >= GATHERED {
+        writer.put(told.bytes())?;
+        told.clear();
+    }
+    Ok(())
+}
+
 // Feeds the decoder until the piece is used up, and appends the text of each line that ends. False
 // where the trace grows past its limit; the lines that ended before that are in the text.
-fn push_lines(text: &mut ToldLines, decoder: &mut Decoder, piece: &[u8]) -> Result<bool, TextFault>
+fn push_lines(told: &mut ToldLines, decoder: &mut Decoder, piece: &[u8]) -> Result<bool, TextFault>
     requires open { decoder.old.intake ≡ Intake.Open }
     requires room { decoder.old.kept.taken ≤ max_text }
-    ensures pushed { IfOk result (PushesFront (string_bytes text.old) (string_bytes text.new)
-        decoder.old decoder.new piece.now) }
+    ensures pushed { IfOk result (PushesFront told.old told.new decoder.old decoder.new piece.now) }
     ensures fault { IfErr result (λ fault. fault ≡ TextFault.Memory) }
+    ensures some { OnErr result (0 < length piece.now) }
+    ensures grown { (more : List ℕ) × (told.new ≡ told.old ++ more) }
 {
     let mut rest = piece;
     'pieces: while !rest.is_empty() {
-        match decoder.take(rest, text) {
+        match decoder.take(rest, told) {
             Ok(fed) => rest = past(rest, fed.taken),
             Err(TextFault::TooLong) => return Ok(false),
             Err(fault) => return Err(fault),

@@ -1,4 +1,5 @@
-ghost use Rattle.std.specs.Prelude.{◌≡◌};
+ghost use Rattle.std.specs.Prelude.{◌≡◌, ◌≤◌, length};
+ghost use Rattle.pm_lines.specs.Pairs.{paired_bytes, behind_pairs};
 
 use pm_lines::{four_pairs, pair_of};
 use std::marker::Model;
@@ -59,21 +60,23 @@ impl Part {
     }
 
     // Takes four bytes more.
-    fn take_four(&mut self, bytes: [u8; 4])
-        ensures { self.new ≡ fold part_takes self.old bytes }
+    #[tactic(auto, using(crate::proofs::PartLemmas::four_taken))]
+    fn take_four(&mut self, first: u8, second: u8, third: u8, fourth: u8)
+        ensures { self.new ≡ part_takes (part_takes (part_takes (part_takes self.old first) second) third) fourth }
     {
-        let end = self.length + 4;
+        let at = self.length;
+        let end = at + 4;
         if end > PART_BYTES {
-            for byte in bytes {
-                self.take(byte);
-            }
+            self.take(first);
+            self.take(second);
+            self.take(third);
+            self.take(fourth);
             return;
         }
-        let at = self.length;
-        self.bytes[at] = bytes[0];
-        self.bytes[at + 1] = bytes[1];
-        self.bytes[at + 2] = bytes[2];
-        self.bytes[at + 3] = bytes[3];
+        self.bytes[at] = first;
+        self.bytes[at + 1] = second;
+        self.bytes[at + 2] = third;
+        self.bytes[at + 3] = fourth;
         self.length = end;
     }
 
@@ -85,12 +88,10 @@ impl Part {
     {
         let mut rest = digits;
         'pairs: loop {
-            if let [b' ', more @ ..] = rest {
-                rest = more;
-            }
+            rest = past_space(rest);
             // most bytes come as pairs with a space between them
-            if let Some((bytes, more)) = four_pairs(rest) {
-                self.take_four(bytes);
+            if let Some((first, second, third, fourth, more)) = four_pairs(rest) {
+                self.take_four(first, second, third, fourth);
                 rest = more;
                 continue 'pairs;
             }
@@ -130,5 +131,17 @@ impl Part {
         ensures { result ≡ self.now.is_long }
     {
         self.is_long
+    }
+}
+
+// What follows the space that stands first, or all where none does.
+fn past_space(digits: &[u8]) -> &[u8]
+    ensures bytes { paired_bytes result.now ≡ paired_bytes digits.now }
+    ensures rest { behind_pairs result.now ≡ behind_pairs digits.now }
+    ensures fewer { length result.now ≤ length digits.now }
+{
+    match digits {
+        [b' ', more @ ..] => more,
+        _ => digits,
     }
 }

@@ -1,6 +1,7 @@
 ghost use Rattle.std.specs.Prelude.{◌≡◌, ◌++◌, [], List, ℕ, OnOk, OnErr};
 ghost use Rattle.pm_trace.specs.ShownLines.{judged_in};
 ghost use Rattle.pm_trace.specs.Trace.{Told};
+ghost use Rattle.pm_trace.specs.Usual.{usual_judged};
 
 use crate::shown::Shown;
 use crate::usual::Usual;
@@ -23,8 +24,11 @@ pub(crate) trait Printer {
         ensures kept { OnErr result (text self.new ≡ text self.old) }
         ensures memory { OnErr result WantsMemory };
 
-    /// The same of a usual packet.
-    fn print_usual(&mut self, number: u64, usual: Usual) -> Result<(), AllocError>;
+    /// Prints what a usual line says, with its number.
+    fn print_usual(&mut self, number: u64, usual: Usual) -> Result<(), AllocError>
+        ensures printed { OnOk result (text self.new ≡ text self.old ++ line (number, usual_judged usual)) }
+        ensures kept { OnErr result (text self.new ≡ text self.old) }
+        ensures memory { OnErr result WantsMemory };
 }
 
 /// No line is printed.
