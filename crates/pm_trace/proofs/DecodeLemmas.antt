@@ -165,15 +165,16 @@ unfolding now
 length_now bytes = refl
 
 -- nothing was read yet
-pub gathered_none : (r w : Option (List ℕ)) (holding : Holding) → IsFresh holding → Gathered r r w w [] [] holding
-gathered_none r w holding fresh = record {
+pub gathered_none : (r w : Option (List ℕ)) (text : List ℕ) (holding : Holding) → text ≡ [] → IsFresh holding
+    → Gathered r r w w [] text holding
+gathered_none r w text holding none fresh = record {
   given = Consumes-nil r;
   kept = fresh.kept;
   intake = fresh.intake;
   short = omega arith;
   done = [];
   got = Appends-nil w;
-  parts = lines_none;
+  parts = lines_none ∙ sym none;
 }
 
 module _ (r0 r1 w0 w1 : Option (List ℕ)) (bytes text : List ℕ) (old : Holding) (gathered : Gathered r0 r1 w0 w1 bytes text old) where
@@ -218,6 +219,10 @@ module _ (r0 r1 w0 w1 : Option (List ℕ)) (bytes text : List ℕ) (old : Holdin
       ∙ ap (λ k. gathered.done ++ (text ++ told_lines (told k piece))) (sym gathered.kept)
 
   module _ (r2 : Option (List ℕ)) (text' : List ℕ) (new : Holding) where
+    parts_more : {count : ℕ} → (tells : Tells r1 r2 text text' old new count)
+        → told_lines (said (bytes ++ tells.bytes)) ≡ gathered.done ++ text'
+    parts_more tells = lines_more tells.bytes ∙ ap (λ l. gathered.done ++ l) (sym tells.pushed.text_is)
+
     -- a piece more
     pub gathered_more : {count : ℕ} → (tells : Tells r1 r2 text text' old new count) → Gathered r0 r2 w0 w1 (bytes ++ tells.bytes) text' new
     gathered_more tells =
@@ -231,7 +236,7 @@ module _ (r0 r1 w0 w1 : Option (List ℕ)) (bytes text : List ℕ) (old : Holdin
           short = omega (arith, count, tells.pushed.room);
           done = gathered.done;
           got = gathered.got;
-          parts = lines_more tells.bytes ∙ ap (λ l. gathered.done ++ l) (sym tells.pushed.text_is);
+          parts = parts_more tells;
         }
 
     -- more was taken
@@ -256,7 +261,7 @@ module _ (r0 r1 w0 w1 : Option (List ℕ)) (bytes text : List ℕ) (old : Holdin
             bytes ++ tells.bytes,
             λ _. more.short,
             more.given,
-            cut_behind (bytes ++ tells.bytes) [] (more.parts ∙ ap (λ l. gathered.done ++ l) (sym (append-nil text'))) short,
+            cut_behind (bytes ++ tells.bytes) [] (parts_more tells ∙ ap (λ l. gathered.done ++ l) (sym (append-nil text'))) short,
           )
       cut_off (Err TooLong) failed tells (front, more, some, given, full, is) why short = (
         bytes ++ (front ++ more),
@@ -275,7 +280,7 @@ module _ (r0 r1 w0 w1 : Option (List ℕ)) (bytes text : List ℕ) (old : Holdin
             bytes,
             λ _. gathered.short,
             subst P (append-nil bytes) (Consumes-trans r0 r1 r2 bytes [] gathered.given given),
-            cut_behind bytes [] (gathered.parts ∙ ap (λ l. gathered.done ++ l) (sym (append-nil text') ∙ ap (λ l. l ++ []) is)) short,
+            cut_behind bytes [] (gathered.parts ∙ ap (λ l. gathered.done ++ l) (sym is ∙ sym (append-nil text'))) short,
           )
       cut_off (Err Memory) failed tells (piece, some, given, is) why short = (
         bytes ++ piece,

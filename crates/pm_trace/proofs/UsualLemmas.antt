@@ -1,5 +1,5 @@
 -- What the bytes of usual packets say, how they are counted, and their text.
-use Rattle.std.proofs.Common.{◌≡◌, ◌≢◌, ◌∙◌, ℕ, ◌+◌, ◌*◌, ◌/◌, ◌%◌, ◌<◌, ◌≤◌, ◌^◌, eqb, leb, Bool, true, false, cond, not, ◌&&◌, ◌||◌, List, [], ◌∷◌, ◌++◌, length, codes}
+use Rattle.std.proofs.Common.{◌≡◌, ◌≢◌, ◌∙◌, ℕ, ◌+◌, ◌*◌, ◌/◌, ◌%◌, ◌<◌, ◌≤◌, ◌^◌, eqb, leb, Bool, true, false, cond, not, ◌&&◌, ◌||◌, List, [], ◌∷◌, ◌++◌, length, codes, get_or}
 use Rattle.std.proofs.Common.{Option, Some, None, refl, sym, ap, subst, arith, append_assoc, append-nil, eq-eqb, ne_eqb, lit<, lit≤}
 use Rattle.std.specs.Prelude.{decimal, is_some, option_map, slice_index, ◌==◌}
 use Rattle.std.specs.Option.{option_map_or}
@@ -11,11 +11,9 @@ use Rattle.pm_frame.specs.Fault.{address_fault, answer_fault, block_request_faul
 use Rattle.pm_frame.specs.Layout.{answer_length, is_carried, read_address, sent, write_address}
 use Rattle.pm_frame.specs.Pec.{pec_of}
 use Rattle.pm_frame.specs.View.{message_in}
-use Rattle.pm_frame.specs.declared.direction.Direction.{Direction}
-use Rattle.pm_frame.specs.declared.direction.Direction.TheVariants as direction
 use Rattle.pm_frame.specs.declared.message.Message.TheVariants.{PagePlusRead, PagePlusWrite}
 use Rattle.pm_frame.specs.declared.payload.Payload.TheVariants.{Word}
-use Rattle.pm_lines.specs.Numbers.{hex_byte}
+use Rattle.pm_lines.specs.Numbers.{hex_byte, hex_number}
 use Rattle.pm_table.specs.Commands.{Line, Row, attributes, attributes_of, is_known, is_read, is_written, line_among, line_of, name_of, payload_length, rows}
 use Rattle.pm_table.specs.declared.commands.Attributes.{Attributes}
 use Rattle.pm_trace.specs.Counts.{Counts, IsNewCode, has_code, one_counted, one_more}
@@ -58,30 +56,31 @@ other_code code other n word is few = by (eqb code other) refl
         absurd (omega (arith, lengths, word, is, few))
     by false same = refl
 
--- PAGE_PLUS carries it
+-- the codes that PAGE_PLUS doesn't carry have shorter payloads
+page_short : payload_length 0x00 < 2
+unfolding line_of
+page_short = lit< tt
+
+write_short : payload_length 0x05 < 2
+unfolding line_of
+write_short = lit< tt
+
+read_short : payload_length 0x06 < 2
+unfolding line_of
+read_short = lit< tt
+
+coefficients_short : payload_length 0x30 < 2
+unfolding line_of
+coefficients_short = lit< tt
+
+-- so it carries one that has a word
 word_carried : (code : ℕ) → payload_length code ≡ 2 → is_carried code ≡ true
 word_carried code word =
-    let page = other_code code 0x00 (payload_length 0x00) word refl zero_short in
-    let write = other_code code 0x05 (payload_length 0x05) word refl five_short in
-    let read = other_code code 0x06 (payload_length 0x06) word refl six_short in
-    let coefficients = other_code code 0x30 (payload_length 0x30) word refl thirty_short in
+    let page = other_code code 0x00 (payload_length 0x00) word refl page_short in
+    let write = other_code code 0x05 (payload_length 0x05) word refl write_short in
+    let read = other_code code 0x06 (payload_length 0x06) word refl read_short in
+    let coefficients = other_code code 0x30 (payload_length 0x30) word refl coefficients_short in
     rw (page, write, read, coefficients) refl
-  where
-    zero_short : payload_length 0x00 < 2
-    unfolding line_of
-    zero_short = lit< tt
-
-    five_short : payload_length 0x05 < 2
-    unfolding line_of
-    five_short = lit< tt
-
-    six_short : payload_length 0x06 < 2
-    unfolding line_of
-    six_short = lit< tt
-
-    thirty_short : payload_length 0x30 < 2
-    unfolding line_of
-    thirty_short = lit< tt
 
 -- it is in the table
 word_known : (code : ℕ) → payload_length code ≡ 2 → is_known code ≡ true
@@ -107,11 +106,16 @@ attributes_are code found is = by (line_of code) is
 pub word_length : (code : ℕ) (found : Attributes) → attributes_of code ≡ Some found → payload_length code ≡ found.length
 word_length code found is = (attributes_are code found is).0
 
-pub written_is : (code : ℕ) (found : Attributes) → attributes_of code ≡ Some found → found.writes ≡ true → is_written code ≡ true
-written_is code found is yes = (attributes_are code found is).1 ∙ yes
+-- what isn't false is true
+not_false : (b : Bool) → not b ≡ false → b ≡ true
+not_false true is = refl
+not_false false is = absurd (cc)
 
-pub read_is : (code : ℕ) (found : Attributes) → attributes_of code ≡ Some found → found.reads ≡ true → is_read code ≡ true
-read_is code found is yes = (attributes_are code found is).2 ∙ yes
+pub written_is : (code : ℕ) (found : Attributes) → attributes_of code ≡ Some found → not found.writes ≡ false → is_written code ≡ true
+written_is code found is goes = (attributes_are code found is).1 ∙ not_false found.writes goes
+
+pub read_is : (code : ℕ) (found : Attributes) → attributes_of code ≡ Some found → not found.reads ≡ false → is_read code ≡ true
+read_is code found is goes = (attributes_are code found is).2 ∙ not_false found.reads goes
 
 -- ---- what the bytes say
 
@@ -150,13 +154,12 @@ module _ (first page code : ℕ) (has : HasWord first page code) where
     unfolding pec_fault
     write_sums = rw (eq-eqb check (pec_of (first ∷ 0x05 ∷ 0x04 ∷ page ∷ code ∷ low ∷ high ∷ [])) sum) refl
 
-    write_carries : carried_fault direction.Write code ≡ None
-    unfolding carried_fault
-    write_carries = rw (word_carried code has.word, word_known code has.word, written) refl
-
     write_sound : write_fault (first / 2) write_bytes ≡ None
-    unfolding write_fault
-    write_sound = rw (write_opens, write_fits, write_sums, write_carries) refl
+    unfolding write_fault carried_fault
+    write_sound =
+        let carried = word_carried code has.word in
+        let known = word_known code has.word in
+        rw (write_opens, write_fits, write_sums, carried, known, written) refl
 
     write_says : message_in write_bytes ≡ PagePlusWrite page code (Word (low + 256 * high))
     unfolding message_in
@@ -180,13 +183,12 @@ module _ (first page code : ℕ) (has : HasWord first page code) where
     unfolding opening_fault address_fault
     request_opens = rw first_is refl
 
-    request_carries : carried_fault direction.Read code ≡ None
-    unfolding carried_fault
-    request_carries = rw (word_carried code has.word, word_known code has.word, reads) refl
-
     request_fits : block_request_fault request_bytes ≡ None
-    unfolding block_request_fault length_fault
-    request_fits = rw request_carries refl
+    unfolding block_request_fault length_fault carried_fault
+    request_fits =
+        let carried = word_carried code has.word in
+        let known = word_known code has.word in
+        rw (carried, known, reads) refl
 
     request_sound : request_fault (first / 2) request_bytes ≡ None
     unfolding request_fault
@@ -224,6 +226,63 @@ module _ (first page code : ℕ) (has : HasWord first page code) where
         ≡ Accepted (first / 2) (PagePlusRead page code) (Some (low ∷ high ∷ []))
     unfolding parts_judged
     read_judged_usual = rw (addressed, request_sound, request_says, answer_sound) refl
+
+-- the same of lists by their places
+pub usual_write_is : (write : List ℕ) → length write ≡ 8 → get_or write 1 0 ≡ 5 → get_or write 2 0 ≡ 4
+    → HasWord (get_or write 0 0) (get_or write 3 0) (get_or write 4 0) → is_written (get_or write 4 0) ≡ true
+    → get_or write 7 0 ≡ pec_of (get_or write 0 0 ∷ 5 ∷ 4 ∷ get_or write 3 0 ∷ get_or write 4 0 ∷ get_or write 5 0 ∷ get_or write 6 0 ∷ [])
+    → parts_judged write None
+    ≡ Accepted (get_or write 0 0 / 2) (PagePlusWrite (get_or write 3 0) (get_or write 4 0) (Word (get_or write 5 0 + 256 * get_or write 6 0))) None
+usual_write_is [] many second third has written sum = absurd (omega arith)
+usual_write_is (a ∷ []) many second third has written sum = absurd (omega arith)
+usual_write_is (a ∷ b ∷ []) many second third has written sum = absurd (omega arith)
+usual_write_is (a ∷ b ∷ c ∷ []) many second third has written sum = absurd (omega arith)
+usual_write_is (a ∷ b ∷ c ∷ d ∷ []) many second third has written sum = absurd (omega arith)
+usual_write_is (a ∷ b ∷ c ∷ d ∷ e ∷ []) many second third has written sum = absurd (omega arith)
+usual_write_is (a ∷ b ∷ c ∷ d ∷ e ∷ f ∷ []) many second third has written sum = absurd (omega arith)
+usual_write_is (a ∷ b ∷ c ∷ d ∷ e ∷ f ∷ g ∷ []) many second third has written sum = absurd (omega arith)
+usual_write_is (a ∷ b ∷ c ∷ d ∷ e ∷ f ∷ g ∷ h ∷ []) many second third has written sum =
+    let says : Judged = Accepted (a / 2) (PagePlusWrite d e (Word (f + 256 * g))) None in
+    let P : ℕ → Type 0 = λ n. parts_judged (a ∷ n ∷ c ∷ d ∷ e ∷ f ∷ g ∷ h ∷ []) None ≡ says in
+    let Q : ℕ → Type 0 = λ n. parts_judged (a ∷ 5 ∷ n ∷ d ∷ e ∷ f ∷ g ∷ h ∷ []) None ≡ says in
+    subst P (sym second) (subst Q (sym third) (write_judged_usual a d e has f g h written sum))
+usual_write_is (a ∷ b ∷ c ∷ d ∷ e ∷ f ∷ g ∷ h ∷ x ∷ rest) many second third has written sum = absurd (omega arith)
+
+-- the bytes of an answer
+answer_is : (first page code : ℕ) (read : List ℕ) → HasWord first page code → is_read code ≡ true → length read ≡ 5
+    → get_or read 1 0 ≡ 2 → get_or read 0 0 ≡ first + 1
+    → get_or read 4 0 ≡ pec_of (first ∷ 6 ∷ 2 ∷ page ∷ code ∷ get_or read 0 0 ∷ 2 ∷ get_or read 2 0 ∷ get_or read 3 0 ∷ [])
+    → parts_judged (first ∷ 6 ∷ 2 ∷ page ∷ code ∷ []) (Some read)
+    ≡ Accepted (first / 2) (PagePlusRead page code) (Some (get_or read 2 0 ∷ get_or read 3 0 ∷ []))
+answer_is first page code [] has reads many second next sum = absurd (omega arith)
+answer_is first page code (a ∷ []) has reads many second next sum = absurd (omega arith)
+answer_is first page code (a ∷ b ∷ []) has reads many second next sum = absurd (omega arith)
+answer_is first page code (a ∷ b ∷ c ∷ []) has reads many second next sum = absurd (omega arith)
+answer_is first page code (a ∷ b ∷ c ∷ d ∷ []) has reads many second next sum = absurd (omega arith)
+answer_is first page code (a ∷ b ∷ c ∷ d ∷ e ∷ []) has reads many second next sum =
+    let P : ℕ → Type 0 = λ n. parts_judged (first ∷ 6 ∷ 2 ∷ page ∷ code ∷ []) (Some (a ∷ n ∷ c ∷ d ∷ e ∷ []))
+    ≡ Accepted (first / 2) (PagePlusRead page code) (Some (c ∷ d ∷ [])) in
+    subst P (sym second) (read_judged_usual first page code has a c d e reads next sum)
+answer_is first page code (a ∷ b ∷ c ∷ d ∷ e ∷ x ∷ rest) has reads many second next sum = absurd (omega arith)
+
+pub usual_read_is : (write read : List ℕ) → length write ≡ 5 → get_or write 1 0 ≡ 6 → get_or write 2 0 ≡ 2
+    → HasWord (get_or write 0 0) (get_or write 3 0) (get_or write 4 0) → is_read (get_or write 4 0) ≡ true → length read ≡ 5
+    → get_or read 1 0 ≡ 2 → get_or read 0 0 ≡ get_or write 0 0 + 1
+    → get_or read 4 0 ≡ pec_of (get_or write 0 0 ∷ 6 ∷ 2 ∷ get_or write 3 0 ∷ get_or write 4 0 ∷ get_or read 0 0 ∷ 2
+    ∷ get_or read 2 0 ∷ get_or read 3 0 ∷ [])
+    → parts_judged write (Some read)
+    ≡ Accepted (get_or write 0 0 / 2) (PagePlusRead (get_or write 3 0) (get_or write 4 0)) (Some (get_or read 2 0 ∷ get_or read 3 0 ∷ []))
+usual_read_is [] read many second third has reads most count next sum = absurd (omega arith)
+usual_read_is (a ∷ []) read many second third has reads most count next sum = absurd (omega arith)
+usual_read_is (a ∷ b ∷ []) read many second third has reads most count next sum = absurd (omega arith)
+usual_read_is (a ∷ b ∷ c ∷ []) read many second third has reads most count next sum = absurd (omega arith)
+usual_read_is (a ∷ b ∷ c ∷ d ∷ []) read many second third has reads most count next sum = absurd (omega arith)
+usual_read_is (a ∷ b ∷ c ∷ d ∷ e ∷ []) read many second third has reads most count next sum =
+    let says : Judged = Accepted (a / 2) (PagePlusRead d e) (Some (get_or read 2 0 ∷ get_or read 3 0 ∷ [])) in
+    let P : ℕ → Type 0 = λ n. parts_judged (a ∷ n ∷ c ∷ d ∷ e ∷ []) (Some read) ≡ says in
+    let Q : ℕ → Type 0 = λ n. parts_judged (a ∷ 6 ∷ n ∷ d ∷ e ∷ []) (Some read) ≡ says in
+    subst P (sym second) (subst Q (sym third) (answer_is a d e read has reads most count next sum))
+usual_read_is (a ∷ b ∷ c ∷ d ∷ e ∷ x ∷ rest) read many second third has reads most count next sum = absurd (omega arith)
 
 -- ---- the text
 
@@ -266,6 +325,19 @@ low_is low high small = omega arith
 high_is : (low high : ℕ) → low < 2 ^ 8 → (low + 256 * high) / 256 ≡ high
 high_is low high small = omega arith
 
+-- the line of a word of these bytes that was written
+abbrev written_line : ℕ → Usual → ℕ → ℕ → List ℕ
+written_line number usual low high =
+    (decimal number ++ (codes " " ++ (hex_byte usual.addr ++ (codes " " ++ ((codes "page " ++ decimal usual.page ++ codes " ")
+    ++ (name_of usual.code ++ (codes " write " ++ hex_number (low ∷ high ∷ []))))))))
+    ++ codes "\n"
+
+-- a line's parts, put together in two ways
+parts_joined : (number space addr word page name way high low feed : List ℕ)
+    → (number ++ (space ++ (addr ++ (space ++ ((word ++ page ++ space) ++ (name ++ (way ++ (high ++ low)))))))) ++ feed
+    ≡ ((number ++ ((space ++ addr) ++ ((space ++ word) ++ (page ++ space)))) ++ name) ++ (way ++ (high ++ (low ++ feed)))
+parts_joined number space addr word page name way high low feed = simp append_assoc
+
 -- the text of a usual line is that of what it says
 pub usual_line : (number : ℕ) (usual : Usual) → usual.low < 2 ^ 8 → told_line (number, usual_judged usual) ≡ usual_text number usual
 unfolding told_text plain_text
@@ -276,5 +348,12 @@ usual_line number usual small = by usual.is_read
         (Accepted usual.addr (PagePlusWrite usual.page usual.code (Word (usual.low + 256 * usual.high))) None)))) ++ codes "\n"
         ≡ ((decimal number ++ ((codes " " ++ hex_byte usual.addr) ++ (codes " page " ++ (decimal usual.page ++ codes " "))))
         ++ name_of usual.code) ++ ((cond is_read (codes " read ") (codes " write ")) ++ (hex_byte usual.high ++ (hex_byte usual.low ++ codes "\n")))
-    by true = simp append_assoc
-    by false = rw (low_is usual.low usual.high small, high_is usual.low usual.high small) (simp append_assoc)
+    by true =
+        parts_joined (decimal number) (codes " ") (hex_byte usual.addr) (codes "page ") (decimal usual.page) (name_of usual.code)
+        (codes " read ") (hex_byte usual.high) (hex_byte usual.low) (codes "\n")
+    by false =
+        let word = usual.low + 256 * usual.high in
+        ap (λ low. written_line number usual low (word / 256)) (low_is usual.low usual.high small)
+        ∙ ap (λ high. written_line number usual usual.low high) (high_is usual.low usual.high small)
+        ∙ parts_joined (decimal number) (codes " ") (hex_byte usual.addr) (codes "page ") (decimal usual.page) (name_of usual.code)
+        (codes " write ") (hex_byte usual.high) (hex_byte usual.low) (codes "\n")

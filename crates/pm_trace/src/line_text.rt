@@ -77,13 +77,36 @@ impl LineText {
 
     // The address and the page.
     #[inline(always)]
+    #[tactic(auto, using(crate::proofs::Joins::joins))]
     fn put_head(&mut self, usual: Usual)
-        requires { length self.old + 12 ≤ ROOM }
+        requires { length self.old + 11 ≤ ROOM }
         ensures text { self.new ≡ self.old ++ usual_head usual }
         ensures len { length self.new ≡ length self.old + 11 }
     {
+        self.put_address(usual.addr);
+        self.put_page(usual);
+    }
+
+    // The address.
+    #[inline(always)]
+    #[tactic(auto, using(crate::proofs::Joins::joins))]
+    fn put_address(&mut self, addr: u8)
+        requires { length self.old + 3 ≤ ROOM }
+        ensures text { self.new ≡ self.old ++ (codes " " ++ hex_byte addr) }
+        ensures len { length self.new ≡ length self.old + 3 }
+    {
         self.put(b" ");
-        self.put(&hex_digits(usual.addr));
+        self.put(&hex_digits(addr));
+    }
+
+    // The page.
+    #[inline(always)]
+    #[tactic(auto, using(crate::proofs::Joins::digit_joins))]
+    fn put_page(&mut self, usual: Usual)
+        requires { length self.old + 8 ≤ ROOM }
+        ensures text { self.new ≡ self.old ++ (codes " page " ++ (decimal usual.page ++ codes " ")) }
+        ensures len { length self.new ≡ length self.old + 8 }
+    {
         self.put(b" page ");
         self.put(&[b'0' + usual.page]);
         self.put(b" ");

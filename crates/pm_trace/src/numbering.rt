@@ -14,13 +14,12 @@ pub(crate) struct Numbering {
 }
 
 impl Model for Numbering {
-    ghost use Rattle.std.specs.Prelude.{ℕ, List, ◌≤◌, take};
+    ghost use Rattle.std.specs.Prelude.{◌≡◌, ◌≤◌, ℕ, List, take};
+    ghost use Rattle.pm_trace.specs.Usual.{front_of};
 
     ghost Value = { List ℕ };
 
     ghost view = { λ n. take n.digits n.front };
-
-    ghost use Rattle.pm_trace.specs.Usual.{front_of};
 
     ghost invariant = { λ n. (n.digits ≤ 20) × (take n.digits n.front ≡ front_of n.tens) };
 }

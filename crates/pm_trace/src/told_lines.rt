@@ -85,6 +85,7 @@ impl Printer for ToldLines {
         self.text.extend_from_slice(self.line.as_str().as_bytes())
     }
 
+    #[tactic(auto, using(crate::proofs::UsualLemmas::usual_line))]
     fn print_usual(&mut self, number: u64, usual: Usual) -> Result<(), AllocError> {
         self.numbering.reach(number);
         self.usual.tell(&self.numbering, number, usual);
