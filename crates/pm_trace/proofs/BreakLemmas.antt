@@ -1,6 +1,6 @@
 -- How the loop over the pieces of a trace goes on and breaks off, by how a piece was read.
-use Rattle.std.proofs.Common.{◌≡◌, ◌∙◌, ◌≤◌, ℕ, Bool, true, false, not, List, [], length, Option, Result, Ok, Err, IfOk, IfErr, IsFalse, IsTrue, ◌↔◌}
-use Rattle.std.proofs.Common.{refl, sym, subst, arith}
+use Rattle.std.proofs.Common.{◌≡◌, ℕ, Bool, true, false, not, List, [], Option, Result, Ok, Err, IfOk, IfErr, IsFalse, IsTrue, ◌↔◌}
+use Rattle.std.proofs.Common.{refl, subst, arith}
 use Rattle.std.specs.Prelude.{MatchResult}
 use Rattle.pm_lines.specs.Engine.{EngineEnds, Run}
 use Rattle.pm_lines.specs.Lemmas.Engines.{false_unless}

@@ -1,5 +1,5 @@
 -- Four bytes more of a part.
-use Rattle.std.proofs.Common.{◌≡◌, ◌∙◌, ◌+◌, ◌<◌, ◌≤◌, ltb, ℕ, Bool, true, List, [], ◌∷◌, ◌++◌, length, take, ap, arith, refl, sym}
+use Rattle.std.proofs.Common.{◌≡◌, ◌∙◌, ◌+◌, ◌<◌, ◌≤◌, ltb, ℕ, Bool, true, List, length, take, ap, arith, refl, sym}
 use Rattle.std.proofs.Math.ListN.{set, length-set}
 use Rattle.std.proofs.lemmas.Bool.Decides.{nat_tests}
 use Rattle.std.proofs.lemmas.List.{length-take, take_more_set}

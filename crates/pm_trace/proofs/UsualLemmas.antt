@@ -1,14 +1,14 @@
 -- What the bytes of usual packets say, how they are counted, and their text.
-use Rattle.std.proofs.Common.{◌≡◌, ◌≢◌, ◌∙◌, ℕ, ◌+◌, ◌*◌, ◌/◌, ◌%◌, ◌<◌, ◌≤◌, ◌^◌, eqb, leb, Bool, true, false, cond, not, ◌&&◌, ◌||◌, List, [], ◌∷◌, ◌++◌, length, codes, get_or}
-use Rattle.std.proofs.Common.{Option, Some, None, refl, sym, ap, subst, arith, append_assoc, append-nil, eq-eqb, ne_eqb, lit<, lit≤}
-use Rattle.std.specs.Prelude.{decimal, is_some, option_map, slice_index, ◌==◌}
+use Rattle.std.proofs.Common.{◌≡◌, ◌∙◌, ℕ, ◌+◌, ◌*◌, ◌/◌, ◌%◌, ◌<◌, ◌≤◌, ◌^◌, eqb, leb, Bool, true, false, cond, not, ◌&&◌, List, [], ◌∷◌, ◌++◌, length, codes, get_or}
+use Rattle.std.proofs.Common.{Option, Some, None, refl, sym, ap, subst, arith, append_assoc, eq-eqb, lit<}
+use Rattle.std.specs.Prelude.{decimal, is_some, option_map, ◌==◌}
 use Rattle.std.specs.Option.{option_map_or}
 use Rattle.std.specs.List.{list_all}
 use Rattle.std.proofs.lemmas.Bool.{and_parts}
 use Rattle.std.proofs.lemmas.Bool.Decides.{nat_tests}
 use Rattle.std.proofs.lemmas.Fmt.{decimal_digit, decimal_step}
 use Rattle.pm_frame.specs.Fault.{address_fault, answer_fault, block_request_fault, carried_count_fault, carried_fault, length_fault, opening_fault, pec_fault, request_fault, size_fault, write_fault}
-use Rattle.pm_frame.specs.Layout.{answer_length, is_carried, read_address, sent, write_address}
+use Rattle.pm_frame.specs.Layout.{is_carried, read_address, sent, write_address}
 use Rattle.pm_frame.specs.Pec.{pec_of}
 use Rattle.pm_frame.specs.View.{message_in}
 use Rattle.pm_frame.specs.declared.message.Message.TheVariants.{PagePlusRead, PagePlusWrite}

@@ -1,10 +1,10 @@
 -- What a usual line of a trace says, of which most traces have most, and the parts of its text. This project's own
 -- choice.
-use Rattle.std.specs.Prelude.{◌≡◌, ℕ, ◌+◌, ◌*◌, ◌/◌, ◌%◌, ◌==◌, ◌≤◌, if◌then◌else◌, List, [], ◌∷◌, ◌++◌, Some, None, codes, decimal}
+use Rattle.std.specs.Prelude.{◌≡◌, ℕ, ◌+◌, ◌*◌, ◌%◌, ◌==◌, ◌≤◌, if◌then◌else◌, List, [], ◌∷◌, ◌++◌, Some, None, codes, decimal}
 use Rattle.pm_frame.specs.declared.message.Message.TheVariants.{PagePlusWrite, PagePlusRead}
 use Rattle.pm_frame.specs.declared.payload.Payload.TheVariants.{Word}
 use Rattle.pm_lines.specs.Numbers.{hex_byte}
-use Rattle.pm_table.specs.Commands.{attributes_of, is_known, name_of, payload_length}
+use Rattle.pm_table.specs.Commands.{name_of, payload_length}
 use Rattle.pm_trace.specs.Trace.{Judged, Accepted}
 use Rattle.pm_trace.specs.declared.usual.Usual.{Usual}
 

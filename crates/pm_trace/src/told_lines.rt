@@ -3,9 +3,9 @@ ghost use Rattle.pm_trace.specs.ShownLines.{judged_in};
 ghost use Rattle.pm_trace.specs.TraceText.{told_line};
 
 use crate::decoder::printer::Printer;
-use crate::shown::Shown;
 use crate::line_text::LineText;
 use crate::numbering::Numbering;
+use crate::shown::Shown;
 use crate::shown_text::push_told;
 use crate::usual::Usual;
 use std::alloc::{AllocError, Global};

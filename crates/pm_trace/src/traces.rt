@@ -25,20 +25,24 @@ const PIECE: usize = 512;
 /// The bytes of lines that are written at once, where the reader brings as many as it is asked for.
 const GATHERED: usize = 16_384;
 
-/// Reads a trace and writes what it says: a line for each of its lines that isn't skipped, as soon
-/// as it was read; at the end `count NAME k` for each code that accepted lines carry, in the order
-/// of first appearance, and `lines L accepted A faults F bad B`. Neither stream may have failed
-/// before.
+/// Reads a trace and writes what it says: a line for each of its lines that isn't skipped; at the end
+/// `count NAME k` for each code that accepted lines carry, in the order of first appearance, and
+/// `lines L accepted A faults F bad B`. Neither stream may have failed before.
+///
+/// At most 512 bytes are read at a time. What the lines say is written as soon as a read brings fewer, or 16 KiB of
+/// it are there.
 ///
 /// A bad line is written by its letters, and ends nothing: `BadLines` says that there is one. Takes
-/// memory for what the lines of a piece of 512 bytes say, for the text of the counts, and for the counts of
-/// codes, as these grow: none of it grows with the trace, but by a code that is new.
+/// memory for what is gathered, which is less than 16 KiB and what the lines of one piece of 512 bytes say, for the text
+/// of one line and of the counts, and for the counts of codes, as these grow: none of it grows with the trace, but by a
+/// code that is new.
 ///
 /// # Errors
 ///
 /// X3 where the trace has more than 1,048,576 bytes, and X4 where the reader failed: the lines that
-/// ended before were written, and no counts. X5 where the writer failed, and X6 where memory was
-/// refused, which is wanted only where a byte was read: a prefix of the text was written.
+/// ended before were written, and no counts. X6 where memory was refused, which is wanted only where a byte was read:
+/// the lines of the pieces before were written. X5 where the writer failed, also as it was to get what was gathered
+/// before one of these is told: a prefix of the text was written.
 pub fn decode<R: Read, W: Write>(
     alloc: Global,
     reader: &mut Source<R>,

@@ -1,5 +1,5 @@
 -- What the loop over the pieces of a trace keeps, and what each way out of it comes to.
-use Rattle.std.proofs.Common.{◌≡◌, ◌++◌, [], refl, sym, rules, arith, length}
+use Rattle.std.proofs.Common.{◌++◌, [], rules, arith}
 use Rattle.std.proofs.lemmas.Result.{err_from_is_err_and}
 use Rattle.pm_lines.specs.Engine.{over}
 use Rattle.pm_trace.proofs.BreakLemmas.{broke_off, due_at_fault, read_at, stops_at, tells_at, why_at}
@@ -42,7 +42,7 @@ returns-in_err-count-clause-broken g c =
     rw (p.1, p.2) (broke_off (over g.R.Read.remaining c.args.reader.now c.tell_piece-count.new.reader
     g.W.Write.contents c.args.writer.now c.put_due.new.writer) _ _ front _ c.tell_piece-count.new.told c.reads.decoder gathered
     c.in_ok-put_due.ensures.failed (puts_all _ _ _ _ (c.in_ok-put_due.ensures.due due) c.in_ok-put_due.ensures.puts) fault
-    (stops_at _ _ _ _ _ c.tell_piece-count.result fault was c.tell_piece-count.ensures.stops)
+    (stops_at _ _ _ _ c.reads.decoder c.tell_piece-count.result fault was c.tell_piece-count.ensures.stops)
     (why_at c.tell_piece-count.result fault _ was c.tell_piece-count.ensures.failed))
 
 pub reads-smaller : goal.reads-smaller
