@@ -13,6 +13,8 @@ mod engines;
 #[cfg(test)]
 mod faults;
 #[cfg(test)]
+mod gathered;
+#[cfg(test)]
 mod long_text;
 #[cfg(test)]
 mod memory;

@@ -121,7 +121,7 @@ not_paired line rest behind some = line_read line ∙ by (behind_pairs line) (om
     by (x ∷ left) some = refl
 
 -- two digits write a byte, and the first is no space
-pair_is : (x y byte : ℕ) → pair_of x y ≡ Some byte
+pub pair_is : (x y byte : ℕ) → pair_of x y ≡ Some byte
     → (is_space x ≡ false) × ((is_hex_digit x && is_hex_digit y) ≡ true) × (byte_of x y ≡ byte)
 pair_is x y byte is = by (is_space x) (is_hex_digit x) (is_hex_digit y) refl refl is
   where

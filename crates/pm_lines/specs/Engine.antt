@@ -1,6 +1,6 @@
 -- What every engine promises of the reader and the writer that it runs over. An engine reads a text of at most
 -- `max_text` bytes to its end, and writes another one. This project's own choice.
-use Rattle.std.specs.Prelude.{◌≡◌, ◌⊎◌, ◌↔◌, ℕ, ◌<◌, ◌≤◌, List, ◌++◌, length, nat_lt, if◌then◌else◌}
+use Rattle.std.specs.Prelude.{◌≡◌, ◌⊎◌, ◌↔◌, ℕ, ◌<◌, ◌≤◌, Bool, List, ◌++◌, length, nat_lt, if◌then◌else◌}
 use Rattle.std.specs.Prelude.{Option, Some, None, Result, Ok, Err, IsTrue, IsFalse, ⊤}
 use Rattle.std.specs.Io.KnownBytes.{Appends, Consumes}
 use Rattle.pm_lines.specs.Streams.{AppendsFront, Held, IsWholeText, max_text}
@@ -83,6 +83,13 @@ module _ {T : Type 0} (engine : Engine T) (old new : Option (List ℕ)) where
   Refuses Write front = ⊥
   Refuses fault front = IsWholeText old new front × (engine.whole front ≡ Err fault)
 
+-- Whether a read had failed as the writer did: none had, where nothing is written early. Otherwise one may have, and
+-- what was being written then is all that is written early of what the reader gave.
+abbrev pub IsReadSoFar : (old new : Option (List ℕ)) → Bool → Option (List ℕ → List ℕ) → List ℕ → Type 0
+IsReadSoFar old new failed None text = IsFalse failed
+IsReadSoFar old new failed (Some early) text =
+    IsTrue failed → (front : List ℕ) × (length front ≤ max_text) × Consumes old new front × (text ≡ early front)
+
 -- What had been written as an engine refused, of a front of its input: all that is written of this front early,
 -- and for want of memory a prefix of that.
 abbrev pub IsTold : (List ℕ → List ℕ) → TextFault → List ℕ → List ℕ → Type 0
@@ -98,12 +105,14 @@ module _ {R W T : Type 0} (engine : Engine T) (run : Run R W) where
 
   -- How an engine ends that was given streams which hadn't failed. It ends well where the text of all that the
   -- reader gave was written; it ends with X5 exactly where the writer failed, which then has a prefix of a text and
-  -- not all of it; with X4 exactly where the reader failed; and otherwise with the refusal that the bytes give.
+  -- not all of it; with X4 exactly where the reader failed and the writer didn't; and otherwise with the refusal that
+  -- the bytes give.
   abbrev pub EngineEnds : Result T TextFault → Type 0
   EngineEnds (Ok end) = IsFalse run.reader'.failed × IsFalse run.writer'.failed × (text : List ℕ)
       × IsMade engine (run.remaining run.reader.inner) (run.remaining run.reader'.inner) text end
       × Appends (run.contents run.writer.inner) (run.contents run.writer'.inner) text
-  EngineEnds (Err Write) = IsFalse run.reader'.failed × IsTrue run.writer'.failed × (text : List ℕ)
+  EngineEnds (Err Write) = IsTrue run.writer'.failed × (text : List ℕ)
+      × IsReadSoFar (run.remaining run.reader.inner) (run.remaining run.reader'.inner) run.reader'.failed engine.early text
       × IsUnderWay engine (run.remaining run.reader.inner) (run.remaining run.reader'.inner) text
       × AppendsFront (run.contents run.writer.inner) (run.contents run.writer'.inner) text
   EngineEnds (Err fault) = IsFalse run.writer'.failed × (IsTrue run.reader'.failed ↔ (fault ≡ Read))

@@ -27,7 +27,7 @@ pub use bytes::push_bytes;
 pub use cut::cut_at;
 pub use digits::{read_byte, read_i8, read_i16, read_i64, read_u8, read_word};
 pub use fault::TextFault;
-pub use hex_digit::{byte_of, is_digit, pair_of, spaced_pair};
+pub use hex_digit::{byte_of, four_pairs, is_digit, pair_of, spaced_pair};
 pub use laws::ends_follow_the_input;
 pub use line::Line;
 pub use line_end::with_line_end;

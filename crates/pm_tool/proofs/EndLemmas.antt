@@ -8,6 +8,7 @@ use Rattle.clap.specs.declared.error.kind.ErrorKind.TheVariants.{OutOfMemory}
 use Rattle.clap.specs.Kinds.{IsAmong}
 use Rattle.clap.specs.Words.{Text, fault_of}
 use Rattle.pm_num.specs.declared.fault.NumFault.{NumFault}
+use Rattle.pm_lines.specs.Lemmas.Engines.{read_so_far}
 use Rattle.pm_lines.specs.Engine.{Engine, EngineEnds, IsLeft, Refuses, over}
 use Rattle.pm_lines.specs.Streams.{AppendsFront, Held}
 use Rattle.pm_lines.specs.declared.fault.TextFault.{TextFault}
@@ -94,7 +95,7 @@ module _ {W E : Type 0} (w : Writers W E) where
     engine_printed mid end wanted status same (read, sound, text, made, written) kept done =
         elim (ended wanted status text (record { mid = mid; written = written; kept = kept; done = done })) [
           | inl e ↦ (Printed wanted text, (read, end, same, made), e)
-          | inr e ↦ (CutShort text, (read, inr (end, made)), e)
+          | inr e ↦ (CutShort text, (read_so_far _ _ new.failed engine.early text read, inr (end, made)), e)
         ]
 
     -- what is said, and what was told until then
@@ -116,7 +117,7 @@ module _ {W E : Type 0} (w : Writers W E) where
     pub engine_refused : (fault : TextFault) → EngineEnds engine (over remaining old new w.out w.output w.output') (Err fault)
         → Says w.err w.errors w.errors' (refusal_line (text_refusal fault))
         → (e : End) × EngineRuns engine status_in remaining old new e × Ends w 1 e
-    engine_refused Write (read, failed, text, under_way, front) said = (CutShort text, (read, under_way), cut text failed front said)
+    engine_refused Write (failed, text, read, under_way, front) said = (CutShort text, (read, under_way), cut text failed front said)
     engine_refused (Syntax line) (sound, failed, front, why, left) said = broken _ sound failed front why said engine.early refl left
     engine_refused (BadHex line) (sound, failed, front, why, left) said = broken _ sound failed front why said engine.early refl left
     engine_refused (Setup reason) (sound, failed, front, why, left) said = broken _ sound failed front why said engine.early refl left

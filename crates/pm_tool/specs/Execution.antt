@@ -9,7 +9,7 @@ use Rattle.clap.specs.Words.{Text, fault_of, subcommand_of}
 use Rattle.clap.specs.declared.error.kind.ErrorKind.{ErrorKind}
 use Rattle.pm_lines.specs.Faults.{fault_line, fault_setup, fault_words}
 use Rattle.pm_lines.specs.Lines.{EndsLine}
-use Rattle.pm_lines.specs.Engine.{Engine, IsMade, IsTold, IsUnderWay, Refuses}
+use Rattle.pm_lines.specs.Engine.{Engine, IsMade, IsReadSoFar, IsTold, IsUnderWay, Refuses}
 use Rattle.pm_lines.specs.Streams.{Held}
 use Rattle.pm_lines.specs.declared.fault.TextFault.{TextFault}
 use Rattle.pm_lines.specs.declared.fault.TextFault.TheVariants.{Read, Write, Memory}
@@ -118,11 +118,12 @@ decode_status BadLines = 1
 
 -- How a run of an engine ends, whose ends have these statuses, by what its reader gave. Where it refuses, nothing
 -- was printed if it writes nothing early, and otherwise what was told until then. The reader failed exactly
--- where X4 is said.
+-- where X4 is said, or where standard output failed as well.
 abbrev pub EngineRuns : {R T : Type 0} → Engine T → (T → ℕ) → (R → Option (List ℕ)) → Held R → Held R → End → Type 0
 EngineRuns {T = T} engine status_in remaining old new (Printed status text) = IsFalse new.failed
     × (end : T) × (status ≡ status_in end) × IsMade engine (remaining old.inner) (remaining new.inner) text end
-EngineRuns engine status_in remaining old new (CutShort text) = IsFalse new.failed
+EngineRuns engine status_in remaining old new (CutShort text) =
+    IsReadSoFar (remaining old.inner) (remaining new.inner) new.failed engine.early text
     × IsUnderWay engine (remaining old.inner) (remaining new.inner) text
 EngineRuns engine status_in remaining old new (Refused status words) = (status ≡ 1) × (engine.early ≡ None)
     × (fault : TextFault) × (words ≡ text_refusal fault) × (IsTrue new.failed ↔ (fault ≡ Read))

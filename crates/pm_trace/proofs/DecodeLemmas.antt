@@ -2,16 +2,18 @@
 use Rattle.std.proofs.Common.{◌≡◌, ℕ, ◌+◌, ◌-◌, ◌<◌, ◌≤◌, ◌≢◌, leb, codes, Bool, true, false, cond, ◌&&◌}
 use Rattle.std.proofs.Common.{List, [], ◌∷◌, ◌++◌, length, take, drop}
 use Rattle.std.proofs.Common.{Option, Some, None, refl, sym, ap, subst, ◌∙◌, arith, append_assoc, append-nil, length-append}
-use Rattle.std.proofs.Common.{take-append-drop}
+use Rattle.std.proofs.Common.{take-append-drop, Result, Ok, Err, IfOk, IfErr, IsFalse, IsTrue, ◌↔◌}
+use Rattle.std.specs.Prelude.{MatchResult}
 use Rattle.std.specs.Fmt.{digits}
 use Rattle.std.proofs.lemmas.Bool.Decides.{nat_tests}
 use Rattle.std.proofs.lemmas.Grind.{flat_map-append}
-use Rattle.std.proofs.lemmas.List.{length-take}
+use Rattle.std.proofs.lemmas.List.{length-take, take_at}
 use Rattle.std.proofs.lemmas.List.Sums.{fold-append}
 use Rattle.pm_trace.specs.declared.decode_end.DecodeEnd.{DecodeEnd}
 use Rattle.pm_trace.specs.declared.decode_end.DecodeEnd.TheVariants.{Clean}
 use Rattle.pm_trace.specs.declared.fed.Fed.{Fed}
-use Rattle.pm_lines.specs.declared.fault.TextFault.TheVariants.{TooLong}
+use Rattle.pm_lines.specs.declared.fault.TextFault.{TextFault}
+use Rattle.pm_lines.specs.declared.fault.TextFault.TheVariants.{Syntax, BadHex, TooLong, Read, Write, Memory, Setup}
 use Rattle.pm_trace.specs.declared.decoder.intake.Intake.TheVariants.{Open}
 use Rattle.pm_lines.specs.Streams.{max_text}
 use Rattle.pm_lines.specs.Lines.{is_line_feed, has_bytes}
@@ -22,7 +24,7 @@ use Rattle.pm_trace.specs.Decoding.{Kept, told_at_end, kept_at_end, Holding, IsF
 use Rattle.pm_trace.specs.Decoding.{line_ended, first_line, taken_of, taken_by, refusal_of, refusal_by}
 use Rattle.pm_trace.specs.OpenLines.{line_of, line_takes, plain_line}
 use Rattle.pm_lines.specs.Streams.{AppendsFront, IsWholeText}
-use Rattle.pm_trace.specs.Written.{Pushes, PushesFront, Written}
+use Rattle.pm_trace.specs.Written.{Gathered, Pushes, PushesFront, Puts, StopsTelling, Tells, Written}
 use Rattle.pm_trace.proofs.RunLemmas.{told-append}
 use Rattle.std.specs.Io.KnownBytes.{Appends, Consumes, IsAtEnd}
 use Rattle.std.proofs.KnownBytes.{Appends-nil, Appends-trans, Consumes-nil, Consumes-trans}
@@ -163,128 +165,217 @@ unfolding now
 length_now bytes = refl
 
 -- nothing was read yet
-pub written_none : (r w : Option (List ℕ)) (holding : Holding) → IsFresh holding → Written r r w w [] holding
-written_none r w holding fresh =
-    let P : List ℕ → Type 0 = λ l. Appends w w l in
-    record {
-      given = Consumes-nil r;
-      kept = fresh.kept;
-      intake = fresh.intake;
-      short = omega arith;
-      text = subst P (sym lines_none) (Appends-nil w);
-    }
+pub gathered_none : (r w : Option (List ℕ)) (text : List ℕ) (holding : Holding) → text ≡ [] → IsFresh holding
+    → Gathered r r w w [] text holding
+gathered_none r w text holding none fresh = record {
+  given = Consumes-nil r;
+  kept = fresh.kept;
+  intake = fresh.intake;
+  short = omega arith;
+  done = [];
+  got = Appends-nil w;
+  parts = lines_none ∙ sym none;
+}
 
--- no more was taken than a text may have
-pub written_room : (r r' w w' : Option (List ℕ)) (bytes : List ℕ) (holding : Holding) → Written r r' w w' bytes holding
-    → holding.kept.taken ≤ max_text
-written_room r r' w w' bytes holding written =
-    let same : holding.kept.taken ≡ length bytes = ap (λ k. k.taken) written.kept ∙ length_now bytes in omega (arith, same, written.short)
+module _ (r0 r1 w0 w1 : Option (List ℕ)) (bytes text : List ℕ) (old : Holding) (gathered : Gathered r0 r1 w0 w1 bytes text old) where
+  -- as many bytes were taken as the reader gave
+  taken_now : old.kept.taken ≡ length bytes
+  taken_now = ap (λ k. k.taken) gathered.kept ∙ length_now bytes
 
-module _ (r0 r1 r2 w0 w1 w2 : Option (List ℕ)) (bytes piece text : List ℕ) (old new : Holding) (written : Written r0 r1 w0 w1 bytes old)
-    (given : Consumes r1 r2 piece) where
-  -- the piece was read after the bytes
-  consumed : Consumes r0 r2 (bytes ++ piece)
-  consumed = Consumes-trans r0 r1 r2 bytes piece written.given given
+  -- no more was taken than a text may have
+  pub gathered_room : old.kept.taken ≤ max_text
+  gathered_room = let same = taken_now in omega (arith, same, gathered.short)
 
-  -- what was put is a part of what the lines say
-  pub put_part : (is_whole : Bool) → (pushed : PushesFront [] text old new piece is_whole)
-      → told_lines (said (bytes ++ piece)) ≡ told_lines (said bytes) ++ (text ++ told_lines (told (now
-      (bytes ++ pushed.front)) pushed.rest))
-  put_part is_whole pushed =
-      let same : told (now bytes) piece ≡ told (now bytes) pushed.front ++ told (now (bytes ++ pushed.front)) pushed.rest =
-      ap (told (now bytes)) pushed.split ∙ told-append (now bytes) pushed.front pushed.rest
-      ∙ ap (λ k. told (now bytes) pushed.front ++ told k pushed.rest) (sym (now-append bytes pushed.front)) in
-      let part : text ≡ told_lines (told (now bytes) pushed.front) = pushed.text_is
-      ∙ ap (λ k. told_lines (told k pushed.front)) written.kept in
-      lines-append bytes piece ∙ ap (λ l. told_lines (said bytes) ++ told_lines l) same
-      ∙ ap (λ l. told_lines (said bytes) ++ l) (flat_map-append told_line (told (now bytes) pushed.front) (told (now
-      (bytes ++ pushed.front)) pushed.rest))
-      ∙ ap (λ l. told_lines (said bytes) ++ (l ++ told_lines (told (now (bytes ++ pushed.front)) pushed.rest))) (sym part)
+  -- a front of what was gathered was written
+  pub put_more : (w2 : Option (List ℕ)) (left : List ℕ) → Puts w1 w2 text left → Gathered r0 r1 w0 w2 bytes left old
+  put_more w2 left puts = record {
+    given = gathered.given;
+    kept = gathered.kept;
+    intake = gathered.intake;
+    short = gathered.short;
+    done = gathered.done ++ puts.front;
+    got = Appends-trans w0 w1 w2 gathered.done puts.front gathered.got puts.got;
+    parts = gathered.parts ∙ ap (λ l. gathered.done ++ l) puts.parts ∙ sym (append_assoc gathered.done puts.front left);
+  }
 
-  -- a write failed
-  pub put_front : (is_whole : Bool) → PushesFront [] text old new piece is_whole → AppendsFront w1 w2 text
-      → (front : List ℕ) × Consumes r0 r2 front × AppendsFront w0 w2 (told_lines (said front))
-  put_front is_whole pushed short = (
-    bytes ++ piece,
-    consumed,
-    AppendsFront-behind w0 w1 w2 (told_lines (said bytes)) text (told_lines (told (now (bytes ++ pushed.front)) pushed.rest))
-        (told_lines (said (bytes ++ piece))) written.text short (put_part is_whole pushed),
-  )
-
-  -- memory was refused before the piece's lines were written
-  pub put_memory : 0 < length piece → (front : List ℕ) × (text' : List ℕ) × (rest : List ℕ) × (0 < length front)
-      × Consumes r0 r2 front × (told_lines (said front) ≡ text' ++ rest) × Appends w0 w1 text'
-  put_memory some = (
-    bytes ++ piece,
-    told_lines (said bytes),
-    told_lines (told (now bytes) piece),
-    omega (arith, some, length-append bytes piece),
-    consumed,
-    lines-append bytes piece,
-    written.text,
-  )
-
-  -- the piece had a byte too many
-  pub put_too_long : PushesFront [] text old new piece false → Appends w1 w2 text
-      → (front : List ℕ) × (more : List ℕ) × (length front ≡ max_text) × (0 < length more) × Consumes r0 r2 (front ++ more)
-      × Appends w0 w2 (told_lines (said front))
-  put_too_long pushed appended =
-      let (some, many) = pushed.too_many refl in
-      let count : old.kept.taken ≡ length bytes = ap (λ k. k.taken) written.kept ∙ length_now bytes in
-      let all : bytes ++ piece ≡ (bytes ++ pushed.front) ++ pushed.rest = ap (λ l. bytes ++ l) pushed.split
-      ∙ sym (append_assoc bytes pushed.front pushed.rest) in
-      let part : text ≡ told_lines (told (now bytes) pushed.front) = pushed.text_is
-      ∙ ap (λ k. told_lines (told k pushed.front)) written.kept in
-      let P : List ℕ → Type 0 = λ l. Consumes r0 r2 l in
-      let Q : List ℕ → Type 0 = λ l. Appends w0 w2 l in (
-        bytes ++ pushed.front,
-        pushed.rest,
-        omega (arith, count, many, length-append bytes pushed.front),
-        some,
-        subst P all consumed,
-        subst Q (ap (λ l. told_lines (said bytes) ++ l) part
-            ∙ sym (lines-append bytes pushed.front)) (Appends-trans w0 w1 w2 (told_lines (said bytes)) text written.text appended),
-      )
-
-  -- a piece more was taken and written
-  pub written_more : PushesFront [] text old new piece true → Appends w1 w2 text → Written r0 r2 w0 w2 (bytes ++ piece) new
-  written_more pushed appended =
-      let (none, pushes) = pushed.whole refl in
-      let all : pushed.front ≡ piece = sym (pushed.split ∙ ap (λ l. pushed.front ++ l) none ∙ append-nil pushed.front) in
-      let count : old.kept.taken ≡ length bytes = ap (λ k. k.taken) written.kept ∙ length_now bytes in
-      let grown : new.kept.taken ≡ old.kept.taken + length pushed.front = ap (λ k. k.taken) pushes.kept
-      ∙ next-taken old.kept pushed.front in
-      let part : text ≡ told_lines (told (now bytes) piece) =
-      pushed.text_is ∙ ap (λ k. told_lines (told k pushed.front)) written.kept ∙ ap (λ l. told_lines (told (now bytes) l)) all in
-      let Q : List ℕ → Type 0 = λ l. Appends w0 w2 l in
+  -- all of it was
+  pub all_put : text ≡ [] → Written r0 r1 w0 w1 bytes old
+  all_put none =
+      let P : List ℕ → Type 0 = λ l. Appends w0 w1 l in
       record {
-        given = consumed;
-        kept = pushes.kept ∙ ap (λ k. next k pushed.front) written.kept ∙ ap (next (now bytes)) all ∙ sym (now-append bytes piece);
-        intake = pushes.intake;
-        short = omega (arith, count, grown, ap length all, pushes.room, length-append bytes piece);
+        given = gathered.given;
+        kept = gathered.kept;
+        intake = gathered.intake;
+        short = gathered.short;
         text =
-            subst Q (ap (λ l. told_lines (said bytes) ++ l) part ∙ sym (lines-append bytes piece))
-            (Appends-trans w0 w1 w2 (told_lines (said bytes)) text written.text appended);
+            subst P (sym (gathered.parts ∙ ap (λ l. gathered.done ++ l) none ∙ append-nil gathered.done)) gathered.got;
       }
 
-  -- the decoder took the piece's bytes
-  pub grown_more : PushesFront [] text old new piece true → new.kept.taken ≡ old.kept.taken + length piece
-  grown_more pushed =
-      let (none, pushes) = pushed.whole refl in
-      let all : pushed.front ≡ piece = sym (pushed.split ∙ ap (λ l. pushed.front ++ l) none ∙ append-nil pushed.front) in
-      ap (λ k. k.taken) pushes.kept ∙ next-taken old.kept pushed.front ∙ ap (λ l. old.kept.taken + length l) all
+  -- what the lines of further bytes say
+  lines_more : (piece : List ℕ) → told_lines (said (bytes ++ piece)) ≡ gathered.done ++ (text ++ told_lines (told old.kept piece))
+  lines_more piece =
+      lines-append bytes piece ∙ ap (λ l. l ++ told_lines (told (now bytes) piece)) gathered.parts
+      ∙ append_assoc gathered.done text (told_lines (told (now bytes) piece))
+      ∙ ap (λ k. gathered.done ++ (text ++ told_lines (told k piece))) (sym gathered.kept)
 
--- the same of equal texts
-pub from_empty : (start text : List ℕ) (old new : Holding) (piece : List ℕ) (is_whole : Bool) → start ≡ []
-    → PushesFront start text old new piece is_whole → PushesFront [] text old new piece is_whole
-from_empty start text old new piece is_whole is pushed =
-    let P : List ℕ → Type 0 = λ l. PushesFront l text old new piece is_whole in subst P is pushed
+  module _ (r2 : Option (List ℕ)) (text' : List ℕ) (new : Holding) where
+    parts_more : {count : ℕ} → (tells : Tells r1 r2 text text' old new count)
+        → told_lines (said (bytes ++ tells.bytes)) ≡ gathered.done ++ text'
+    parts_more tells = lines_more tells.bytes ∙ ap (λ l. gathered.done ++ l) (sym tells.pushed.text_is)
 
--- a test as it came out
-pub at_whole : (text : List ℕ) (old new : Holding) (piece : List ℕ) (one two : Bool) → one ≡ two
-    → PushesFront [] text old new piece one → PushesFront [] text old new piece two
-at_whole text old new piece one two is pushed =
-    let P : Bool → Type 0 = λ b. PushesFront [] text old new piece b in subst P is pushed
+    -- a piece more
+    pub gathered_more : {count : ℕ} → (tells : Tells r1 r2 text text' old new count) → Gathered r0 r2 w0 w1 (bytes ++ tells.bytes) text' new
+    gathered_more tells =
+        let kept : new.kept ≡ now (bytes ++ tells.bytes) = tells.pushed.kept ∙ ap (λ k. next k tells.bytes) gathered.kept
+        ∙ sym (now-append bytes tells.bytes) in
+        let count : new.kept.taken ≡ length (bytes ++ tells.bytes) = ap (λ k. k.taken) kept ∙ length_now (bytes ++ tells.bytes) in
+        record {
+          given = Consumes-trans r0 r1 r2 bytes tells.bytes gathered.given tells.given;
+          kept = kept;
+          intake = tells.pushed.intake;
+          short = omega (arith, count, tells.pushed.room);
+          done = gathered.done;
+          got = gathered.got;
+          parts = parts_more tells;
+        }
+
+    -- more was taken
+    pub grown_more : {count : ℕ} → Tells r1 r2 text text' old new count → new.kept.taken ≡ old.kept.taken + count
+    grown_more {count} tells =
+        ap (λ k. k.taken) tells.pushed.kept ∙ next-taken old.kept tells.bytes ∙ ap (λ n. old.kept.taken + n) (sym tells.count_is)
+
+    module _ (w2 : Option (List ℕ)) where
+      -- a prefix of what was gathered was written after what was written before
+      cut_behind : (all later : List ℕ) → told_lines (said all) ≡ gathered.done ++ (text' ++ later) → AppendsFront w1 w2 text'
+          → AppendsFront w0 w2 (told_lines (said all))
+      cut_behind all later parts short = AppendsFront-behind w0 w1 w2 gathered.done text' later (told_lines (said all)) gathered.got short parts
+
+      -- the same after each way that a piece is read
+      pub cut_off : (result : Result ℕ TextFault) (failed : Bool) → IfOk result (λ count. Tells r1 r2 text text' old new count)
+          → IfErr result (λ fault. StopsTelling r1 r2 text text' old fault)
+          → MatchResult result (λ _. IsFalse failed) (λ fault. IsTrue failed ↔ (fault ≡ Read)) → AppendsFront w1 w2 text'
+          → (front : List ℕ) × (IsTrue failed → length front ≤ max_text) × Consumes r0 r2 front
+          × AppendsFront w0 w2 (told_lines (said front))
+      cut_off (Ok count) failed tells stops why short =
+          let more = gathered_more tells in (
+            bytes ++ tells.bytes,
+            λ _. more.short,
+            more.given,
+            cut_behind (bytes ++ tells.bytes) [] (parts_more tells ∙ ap (λ l. gathered.done ++ l) (sym (append-nil text'))) short,
+          )
+      cut_off (Err TooLong) failed tells (front, more, some, given, full, is) why short = (
+        bytes ++ (front ++ more),
+        λ t. absurd (let wrong : TooLong ≡ Read = why.0 t in cc),
+        Consumes-trans r0 r1 r2 bytes (front ++ more) gathered.given given,
+        cut_behind (bytes ++ (front ++ more)) (told_lines (told (next old.kept front) more))
+            (lines_more (front ++ more)
+            ∙ ap (λ l. gathered.done ++ (text ++ l)) (ap told_lines (told-append old.kept front more)
+            ∙ flat_map-append told_line (told old.kept front) (told (next old.kept front) more))
+            ∙ ap (λ l. gathered.done ++ l) (sym (append_assoc text (told_lines (told old.kept front))
+            (told_lines (told (next old.kept front) more))))
+            ∙ ap (λ l. gathered.done ++ (l ++ told_lines (told (next old.kept front) more))) (sym is)) short,
+      )
+      cut_off (Err Read) failed tells (given, is) why short =
+          let P : List ℕ → Type 0 = λ l. Consumes r0 r2 l in (
+            bytes,
+            λ _. gathered.short,
+            subst P (append-nil bytes) (Consumes-trans r0 r1 r2 bytes [] gathered.given given),
+            cut_behind bytes [] (gathered.parts ∙ ap (λ l. gathered.done ++ l) (sym is ∙ sym (append-nil text'))) short,
+          )
+      cut_off (Err Memory) failed tells (piece, some, given, is) why short = (
+        bytes ++ piece,
+        λ t. absurd (let wrong : Memory ≡ Read = why.0 t in cc),
+        Consumes-trans r0 r1 r2 bytes piece gathered.given given,
+        cut_behind (bytes ++ piece) (told_lines (told old.kept piece))
+            (lines_more piece ∙ ap (λ l. gathered.done ++ (l ++ told_lines (told old.kept piece))) (sym is)) short,
+      )
+      cut_off (Err (Syntax line)) failed tells stops why short = absurd stops
+      cut_off (Err (BadHex line)) failed tells stops why short = absurd stops
+      cut_off (Err Write) failed tells stops why short = absurd stops
+      cut_off (Err (Setup reason)) failed tells stops why short = absurd stops
+
+      -- what was gathered was written before a refusal
+      got_all : (all later : List ℕ) → Puts w1 w2 text' [] → told_lines (said all) ≡ gathered.done ++ (text' ++ later)
+          → (told_lines (said all) ≡ (gathered.done ++ text') ++ later) × Appends w0 w2 (gathered.done ++ text')
+      got_all all later puts parts =
+          let P : List ℕ → Type 0 = λ l. Appends w0 w2 (gathered.done ++ l) in (
+            parts ∙ sym (append_assoc gathered.done text' later),
+            subst P (sym (puts.parts ∙ append-nil puts.front)) (Appends-trans w0 w1 w2 gathered.done puts.front gathered.got puts.got),
+          )
+
+      -- the trace has a byte too many
+      pub put_too_long : StopsTelling r1 r2 text text' old TooLong → Puts w1 w2 text' []
+          → (front : List ℕ) × (more : List ℕ) × (length front ≡ max_text) × (0 < length more) × Consumes r0 r2 (front ++ more)
+          × Appends w0 w2 (told_lines (said front))
+      put_too_long (front, more, some, given, full, is) puts =
+          let P : List ℕ → Type 0 = λ l. Consumes r0 r2 l in
+          let Q : List ℕ → Type 0 = λ l. Appends w0 w2 l in
+          let parts : told_lines (said (bytes ++ front)) ≡ gathered.done ++ (text' ++ []) =
+          lines_more front ∙ ap (λ l. gathered.done ++ l) (sym is ∙ sym (append-nil text')) in
+          let (all, got) = got_all (bytes ++ front) [] puts parts in
+          let count = taken_now in (
+            bytes ++ front,
+            more,
+            omega (arith, count, full, length-append bytes front),
+            some,
+            subst P (sym (append_assoc bytes front more)) (Consumes-trans r0 r1 r2 bytes (front ++ more) gathered.given given),
+            subst Q (sym (all ∙ append-nil (gathered.done ++ text'))) got,
+          )
+
+      -- a read failed
+      pub put_unread : StopsTelling r1 r2 text text' old Read → Puts w1 w2 text' []
+          → (length bytes ≤ max_text) × Consumes r0 r2 bytes × Appends w0 w2 (told_lines (said bytes))
+      put_unread (given, is) puts =
+          let P : List ℕ → Type 0 = λ l. Consumes r0 r2 l in
+          let Q : List ℕ → Type 0 = λ l. Appends w0 w2 l in
+          let (all, got) = got_all bytes [] puts (gathered.parts ∙ ap (λ l. gathered.done ++ l) (sym is ∙ sym (append-nil text'))) in (
+            gathered.short,
+            subst P (append-nil bytes) (Consumes-trans r0 r1 r2 bytes [] gathered.given given),
+            subst Q (sym (all ∙ append-nil (gathered.done ++ text'))) got,
+          )
+
+      -- memory was refused
+      pub put_memory : StopsTelling r1 r2 text text' old Memory → Puts w1 w2 text' []
+          → (front : List ℕ) × (told : List ℕ) × (rest : List ℕ) × (0 < length front)
+          × Consumes r0 r2 front × (told_lines (said front) ≡ told ++ rest) × Appends w0 w2 told
+      put_memory (piece, some, given, is) puts =
+          let (all, got) = got_all (bytes ++ piece) (told_lines (told old.kept piece)) puts
+          (lines_more piece ∙ ap (λ l. gathered.done ++ (l ++ told_lines (told old.kept piece))) (sym is)) in (
+            bytes ++ piece,
+            gathered.done ++ text',
+            told_lines (told old.kept piece),
+            omega (arith, some, length-append bytes piece),
+            Consumes-trans r0 r1 r2 bytes piece gathered.given given,
+            all,
+            got,
+          )
+
+-- nothing is left to write, in other words
+pub puts_all : (w1 w2 : Option (List ℕ)) (text left : List ℕ) → left ≡ [] → Puts w1 w2 text left → Puts w1 w2 text []
+puts_all w1 w2 text left none puts = let P : List ℕ → Type 0 = λ l. Puts w1 w2 text l in subst P none puts
+
+-- ---- a piece
+
+-- a whole piece was pushed
+pub pushed_whole : (text new_text : List ℕ) (old new : Holding) (piece : List ℕ) (is_whole : Bool) → is_whole ≡ true
+    → PushesFront text new_text old new piece is_whole → Pushes text new_text old new piece
+pushed_whole text new_text old new piece is_whole is pushed =
+    let (none, pushes) = pushed.whole is in
+    let all : pushed.front ≡ piece = sym (pushed.split ∙ ap (λ l. pushed.front ++ l) none ∙ append-nil pushed.front) in
+    let P : List ℕ → Type 0 = λ l. Pushes text new_text old new l in subst P all pushes
+
+-- a piece was pushed that has a byte too many
+pub pushed_too_long : (r1 r2 : Option (List ℕ)) (text new_text : List ℕ) (old new : Holding) (piece : List ℕ) (is_whole : Bool)
+    → is_whole ≡ false → PushesFront text new_text old new piece is_whole → Consumes r1 r2 piece
+    → StopsTelling r1 r2 text new_text old TooLong
+pushed_too_long r1 r2 text new_text old new piece is_whole is pushed given =
+    let (some, many) = pushed.too_many is in
+    let P : List ℕ → Type 0 = λ l. Consumes r1 r2 l in
+    (pushed.front, pushed.rest, some, subst P pushed.split given, many, pushed.text_is)
+
+-- the front of a text that grew
+pub front_again : (text grown more : List ℕ) (before : ℕ) → grown ≡ text ++ more → before ≡ length text → take before grown ≡ text
+front_again text grown more before is same = ap (take before) is ∙ take_at text more before (sym same)
 
 -- the same front in other words
 pub as_front : (a b : Option (List ℕ)) (one two : List ℕ) → one ≡ two → AppendsFront a b one → AppendsFront a b two

@@ -39,21 +39,32 @@ module _ {R W : Type 0} (run : Run R W) where
   unmade read sound (front, text, rest, some, given, split, got) =
       (sound, (λ t. absurd (true≢false (sym t ∙ read)), λ e. absurd (cc)), front, (some, tt, given), (text, (rest, split), got))
 
-  -- X5: a prefix of the lines was written
-  pub lines_cut : IsFalse run.reader'.failed → IsTrue run.writer'.failed
-      → (front : List ℕ) × Consumes (run.remaining run.reader.inner) (run.remaining run.reader'.inner) front
+  -- X5: a prefix of the lines was written, and a read may have failed before
+  pub lines_cut : IsTrue run.writer'.failed
+      → (front : List ℕ) × (IsTrue run.reader'.failed → length front ≤ max_text)
+      × Consumes (run.remaining run.reader.inner) (run.remaining run.reader'.inner) front
       × AppendsFront (run.contents run.writer.inner) (run.contents run.writer'.inner) (told_lines (said front))
       → EngineEnds decoding run (Err Write)
-  lines_cut read failed (front, given, short) =
-      (read, failed, told_lines (said front), inl (front, given, (λ front. told_lines (said front)), refl, refl), short)
+  lines_cut failed (front, short, given, cut) = (
+    failed,
+    told_lines (said front),
+    λ t. (front, short t, given, refl),
+    inl (front, given, (λ front. told_lines (said front)), refl, refl),
+    cut,
+  )
 
   -- or of the whole text
   pub text_cut : IsFalse run.reader'.failed → IsTrue run.writer'.failed → (input : List ℕ)
       → IsWholeText (run.remaining run.reader.inner) (run.remaining run.reader'.inner) input
       → AppendsFront (run.contents run.writer.inner) (run.contents run.writer'.inner) (trace_text input)
       → EngineEnds decoding run (Err Write)
-  text_cut read failed input whole short =
-      (read, failed, trace_text input, inr (end_of (counts_of (trace_of input)), (input, whole, refl)), short)
+  text_cut read failed input whole short = (
+    failed,
+    trace_text input,
+    λ t. absurd (true≢false (sym t ∙ read)),
+    inr (end_of (counts_of (trace_of input)), (input, whole, refl)),
+    short,
+  )
 
   -- all of it was written
   pub decoded : IsFalse run.reader'.failed → IsFalse run.writer'.failed → (input : List ℕ) (end : DecodeEnd)

@@ -13,3 +13,4 @@ pub mod Marks
 pub mod OpenLines
 pub mod Parts
 pub mod Written
+pub mod Usual

@@ -1,5 +1,5 @@
 -- What the decoding of an input results in. This project's own choice.
-use Rattle.std.specs.Prelude.{ℕ, List, Some, Ok}
+use Rattle.std.specs.Prelude.{Some, Ok}
 use Rattle.pm_lines.specs.Engine.{Engine}
 use Rattle.pm_trace.specs.Counts.{counts_of}
 use Rattle.pm_trace.specs.Decoding.{said}

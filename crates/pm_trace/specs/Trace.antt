@@ -1,7 +1,7 @@
 -- What the lines of a trace say. A line is the write part of a packet of SMBus as it went over the
 -- bus, in hexadecimal, and optionally `/` and the read part. The form of the lines is this project's
 -- own choice; the packets and their faults are those of `pm_frame`.
-use Rattle.std.specs.Prelude.{ℕ, ◌+◌, ◌*◌, ◌/◌, ◌%◌, Bool, true, false, not, ◌&&◌, ◌||◌, ◌==◌, nat_lt, nat_le, if◌then◌else◌, List, [], ◌∷◌, length, map, flat_map, slice_index, is_some, Option, Some, None, Result, Ok, Err}
+use Rattle.std.specs.Prelude.{ℕ, ◌/◌, ◌%◌, Bool, true, false, not, ◌&&◌, ◌||◌, ◌==◌, nat_lt, nat_le, if◌then◌else◌, List, [], ◌∷◌, length, map, flat_map, slice_index, is_some, Option, Some, None, Result, Ok, Err}
 use Rattle.std.specs.List.{slice_split, list_any, list_all}
 use Rattle.hex.specs.Hex.{is_hex_digit}
 use Rattle.pm_frame.specs.Fault.{write_fault, request_fault, answer_fault}

@@ -14,6 +14,7 @@ use crate::decoder::printer::{Printer, Unprinted};
 use crate::fed::Fed;
 use crate::shown::Shown;
 use crate::tally::Tally;
+use crate::usual::Usual;
 use pm_lines::{MAX_TEXT, TextFault};
 use std::alloc::{AllocError, Global};
 use std::marker::Model;
@@ -49,7 +50,7 @@ impl Model for Decoder {
 }
 
 impl Decoder {
-    ghost use Rattle.std.specs.Prelude.{[], ◌⊎◌, ◌+◌, ◌≤◌, ◌<◌, ◌^◌, ◌++◌, length, take, flat_map, None, Some, IfOk, IfErr, OnOk, OnErr, option_map};
+    ghost use Rattle.std.specs.Prelude.{[], ◌⊎◌, ◌+◌, ◌≤◌, ◌<◌, ◌^◌, ◌++◌, length, take, flat_map, None, Some, IfSome, IfOk, IfErr, OnOk, OnErr, option_map, List, ℕ};
     ghost use Rattle.std.specs.Result.{result_err};
     ghost use Rattle.pm_trace.specs.Counts.{lines_in};
     ghost use Rattle.pm_trace.specs.Decoding.{IsFresh, Feeds, Finishes, Fails, CarriesNew, refusal_of, taken_of};
@@ -57,6 +58,7 @@ impl Decoder {
     ghost use Rattle.pm_trace.specs.Holdings.{IsBounded, Takes, lines_at_end};
     ghost use Rattle.pm_trace.specs.OpenLines.{is_begun as spec_is_begun};
     ghost use Rattle.pm_trace.specs.ShownLines.{told_in};
+    ghost use Rattle.pm_trace.specs.Usual.{usual_judged};
     ghost use Rattle.pm_lines.specs.Streams.{max_text};
 
     /// A decoder that took no byte. Takes no memory.
@@ -126,6 +128,7 @@ impl Decoder {
         ensures taken { OnOk result (refusal_of self.old piece.now ≡ None) }
         ensures printed { OnOk result (P.text printer.new ≡ P.text printer.old
             ++ flat_map P.line (told self.old.kept (taken_of self.old piece.now))) }
+        ensures grown { (more : List ℕ) × (P.text printer.new ≡ P.text printer.old ++ more) }
         ensures refused { IfErr result (λ fault.
             ((refusal_of self.old piece.now ≡ Some fault) × (P.text printer.new ≡ P.text printer.old))
             ⊎ ((refusal_of self.old piece.now ≡ None) × (fault ≡ TextFault.Memory)
@@ -201,6 +204,61 @@ impl Decoder {
         }) }
         ensures printed { OnOk result (P.text printer.new ≡ P.text printer.old
             ++ flat_map P.line (some_told (line_told self.old.kept))) }
+        ensures grown { (more : List ℕ) × (P.text printer.new ≡ P.text printer.old ++ more) }
+        ensures memory { OnErr result (CarriesNew self.old.kept.counts (some_told (line_told self.old.kept)) ⊎ P.WantsMemory) }
+        ensures unchanged { OnErr result (self.new ≡ self.old) }
+    {
+        match self.usual() {
+            Some(usual) => self.end_usual(usual, printer),
+            None => self.end_shown(printer),
+        }
+    }
+
+    // What the line says that ends, where it is a usual one. None says nothing of it.
+    fn usual(&self) -> Option<Usual>
+        requires { self.now.shown ≡ None }
+        ensures { IfSome result (λ usual.
+            line_told self.now.kept ≡ Some (self.now.kept.ended + 1, usual_judged usual)) }
+    {
+        self.line.usual()
+    }
+
+    // Ends a usual line.
+    fn end_usual<P: Printer>(&mut self, usual: Usual, printer: &mut P) -> Result<(), AllocError>
+        requires told { line_told self.old.kept ≡ Some (self.old.kept.ended + 1, usual_judged usual) }
+        requires unshown { self.old.shown ≡ None }
+        requires bounded { IsBounded (lines_at_end self.old.intake) self.old.kept }
+        requires ended { self.old.kept.ended + 1 ≤ self.old.kept.taken + lines_at_end self.old.intake }
+        ensures ended { OnOk result (self.new ≡ record self.old {
+          kept = line_ended self.old.kept;
+          shown = line_told self.old.kept;
+        }) }
+        ensures printed { OnOk result (P.text printer.new ≡ P.text printer.old
+            ++ flat_map P.line (some_told (line_told self.old.kept))) }
+        ensures grown { (more : List ℕ) × (P.text printer.new ≡ P.text printer.old ++ more) }
+        ensures memory { OnErr result (CarriesNew self.old.kept.counts (some_told (line_told self.old.kept)) ⊎ P.WantsMemory) }
+        ensures unchanged { OnErr result (self.new ≡ self.old) }
+    {
+        printer.print_usual(self.ended + 1, usual)?;
+        self.tally.count_usual(usual)?;
+        self.is_shown = true;
+        self.ended += 1;
+        Ok(())
+    }
+
+    // Ends any line.
+    #[inline(never)]
+    fn end_shown<P: Printer>(&mut self, printer: &mut P) -> Result<(), AllocError>
+        requires unshown { self.old.shown ≡ None }
+        requires bounded { IsBounded (lines_at_end self.old.intake) self.old.kept }
+        requires ended { self.old.kept.ended + 1 ≤ self.old.kept.taken + lines_at_end self.old.intake }
+        ensures ended { OnOk result (self.new ≡ record self.old {
+          kept = line_ended self.old.kept;
+          shown = line_told self.old.kept;
+        }) }
+        ensures printed { OnOk result (P.text printer.new ≡ P.text printer.old
+            ++ flat_map P.line (some_told (line_told self.old.kept))) }
+        ensures grown { (more : List ℕ) × (P.text printer.new ≡ P.text printer.old ++ more) }
         ensures memory { OnErr result (CarriesNew self.old.kept.counts (some_told (line_told self.old.kept)) ⊎ P.WantsMemory) }
         ensures unchanged { OnErr result (self.new ≡ self.old) }
     {

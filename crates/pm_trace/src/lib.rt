@@ -21,11 +21,16 @@ mod decoder;
 mod fed;
 mod laws;
 mod line_fault;
+mod line_text;
+mod numbering;
 mod shown;
 mod shown_text;
 mod tally;
+mod told_lines;
 mod trace_line;
 mod traces;
+mod usual;
+mod usual_packets;
 
 pub use byte_list::ByteList;
 pub use decode_end::DecodeEnd;

@@ -1,8 +1,8 @@
 -- How an engine ends that reads all of its text first, and writes nothing before.
-use Rattle.std.specs.Prelude.{◌≡◌, ◌⊎◌, ◌↔◌, ℕ, ◌<◌, Bool, true, false, List, length, Option, None, Ok, Err, IsTrue, IsFalse, refl}
-use Rattle.std.proofs.Common.{inl, inr, subst, sym}
+use Rattle.std.specs.Prelude.{◌≡◌, ◌⊎◌, ◌↔◌, ℕ, ◌<◌, Bool, true, false, List, length, Option, Some, None, Ok, Err, IsTrue, IsFalse, refl}
+use Rattle.std.proofs.Common.{◌∙◌, true≢false, inl, inr, subst, sym}
 use Rattle.std.specs.Io.KnownBytes.{Appends}
-use Rattle.pm_lines.specs.Engine.{Engine, EngineEnds, IsLeft, IsMade, IsUnderWay, IsWithin, Refuses, Run}
+use Rattle.pm_lines.specs.Engine.{Engine, EngineEnds, IsLeft, IsMade, IsReadSoFar, IsUnderWay, IsWithin, Refuses, Run}
 use Rattle.pm_lines.specs.Faults.{IsOfInput, IsOfText}
 use Rattle.pm_lines.specs.Streams.{AppendsFront, BreaksOff, IsWholeText, max_text}
 use Rattle.pm_lines.specs.declared.fault.TextFault.{TextFault}
@@ -78,6 +78,12 @@ module _ {R W T : Type 0} (engine : Engine T) (run : Run R W) (none : engine.ear
   unmade input Read whole of why some read sound same = absurd of
   unmade input Write whole of why some read sound same = absurd of
 
+-- where no read failed
+pub read_so_far : (old new : Option (List ℕ)) (failed : Bool) (early : Option (List ℕ → List ℕ)) (text : List ℕ) → IsFalse failed
+    → IsReadSoFar old new failed early text
+read_so_far old new failed None text read = read
+read_so_far old new failed (Some early) text read = λ t. absurd (true≢false (sym t ∙ read))
+
 module _ {R W T : Type 0} (engine : Engine T) (run : Run R W) where
   -- the text of what the reader gave was written
   pub written : (text : List ℕ) (end : T) → IsMade engine (run.remaining run.reader.inner) (run.remaining run.reader'.inner) text end
@@ -89,4 +95,5 @@ module _ {R W T : Type 0} (engine : Engine T) (run : Run R W) where
   pub cut_short : (text : List ℕ) (end : T) → IsMade engine (run.remaining run.reader.inner) (run.remaining run.reader'.inner) text end
       → IsFalse run.reader'.failed → IsTrue run.writer'.failed
       → AppendsFront (run.contents run.writer.inner) (run.contents run.writer'.inner) text → EngineEnds engine run (Err Write)
-  cut_short text end made read failed front = (read, failed, text, inr (end, made), front)
+  cut_short text end made read failed front =
+      (failed, text, read_so_far _ _ run.reader'.failed engine.early text read, inr (end, made), front)

@@ -1,6 +1,7 @@
-ghost use Rattle.std.specs.Prelude.{◌≡◌};
+ghost use Rattle.std.specs.Prelude.{◌≡◌, ◌≤◌, length};
+ghost use Rattle.pm_lines.specs.Pairs.{paired_bytes, behind_pairs};
 
-use pm_lines::{pair_of, spaced_pair};
+use pm_lines::{four_pairs, pair_of};
 use std::marker::Model;
 
 /// The most bytes that a part of a trace line may have.
@@ -58,6 +59,27 @@ impl Part {
         self.length += 1;
     }
 
+    // Takes four bytes more.
+    #[tactic(auto, using(crate::proofs::PartLemmas::four_taken))]
+    fn take_four(&mut self, first: u8, second: u8, third: u8, fourth: u8)
+        ensures { self.new ≡ part_takes (part_takes (part_takes (part_takes self.old first) second) third) fourth }
+    {
+        let at = self.length;
+        let end = at + 4;
+        if end > PART_BYTES {
+            self.take(first);
+            self.take(second);
+            self.take(third);
+            self.take(fourth);
+            return;
+        }
+        self.bytes[at] = first;
+        self.bytes[at + 1] = second;
+        self.bytes[at + 2] = third;
+        self.bytes[at + 3] = fourth;
+        self.length = end;
+    }
+
     /// Takes the bytes that the pairs of digits at the front write, up to what is no such pair, and
     /// gives what follows them.
     pub(crate) fn take_pairs<'a>(&mut self, digits: &'a [u8]) -> &'a [u8]
@@ -66,13 +88,15 @@ impl Part {
     {
         let mut rest = digits;
         'pairs: loop {
-            // most pairs have a space after them
-            if let Some((byte, more)) = spaced_pair(rest) {
-                self.take(byte);
+            rest = past_space(rest);
+            // most bytes come as pairs with a space between them
+            if let Some((first, second, third, fourth, more)) = four_pairs(rest) {
+                self.take_four(first, second, third, fourth);
                 rest = more;
                 continue 'pairs;
             }
             match rest {
+                [b'\n', ..] => return rest,
                 [b' ', more @ ..] => rest = more,
                 [high, low, more @ ..] => {
                     let Some(byte) = pair_of(*high, *low) else {
@@ -107,5 +131,17 @@ impl Part {
         ensures { result ≡ self.now.is_long }
     {
         self.is_long
+    }
+}
+
+// What follows the space that stands first, or all where none does.
+fn past_space(digits: &[u8]) -> &[u8]
+    ensures bytes { paired_bytes result.now ≡ paired_bytes digits.now }
+    ensures rest { behind_pairs result.now ≡ behind_pairs digits.now }
+    ensures fewer { length result.now ≤ length digits.now }
+{
+    match digits {
+        [b' ', more @ ..] => more,
+        _ => digits,
     }
 }

@@ -1,10 +1,10 @@
-ghost use Rattle.std.specs.Prelude.{◌≡◌, ◌++◌, [], List, ℕ, OnOk, OnErr, string_bytes, ⊤};
+ghost use Rattle.std.specs.Prelude.{◌≡◌, ◌++◌, [], List, ℕ, OnOk, OnErr};
 ghost use Rattle.pm_trace.specs.ShownLines.{judged_in};
 ghost use Rattle.pm_trace.specs.Trace.{Told};
-ghost use Rattle.pm_trace.specs.TraceText.{told_line};
+ghost use Rattle.pm_trace.specs.Usual.{usual_judged};
 
 use crate::shown::Shown;
-use crate::shown_text::push_told;
+use crate::usual::Usual;
 use std::alloc::AllocError;
 
 /// Where a decoder prints the lines that end.
@@ -21,20 +21,14 @@ pub(crate) trait Printer {
     /// Prints what a line says, with its number.
     fn print(&mut self, number: u64, shown: &Shown<'_>) -> Result<(), AllocError>
         ensures printed { OnOk result (text self.new ≡ text self.old ++ line (number, judged_in shown.now)) }
+        ensures kept { OnErr result (text self.new ≡ text self.old) }
         ensures memory { OnErr result WantsMemory };
-}
 
-/// Lines in a text, each with a line feed.
-impl Printer for String {
-    ghost text = { string_bytes };
-
-    ghost line = { told_line };
-
-    ghost WantsMemory = { ⊤ };
-
-    fn print(&mut self, number: u64, shown: &Shown<'_>) -> Result<(), AllocError> {
-        push_told(self, number, shown)
-    }
+    /// Prints what a usual line says, with its number.
+    fn print_usual(&mut self, number: u64, usual: Usual) -> Result<(), AllocError>
+        ensures printed { OnOk result (text self.new ≡ text self.old ++ line (number, usual_judged usual)) }
+        ensures kept { OnErr result (text self.new ≡ text self.old) }
+        ensures memory { OnErr result WantsMemory };
 }
 
 /// No line is printed.
@@ -49,6 +43,10 @@ impl Printer for Unprinted {
     ghost WantsMemory = { ⊥ };
 
     fn print(&mut self, _number: u64, _shown: &Shown<'_>) -> Result<(), AllocError> {
+        Ok(())
+    }
+
+    fn print_usual(&mut self, _number: u64, _usual: Usual) -> Result<(), AllocError> {
         Ok(())
     }
 }

@@ -1,15 +1,15 @@
 use Rattle.std.proofs.Common.{◌≡◌, ◌-◌, ℕ, List, false}
 use Rattle.pm_lines.specs.Streams.{max_text}
-use Rattle.pm_trace.specs.Written.{Written}
+use Rattle.pm_trace.specs.Written.{Gathered}
 use Rattle.pm_trace.proofs.traces.decode_pieces.Given as goal
 
--- what was read was taken, and what its lines say was written
+-- what was read was taken, and what its lines say was written or is gathered
 abbrev pub invariant-reads : goal.invariant-reads
 invariant-reads g l = record {
-  written :
+  gathered :
       (front : List ℕ)
-      × Written (g.R.Read.remaining l.fn.reader.inner) (g.R.Read.remaining l.reader.inner)
-      (g.W.Write.contents l.fn.writer.inner) (g.W.Write.contents l.writer.inner) front l.decoder;
+      × Gathered (g.R.Read.remaining l.fn.reader.inner) (g.R.Read.remaining l.reader.inner)
+      (g.W.Write.contents l.fn.writer.inner) (g.W.Write.contents l.writer.inner) front l.told l.decoder;
   reads : l.reader.failed ≡ false;
   writes : l.writer.failed ≡ false;
 }

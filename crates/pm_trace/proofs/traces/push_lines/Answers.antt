@@ -1,4 +1,4 @@
-use Rattle.std.proofs.Common.{◌≡◌, ◌<◌, ◌++◌, ◌∙◌, Some, sym, ap, arith, length, inl, inr, string_bytes}
+use Rattle.std.proofs.Common.{◌≡◌, ◌<◌, ◌++◌, ◌∙◌, Some, sym, ap, arith, length, inl, inr}
 use Rattle.std.proofs.lemmas.List.{length-drop}
 use Rattle.std.proofs.lemmas.Bool.Decides.{nat_tests}
 use Rattle.pm_trace.specs.Decoding.{taken_of, refusal_of}
@@ -13,7 +13,7 @@ returns-in-Err-TooLong-clause-pushed c =
     let h = c.in-Err-TooLong.ensures.refused in
     let i = c.in-Err-TooLong.field-0-is in
     let due : (refusal_of c.pieces.decoder c.pieces.rest.now ≡ Some TooLong)
-    × (string_bytes c.take.new.printer ≡ string_bytes c.pieces.text) =
+    × (c.take.new.printer ≡ c.pieces.told) =
     elim h [ inl refused ↦ (refused.0 ∙ ap Some i, refused.1) | inr memory ↦ let wanted = memory.1 in absurd (cc) ] in
     pushed_front front c.pieces.rest.now split some pushes due.0 due.1
 

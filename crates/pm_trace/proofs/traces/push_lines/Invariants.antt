@@ -1,4 +1,4 @@
-use Rattle.std.proofs.Common.{◌≡◌, ℕ, List, ◌++◌, length, string_bytes}
+use Rattle.std.proofs.Common.{◌≡◌, ℕ, List, ◌++◌, length}
 use Rattle.pm_trace.specs.Written.{Pushes}
 use Rattle.pm_trace.proofs.traces.push_lines.Given as goal
 
@@ -6,7 +6,7 @@ use Rattle.pm_trace.proofs.traces.push_lines.Given as goal
 abbrev pub invariant-pieces : goal.invariant-pieces
 invariant-pieces l =
     (front : List ℕ) × (l.piece ≡ front ++ l.rest)
-    × Pushes (string_bytes l.fn.text) (string_bytes l.text) l.fn.decoder l.decoder front
+    × Pushes l.fn.told l.told l.fn.decoder l.decoder front
 
 abbrev pub decreases-pieces : goal.decreases-pieces
 decreases-pieces l = length l.rest
