@@ -12,7 +12,9 @@ pub(crate) mod fields;
 pub(crate) mod frames;
 mod header;
 pub(crate) mod job_line;
+pub(crate) mod reading;
 mod rows;
+pub(crate) mod setup;
 mod starts;
 
 use crate::form::Form;

@@ -1,4 +1,4 @@
--- What a converter's answer is written as, and an output's word of VOUT_COMMAND. This project's own
+-- What a converter's answer is written as where it is spoken to in lines, and an output's word of VOUT_COMMAND. This project's own
 -- choice.
 use Rattle.std.specs.Prelude.{ℕ, List, ◌++◌, flat_map, decimal, codes}
 use Rattle.pm_lines.specs.Numbers.{hex_byte, hex_word}
