@@ -47,7 +47,7 @@ HIDES_ONE = re.compile(
 # The one place where each crate makes X6 of a refused allocation.
 FROM = re.compile(r"^impl(?:<T: Drop>)? From<(AllocError|AllocFailed<T>)> for (\w+) \{$")
 # The files of the programs' helps, which tell refusals by their letters and names.
-HELPS = ("crates/pm_tool/src/commandline/helps.rt", "crates/pm_session/src/options.rt")
+HELPS = ("crates/pm_tool/src/commandline/helps.rt", "crates/pm_session/src/options.rt", "crates/pm_part_lines/src/options.rt")
 # A file of numbers that are no codes.
 NUMBERS = ("crates/pm_frame/src/packet_error_code.rt", "crates/pm_lines/src/hex_digit.rt")
 

@@ -1,4 +1,5 @@
-"""The built program `pmbhost` as a coprocess: a line is said, and its answer comes before the next one is."""
+"""The built programs `pmbhost` and `pmbpart` as coprocesses: a line is said, and its answer comes before the next one
+is."""
 import contextlib
 import os
 import select
@@ -8,29 +9,42 @@ import sys
 
 from program import ROOT
 
-PROGRAM = os.environ.get("PMBHOST", os.path.join(ROOT, "crates/pmbhost/out/pmbhost"))
-BUILD = "(cd crates/pmbhost && rt run -- --address=58 --outputs=2 --passes=2 < stdin)"
+
+class Program:
+    """A built program, or the one that the environment names in its place."""
+
+    def __init__(self, name, build):
+        self.variable = name.upper()
+        self.path = os.environ.get(self.variable, os.path.join(ROOT, f"crates/{name}/out/{name}"))
+        self.build = f"(cd crates/{name} && {build})"
+
+    def needed(self):
+        """Its path. Where there is none, the script ends with one line that says what to build."""
+        found = shutil.which(self.path)
+        if not found:
+            sys.exit(f"no program at {self.path or self.variable}: build it by {self.build}, or set {self.variable} to one")
+        return os.path.abspath(found)
+
+
+HOST = Program("pmbhost", "rt run -- --address=58 --outputs=2 --passes=2 < stdin")
+PART = Program("pmbpart", "rt run < stdin")
 
 
 def needed():
-    """The program's path. Where there is none, the script ends with one line that says what to build."""
-    found = shutil.which(PROGRAM)
-    if not found:
-        sys.exit(f"no program at {PROGRAM or 'PMBHOST'}: build it by {BUILD}, or set PMBHOST to one")
-    return os.path.abspath(found)
+    """The path of `pmbhost`."""
+    return HOST.needed()
 
 
 class NoAnswer(Exception):
-    """The host gave no whole line in time, or ended."""
+    """The program gave no whole line in time, or ended."""
 
 
-class Session:
-    """A host for the device at an address, which is two hexadecimal digits. A signal to the script's group of
-    processes, as Ctrl-C sends one, doesn't reach it: it ends at the end of its input."""
+class Coprocess:
+    """A program that is spoken to. A signal to the script's group of processes, as Ctrl-C sends one, doesn't reach it:
+    it ends at the end of its input. What it is stands before its faults."""
 
-    def __init__(self, address, outputs, passes, seconds=10):
-        words = [needed(), f"--address={address}", f"--outputs={outputs}", f"--passes={passes}"]
-        self.seconds, self.kept = seconds, b""
+    def __init__(self, words, what, seconds=10):
+        self.what, self.seconds, self.kept = what, seconds, b""
         try:
             self.process = subprocess.Popen(words, stdin=subprocess.PIPE, stdout=subprocess.PIPE,
                                             stderr=subprocess.PIPE, start_new_session=True)
@@ -58,13 +72,13 @@ class Session:
         return answer.decode("utf-8", "replace")
 
     def words(self):
-        """That the host ended, and what it said on standard error."""
+        """That it ended, and what it said on standard error."""
         self.process.wait(self.seconds)
         said = " ".join(self.process.stderr.read().decode("utf-8", "replace").split())
-        return f"the host ended: {said}" if said else "the host ended"
+        return f"{self.what} ended: {said}" if said else f"{self.what} ended"
 
     def abandon(self):
-        """Ends the host where it stands."""
+        """Ends it where it stands."""
         self.process.kill()
         self.process.wait()
         for stream in self.process.stdin, self.process.stdout, self.process.stderr:
@@ -80,3 +94,18 @@ class Session:
         self.process.stdout.close()
         self.process.stderr.close()
         return status, rest, said
+
+
+class Session(Coprocess):
+    """A host for the device at an address, which is two hexadecimal digits."""
+
+    def __init__(self, address, outputs, passes, seconds=10):
+        words = [HOST.needed(), f"--address={address}", f"--outputs={outputs}", f"--passes={passes}"]
+        super().__init__(words, "the host", seconds)
+
+
+class Part(Coprocess):
+    """A converter, of the setup in a file where one is given."""
+
+    def __init__(self, setup=None, seconds=10):
+        super().__init__([PART.needed(), *([f"--setup={setup}"] if setup else [])], "the part", seconds)

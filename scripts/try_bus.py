@@ -1,5 +1,6 @@
 #!/usr/bin/env python3
-"""Tries scripts/bus.py over a stand-in for the kernel with a model converter behind it (scripts/fake_i2c.py): whole
+"""Tries scripts/bus.py over a stand-in for the kernel (scripts/fake_i2c.py) with the proved converter `pmbpart` behind
+it, or the plain one where a part speaks other formats or rounds: whole
 jobs; frames that never arrive, answers that are lost or damaged, acknowledgements that are lost or false, a converter
 that restarts; what users do wrong, and what can be wrong with a bus, an adapter, a driver and a part, each with its
 exact words. And scripts/frames_to_i2ctransfer.py over stand-ins for i2ctransfer. A run that differs is printed, and the
@@ -7,8 +8,8 @@ status is then 1.
 
     scripts/try_bus.py
 
-It runs the built programs, or those that the environment variables PMB and PMBHOST name: the converter's answers are
-compared with `pmb hear`, and each trace is read by `pmb decode`.
+It runs the built programs, or those that the environment variables PMB, PMBHOST and PMBPART name: the converter's answers
+are compared with `pmb hear`, and each trace is read by `pmb decode`.
 """
 import contextlib
 import errno
@@ -29,15 +30,25 @@ import program  # noqa: E402
 import session  # noqa: E402
 from bus_rows import JOBS, LAYOUT  # noqa: E402
 from command_rows import ARGUMENTS, HOSTS, PROCESSES, TRANSFERS, WITHOUT_TOOL  # noqa: E402
+from plain.converter import setup_fault  # noqa: E402
+from spoken import Spoken  # noqa: E402
 
 SCRIPTS = os.path.join(program.ROOT, "scripts")
 # bus.py as a process of its own, over the stand-in.
 RUNNER = """import sys
 sys.path.insert(0, sys.argv[1])
-import bus, fake_i2c
+import bus, fake_i2c, try_bus
 mishaps, sys.argv[1:] = sys.argv[2].split(), sys.argv[3:]
-sys.exit(bus.main(sys.argv[1:], fake_i2c.FakeKernel(fake_i2c.Part(), mishaps)))
+sys.exit(bus.main(sys.argv[1:], fake_i2c.FakeKernel(try_bus.proved(fake_i2c.Part()), mishaps)))
 """
+
+
+def proved(part):
+    """The same with the proved converter in place of the plain one; a part that speaks a format of its own, or rounds
+    what it holds, stays as it is."""
+    if not setup_fault(part.converter.setup) and not isinstance(part, fake_i2c.Rounding):
+        part.converter = Spoken(part.converter.setup)
+    return part
 
 
 class Trial:
@@ -75,13 +86,15 @@ class Trial:
         """A run of jobs over a part."""
         trace = os.path.join(self.folder, "trace")
         open(trace, "w", encoding="ascii").close()
-        part = row.part()
+        part = proved(row.part())
         kernel = fake_i2c.FakeKernel(part, row.mishaps.split(), row.faults, row.functions)
         found = self.run(["7", row.address, f"--trace={trace}", *row.words.split()], kernel)
         with open(trace, encoding="ascii") as file:
             lines = file.read()
         found_wrong = [*differences(found, row), *self.part_differences(part, kernel, row)]
         found_wrong += self.trace_differences(lines, row)
+        if isinstance(part.converter, Spoken):
+            part.converter.close()
         self.tell(f"{row.words!r} with {row.mishaps or row.part.__name__!r}", found_wrong)
 
     def part_differences(self, part, kernel, row):
@@ -147,7 +160,8 @@ def differences(found, row):
 
 def main():
     program.answer_help(__doc__)
-    session.needed()
+    for each in session.HOST, session.PART:
+        each.needed()
     # A shell may have started the trial with signals ignored, which bus.py goes by.
     for each in i2c_dev.ENDING:
         signal.signal(each, signal.default_int_handler)

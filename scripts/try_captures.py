@@ -1,12 +1,12 @@
 #!/usr/bin/env python3
 """Tries scripts/capture_to_trace.py and scripts/frames_to_i2ctransfer.py on scripts/captures/: each capture must give
 its trace, its first line before its input ends, and the memory that is taken doesn't grow with it; frames become
-commands and come back; and commands are run by a stand-in for i2ctransfer that asks `pmb hear`. Where sigrok-cli is
+commands and come back; and commands are run by a stand-in for i2ctransfer that asks `pmbpart`. Where sigrok-cli is
 installed, the waveforms are decoded anew. What is wrong is printed, and the status is then 1.
 
     scripts/try_captures.py
 
-It runs the built program, or the one that the environment variable PMB names.
+It runs the built programs, or those that the environment variables PMB and PMBPART name.
 """
 import os
 import select
@@ -18,6 +18,7 @@ import tempfile
 sys.dont_write_bytecode = True
 
 import program  # noqa: E402
+import session  # noqa: E402
 from capture_to_trace import NoCapture, trace  # noqa: E402
 from draw_waveform import waveform  # noqa: E402
 
@@ -68,21 +69,19 @@ FRAMES = [
 ]
 FAULTY = [("B0 9", "X2 BadHex line 1"), ("\nB0 20 / 1", "X1 Syntax line 2"), ("/", "X1 Syntax line 1"),
           ("B1 20 /", "F1 NotOurs line 1"), ("B0 99 /", "F6 UnknownCode 1 line 1"), ("B0 06 /", "F2 Short 2 line 1")]
-# Answers as i2ctransfer does, by what `pmb hear` says of all that it was given.
+# Answers as i2ctransfer does, by what a `pmbpart` says that runs behind two named pipes.
 STAND_IN = """#!/usr/bin/env python3
-import os, subprocess, sys
+import os, sys
 words = [word for word in sys.argv[3:] if not word.startswith("r")]
 count = [int(word[1:]) for word in sys.argv[3:] if word.startswith("r")]
 length, address = words[0][1:].split("@")
 if sys.argv[1:3] != ["-y", "7"] or int(length) != len(words) - 1:
     sys.exit("Error: not called as it should be")
 frame = [int(address, 16) * 2, *(int(word, 16) for word in words[1:])]
-with open(os.environ["HEARD"], "a+") as heard:
-    heard.write(" ".join(f"{byte:02X}" for byte in frame) + (" /" if count else "") + "\\n")
-    heard.seek(0)
-    lines = heard.read().splitlines()
-said = subprocess.run([os.environ["PMB"], "hear"], input="\\n".join(lines), capture_output=True, text=True)
-answer = said.stdout.splitlines()[len(lines) - 1].split()
+with open(os.environ["SAID"], "w") as said:
+    said.write(" ".join(f"{byte:02X}" for byte in frame) + (" /" if count else "") + "\\n")
+with open(os.environ["ANSWERED"]) as answered:
+    answer = answered.readline().split()
 if answer[0] == "silent" or count and answer[0] != "answer":
     sys.exit("Error: Sending messages failed: No such device or address")
 if count:
@@ -254,8 +253,15 @@ def run_faults(pmb):
             file.write(STAND_IN)
         os.chmod(stand_in, 0o755)
         path = folder + os.pathsep + os.environ["PATH"]
-        around = {**os.environ, "PATH": path, "HEARD": os.path.join(folder, "heard"), "PMB": pmb}
-        ran = tool(["7", "--run"], "".join(f"{frame}\n" for frame, _, _ in FRAMES), around)
+        pipes = {name: os.path.join(folder, name) for name in ("SAID", "ANSWERED")}
+        for each in pipes.values():
+            os.mkfifo(each)
+        # Both ends of each pipe stay open here, so that the part goes on from one command to the next.
+        with open(pipes["SAID"], "r+b", 0) as said, open(pipes["ANSWERED"], "r+b", 0) as answered:
+            part = subprocess.Popen([session.PART.needed()], stdin=said, stdout=answered)
+            ran = tool(["7", "--run"], "".join(f"{frame}\n" for frame, _, _ in FRAMES), {**os.environ, "PATH": path, **pipes})
+            part.kill()
+            part.wait()
     failed = ": Error: Sending messages failed: No such device or address"
     wanted = [line or "# failed: " + frame.removesuffix(" /") + failed for frame, _, line in FRAMES]
     if ran.stdout.splitlines() != wanted or ran.returncode != 1:
@@ -284,6 +290,7 @@ def checks(pmb):
 def main():
     program.answer_help(__doc__)
     pmb = program.needed()
+    session.PART.needed()
     passed = failed = 0
     for name, found in checks(pmb):
         wrong = [*found]

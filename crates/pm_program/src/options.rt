@@ -1,5 +1,5 @@
 //! Options `--NAME=VALUE` of a command line.
-ghost use Rattle.std.specs.Prelude.{◌≡◌, [], IfOk, unwrap_or};
+ghost use Rattle.std.specs.Prelude.{◌≡◌, [], IfOk, option_map, unwrap_or};
 ghost use Rattle.clap.specs.Words.{app_of, first_of, found_of, rows_of, with_rule};
 ghost use Rattle.pm_program.specs.Options.{option_rule};
 
@@ -33,4 +33,11 @@ pub fn text_of<'a>(matches: &ArgMatches<'a>, name: &str) -> &'a str
     ensures { result.now ≡ unwrap_or (first_of name.now (rows_of (found_of matches.now))) [] }
 {
     matches.get_str(name).unwrap_or("")
+}
+
+/// The text of an option, where it is used.
+pub fn given_text<'a>(matches: &ArgMatches<'a>, name: &str) -> Option<&'a str>
+    ensures { option_map (λ text. text.now) result ≡ first_of name.now (rows_of (found_of matches.now)) }
+{
+    matches.get_str(name)
 }

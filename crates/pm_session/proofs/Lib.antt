@@ -1,6 +1,4 @@
-mod FailureLemmas
 mod GotLemmas
 pub mod JobLemmas
 pub mod Joins
 mod SendLemmas
-mod TalkLemmas

@@ -1,2 +1,2 @@
--- Lemmas on what goes over a port, which the contracts of its streams rest on. No public clause cites them.
-pub mod Ports
+-- Lemmas on lines that are too long, which the contract of a session rests on. No public clause cites them.
+pub mod Speaking

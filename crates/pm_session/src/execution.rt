@@ -3,20 +3,16 @@ ghost use Rattle.std.specs.Prelude.{◌≡◌, ◌≤◌, IsFalse, MatchResult, 
 ghost use Rattle.std.specs.IoError.{error_kind};
 ghost use Rattle.std.specs.Process.{exit_status};
 ghost use Rattle.std.specs.Vec.Iter.{into_iter_items};
-ghost use Rattle.clap.specs.Words.{kind_of};
-ghost use Rattle.pm_lines.specs.Faults.{fault_words};
 ghost use Rattle.pm_program.specs.Arguments.{arguments_of};
-ghost use Rattle.pm_program.specs.Refusals.{Says};
-ghost use Rattle.pm_session.specs.Execution.{Run, RunEnds, ServeEnds, UsageEnds, refusal_line};
+ghost use Rattle.pm_session.specs.Execution.{RunEnds, ServeEnds};
 ghost use Rattle.pm_session.specs.Options.{start_of};
+ghost use Rattle.pm_talk.specs.Serving.{Run};
 
 use crate::options::Options;
-use crate::port::Port;
-use crate::talk::{converse, hand_on};
-use pm_lines::{Sink, TextFault};
-use pm_program::{
-    Usage, misuse, refuse_arguments, refuse_memory, say, texts_of, usage_of, words_of,
-};
+use crate::speaking::Session;
+use pm_lines::Sink;
+use pm_program::{refuse_arguments, refuse_memory, say, texts_of, words_of};
+use pm_talk::{Port, serve, show_usage};
 use std::alloc::Global;
 use std::env::Args;
 use std::io::{self, Write};
@@ -111,13 +107,13 @@ pub fn run<P: Port, E: Write>(
         Err(kind) => return refuse_arguments(errors, NAME, kind),
     };
     match Options::read(alloc, words) {
-        Ok(options) => serve(&options, port, errors),
-        Err(error) => show_usage(alloc, &error, port, errors),
+        Ok(options) => serve_host(&options, port, errors),
+        Err(error) => show_usage(alloc, &error, NAME, port, errors),
     }
 }
 
 // Answers the lines that come, over a host that these options make.
-fn serve<P: Port, E: Write>(options: &Options<'_>, port: &mut P, errors: &mut Sink<E>) -> u8
+fn serve_host<P: Port, E: Write>(options: &Options<'_>, port: &mut P, errors: &mut Sink<E>) -> u8
     requires { IsFalse errors.old.failed }
     ensures { let run : Run _ _ = record {
       told = E.contents;
@@ -127,53 +123,12 @@ fn serve<P: Port, E: Write>(options: &Options<'_>, port: &mut P, errors: &mut Si
       errors' = errors.new;
     } in ServeEnds P.goes run result (start_of options.now) }
 {
-    let mut host = match options.start() {
+    let host = match options.start() {
         Ok(host) => host,
         Err(fault) => {
             say(errors, NAME, fault.words());
             return fault.status();
         }
     };
-    match converse(&mut host, port) {
-        Ok(()) => 0,
-        Err(fault) => refuse(errors, fault),
-    }
-}
-
-// What the parser says in place of options: help and the version on the output, a fault on `errors`.
-fn show_usage<P: Port, E: Write>(
-    alloc: Global,
-    error: &clap::Error,
-    port: &mut P,
-    errors: &mut Sink<E>,
-) -> u8
-    requires { IsFalse errors.old.failed }
-    ensures { let run : Run _ _ = record {
-      told = E.contents;
-      port = port.old;
-      port' = port.new;
-      errors = errors.old;
-      errors' = errors.new;
-    } in UsageEnds P.goes run result (kind_of error.now) }
-{
-    match usage_of(alloc, error) {
-        Usage::Shown(text) => {
-            match hand_on(port, text.as_str().as_bytes()) {
-                Ok(()) => 0,
-                Err(_) => refuse(errors, TextFault::Write),
-            }
-        }
-        Usage::Misused(text) => misuse(errors, text.as_str()),
-        Usage::NoMemory => refuse_memory(errors, NAME),
-    }
-}
-
-// Says the fault of a stream or of memory, and gives its status.
-fn refuse<E: Write>(errors: &mut Sink<E>, fault: TextFault) -> u8
-    requires { IsFalse errors.old.failed }
-    ensures status { result ≡ 1 }
-    ensures said { Says E.contents errors.old errors.new (refusal_line (fault_words fault)) }
-{
-    say(errors, NAME, fault.words());
-    1
+    serve(&mut Session { host }, NAME, port, errors)
 }

@@ -5,34 +5,26 @@
 //! no difference who speaks, a shell, a Python script or firmware over a serial line.
 //!
 //! What the lines of a job say is read by the readers of scenarios, and what is answered of a cell is
-//! written as in a report. It knows no bus: whoever speaks to it sends the frames.
+//! written as in a report. It knows no bus: whoever speaks to it sends the frames. In which order lines come
+//! and answers go is the business of `pm_talk`, to which a [`Session`] is a machine that is spoken to.
 #![tactic(auto)]
 
 mod ask;
 mod ask_line;
 mod execution;
-mod happening;
-mod laws;
 mod options;
-mod port;
 mod refusal;
 mod reply;
 mod reply_text;
 mod session;
-mod streams;
-mod talk;
+mod speaking;
 
 pub use ask::Ask;
 pub use ask_line::read_ask;
 pub use execution::{program, run};
-pub use happening::Happening;
-pub use laws::streams_fail_as_told;
 pub use options::{Options, StartFault};
-pub use pm_lines::{Sink, Source};
-pub use port::Port;
 pub use refusal::Refusal;
 pub use reply::Reply;
 pub use reply_text::{ReplyText, reply_text as text_of};
 pub use session::answer_line;
-pub use streams::Streams;
-pub use talk::converse;
+pub use speaking::Session;

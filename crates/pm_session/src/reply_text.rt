@@ -7,13 +7,13 @@ ghost use Rattle.pm_lines.specs.Numbers.{hex_byte, hex_word};
 
 use crate::refusal::Refusal;
 use crate::reply::Reply;
-use arrayvec::ArrayVec;
 use pm_host::{JobEnd, Possible, Standing};
 use pm_lines::hex_digits;
 use pm_table::Cell;
+use pm_talk::AnswerText;
 
 /// The line of an answer, with its line feed: at most 110 bytes.
-pub type ReplyText = ArrayVec<u8, 128>;
+pub type ReplyText = AnswerText;
 
 /// The line of an answer, with its line feed.
 #[tactic(auto, unfolding(crate::specs::ReplyText::reply_text))]

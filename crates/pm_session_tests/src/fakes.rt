@@ -1,11 +1,11 @@
 //! A reader that gives one byte at a time, a writer that takes as much, and a port that keeps what happened:
 //! each fails where it is told to.
 ghost use Rattle.std.specs.Prelude.{◌≡◌, ◌++◌, [], ◌∷◌, Some, true};
-ghost use Rattle.pm_session.specs.Talk.{went};
+ghost use Rattle.pm_talk.specs.Talk.{went};
 ghost use Rattle.std.proofs.Common.{◌∙◌, ap, append_assoc, append-nil, sym};
 
 use pm_lines::TextFault;
-use pm_session::{Happening, Port};
+use pm_talk::{Happening, Port};
 use std::io::{self, ErrorKind, Read, Write};
 
 /// A reader of these bytes, one at a time. The call with this number fails, 0 for none.
@@ -82,7 +82,7 @@ impl Log<'_> {
     }
 
     // Keeps that these bytes went.
-    #[tactic(auto, using(std::proofs::lemmas::Grind::common_steps), unfolding(pm_session::specs::Talk::went))]
+    #[tactic(auto, using(std::proofs::lemmas::Grind::common_steps), unfolding(pm_talk::specs::Talk::went))]
     fn keep_all(&mut self, bytes: &[u8])
         ensures { self.new.whole ≡ true → (self.old.whole ≡ true)
             × (self.new.kept.items ≡ self.old.kept.items ++ went bytes.now) }

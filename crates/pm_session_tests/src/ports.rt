@@ -3,7 +3,8 @@ use crate::checks::{equal, is_true};
 use crate::fakes::{Drops, Log, Slip};
 use pm_host::Host;
 use pm_lines::{Sink, Source, TextFault};
-use pm_session::{Happening, Port, Streams, converse, run};
+use pm_session::{Session, run};
+use pm_talk::{Happening, Port, Streams, converse};
 use std::alloc::Global;
 use std::process::Abort;
 
@@ -42,7 +43,7 @@ fn an_answer_is_flushed_before_another_byte_is_read(rt: HostRuntime) {
         kept: Vec::new(rt.alloc()),
         whole: true,
     };
-    let result = converse(&mut host(&rt), &mut port);
+    let result = converse(&mut Session { host: host(&rt) }, &mut port);
     equal(&rt, &result, &Ok(()), &1);
     is_true(&rt, port.whole, &2);
     let wanted = "cccccwwwwwwwwfccccccce".chars().chain("wwwwwf".chars());
@@ -93,7 +94,7 @@ fn talked(
             calls: 0,
         }),
     };
-    let result = converse(&mut host(rt), &mut streams);
+    let result = converse(&mut Session { host: host(rt) }, &mut streams);
     (result, streams.sink.into_inner().taken)
 }
 

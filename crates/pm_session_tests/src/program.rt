@@ -2,7 +2,8 @@
 
 use crate::checks::{equal, is_true};
 use crate::fakes::{Drops, Slip};
-use pm_session::{Sink, Source, Streams, program};
+use pm_session::program;
+use pm_talk::{Sink, Source, Streams};
 use std::alloc::{Alloc, Global};
 use std::env::{self, Env, FillError};
 use std::process::{Abort, ExitCode};

@@ -19,6 +19,7 @@ use Rattle.pm_lines.specs.Digits.{hex_of, signed_of, small_of}
 use Rattle.pm_text.specs.Kinds.{output_or_device, register_named, device_cell_named, output_reading_named, device_reading_named, cell_word, frame_bytes}
 use Rattle.pm_text.specs.Readers.{◌>>=◌, Field, field, gives, lines_into, made_into, named, one_of}
 use Rattle.pm_text.specs.declared.form.Form.{Form}
+use Rattle.pm_text.specs.declared.scenario.reading.Measured.{Measured}
 use Rattle.pm_text.specs.declared.form.Form.TheVariants.{First, Second}
 use Rattle.pm_text.specs.declared.scenario.fault.ScenarioFault.TheVariants.{Syntax, BadHex}
 
@@ -119,17 +120,20 @@ restart_rest = field Syntax (named ((codes "device", RestartDevice) ∷ (codes "
 
 -- `O NAME HHHH` for READ_VOUT and READ_IOUT, `- NAME HHHH` for READ_VIN and READ_TEMPERATURE_1, for
 -- which output 0 is named and isn't looked at
-abbrev pub reading_at : Option ℕ → Field Event
+abbrev pub reading_at : Option ℕ → Field Measured
 reading_at None = do
   code ← field Syntax device_reading_named
   word ← field BadHex (hex_of 4)
-  gives (Measure 0 (record { 0 = code }) word)
+  gives (record { output = 0; code = record { 0 = code }; word = word })
 reading_at (Some output) = do
   code ← field Syntax output_reading_named
   word ← field BadHex (hex_of 4)
-  gives (Measure output (record { 0 = code }) word)
+  gives (record { output = output; code = record { 0 = code }; word = word })
 
-unfoldable pub reading_rest : Field Event
+abbrev pub measured_event : Measured → Event
+measured_event m = Measure m.output m.code m.word
+
+unfoldable pub reading_rest : Field Measured
 reading_rest = do
   output ← field Syntax output_or_device
   reading_at output
@@ -158,4 +162,4 @@ event_line form = one_of (
     (codes "finish", made_into Finish finish_rest) ∷
     (codes "exchange", exchange_rest) ∷
     (codes "restart", restart_rest) ∷
-    (codes "reading", reading_rest) ∷ lines_into event_of (job_lines form))
+    (codes "reading", made_into measured_event reading_rest) ∷ lines_into event_of (job_lines form))

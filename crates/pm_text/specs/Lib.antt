@@ -1,5 +1,7 @@
 -- What the crate promises.
+pub mod Base
 pub mod EventLines
+pub mod HeardText
 pub mod Kinds
 pub mod Laws
 pub mod Readers

@@ -195,6 +195,16 @@ unfoldable pub scenario_of : List ℕ → Result Scenario TextFault
 scenario_of bytes = if nat_lt max_text (length bytes) then Err text.TooLong
     else as_text_fault (scenario_by (header (rest_of bytes)))
 
+-- The configuration that the lines up to `begin` say, or the fault of their first faulty one; what follows them
+-- isn't read.
+abbrev pub config_in : Result (Header × Rest) ScenarioFault → Result Config ScenarioFault
+config_in (Err first) = Err first
+config_in (Ok got) = Ok got.0.config
+
+unfoldable pub setup_of : List ℕ → Result Config TextFault
+setup_of bytes = if nat_lt max_text (length bytes) then Err text.TooLong
+    else as_text_fault (config_in (header (rest_of bytes)))
+
 -- there is a first line, and it is an event line
 abbrev pub HasFirst : Form → List Numbered → Type 0
 HasFirst form [] = ⊥

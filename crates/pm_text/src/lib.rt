@@ -22,6 +22,7 @@
 //! that a caller needs this crate alone. What a world does is not here.
 #![tactic(auto)]
 
+mod base;
 mod form;
 mod laws;
 mod ran;
@@ -31,6 +32,7 @@ mod report;
 mod runs;
 mod scenario;
 
+pub use base::base_converter;
 pub use form::Form;
 pub use laws::lowest_words_cut_nothing;
 pub use pm_lines::{MAX_TEXT, Sink, Source, TextFault};
@@ -48,4 +50,6 @@ pub use scenario::fault::ScenarioFault;
 pub use scenario::fields::Fields;
 pub use scenario::frames::frame_of;
 pub use scenario::job_line::job_line as read_job;
+pub use scenario::reading::{Measured, reading as read_reading};
+pub use scenario::setup::read_setup;
 pub use scenario::{Scenario, read_scenario};

@@ -12,7 +12,9 @@ pub(crate) mod fields;
 pub(crate) mod frames;
 pub(crate) mod header;
 pub(crate) mod job_line;
+pub(crate) mod reading;
 pub(crate) mod rows;
+pub(crate) mod setup;
 mod starts;
 pub(crate) mod usual_line;
 

@@ -13,10 +13,10 @@ use Rattle.pm_lines.specs.Engine.{Engine, EngineEnds, IsLeft, Refuses, over}
 use Rattle.pm_lines.specs.Streams.{AppendsFront, Held}
 use Rattle.pm_lines.specs.declared.fault.TextFault.{TextFault}
 use Rattle.pm_lines.specs.declared.fault.TextFault.TheVariants.{Syntax, BadHex, TooLong, Read, Write, Memory, Setup}
-use Rattle.pm_program.specs.Refusals.{Says}
+use Rattle.pm_program.specs.Refusals.{Says, text_refusal}
 use Rattle.pm_tool.specs.Commandline.{pmb}
 use Rattle.pm_tool.specs.Execution.{End, EngineRuns, Printed, CutShort, Refused, Broken, Misused, NumberEnds, NumberRefuses, UsageEnds}
-use Rattle.pm_tool.specs.Execution.{IsDone, IsEnd, WordsEnd, refusal_line, text_refusal, wants_memory}
+use Rattle.pm_tool.specs.Execution.{IsDone, IsEnd, WordsEnd, refusal_line, wants_memory}
 use Rattle.pm_tool.specs.NumberFaults.{refusal_status, refusal_words}
 use Rattle.pm_tool.specs.NumberText.{IsCommandLineFault, IsNumberText, IsOfNumber, RefusesNumber}
 use Rattle.pm_tool.specs.declared.numbers.fault.NumberFault.{NumberFault}
@@ -24,13 +24,6 @@ use Rattle.pm_tool.specs.declared.numbers.fault.NumberFault.TheVariants.{OneOf, 
 use Rattle.pm_tool.specs.declared.numbers.question.Question.{Question}
 
 module _ {E : Type 0} (err : E → Option (List ℕ)) where
-  -- what one call to write came to
-  pub put_said : (r : Result (Unit {0}) TextFault) (errors errors' : Held E) (line : List ℕ)
-      → OnOk r (Appends (err errors.inner) (err errors'.inner) line) → OnErr r (AppendsFront (err errors.inner) (err errors'.inner) line)
-      → errors'.failed ≡ is_err r → Says err errors errors' line
-  put_said (Ok done) errors errors' line all front failed = inl (failed, all)
-  put_said (Err fault) errors errors' line all front failed = inr (failed, front)
-
   -- what was said is what was to be said
   pub said_as : (errors errors' : Held E) (words other : List ℕ) → words ≡ other
       → Says err errors errors' (refusal_line words) → Says err errors errors' (refusal_line other)

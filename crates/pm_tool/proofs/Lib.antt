@@ -6,4 +6,3 @@ pub mod PartLemmas
 pub mod RangeLemmas
 pub mod RefusalLemmas
 pub mod ScriptLemmas
-pub mod SetupLemmas

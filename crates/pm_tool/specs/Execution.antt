@@ -1,27 +1,25 @@
 -- How a run of the program ends: its status, what standard output got, and the one line that
 -- standard error gets. This project's own choice.
 use Rattle.std.specs.Prelude.{◌≡◌, ◌⊎◌, ◌↔◌, ◌<◌, ◌≤◌, ℕ, List, [], ◌++◌, length, Option, Some, None}
-use Rattle.std.specs.Prelude.{Result, Ok, Err, IsTrue, IsFalse, IsSomeAnd, codes, decimal, ⊤}
+use Rattle.std.specs.Prelude.{Result, Ok, Err, IsTrue, IsFalse, IsSomeAnd, codes, ⊤}
 use Rattle.std.specs.Io.KnownBytes.{Appends, Consumes}
 use Rattle.std.specs.declared.io.ErrorKind.{ErrorKind as IoKind}
 use Rattle.clap.specs.Kinds.{IsAmong}
 use Rattle.clap.specs.Words.{Text, fault_of, subcommand_of}
 use Rattle.clap.specs.declared.error.kind.ErrorKind.{ErrorKind}
-use Rattle.pm_lines.specs.Faults.{fault_line, fault_setup, fault_words}
+use Rattle.pm_lines.specs.Faults.{fault_words}
 use Rattle.pm_lines.specs.Lines.{EndsLine}
 use Rattle.pm_lines.specs.Engine.{Engine, IsMade, IsReadSoFar, IsTold, IsUnderWay, Refuses}
 use Rattle.pm_lines.specs.Streams.{Held}
 use Rattle.pm_lines.specs.declared.fault.TextFault.{TextFault}
 use Rattle.pm_lines.specs.declared.fault.TextFault.TheVariants.{Read, Write, Memory}
-use Rattle.pm_setup.specs.FaultWords.{setup_fault_text}
-use Rattle.pm_setup.specs.declared.setup_fault.SetupFault.{SetupFault}
 use Rattle.pm_trace.specs.Outcome.{decoding}
 use Rattle.pm_trace.specs.declared.decode_end.DecodeEnd.{DecodeEnd}
 use Rattle.pm_trace.specs.declared.decode_end.DecodeEnd.TheVariants.{Clean, BadLines}
 use Rattle.pm_text.specs.Replay.{replaying}
 use Rattle.pm_text.specs.declared.replay_end.ReplayEnd.{ReplayEnd}
 use Rattle.pm_text.specs.declared.replay_end.ReplayEnd.TheVariants.{Ran as AllTaken, Stopped}
-use Rattle.pm_program.specs.Refusals.{Says, no_words, no_words_status, program_line}
+use Rattle.pm_program.specs.Refusals.{Says, no_words, no_words_status, program_line, text_refusal}
 use Rattle.pm_program.specs.Usage.{usage_status}
 use Rattle.pm_tool.specs.Commandline.{Asks, pmb}
 use Rattle.pm_tool.specs.NumberFaults.{refusal_status, refusal_words}
@@ -87,22 +85,6 @@ Prints contents old new (Misused text) = new ≡ old
 abbrev pub SaysAny : {E : Type 0} → (E → Option (List ℕ)) → Held E → Held E → Option (List ℕ) → Type 0
 SaysAny contents old new None = new ≡ old
 SaysAny contents old new (Some line) = Says contents old new line
-
--- ---- the refusals of a text
-
--- the words for a text's fault, and its line where it has one
-abbrev pub line_words : Option ℕ → List ℕ
-line_words None = []
-line_words (Some line) = codes " line " ++ decimal line
-
--- the same, where no world is made
-abbrev pub reason_words : Option SetupFault → List ℕ
-reason_words None = []
-reason_words (Some fault) = codes " " ++ setup_fault_text fault
-
-abbrev pub text_refusal : TextFault → List ℕ
-text_refusal fault =
-    fault_words fault ++ (line_words (fault_line fault) ++ reason_words (fault_setup fault))
 
 -- ---- the commands that read one text and write another
 

@@ -5,8 +5,6 @@ pub mod NumberFaults
 pub mod NumberText
 pub mod Outcome
 pub mod Question
-pub mod ReplyText
 pub mod Script
 -- How it is kept.
-pub mod Base
 pub mod LineEvent

@@ -14,8 +14,8 @@ use Rattle.pm_lines.specs.Bytes.{bytes_of}
 use Rattle.pm_lines.specs.Lines.{Numbered, is_space, unskipped_from, words_of}
 use Rattle.pm_lines.specs.declared.fault.TextFault.{TextFault}
 use Rattle.pm_lines.specs.declared.fault.TextFault.TheVariants.{Syntax, BadHex}
-use Rattle.pm_tool.specs.Base.{base}
-use Rattle.pm_tool.specs.ReplyText.{as_line, output_line, reply_words}
+use Rattle.pm_text.specs.Base.{base}
+use Rattle.pm_text.specs.HeardText.{as_line, output_line, reply_words}
 
 -- ---- what a line asks
 

@@ -4,23 +4,25 @@ ghost use Rattle.std.specs.Process.{exit_status};
 ghost use Rattle.std.specs.Vec.Iter.{into_iter_items};
 ghost use Rattle.clap.specs.Words.{kind_of};
 ghost use Rattle.pm_program.specs.Arguments.{arguments_of};
-ghost use Rattle.pm_program.specs.Refusals.{Says};
+ghost use Rattle.pm_program.specs.Refusals.{Says, text_refusal};
 ghost use Rattle.pm_tool.specs.Execution.{End, EngineRuns, IsDone, IsEnd, NumberEnds, RunEnds, UsageEnds};
-ghost use Rattle.pm_tool.specs.Execution.{CutShort, Printed, refusal_line, text_refusal, wants_memory};
+ghost use Rattle.pm_tool.specs.Execution.{CutShort, Printed, refusal_line, wants_memory};
 ghost use Rattle.pm_tool.specs.Question.{asked_by};
 
 use crate::commandline::{Chosen, chosen};
 use crate::numbers::number;
-use crate::refusal::{NAME, say_fault};
 use crate::text_commands::{Decoding, Hearing, Replaying, TextCommand};
 use pm_program::{
-    Usage, misuse, refuse_arguments, refuse_memory, say, texts_of, usage_of, words_of,
+    Usage, misuse, refuse_arguments, refuse_memory, say, say_fault, texts_of, usage_of, words_of,
 };
 use pm_text::{Sink, Source, TextFault};
 use std::alloc::Global;
 use std::env::{self, Args, Env};
 use std::io::{self, Read, Write};
 use std::process::ExitCode;
+
+/// The program's name, as it begins each line on standard error.
+const NAME: &str = "pmb";
 
 /// Runs the program over the arguments of a runtime, and its standard input, output and error. What
 /// `main` does is this one call. No clause can say what a terminal or a file gives or takes: `run` says
@@ -141,7 +143,7 @@ fn refuse_text<E: Write>(errors: &mut Sink<E>, fault: &TextFault) -> u8
     ensures status { result ≡ 1 }
     ensures said { Says E.contents errors.old errors.new (refusal_line (text_refusal fault.now)) }
 {
-    say_fault(errors, fault);
+    say_fault(errors, NAME, fault);
     1
 }
 

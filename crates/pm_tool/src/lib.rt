@@ -10,7 +10,6 @@ mod commandline;
 mod execution;
 mod laws;
 mod numbers;
-mod refusal;
 mod script;
 mod text_commands;
 

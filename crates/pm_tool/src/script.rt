@@ -8,21 +8,20 @@ ghost use Rattle.pm_lines.specs.Lines.{unskipped_from};
 ghost use Rattle.pm_lines.specs.Streams.{AppendsFront};
 ghost use Rattle.pm_device.specs.Effect.{Event};
 ghost use Rattle.pm_device.specs.History.{next, start_of};
-ghost use Rattle.pm_tool.specs.Base.{base};
+ghost use Rattle.pm_text.specs.Base.{base};
 ghost use Rattle.pm_tool.specs.LineEvent.{event_of};
 ghost use Rattle.pm_tool.specs.Outcome.{hearing, IsOfHear};
-ghost use Rattle.pm_tool.specs.ReplyText.{as_line};
+ghost use Rattle.pm_text.specs.HeardText.{as_line};
 ghost use Rattle.pm_tool.specs.Script.{events_in, event_lines, event_words, held_after, output_at, output_lines, printed_text};
 
-mod base;
 mod line;
 mod reply_text;
 
-use base::base_config;
 use line::{LineEvent, read_event};
 use pm_device::Converter;
 use pm_lines::{Lines, Sink, Source, TextFault, read_text};
 use pm_table::{Cell, Reg};
+use pm_text::base_converter;
 use reply_text::{output_line, push_reply};
 use std::alloc::{AllocError, Global};
 use std::io::{Read, Write};
@@ -70,17 +69,6 @@ fn answers_to(alloc: Global, input: &[u8]) -> Result<(Vec<u8>, Converter), TextF
     let mut converter = base_converter();
     let lines = answer_lines(alloc, input, &mut converter)?;
     Ok((lines, converter))
-}
-
-// A fresh converter of the base configuration.
-#[tactic(auto, unfolding(crate::specs::Base::base, pm_device::specs::Start::config_fault))]
-fn base_converter() -> Converter
-    ensures { result ≡ start_of base }
-{
-    let Ok(converter) = Converter::new(base_config()) else {
-        unreachable!()
-    };
-    converter
 }
 
 // The lines that a converter's answers to a text's events make, which it has heard then.

@@ -2,7 +2,8 @@
 //! nothing on standard output.
 #![tactic(auto)]
 
-use pm_session::{Sink, Source, Streams, program};
+use pm_session::program;
+use pm_talk::{Sink, Source, Streams};
 use std::env;
 use std::process::ExitCode;
 

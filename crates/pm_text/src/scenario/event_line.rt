@@ -1,20 +1,18 @@
 //! The event lines of a scenario. Each reader makes the event where it stays: handed up as a result
 //! through the readers, an event would be copied at each of them.
-ghost use Rattle.std.specs.Prelude.{◌≡◌, Ok, Err, MatchResult};
+ghost use Rattle.std.specs.Prelude.{◌≡◌, Ok, Err};
 ghost use Rattle.pm_world.specs.Job.{event_of};
 ghost use Rattle.pm_text.specs.EventLines as spec;
 ghost use Rattle.pm_text.specs.EventLines.{job_lines};
-ghost use Rattle.pm_text.specs.Kinds.{device_reading_named, output_reading_named};
-ghost use Rattle.pm_text.specs.Readers.{Reads, ReadsTo, IsRead, field, line_as, lines_into, one_of};
-ghost use Rattle.pm_text.specs.declared.scenario.fault.ScenarioFault.TheVariants.{Syntax};
+ghost use Rattle.pm_text.specs.Readers.{Reads, ReadsTo, IsRead, line_as, lines_into, one_of};
 
 use crate::form::Form;
 use crate::scenario::fault::ScenarioFault;
 use crate::scenario::fields::Fields;
 use crate::scenario::frames::{arrival, back};
 use crate::scenario::job_line::job_line;
+use crate::scenario::reading::reading;
 use pm_lines::Line;
-use pm_table::Code;
 use pm_world::Event;
 
 /// What a line says that happens.
@@ -43,7 +41,9 @@ fn read_event(form: Form, fields: &mut Fields<'_>, event: &mut Event) -> Result<
     } else if fields.takes("restart") {
         restart(fields, event)
     } else if fields.takes("reading") {
-        reading(fields, event)
+        let measured = reading(fields)?;
+        *event = Event::Reading(measured.output, measured.code, measured.word);
+        Ok(())
     } else {
         asked(form, fields, event)
     }
@@ -109,55 +109,6 @@ fn restart(fields: &mut Fields<'_>, event: &mut Event) -> Result<(), ScenarioFau
         Ok(())
     } else {
         fields.word()?;
-        Err(fields.syntax())
-    }
-}
-
-// `reading O NAME HHHH`, or `reading - NAME HHHH`, for which output 0 is named and isn't looked at.
-#[tactic(auto, unfolding(crate::specs::EventLines::reading_rest))]
-fn reading(fields: &mut Fields<'_>, event: &mut Event) -> Result<(), ScenarioFault>
-    ensures { ReadsTo result event.new fields.new (spec.reading_rest fields.old) }
-{
-    let Some(output) = fields.output_or_device()? else {
-        let code = device_reading(fields)?;
-        let word = fields.hex_word()?;
-        *event = Event::Reading(0, code, word);
-        return Ok(());
-    };
-    let code = output_reading(fields)?;
-    let word = fields.hex_word()?;
-    *event = Event::Reading(output, code, word);
-    Ok(())
-}
-
-// The reading of an output that a name has: otherwise X1.
-fn output_reading(fields: &mut Fields<'_>) -> Result<Code, ScenarioFault>
-    ensures { MatchResult result
-        (λ code. field Syntax output_reading_named fields.old ≡ Ok (code.0, fields.new))
-        (λ fault. field Syntax output_reading_named fields.old ≡ Err fault) }
-{
-    let name = fields.word()?;
-    if name == Code::READ_VOUT.name().as_bytes() {
-        Ok(Code::READ_VOUT)
-    } else if name == Code::READ_IOUT.name().as_bytes() {
-        Ok(Code::READ_IOUT)
-    } else {
-        Err(fields.syntax())
-    }
-}
-
-// The reading of the device that a name has: otherwise X1.
-fn device_reading(fields: &mut Fields<'_>) -> Result<Code, ScenarioFault>
-    ensures { MatchResult result
-        (λ code. field Syntax device_reading_named fields.old ≡ Ok (code.0, fields.new))
-        (λ fault. field Syntax device_reading_named fields.old ≡ Err fault) }
-{
-    let name = fields.word()?;
-    if name == Code::READ_VIN.name().as_bytes() {
-        Ok(Code::READ_VIN)
-    } else if name == Code::READ_TEMPERATURE_1.name().as_bytes() {
-        Ok(Code::READ_TEMPERATURE_1)
-    } else {
         Err(fields.syntax())
     }
 }

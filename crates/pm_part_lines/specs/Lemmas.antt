@@ -1,0 +1,2 @@
+-- Lemmas on lines that are too long, which the contract of a part rests on. No public clause cites them.
+pub mod Speaking

@@ -1,0 +1,27 @@
+use crate::reply_text::reply_text;
+use crate::session::answer_line;
+use pm_host::Host;
+use pm_talk::{AnswerText, Speaker};
+
+/// A host that is spoken to in lines.
+#[derive(Debug, Drop)]
+pub struct Session {
+    /// The host.
+    pub host: Host,
+}
+
+impl Speaker for Session {
+    ghost use Rattle.pm_session.specs.Speaking.{spoken};
+    ghost use Rattle.pm_session.specs.Lemmas.Speaking.{kept_after, kept_text};
+
+    ghost speech = { spoken };
+
+    #[tactic(auto, unfolding(crate::specs::Speaking::answer_text))]
+    fn answer(&mut self, line: &[u8]) -> AnswerText {
+        reply_text(&answer_line(&mut self.host, line))
+    }
+
+    ghost kept_text = { kept_text };
+
+    ghost kept_after = { kept_after };
+}

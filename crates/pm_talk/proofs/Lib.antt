@@ -1,0 +1,2 @@
+mod FailureLemmas
+mod TalkLemmas

@@ -1,9 +1,0 @@
-use Rattle.std.proofs.Common.{Some, subst, sym}
-use Rattle.pm_program.specs.Refusals.{Says}
-use Rattle.pm_tool.specs.Execution.{refusal_line, text_refusal}
-use Rattle.pm_tool.proofs.refusal.say_fault.Goals as goal
-
-pub returns-in-Setup : goal.returns-in-Setup
-returns-in-Setup g c =
-    subst (λ fault. Says g.E.Write.contents c.args.errors.now c.say_setup.new.errors (refusal_line (text_refusal fault)))
-    (sym c.in-Setup.is) c.say_setup.ensures

@@ -1,0 +1,17 @@
+//! The program `pmbpart`: it hands the arguments, the files and the standard streams of its runtime to the library.
+#![tactic(auto)]
+
+use pm_part_lines::{SetupFiles, program};
+use pm_talk::{Sink, Source, Streams};
+use std::env;
+use std::process::ExitCode;
+
+fn main(rt: HostRuntime) -> ExitCode {
+    let mut streams = Streams {
+        source: Source::new(rt.stdin().lock()),
+        sink: Sink::new(rt.stdout().lock()),
+    };
+    let mut errors = Sink::new(rt.stderr().lock());
+    let setups = SetupFiles { rt: &rt };
+    program(rt.alloc(), env::args(&rt), &setups, &mut streams, &mut errors)
+}
