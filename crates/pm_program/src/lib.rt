@@ -11,6 +11,6 @@ mod refusals;
 mod usage;
 
 pub use arguments::{texts_of, words_of};
-pub use options::{VERSION, text_of, with_option};
+pub use options::{VERSION, all_texts_of, text_of, with_option, with_repeated};
 pub use refusals::{misuse, refuse_arguments, refuse_memory, say};
 pub use usage::{Usage, usage_of};

@@ -5,7 +5,7 @@ use Rattle.std.proofs.Common.{inl, inr, ◌⊎◌}
 use Rattle.std.specs.Io.KnownBytes.{IsAtEnd}
 use Rattle.std.specs.List.{list_any}
 use Rattle.std.proofs.lemmas.List.Folds.{list_any-append}
-use Rattle.pm_host.specs.Summary.{Summary}
+use Rattle.pm_limits.specs.Guard.{Guarded}
 use Rattle.pm_lines.specs.declared.fault.TextFault.{TextFault}
 use Rattle.pm_lines.specs.declared.fault.TextFault.TheVariants as text
 use Rattle.pm_session.specs.Execution.{IsBroken, IsWhole, Run}
@@ -49,18 +49,18 @@ none_heard is of more line = neither is (came line) (line_end more ∷ []) (none
 none_handed : (is : Happening → Bool) → IsOfFailures is → (text : List ℕ) → list_any is (handed_on text) ≡ false
 none_handed is of text = neither is (went text) (Flushed ∷ []) (none_went is of.went text) (lone is Flushed of.flushed)
 
-none_turn : (is : Happening → Bool) → IsOfFailures is → (s : Summary) (line : List ℕ) → list_any is (turn s line) ≡ false
+none_turn : (is : Happening → Bool) → IsOfFailures is → (s : Guarded) (line : List ℕ) → list_any is (turn s line) ≡ false
 unfolding turn
 none_turn is of s line =
     neither is (heard true line) (answered s line) (none_heard is of true line) (none_handed is of (answer_text s line))
 
-none_talk : (is : Happening → Bool) → IsOfFailures is → (s : Summary) (lines : List (List ℕ)) → list_any is (talk s lines) ≡ false
+none_talk : (is : Happening → Bool) → IsOfFailures is → (s : Guarded) (lines : List (List ℕ)) → list_any is (talk s lines) ≡ false
 none_talk is of s [] = refl
 none_talk is of s (line ∷ lines) =
     neither is (turn s line) (talk (answer_to s line).after lines) (none_turn is of s line)
     (none_talk is of (answer_to s line).after lines)
 
-none_last : (is : Happening → Bool) → IsOfFailures is → (s : Summary) (line : List ℕ) → list_any is (last_turn s line) ≡ false
+none_last : (is : Happening → Bool) → IsOfFailures is → (s : Guarded) (line : List ℕ) → list_any is (last_turn s line) ≡ false
 none_last is of s [] = lone is Ended of.ended
 none_last is of s (byte ∷ bytes) =
     neither is (heard false (byte ∷ bytes)) (answered s (byte ∷ bytes)) (none_heard is of false (byte ∷ bytes))
@@ -75,7 +75,7 @@ later is xs ys some = list_any-append is xs ys ∙ ap (λ b. list_any is xs || b
     or_true false = refl
 
 -- the end is told at the end of a talk
-told_end : (s : Summary) (line : List ℕ) → list_any is_end (last_turn s line) ≡ true
+told_end : (s : Guarded) (line : List ℕ) → list_any is_end (last_turn s line) ≡ true
 told_end s [] = refl
 told_end s (byte ∷ bytes) =
     list_any-append is_end (heard false (byte ∷ bytes)) (answered s (byte ∷ bytes))
@@ -107,7 +107,7 @@ neither_failed fault things no_read no_write reads writes = record {
   writes = λ b is. it_is_not b fault text.Write (is ∙ writes) no_write;
 }
 
-cut_fails : (s after : Summary) (fault : TextFault) (cut : List Happening) → IsCut s after fault cut → Cuts fault cut
+cut_fails : (s after : Guarded) (fault : TextFault) (cut : List Happening) → IsCut s after fault cut → Cuts fault cut
 cut_fails s after text.Read cut (bytes, line, is, same) = subst (Cuts text.Read) (sym is) (record {
   reads = λ b any. it_is b text.Read text.Read (any ∙ later is_failed_read (came bytes) (ReadFailed ∷ []) refl) refl;
   writes = λ b any. it_is_not b text.Read text.Write
@@ -130,26 +130,26 @@ cut_fails s after (text.BadHex line) cut is = absurd is
 cut_fails s after text.Memory cut is = absurd is
 cut_fails s after (text.Setup fault) cut is = absurd is
 
-over_fails : (s after : Summary) (fault : TextFault) (lines : List (List ℕ)) (cut : List Happening)
+over_fails : (s after : Guarded) (fault : TextFault) (lines : List (List ℕ)) (cut : List Happening)
     → IsOver s after fault lines cut → Cuts fault cut
 over_fails s after fault lines cut (too_long, many, none, same) =
     subst (λ f. Cuts f cut) (sym too_long) (subst (Cuts text.TooLong) (sym none)
     (neither_failed text.TooLong [] (λ e. absurd (cc)) (λ e. absurd (cc)) refl refl))
 
-broken_fails : (s after : Summary) (fault : TextFault) (lines : List (List ℕ)) (cut : List Happening)
+broken_fails : (s after : Guarded) (fault : TextFault) (lines : List (List ℕ)) (cut : List Happening)
     → IsCut s after fault cut ⊎ IsOver s after fault lines cut → Cuts fault cut
 broken_fails s after fault lines cut (inl is) = cut_fails s after fault cut is
 broken_fails s after fault lines cut (inr is) = over_fails s after fault lines cut is
 
 -- of a stream that hadn't failed, by what is behind a talk
-behind : (is : Happening → Bool) → IsOfFailures is → (a b : Bool) (s : Summary) (lines : List (List ℕ)) (cut : List Happening) → IsFalse a
+behind : (is : Happening → Bool) → IsOfFailures is → (a b : Bool) (s : Guarded) (lines : List (List ℕ)) (cut : List Happening) → IsFalse a
     → b ≡ (a || list_any is (talk s lines ++ cut)) → b ≡ list_any is cut
 behind is of a b s lines cut sound failed =
     failed ∙ ap₂ (λ x y. x || y) sound (list_any-append is (talk s lines) cut)
     ∙ ap (λ x. x || list_any is cut) (none_talk is of s lines)
 
 pub fail_as_told : {R W E : Type 0} (remaining : R → Option (List ℕ)) (contents : W → Option (List ℕ))
-    (run : Run (Streams R W) E) (s : Summary) → IsFalse run.port.source.failed → IsFalse run.port.sink.failed
+    (run : Run (Streams R W) E) (s : Guarded) → IsFalse run.port.source.failed → IsFalse run.port.sink.failed
     → (IsWhole (Passes remaining contents) run s
     → IsFalse run.port'.source.failed × IsFalse run.port'.sink.failed
     × IfSome (remaining run.port.source.inner) (λ _. IsAtEnd (remaining run.port'.source.inner)))

@@ -5,7 +5,7 @@ use Rattle.std.specs.List.{list_all}
 use Rattle.std.proofs.lemmas.Bool.{ltb-true, ltb-false, lt-ltb}
 use Rattle.std.proofs.lemmas.List.{take_all, length-take-le}
 use Rattle.std.proofs.lemmas.List.Folds.{list_all-append}
-use Rattle.pm_host.specs.Summary.{Summary}
+use Rattle.pm_limits.specs.Guard.{Guarded}
 use Rattle.pm_lines.specs.declared.fault.TextFault.TheVariants as text
 use Rattle.pm_session.specs.AskLines.{ask_of}
 use Rattle.pm_session.specs.ReplyText.{reply_text}
@@ -49,17 +49,17 @@ kept_asks line = by (ltb 257 (length line)) refl
     by false fits = ap ask_of (take_all 257 line (ltb-false 257 (length line) fits))
 
 -- so it has the same answer
-pub kept_answers : (s : Summary) (line : List ℕ) → answer_to s (take 257 line) ≡ answer_to s line
+pub kept_answers : (s : Guarded) (line : List ℕ) → answer_to s (take 257 line) ≡ answer_to s line
 kept_answers s line = ap (answers_asked s) (kept_asks line)
 
 -- one more line
-pub after-more : (s : Summary) (lines : List (List ℕ)) (line : List ℕ)
+pub after-more : (s : Guarded) (lines : List (List ℕ)) (line : List ℕ)
     → after_lines s (lines ++ line ∷ []) ≡ (answer_to (after_lines s lines) line).after
 after-more s [] line = refl
 after-more s (first ∷ lines) line = after-more (answer_to s first).after lines line
 
 -- what happens for one line more
-pub talk-more : (s : Summary) (lines : List (List ℕ)) (line : List ℕ)
+pub talk-more : (s : Guarded) (lines : List (List ℕ)) (line : List ℕ)
     → talk s (lines ++ line ∷ []) ≡ talk s lines ++ turn (after_lines s lines) line
 talk-more s [] line = append-nil (turn s line)
 talk-more s (first ∷ lines) line =
@@ -72,7 +72,7 @@ pub lines-more : (lines : List (List ℕ)) (line : List ℕ) → list_all is_lin
 lines-more lines line before this = list_all-append is_line lines (line ∷ []) ∙ ap₂ (λ a b. a && b) before (ap (λ b. b && true) this)
 
 -- the text of an answer by a line's first 257 bytes
-pub kept_text : (s : Summary) (line : List ℕ) → answer_text s (take 257 line) ≡ answer_text s line
+pub kept_text : (s : Guarded) (line : List ℕ) → answer_text s (take 257 line) ≡ answer_text s line
 unfolding answer_text
 kept_text s line = ap (λ (a : Answered). reply_text a.reply) (kept_answers s line)
 
@@ -82,7 +82,7 @@ IsHeard goes a b more kept =
     (bytes : List ℕ) × (is_line bytes ≡ true) × (kept ≡ take 257 bytes) × goes a (heard more bytes) b
 
 module _ {P : Type 0} (goes : P → List Happening → P → Type 0)
-    (joined : (a b c : P) (xs ys : List Happening) → goes a xs b → goes b ys c → goes a (xs ++ ys) c) (s after : Summary) where
+    (joined : (a b c : P) (xs ys : List Happening) → goes a xs b → goes b ys c → goes a (xs ++ ys) c) (s after : Guarded) where
   -- a line and its answer are a turn
   pub whole_turn : (a b d : P) (kept : List ℕ) → IsHeard goes a b true kept → after ≡ (answer_to s kept).after
       → goes b (answered s kept) d → (things : List Happening) × IsTurn s after true things × goes a things d

@@ -5,7 +5,7 @@ use Rattle.std.specs.List.{list_all}
 use Rattle.std.specs.declared.io.ErrorKind.{ErrorKind as IoKind}
 use Rattle.clap.specs.Words.{IsAmong, Text, fault_of, matches_of}
 use Rattle.clap.specs.declared.error.kind.ErrorKind.{ErrorKind}
-use Rattle.pm_host.specs.Summary.{Summary}
+use Rattle.pm_limits.specs.Guard.{Guarded}
 use Rattle.pm_lines.specs.Faults.{fault_words}
 use Rattle.pm_lines.specs.Lines.{EndsLine}
 use Rattle.pm_lines.specs.Streams.{Held}
@@ -44,20 +44,20 @@ module _ {P E : Type 0} (goes : P → List Happening → P → Type 0) (run : Ru
   Refuses words = Says run.told run.errors run.errors' (refusal_line words)
 
   -- lines came up to the end of input, and each was answered before more was read
-  abbrev pub IsWhole : Summary → Type 0
+  abbrev pub IsWhole : Guarded → Type 0
   IsWhole s = (lines : List (List ℕ)) × (last : List ℕ)
       × (list_all is_line lines ≡ true) × (is_line last ≡ true)
       × Happens (talk s lines ++ last_turn (after_lines s lines) last)
 
   -- it broke off with this fault
-  abbrev pub IsBroken : Summary → TextFault → Type 0
-  IsBroken s fault = (after : Summary) × (lines : List (List ℕ)) × (cut : List Happening)
+  abbrev pub IsBroken : Guarded → TextFault → Type 0
+  IsBroken s fault = (after : Guarded) × (lines : List (List ℕ)) × (cut : List Happening)
       × (list_all is_line lines ≡ true)
       × (IsCut (after_lines s lines) after fault cut ⊎ IsOver (after_lines s lines) after fault lines cut)
       × Happens (talk s lines ++ cut)
 
   -- how a run ends whose options make this host, or none
-  abbrev pub ServeEnds : ℕ → Result Summary StartFault → Type 0
+  abbrev pub ServeEnds : ℕ → Result Guarded StartFault → Type 0
   ServeEnds status (Ok s) = ((status ≡ 0) × (run.errors' ≡ run.errors) × IsWhole s)
       ⊎ ((status ≡ 1) × (fault : TextFault) × IsBroken s fault × Refuses (fault_words fault))
   ServeEnds status (Err fault) =

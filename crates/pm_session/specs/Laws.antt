@@ -1,7 +1,7 @@
 -- The laws by name. This project's own choice.
 use Rattle.std.specs.Prelude.{◌≡◌, ◌↔◌, ℕ, List, Option, IfSome, IsFalse, IsTrue}
 use Rattle.std.specs.Io.KnownBytes.{IsAtEnd}
-use Rattle.pm_host.specs.Summary.{Summary}
+use Rattle.pm_limits.specs.Guard.{Guarded}
 use Rattle.pm_lines.specs.declared.fault.TextFault.{TextFault}
 use Rattle.pm_lines.specs.declared.fault.TextFault.TheVariants.{Read, Write}
 use Rattle.pm_session.specs.Execution.{IsBroken, IsWhole, Run}
@@ -14,7 +14,7 @@ use Rattle.pm_session.specs.declared.streams.Streams.{Streams}
 abbrev pub StreamsFailAsTold : {R W E : Type 0} → (R → Option (List ℕ)) → (W → Option (List ℕ))
     → (E → Option (List ℕ)) → Type 0
 StreamsFailAsTold {R} {W} {E} remaining contents told =
-    (run : Run (Streams R W) E) (s : Summary) → IsFalse run.port.source.failed → IsFalse run.port.sink.failed
+    (run : Run (Streams R W) E) (s : Guarded) → IsFalse run.port.source.failed → IsFalse run.port.sink.failed
     → (IsWhole (Passes remaining contents) run s
     → IsFalse run.port'.source.failed × IsFalse run.port'.sink.failed
     × IfSome (remaining run.port.source.inner) (λ _. IsAtEnd (remaining run.port'.source.inner)))

@@ -2,7 +2,7 @@
 -- by byte, its answer goes, and is flushed, before another byte is asked for. This project's own choice.
 use Rattle.std.specs.Prelude.{◌≡◌, ℕ, ◌-◌, ◌^◌, ◌≤◌, Bool, true, false, not, List, [], ◌∷◌, ◌++◌, length, map}
 use Rattle.std.specs.List.{list_all}
-use Rattle.pm_host.specs.Summary.{Summary}
+use Rattle.pm_limits.specs.Guard.{Guarded}
 use Rattle.pm_lines.specs.Lines.{is_line_feed}
 use Rattle.pm_lines.specs.declared.fault.TextFault.{TextFault}
 use Rattle.pm_lines.specs.declared.fault.TextFault.TheVariants.{Syntax, BadHex, TooLong, Read, Write, Memory, Setup}
@@ -31,7 +31,7 @@ abbrev pub heard : Bool → List ℕ → List Happening
 heard more line = came line ++ line_end more ∷ []
 
 -- the line of the answer to a line
-unfoldable pub answer_text : Summary → List ℕ → List ℕ
+unfoldable pub answer_text : Guarded → List ℕ → List ℕ
 answer_text s line = reply_text (answer_to s line).reply
 
 -- a text goes, and is flushed
@@ -39,33 +39,33 @@ abbrev pub handed_on : List ℕ → List Happening
 handed_on text = went text ++ Flushed ∷ []
 
 -- the answer does
-abbrev pub answered : Summary → List ℕ → List Happening
+abbrev pub answered : Guarded → List ℕ → List Happening
 answered s line = handed_on (answer_text s line)
 
 -- a line comes and is answered
-unfoldable pub turn : Summary → List ℕ → List Happening
+unfoldable pub turn : Guarded → List ℕ → List Happening
 turn s line = heard true line ++ answered s line
 
 -- lines come, each of which is answered before the next one; and the host after them
-abbrev pub talk : Summary → List (List ℕ) → List Happening
+abbrev pub talk : Guarded → List (List ℕ) → List Happening
 talk s [] = []
 talk s (line ∷ lines) = turn s line ++ talk (answer_to s line).after lines
 
-abbrev pub after_lines : Summary → List (List ℕ) → Summary
+abbrev pub after_lines : Guarded → List (List ℕ) → Guarded
 after_lines s [] = s
 after_lines s (line ∷ lines) = after_lines (answer_to s line).after lines
 
 -- the end of input: bytes before it are a line too; and the host after it
-abbrev pub last_turn : Summary → List ℕ → List Happening
+abbrev pub last_turn : Guarded → List ℕ → List Happening
 last_turn s [] = Ended ∷ []
 last_turn s (byte ∷ bytes) = heard false (byte ∷ bytes) ++ answered s (byte ∷ bytes)
 
-abbrev pub last_after : Summary → List ℕ → Summary
+abbrev pub last_after : Guarded → List ℕ → Guarded
 last_after s [] = s
 last_after s (byte ∷ bytes) = (answer_to s (byte ∷ bytes)).after
 
 -- a line came and was answered, or the end came
-abbrev pub IsTurn : Summary → Summary → Bool → List Happening → Type 0
+abbrev pub IsTurn : Guarded → Guarded → Bool → List Happening → Type 0
 IsTurn s after true things = (line : List ℕ) × (is_line line ≡ true)
     × (things ≡ turn s line) × (after ≡ (answer_to s line).after)
 IsTurn s after false things = (line : List ℕ) × (is_line line ≡ true)
@@ -78,7 +78,7 @@ most = 2 ^ 64 - 1
 -- What comes of a turn that breaks off: a read failed before a line had come whole, and the host is as
 -- it was; a line came whole, and a prefix of its answer went before a write or its flush failed; or a line
 -- had more bytes than can be counted.
-abbrev pub IsCut : Summary → Summary → TextFault → List Happening → Type 0
+abbrev pub IsCut : Guarded → Guarded → TextFault → List Happening → Type 0
 IsCut s after Read things = (bytes : List ℕ) × (is_line bytes ≡ true)
     × (things ≡ came bytes ++ ReadFailed ∷ []) × (after ≡ s)
 IsCut s after Write things = (more : Bool) × (line : List ℕ) × (front : List ℕ) × (rest : List ℕ)
@@ -110,6 +110,6 @@ IsUnheard Memory things = ⊥
 IsUnheard (Setup fault) things = ⊥
 
 -- all lines came that can be counted
-abbrev pub IsOver : Summary → Summary → TextFault → List (List ℕ) → List Happening → Type 0
+abbrev pub IsOver : Guarded → Guarded → TextFault → List (List ℕ) → List Happening → Type 0
 IsOver s after fault lines things = (fault ≡ TooLong) × (most ≤ length lines) × (things ≡ [])
     × (after ≡ s)

@@ -127,14 +127,14 @@ fn serve<P: Port, E: Write>(options: &Options<'_>, port: &mut P, errors: &mut Si
       errors' = errors.new;
     } in ServeEnds P.goes run result (start_of options.now) }
 {
-    let mut host = match options.start() {
-        Ok(host) => host,
+    let mut guard = match options.start() {
+        Ok(guard) => guard,
         Err(fault) => {
             say(errors, NAME, fault.words());
             return fault.status();
         }
     };
-    match converse(&mut host, port) {
+    match converse(&mut guard, port) {
         Ok(()) => 0,
         Err(fault) => refuse(errors, fault),
     }

@@ -27,7 +27,7 @@ pub use ask_line::read_ask;
 pub use execution::{program, run};
 pub use happening::Happening;
 pub use laws::streams_fail_as_told;
-pub use options::{Options, StartFault};
+pub use options::{Options, OutputLimits, StartFault};
 pub use pm_lines::{Sink, Source};
 pub use port::Port;
 pub use refusal::Refusal;

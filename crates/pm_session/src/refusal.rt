@@ -1,7 +1,7 @@
-use pm_host::HostFault;
+use pm_host::Untold;
+use pm_limits::LimitFault;
 use pm_lines::TextFault;
 use pm_text::ScenarioFault;
-use pm_world::Cause;
 use thiserror::Error;
 
 /// Why a line is refused. Then nothing has changed.
@@ -16,15 +16,12 @@ pub enum Refusal {
     /// X3: the line has more than 256 bytes.
     #[error("a line of more than 256 bytes")]
     TooLong,
-    /// S2: it is told what became of a frame, and none is being sent.
-    #[error("no frame is being sent")]
-    NothingSent,
-    /// S3: it is told the end of a write while a read is being sent, or an answer while a write is.
-    #[error("a frame of the other kind is being sent")]
-    WrongKind,
-    /// H3 to H7 and N3 to N5: the host refuses.
+    /// S2 or S3: it can't be told what became of a frame.
+    #[error("{0}")]
+    Untold(Untold),
+    /// H3 to H7, N3 to N5 and L1 to L6: the host refuses, or the limits do.
     #[error("the host refuses: {0}")]
-    Host(HostFault),
+    Guard(LimitFault),
 }
 
 impl Refusal {
@@ -39,9 +36,8 @@ impl Refusal {
             Refusal::Syntax => TextFault::Syntax(1).words(),
             Refusal::BadHex => TextFault::BadHex(1).words(),
             Refusal::TooLong => TextFault::TooLong.words(),
-            Refusal::NothingSent => Cause::NothingSent.words(),
-            Refusal::WrongKind => Cause::WrongKind.words(),
-            Refusal::Host(fault) => fault.words(),
+            Refusal::Untold(fault) => fault.words(),
+            Refusal::Guard(fault) => fault.words(),
         }
     }
 }

@@ -10,7 +10,7 @@ use crate::port::Port;
 use crate::reply_text::reply_text;
 use crate::session::answer_line;
 use arrayvec::ArrayVec;
-use pm_host::Host;
+use pm_limits::Guard;
 use pm_lines::TextFault;
 
 // The bytes of a line that are kept, which are enough to refuse a longer one.
@@ -24,19 +24,19 @@ type KeptLine = ArrayVec<u8, 257>;
 /// X4 where a read failed: no answer was begun that isn't whole. X5 where a write or a flush failed: the
 /// last line came whole, and a prefix of its answer was written. X3 after 2^64 - 1 bytes of a line or as
 /// many lines.
-pub fn converse<P: Port>(host: &mut Host, port: &mut P) -> Result<(), TextFault>
+pub fn converse<P: Port>(guard: &mut Guard, port: &mut P) -> Result<(), TextFault>
     ensures ok { OnOk result ((lines : List (List ℕ)) × (last : List ℕ)
         × (list_all is_line lines ≡ true) × (is_line last ≡ true)
-        × P.goes port.old (talk host.old lines ++ last_turn (after_lines host.old lines) last) port.new
-        × (host.new ≡ last_after (after_lines host.old lines) last)) }
+        × P.goes port.old (talk guard.old lines ++ last_turn (after_lines guard.old lines) last) port.new
+        × (guard.new ≡ last_after (after_lines guard.old lines) last)) }
     ensures err { IfErr result (λ fault. (lines : List (List ℕ)) × (cut : List Happening)
         × (list_all is_line lines ≡ true)
-        × (IsCut (after_lines host.old lines) host.new fault cut
-        ⊎ IsOver (after_lines host.old lines) host.new fault lines cut)
-        × P.goes port.old (talk host.old lines ++ cut) port.new) }
+        × (IsCut (after_lines guard.old lines) guard.new fault cut
+        ⊎ IsOver (after_lines guard.old lines) guard.new fault lines cut)
+        × P.goes port.old (talk guard.old lines ++ cut) port.new) }
 {
     'turns: for _turn in 0..u64::MAX {
-        match answer_next(host, port) {
+        match answer_next(guard, port) {
             Ok(true) => {}
             Ok(false) => return Ok(()),
             Err(fault) => return Err(fault),
@@ -46,20 +46,20 @@ pub fn converse<P: Port>(host: &mut Host, port: &mut P) -> Result<(), TextFault>
 }
 
 // Answers the next line: whether more may come.
-fn answer_next<P: Port>(host: &mut Host, port: &mut P) -> Result<bool, TextFault>
+fn answer_next<P: Port>(guard: &mut Guard, port: &mut P) -> Result<bool, TextFault>
     ensures ok { IfOk result (λ more. (things : List Happening)
-        × IsTurn host.old host.new more things × P.goes port.old things port.new) }
+        × IsTurn guard.old guard.new more things × P.goes port.old things port.new) }
     ensures err { IfErr result (λ fault. (cut : List Happening)
-        × IsCut host.old host.new fault cut × P.goes port.old cut port.new) }
+        × IsCut guard.old guard.new fault cut × P.goes port.old cut port.new) }
 {
     let mut line = KeptLine::new();
     match read_line(port, &mut line) {
-        Ok(true) => answer_kept(host, port, line.as_slice(), true),
+        Ok(true) => answer_kept(guard, port, line.as_slice(), true),
         Ok(false) => {
             if line.is_empty() {
                 return Ok(false);
             }
-            answer_kept(host, port, line.as_slice(), false)
+            answer_kept(guard, port, line.as_slice(), false)
         }
         Err(fault) => Err(fault),
     }
@@ -96,18 +96,18 @@ fn keep(line: &mut KeptLine, byte: u8)
 // Answers a line: writes the answer and flushes it. `more` is handed on.
 #[tactic(auto, unfolding(crate::specs::Talk::answer_text))]
 fn answer_kept<P: Port>(
-    host: &mut Host,
+    guard: &mut Guard,
     port: &mut P,
     line: &[u8],
     more: bool,
 ) -> Result<bool, TextFault>
-    ensures after { host.new ≡ (answer_to host.old line.now).after }
+    ensures after { guard.new ≡ (answer_to guard.old line.now).after }
     ensures ok { IfOk result (λ handed. (handed ≡ more)
-        × P.goes port.old (answered host.old line.now) port.new) }
+        × P.goes port.old (answered guard.old line.now) port.new) }
     ensures err { IfErr result (λ fault. (fault ≡ TextFault.Write)
-        × IsCutShort P.goes port.old port.new (answer_text host.old line.now)) }
+        × IsCutShort P.goes port.old port.new (answer_text guard.old line.now)) }
 {
-    let text = reply_text(&answer_line(host, line));
+    let text = reply_text(&answer_line(guard, line));
     match hand_on(port, text.as_slice()) {
         Ok(()) => Ok(more),
         Err(fault) => Err(fault),

@@ -1,13 +1,14 @@
 //! The texts of errors, which no answer uses.
 
 use crate::checks::equal;
-use pm_host::HostFault;
+use pm_host::{HostFault, Untold};
+use pm_limits::LimitFault;
 use pm_session::{Refusal, StartFault};
 use std::fmt::Display;
 use std::process::Abort;
 use std::test::Fail;
 
-static START: [(StartFault, &str); 4] = [
+static START: [(StartFault, &str); 6] = [
     (StartFault::Address, "a bad address"),
     (StartFault::Outputs, "a bad number of outputs"),
     (StartFault::Passes, "a bad number of passes"),
@@ -15,20 +16,32 @@ static START: [(StartFault, &str); 4] = [
         StartFault::Host(HostFault::OutputCount),
         "a number of outputs other than 1 to 8",
     ),
+    (StartFault::Limit, "a bad limit"),
+    (
+        StartFault::Limits(LimitFault::LimitsInverted),
+        "limits whose least is above their most",
+    ),
 ];
 
-static REFUSALS: [(Refusal, &str); 6] = [
+static REFUSALS: [(Refusal, &str); 7] = [
     (Refusal::Syntax, "an unexpected line"),
     (Refusal::BadHex, "bad hexadecimal"),
     (Refusal::TooLong, "a line of more than 256 bytes"),
-    (Refusal::NothingSent, "no frame is being sent"),
     (
-        Refusal::WrongKind,
+        Refusal::Untold(Untold::NothingSent),
+        "no frame is being sent",
+    ),
+    (
+        Refusal::Untold(Untold::WrongKind),
         "a frame of the other kind is being sent",
     ),
     (
-        Refusal::Host(HostFault::Busy),
+        Refusal::Guard(LimitFault::Host(HostFault::Busy)),
         "the host refuses: an open job",
+    ),
+    (
+        Refusal::Guard(LimitFault::BelowLimit),
+        "the host refuses: a voltage below the output's limits",
     ),
 ];
 

@@ -3,7 +3,7 @@ use Rattle.std.proofs.Math.Path.{fun_ext}
 use Rattle.pm_num.specs.AnyFormat.{any_value, shape_of}
 use Rattle.pm_num.specs.Ratio.{Ratio}
 use Rattle.pm_table.specs.declared.reg.Reg.TheVariants.{VoutMin}
-use Rattle.pm_model.specs.Commanded.{limited, selected_register}
+use Rattle.pm_model.specs.Commanded.{limited}
 use Rattle.pm_limits.specs.declared.side.Side.{Side}
 use Rattle.pm_limits.specs.declared.side.Side.TheVariants.{Lowest, Highest}
 use Rattle.pm_limits.specs.Band.{end_with, known_of, reach, word_end}

@@ -1,4 +1,4 @@
-use Rattle.std.proofs.Common.{}
+use Rattle.std.proofs.Common.{rules}
 use Rattle.pm_limits.specs.declared.side.Side.TheVariants.{Lowest, Highest}
 use Rattle.pm_limits.proofs.ends.ends_at.Goals as goal
 

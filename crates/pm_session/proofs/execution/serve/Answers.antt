@@ -7,6 +7,6 @@ returns-in-Err-converse g c =
     rw c.in-Ok.ensures (inr (
       c.refuse.ensures.status,
       c.in-Err-converse.fault,
-      (c.converse.new.host, lines, cut, all, which, goes),
+      (c.converse.new.guard, lines, cut, all, which, goes),
       c.refuse.ensures.said,
     ))

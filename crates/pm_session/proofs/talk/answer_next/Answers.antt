@@ -11,13 +11,13 @@ returns-then-is_empty-clause-ok g c =
     let heard = subst (λ (more : Bool). IsHeard g.P.Port.goes c.args.port.now c.read_line.new.port more c.read_line.new.line.items)
     c.in-Ok-false.field-0-test c.in-Ok-false.ensures.ok in
     let none : length c.read_line.new.line.items ≡ 0 = search rules in
-    last_empty g.P.Port.goes g.met.P.Port.joined c.args.host.now c.args.host.now c.args.port.now c.read_line.new.port
+    last_empty g.P.Port.goes g.met.P.Port.joined c.args.guard.now c.args.guard.now c.args.port.now c.read_line.new.port
     c.read_line.new.line.items none heard refl
 
 pub returns-in-Ok-true-clause-ok : goal.returns-in-Ok-true-clause-ok
 returns-in-Ok-true-clause-ok g c =
-    let s = c.args.host.now in
-    let after = c.answer_kept.new.host in
+    let s = c.args.guard.now in
+    let after = c.answer_kept.new.guard in
     let kept = c.as_slice.result.now in
     let heard = subst (λ (k : List ℕ). IsHeard g.P.Port.goes c.args.port.now c.read_line.new.port true k) (sym c.as_slice.ensures.value)
     (subst (λ (more : Bool). IsHeard g.P.Port.goes c.args.port.now c.read_line.new.port more c.read_line.new.line.items)
@@ -29,8 +29,8 @@ returns-in-Ok-true-clause-ok g c =
 
 pub returns-in-Ok-true-clause-err : goal.returns-in-Ok-true-clause-err
 returns-in-Ok-true-clause-err g c =
-    let s = c.args.host.now in
-    let after = c.answer_kept.new.host in
+    let s = c.args.guard.now in
+    let after = c.answer_kept.new.guard in
     let kept = c.as_slice.result.now in
     let heard = subst (λ (k : List ℕ). IsHeard g.P.Port.goes c.args.port.now c.read_line.new.port true k) (sym c.as_slice.ensures.value)
     (subst (λ (more : Bool). IsHeard g.P.Port.goes c.args.port.now c.read_line.new.port more c.read_line.new.line.items)
@@ -43,8 +43,8 @@ returns-in-Ok-true-clause-err g c =
 
 pub returns-else-is_empty-clause-ok : goal.returns-else-is_empty-clause-ok
 returns-else-is_empty-clause-ok g c =
-    let s = c.args.host.now in
-    let after = c.answer_kept-in-Ok-false.new.host in
+    let s = c.args.guard.now in
+    let after = c.answer_kept-in-Ok-false.new.guard in
     let kept = c.as_slice-in-Ok-false.result.now in
     let heard = subst (λ (k : List ℕ). IsHeard g.P.Port.goes c.args.port.now c.read_line.new.port false k)
     (sym c.as_slice-in-Ok-false.ensures.value)
@@ -59,8 +59,8 @@ returns-else-is_empty-clause-ok g c =
 
 pub returns-else-is_empty-clause-err : goal.returns-else-is_empty-clause-err
 returns-else-is_empty-clause-err g c =
-    let s = c.args.host.now in
-    let after = c.answer_kept-in-Ok-false.new.host in
+    let s = c.args.guard.now in
+    let after = c.answer_kept-in-Ok-false.new.guard in
     let kept = c.as_slice-in-Ok-false.result.now in
     let heard = subst (λ (k : List ℕ). IsHeard g.P.Port.goes c.args.port.now c.read_line.new.port false k)
     (sym c.as_slice-in-Ok-false.ensures.value)

@@ -8,10 +8,10 @@ use Rattle.pm_session.proofs.talk.converse.Goals as goal
 pub turns-preserved : goal.turns-preserved
 turns-preserved g c =
     let (lines, all, counted, held, going) = c.turns.invariant in
-    let turned = subst (λ (more : Bool). (things : List Happening) × IsTurn c.turns.host c.answer_next.new.host more things
+    let turned = subst (λ (more : Bool). (things : List Happening) × IsTurn c.turns.guard c.answer_next.new.guard more things
     × g.P.Port.goes c.turns.port things c.answer_next.new.port) c.in-Ok-true.field-0-test c.in-Ok-true.ensures.ok in
     let (things, (line, is, happened, after), went) = turned in
-    let s = c.args.host.now in (
+    let s = c.args.guard.now in (
       lines ++ line ∷ [],
       lines-more lines line all is,
       omega (arith, length-append lines (line ∷ []), counted),

@@ -7,4 +7,4 @@ use Rattle.pm_session.proofs.talk.converse.Given as goal
 abbrev pub invariant-turns : goal.invariant-turns
 invariant-turns g l =
     (lines : List (List ℕ)) × (list_all is_line lines ≡ true) × (length lines ≡ l._turn)
-    × (l.host ≡ after_lines l.fn.host lines) × g.P.Port.goes l.fn.port (talk l.fn.host lines) l.port
+    × (l.guard ≡ after_lines l.fn.guard lines) × g.P.Port.goes l.fn.port (talk l.fn.guard lines) l.port

@@ -2,7 +2,6 @@ use Rattle.std.proofs.Common.{◌≡◌}
 use Rattle.pm_num.specs.AnyFormat.{shape_of}
 use Rattle.pm_table.specs.declared.reg.Reg.{Reg}
 use Rattle.pm_limits.specs.declared.ends.OutputEnds.{OutputEnds}
-use Rattle.pm_limits.specs.declared.side.Side.{Side}
 use Rattle.pm_limits.specs.Band.{known_of, word_end}
 use Rattle.pm_limits.specs.OutputEnds.{end_in, word_on}
 use Rattle.pm_limits.specs.Lemmas.Selected.{each-selected}
