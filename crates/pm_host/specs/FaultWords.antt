@@ -4,6 +4,8 @@ use Rattle.std.specs.Prelude.{ℕ, List, codes}
 use Rattle.pm_num.specs.FaultWords.{num_fault_number, num_fault_words}
 use Rattle.pm_host.specs.declared.fault.HostFault.{HostFault}
 use Rattle.pm_host.specs.declared.fault.HostFault.TheVariants.{OutputCount, Passes, Busy, UnknownOutput, BadWord, TooUncertain, FormatUnknown, Num}
+use Rattle.pm_host.specs.declared.untold.Untold.{Untold}
+use Rattle.pm_host.specs.declared.untold.Untold.TheVariants.{NothingSent, WrongKind}
 
 -- the fault of a number is told as that
 abbrev pub host_fault_words : HostFault → List ℕ
@@ -26,3 +28,8 @@ host_fault_number BadWord = 5
 host_fault_number TooUncertain = 6
 host_fault_number FormatUnknown = 7
 host_fault_number (Num fault) = num_fault_number fault
+
+-- why a host can't be told what became of a frame
+abbrev pub untold_words : Untold → List ℕ
+untold_words NothingSent = codes "S2 NothingSent"
+untold_words WrongKind = codes "S3 WrongKind"

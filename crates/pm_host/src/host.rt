@@ -6,6 +6,7 @@ ghost use Rattle.pm_table.specs.Address.{IsAddress};
 ghost use Rattle.pm_table.specs.Cell.{IsCell};
 ghost use Rattle.pm_host.specs.Ended.{StepTells};
 ghost use Rattle.pm_host.specs.Frames.{frames_left};
+ghost use Rattle.pm_host.specs.Image.{listing};
 ghost use Rattle.pm_host.specs.Jobs.{Begins};
 ghost use Rattle.pm_host.specs.Messages.{IsFrameOf};
 ghost use Rattle.pm_host.specs.Refusals.{IsSetup, setup_fault, may_come, sends_read};
@@ -294,6 +295,15 @@ impl Host {
         ensures { result ≡ possible_at self.now cell }
     {
         self.state.known.possible(cell).possible()
+    }
+
+    /// The words of `possible`, without a copy of them; `None` where the cell may hold any word. The cell's output is there.
+    pub fn listed(&self, cell: Cell) -> Option<&[u16]>
+        requires { IsCell self.now.setup.outputs cell }
+        ensures { MatchOption result (possible_at self.now cell ≡ Possible.Any)
+            (λ words. possible_at self.now cell ≡ listing words.now) }
+    {
+        self.state.known.possible(cell).listed()
     }
 
     /// The format of an output's voltages, which the last learn of it found; `None` where none did since

@@ -60,6 +60,7 @@ mod state;
 mod step;
 mod told;
 mod turn;
+mod untold;
 mod words_image;
 
 pub use command::Command;
@@ -84,4 +85,5 @@ pub use state::{State, nearest_word};
 pub use step::Step;
 pub use told::Told;
 pub use turn::Turn;
+pub use untold::Untold;
 pub use words_image::WordsImage;

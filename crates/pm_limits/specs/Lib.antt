@@ -5,5 +5,5 @@ pub mod Ends
 pub mod FaultWords
 pub mod Guard
 pub mod Laws
-pub mod Selectable
+pub mod OutputEnds
 pub mod Lemmas

@@ -1,10 +1,13 @@
 ghost use Rattle.std.specs.Prelude.{◌≡◌, ◌<◌};
 ghost use Rattle.pm_num.specs.AnyFormat.{shape_of};
+ghost use Rattle.pm_table.specs.declared.cell.Cell.TheVariants.{Out};
+ghost use Rattle.pm_table.specs.declared.reg.Reg.TheVariants.{Operation};
+ghost use Rattle.pm_host.specs.Summary.{possible_at};
 ghost use Rattle.pm_limits.specs.Band.{band_at, band_on as spec_band_on, band_with, known_of, operations as spec_operations};
 
-use crate::ends::end_with;
+use crate::ends::OutputEnds;
 use crate::side::Side;
-use pm_host::{Host, Possible};
+use pm_host::Host;
 use pm_num::{AnyFormat, Frac};
 use pm_table::{Cell, Reg};
 
@@ -33,8 +36,7 @@ pub fn band_of(host: &Host, output: u8) -> Option<Band>
 {
     match host.format(output) {
         Some(format) => {
-            let operation = host.possible(Cell::Out(output, Reg::Operation));
-            Some(band_in(&format, host, output, operations(&operation)))
+            Some(band_in(&format, host, output, operations(host, output)))
         }
         None => None,
     }
@@ -56,18 +58,20 @@ fn band_in(format: &AnyFormat, host: &Host, output: u8, bytes: &[u16]) -> Band
     requires { output < host.now.setup.outputs }
     ensures { result ≡ band_with (shape_of format.now) (known_of host.now output) bytes.now }
 {
+    let ends = OutputEnds::of(format, host, output);
     Band {
-        least: end_with(Side::Lowest, format, host, output, bytes),
-        greatest: end_with(Side::Highest, format, host, output, bytes),
+        least: ends.reached(Side::Lowest, format, bytes),
+        greatest: ends.reached(Side::Highest, format, bytes),
     }
 }
 
-// The bytes that OPERATION may be, as far as it matters.
-fn operations(possible: &Possible) -> &[u16]
-    ensures { result.now ≡ spec_operations possible.now }
+// The bytes that an output's OPERATION may be, as far as it matters.
+fn operations(host: &Host, output: u8) -> &[u16]
+    requires { output < host.now.setup.outputs }
+    ensures { result.now ≡ spec_operations (possible_at host.now (Out output Operation)) }
 {
-    match possible {
-        Possible::Any => &EACH_SELECTION,
-        Possible::Words(words) => words.as_slice(),
+    match host.listed(Cell::Out(output, Reg::Operation)) {
+        Some(bytes) => bytes,
+        None => &EACH_SELECTION,
     }
 }

@@ -2,13 +2,17 @@
 
 ghost use Rattle.std.specs.Prelude.{◌≡◌, ◌<◌, ℕ};
 ghost use Rattle.pm_num.specs.AnyFormat.{any_value, shape_of};
+ghost use Rattle.pm_table.specs.declared.reg.Reg.TheVariants.{VoutMax, VoutMin};
+ghost use Rattle.pm_table.specs.Cell.{IsCell};
+ghost use Rattle.pm_host.specs.Summary.{possible_at};
 ghost use Rattle.pm_model.specs.Commanded.{limited as spec_limited, selected_register};
-ghost use Rattle.pm_limits.specs.Band.{end_with as spec_end_with, known_of, word_end};
-ghost use Rattle.pm_limits.specs.Ends.{candidates as spec_candidates, end_of as spec_end_of, farthest as spec_farthest, farthest_of as spec_farthest_of, is_farther as spec_is_farther};
-ghost use Rattle.pm_limits.specs.Selectable.{end_in, selected_value};
+ghost use Rattle.pm_limits.specs.Band.{known_of, word_end};
+ghost use Rattle.pm_limits.specs.Ends.{candidates as spec_candidates, farthest as spec_farthest, farthest_of as spec_farthest_of, is_farther as spec_is_farther};
+ghost use Rattle.pm_limits.specs.OutputEnds.{end_in, selected_value, word_on};
+ghost use Rattle.pm_limits.specs.declared.side.Side.{Side};
 
 use crate::side::Side;
-use pm_host::{Host, Possible};
+use pm_host::Host;
 use pm_num::{AnyFormat, Frac, NumFormat};
 use pm_table::{Cell, Operation, Reg};
 
@@ -19,81 +23,93 @@ static ULINEAR16_ENDS: [u16; 2] = [0x0000, 0xFFFF];
 
 static DIRECT_ENDS: [u16; 2] = [0x7FFF, 0x8000];
 
-/// The word of each register that a byte of OPERATION may select, of those that it may hold, whose value lies
-/// farthest out on a side.
+/// The two words of a register, of those that it may hold, whose values lie farthest out.
 #[derive(Clone, Copy)]
-struct Selectable {
-    command: u16,
-    high: u16,
-    low: u16,
+struct WordEnds {
+    lowest: u16,
+    highest: u16,
 }
 
-/// How far out on a side an output may command, with one of these bytes in OPERATION. The output is there.
-#[tactic(auto, unfolding(crate::specs::Band::end_with))]
-pub(crate) fn end_with(
-    side: Side,
-    format: &AnyFormat,
-    host: &Host,
-    output: u8,
-    bytes: &[u16],
-) -> Frac
-    requires { output < host.now.setup.outputs }
-    ensures { result
-        ≡ spec_end_with side (shape_of format.now) (known_of host.now output) bytes.now }
-{
-    let ends = Selectable::of(side, format, host, output);
-    let selected = ends.word(ends.farthest(side, format, bytes));
-    let least = end_at(side, format, host, output, Reg::VoutMin);
-    let greatest = end_at(side, format, host, output, Reg::VoutMax);
-    limited(format, selected, least, greatest)
+/// Those of each register of an output that decides its voltage. Each register's words are looked at once, whatever is
+/// asked of them.
+#[derive(Clone, Copy)]
+pub(crate) struct OutputEnds {
+    command: WordEnds,
+    high: WordEnds,
+    low: WordEnds,
+    min: WordEnds,
+    max: WordEnds,
 }
 
-// The word of an output's voltage, of those that it may hold, whose value lies farthest out.
-fn end_at(side: Side, format: &AnyFormat, host: &Host, output: u8, register: Reg) -> u16
-    requires { output < host.now.setup.outputs }
-    ensures { result ≡ word_end side (shape_of format.now) (known_of host.now output) register }
-{
-    end_of(side, format, &host.possible(Cell::Out(output, register)))
-}
-
-impl Selectable {
-    // The ends of what an output's registers may hold.
-    fn of(side: Side, format: &AnyFormat, host: &Host, output: u8) -> Selectable
-        requires { output < host.now.setup.outputs }
-        ensures { (byte : ℕ) → end_in result (selected_register byte)
-            ≡ word_end side (shape_of format.now) (known_of host.now output) (selected_register byte) }
+impl WordEnds {
+    // The word on one side.
+    fn on(self, side: Side) -> u16
+        ensures { result ≡ word_on side self }
     {
-        Selectable {
-            command: end_at(side, format, host, output, Reg::VoutCommand),
-            high: end_at(side, format, host, output, Reg::MarginHigh),
-            low: end_at(side, format, host, output, Reg::MarginLow),
+        match side {
+            Side::Lowest => self.lowest,
+            Side::Highest => self.highest,
         }
+    }
+}
+
+impl OutputEnds {
+    /// The ends of what an output's registers may hold. The output is there.
+    pub(crate) fn of(format: &AnyFormat, host: &Host, output: u8) -> OutputEnds
+        requires { output < host.now.setup.outputs }
+        ensures selected { (side : Side) (byte : ℕ) →
+            word_on side (end_in result (selected_register byte))
+            ≡ word_end side (shape_of format.now) (known_of host.now output) (selected_register byte) }
+        ensures least { (side : Side) → word_on side result.min
+            ≡ word_end side (shape_of format.now) (known_of host.now output) VoutMin }
+        ensures greatest { (side : Side) → word_on side result.max
+            ≡ word_end side (shape_of format.now) (known_of host.now output) VoutMax }
+    {
+        OutputEnds {
+            command: ends_at(format, host, output, Reg::VoutCommand),
+            high: ends_at(format, host, output, Reg::MarginHigh),
+            low: ends_at(format, host, output, Reg::MarginLow),
+            min: ends_at(format, host, output, Reg::VoutMin),
+            max: ends_at(format, host, output, Reg::VoutMax),
+        }
+    }
+
+    /// How far out on a side the output may command, with one of these bytes in OPERATION.
+    pub(crate) fn reached(&self, side: Side, format: &AnyFormat, bytes: &[u16]) -> Frac
+        ensures { let value = any_value format.now in
+            let selected = selected_value side value self.now in
+            result ≡ spec_limited (selected (spec_farthest_of side selected bytes.now))
+            (value (word_on side self.now.min)) (value (word_on side self.now.max)) }
+    {
+        let selected = self.word(side, self.farthest(side, format, bytes));
+        limited(format, selected, self.min.on(side), self.max.on(side))
     }
 
     // The end of the register that a byte of OPERATION selects.
-    fn word(&self, byte: u16) -> u16
-        ensures { result ≡ end_in self.now (selected_register byte) }
+    fn word(&self, side: Side, byte: u16) -> u16
+        ensures { result ≡ word_on side (end_in self.now (selected_register byte)) }
     {
-        match Operation::selected_register(byte) {
+        let ends = match Operation::selected_register(byte) {
             Reg::MarginHigh => self.high,
             Reg::MarginLow => self.low,
             _ => self.command,
-        }
+        };
+        ends.on(side)
     }
 
     // Whether the register that the other byte selects has the farther end.
-    #[tactic(auto, unfolding(crate::specs::Selectable::selected_value))]
+    #[tactic(auto, unfolding(crate::specs::OutputEnds::selected_value))]
     fn is_farther(&self, side: Side, format: &AnyFormat, byte: u16, other: u16) -> bool
-        ensures { let value = selected_value (any_value format.now) self.now in
+        ensures { let value = selected_value side (any_value format.now) self.now in
             result ≡ spec_is_farther side (value byte) (value other) }
     {
-        side.is_farther(format, self.word(byte), self.word(other))
+        side.is_farther(format, self.word(side, byte), self.word(side, other))
     }
 
     // The byte of several whose selected register has the farthest end; 0 where there is none.
     fn farthest(&self, side: Side, format: &AnyFormat, bytes: &[u16]) -> u16
         ensures { result
-            ≡ spec_farthest_of side (selected_value (any_value format.now) self.now) bytes.now }
+            ≡ spec_farthest_of side (selected_value side (any_value format.now) self.now) bytes.now }
     {
         match bytes.split_first() {
             Some((first, rest)) => self.farthest_from(side, format, *first, rest),
@@ -104,7 +120,7 @@ impl Selectable {
     // The same of a byte and others.
     fn farthest_from(&self, side: Side, format: &AnyFormat, first: u16, others: &[u16]) -> u16
         ensures { result
-            ≡ spec_farthest side (selected_value (any_value format.now) self.now) first others.now }
+            ≡ spec_farthest side (selected_value side (any_value format.now) self.now) first others.now }
     {
         let mut farthest = first;
         for byte in others {
@@ -113,6 +129,19 @@ impl Selectable {
             }
         }
         farthest
+    }
+}
+
+// The words of an output's voltage, of those that it may hold, whose values lie farthest out.
+fn ends_at(format: &AnyFormat, host: &Host, output: u8, register: Reg) -> WordEnds
+    requires { output < host.now.setup.outputs }
+    ensures { (side : Side) → word_on side result
+        ≡ word_end side (shape_of format.now) (known_of host.now output) register }
+{
+    let words = candidates(format, host, Cell::Out(output, register));
+    WordEnds {
+        lowest: farthest(Side::Lowest, format, words),
+        highest: farthest(Side::Highest, format, words),
     }
 }
 
@@ -132,20 +161,14 @@ fn limited(format: &AnyFormat, selected: u16, least: u16, greatest: u16) -> Frac
     }
 }
 
-// The word of a voltage, of those that it may hold, whose value lies farthest out.
-fn end_of(side: Side, format: &AnyFormat, possible: &Possible) -> u16
-    ensures { result ≡ spec_end_of side (shape_of format.now) (any_value format.now) possible.now }
-{
-    farthest(side, format, candidates(format, possible))
-}
-
 // The words among which those that a voltage may hold reach farthest.
-fn candidates<'a>(format: &AnyFormat, possible: &'a Possible) -> &'a [u16]
-    ensures { result.now ≡ spec_candidates (shape_of format.now) possible.now }
+fn candidates<'a>(format: &AnyFormat, host: &'a Host, cell: Cell) -> &'a [u16]
+    requires { IsCell host.now.setup.outputs cell }
+    ensures { result.now ≡ spec_candidates (shape_of format.now) (possible_at host.now cell) }
 {
-    match possible {
-        Possible::Words(words) => words.as_slice(),
-        Possible::Any => match format {
+    match host.listed(cell) {
+        Some(words) => words,
+        None => match format {
             AnyFormat::Linear11 => &LINEAR11_ENDS,
             AnyFormat::Ulinear16(_) => &ULINEAR16_ENDS,
             AnyFormat::Direct(_) => &DIRECT_ENDS,

@@ -29,8 +29,11 @@ impl AnyFormat {
         ensures { result ≡ is_above (any_value self.now word) (any_value self.now other) }
     {
         match self {
+            AnyFormat::Linear11 => {
+                self.value_of(word).cmp_value(&self.value_of(other)) == Ordering::Greater
+            }
             AnyFormat::Ulinear16(format) => format.is_above(word, other),
-            _ => self.value_of(word).cmp_value(&self.value_of(other)) == Ordering::Greater,
+            AnyFormat::Direct(format) => format.is_above(word, other),
         }
     }
 }

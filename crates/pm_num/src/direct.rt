@@ -3,6 +3,7 @@
 ghost use Rattle.std.specs.Prelude.{◌≡◌, ◌≢◌, ◌*◌, ◌^◌, ◌≤◌, ◌↔◌, ◌≤ℤ◌, ◌*ℤ◌, ◌-ℤ◌, pos, neg_ℤ, unsigned_abs, IsOk, IfOk, Err};
 ghost use Rattle.pm_num.specs.Value.{upper, lower, signed, sign, direct_value, direct_least, direct_greatest};
 ghost use Rattle.pm_num.specs.Nearest.{one_rank};
+ghost use Rattle.pm_num.specs.Ratio.{is_above};
 ghost use Rattle.pm_num.specs.Steps.{direct_spacing};
 ghost use Rattle.pm_num.specs.Formats.{IsDecimal};
 ghost use Rattle.pm_num.specs.declared.fault.NumFault.TheVariants.{ZeroSlope, ExponentRange};
@@ -57,6 +58,16 @@ impl Direct {
             return Err(NumFault::ExponentRange);
         }
         Ok(Direct { m, b, r })
+    }
+
+    /// Whether the value of `word` is greater than that of `other`: in two's complement the greater word has the greater
+    /// value, or with a slope below 0 the lesser one.
+    pub fn is_above(&self, word: u16, other: u16) -> bool
+        ensures { result ≡ is_above (direct_value self.now.m self.now.b self.now.r word)
+            (direct_value self.now.m self.now.b self.now.r other) }
+    {
+        let (y, z) = (word.cast_signed(), other.cast_signed());
+        if self.m < 0 { y < z } else { z < y }
     }
 
     // `z` times the sign of the slope.

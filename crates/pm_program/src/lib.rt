@@ -12,7 +12,7 @@ mod text_faults;
 mod usage;
 
 pub use arguments::{texts_of, words_of};
-pub use options::{VERSION, given_text, text_of, with_option};
+pub use options::{VERSION, all_texts_of, given_text, text_of, with_option, with_repeated};
 pub use refusals::{misuse, refuse_arguments, refuse_memory, say};
 pub use text_faults::say_fault;
 pub use usage::{Usage, usage_of};

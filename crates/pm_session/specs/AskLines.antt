@@ -2,15 +2,16 @@
 -- scenario, by the same readers. This project's own choice.
 use Rattle.std.specs.Prelude.{ℕ, nat_le, nat_lt, if◌then◌else◌, List, [], ◌∷◌, length, Option, Some, None, option_map, option_and_then, Result, Ok, Err, codes}
 use Rattle.pm_lines.specs.Bytes.{bytes_before}
+use Rattle.pm_lines.specs.Digits.{signed_of, small_of}
 use Rattle.pm_lines.specs.Lines.{without_return}
 use Rattle.pm_text.specs.EventLines.{cell, finish_rest, job_lines}
 use Rattle.pm_text.specs.Kinds.{frame_bytes}
-use Rattle.pm_text.specs.Readers.{◌>>=◌, Field, gives, line_as, lines_into, made_into, one_of, or_fault}
+use Rattle.pm_text.specs.Readers.{◌>>=◌, Field, field, gives, line_as, lines_into, made_into, one_of, or_fault}
 use Rattle.pm_text.specs.declared.form.Form.TheVariants.{Second}
 use Rattle.pm_text.specs.declared.scenario.fault.ScenarioFault.{ScenarioFault}
 use Rattle.pm_text.specs.declared.scenario.fault.ScenarioFault.TheVariants as fault
 use Rattle.pm_session.specs.declared.ask.Ask.{Ask}
-use Rattle.pm_session.specs.declared.ask.Ask.TheVariants.{Job, Finished, Got, Sending, Restart, State, Seen}
+use Rattle.pm_session.specs.declared.ask.Ask.TheVariants.{Job, Finished, Got, Sending, Restart, State, Seen, Band, Limits, Narrow}
 use Rattle.pm_session.specs.declared.refusal.Refusal.{Refusal}
 use Rattle.pm_session.specs.declared.refusal.Refusal.TheVariants.{Syntax, BadHex, TooLong}
 
@@ -45,6 +46,25 @@ state_rest = do
   named ← cell Second
   gives (State named)
 
+-- `O`
+unfoldable pub band_rest : Field Ask
+band_rest = do
+  output ← field fault.Syntax small_of
+  gives (Band output)
+
+unfoldable pub limits_rest : Field Ask
+limits_rest = do
+  output ← field fault.Syntax small_of
+  gives (Limits output)
+
+-- `O LEAST MOST`, both in microvolts
+unfoldable pub narrow_rest : Field Ask
+narrow_rest = do
+  output ← field fault.Syntax small_of
+  least ← field fault.Syntax (signed_of 64)
+  most ← field fault.Syntax (signed_of 64)
+  gives (Narrow output least most)
+
 -- a line: its first word, and the words that follow it
 unfoldable pub ask_line : Field Ask
 ask_line = one_of (
@@ -53,7 +73,10 @@ ask_line = one_of (
     (codes "sending", gives Sending) ∷
     (codes "restart", gives Restart) ∷
     (codes "state", state_rest) ∷
-    (codes "seen", gives Seen) ∷ jobs)
+    (codes "seen", gives Seen) ∷
+    (codes "band", band_rest) ∷
+    (codes "limits", limits_rest) ∷
+    (codes "narrow", narrow_rest) ∷ jobs)
 
 -- the most bytes that a line may have before its line feed
 abbrev pub max_line : ℕ

@@ -4,7 +4,7 @@ use Rattle.std.specs.Prelude.{◌≡◌, ◌⊎◌, ℕ, List, [], Result, Ok, E
 use Rattle.std.specs.declared.io.ErrorKind.{ErrorKind as IoKind}
 use Rattle.clap.specs.Words.{IsAmong, Text, fault_of, matches_of}
 use Rattle.clap.specs.declared.error.kind.ErrorKind.{ErrorKind}
-use Rattle.pm_host.specs.Summary.{Summary}
+use Rattle.pm_limits.specs.Guard.{Guarded}
 use Rattle.pm_program.specs.Refusals.{no_words, no_words_status}
 use Rattle.pm_session.specs.Options.{HasTexts, pmbhost, start_fault_words, start_of, start_status}
 use Rattle.pm_session.specs.Speaking.{spoken}
@@ -19,8 +19,8 @@ name = codes "pmbhost"
 
 module _ {P E : Type 0} (goes : P → List Happening → P → Type 0) (run : Run P E) where
   -- how a run ends whose options make this host, or none
-  abbrev pub ServeEnds : ℕ → Result Summary StartFault → Type 0
-  ServeEnds status (Ok s) = TalkEnds goes run name spoken status (record { host = s })
+  abbrev pub ServeEnds : ℕ → Result Guarded StartFault → Type 0
+  ServeEnds status (Ok s) = TalkEnds goes run name spoken status (record { guard = s })
   ServeEnds status (Err fault) =
       (status ≡ start_status fault) × IsQuiet goes run × Refuses goes run name (start_fault_words fault)
 

@@ -1,25 +1,27 @@
 -- The line that an answer is written as. This project's own choice.
-use Rattle.std.specs.Prelude.{ℕ, Bool, if◌then◌else◌, List, ◌++◌, flat_map, codes, decimal}
-use Rattle.pm_host.specs.FaultWords.{host_fault_words}
-use Rattle.pm_world.specs.FaultWords.{cause_words}
-use Rattle.pm_world.specs.declared.cause.Cause.TheVariants as cause
+use Rattle.std.specs.Prelude.{ℕ, ℤ, neg_ℤ, Bool, if◌then◌else◌, List, ◌++◌, Option, Some, None, flat_map, codes, decimal}
+use Rattle.std.specs.Fmt.{signed_decimal}
+use Rattle.pm_num.specs.Ratio.{Ratio}
+use Rattle.pm_host.specs.FaultWords.{untold_words}
+use Rattle.pm_limits.specs.declared.band.Band.{Band as Voltages}
+use Rattle.pm_limits.specs.Bounds.{Bounds}
+use Rattle.pm_limits.specs.FaultWords.{limit_fault_words}
 use Rattle.pm_lines.specs.Faults.{fault_words}
 use Rattle.pm_lines.specs.Numbers.{hex_byte}
 use Rattle.pm_lines.specs.declared.fault.TextFault.TheVariants as text
-use Rattle.pm_text.specs.Report.{end_text, possible_text, standing_text}
+use Rattle.pm_text.specs.Report.{end_text, floor_micros, possible_text, standing_text}
 use Rattle.pm_session.specs.declared.refusal.Refusal.{Refusal}
-use Rattle.pm_session.specs.declared.refusal.Refusal.TheVariants.{Syntax, BadHex, TooLong, NothingSent, WrongKind, Host}
+use Rattle.pm_session.specs.declared.refusal.Refusal.TheVariants.{Syntax, BadHex, TooLong, Untold, Guard}
 use Rattle.pm_session.specs.declared.reply.Reply.{Reply}
-use Rattle.pm_session.specs.declared.reply.Reply.TheVariants.{Write, Request, Idle, Ended, Restarted, State, Seen, Refused}
+use Rattle.pm_session.specs.declared.reply.Reply.TheVariants.{Write, Request, Idle, Ended, Restarted, State, Seen, Band, Limits, Narrowed, Refused}
 
--- the letter and the name of a refusal: those of texts, of what may happen in a world, of the host
+-- the letter and the name of a refusal: those of texts, of what a host can be told, of limits and of the host
 abbrev pub refusal_words : Refusal → List ℕ
 refusal_words Syntax = fault_words (text.Syntax 1)
 refusal_words BadHex = fault_words (text.BadHex 1)
 refusal_words TooLong = fault_words text.TooLong
-refusal_words NothingSent = cause_words cause.NothingSent
-refusal_words WrongKind = cause_words cause.WrongKind
-refusal_words (Host fault) = host_fault_words fault
+refusal_words (Untold fault) = untold_words fault
+refusal_words (Guard fault) = limit_fault_words fault
 
 -- bytes in hexadecimal, a space before each
 abbrev pub spaced_bytes : List ℕ → List ℕ
@@ -27,6 +29,23 @@ spaced_bytes bytes = flat_map (λ byte. codes " " ++ hex_byte byte) bytes
 
 abbrev pub seen_text : Bool → List ℕ
 seen_text seen = if seen then codes "yes" else codes "no"
+
+-- the whole microvolts of a value: the least that aren't below it
+unfoldable pub ceil_micros : Ratio → ℤ
+ceil_micros value = neg_ℤ (floor_micros (record { num = neg_ℤ value.num; den = value.den }))
+
+-- two numbers, a space before each
+abbrev pub spaced_pair : ℤ → ℤ → List ℕ
+spaced_pair first second = codes " " ++ (signed_decimal first ++ (codes " " ++ signed_decimal second))
+
+-- a band in whole microvolts, which no end of it lies beyond
+abbrev pub band_text : Option Voltages → List ℕ
+band_text (Some band) = spaced_pair (floor_micros band.least) (ceil_micros band.greatest)
+band_text None = codes " unknown"
+
+abbrev pub limits_text : Option Bounds → List ℕ
+limits_text (Some bounds) = spaced_pair bounds.least bounds.most
+limits_text None = codes " none"
 
 -- the words of an answer
 unfoldable pub reply_words : Reply → List ℕ
@@ -39,6 +58,9 @@ reply_words Restarted = codes "restarted"
 reply_words (State cell standing possible) =
     codes "state " ++ (standing_text cell standing ++ (codes " possible" ++ possible_text cell possible))
 reply_words (Seen seen) = codes "seen " ++ seen_text seen
+reply_words (Band band) = codes "band" ++ band_text band
+reply_words (Limits limits) = codes "limits" ++ limits_text limits
+reply_words Narrowed = codes "narrowed"
 reply_words (Refused refusal) = codes "refused " ++ refusal_words refusal
 
 -- the line

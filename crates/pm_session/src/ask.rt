@@ -20,4 +20,17 @@ pub enum Ask {
     State(Cell),
     /// `seen`: whether a restart of the device was seen.
     Seen,
+    /// `band O`: between which voltages an output may be.
+    Band(u8),
+    /// `limits O`: an output's limits.
+    Limits(u8),
+    /// `narrow O LEAST MOST`: to give an output narrower limits, in microvolts.
+    Narrow {
+        /// The output.
+        output: u8,
+        /// The least voltage.
+        least: i64,
+        /// The most.
+        most: i64,
+    },
 }

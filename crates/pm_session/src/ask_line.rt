@@ -1,7 +1,7 @@
 //! The lines that are said to a host.
 ghost use Rattle.std.specs.Prelude.{◌≡◌, ◌≤◌, length, option_map};
 ghost use Rattle.pm_text.specs.Readers.{Reads, line_as, one_of};
-ghost use Rattle.pm_session.specs.AskLines.{ask_line, ask_of, finished_rest, got_rest, jobs, state_rest};
+ghost use Rattle.pm_session.specs.AskLines.{ask_line, ask_of, band_rest, finished_rest, got_rest, jobs, limits_rest, narrow_rest, state_rest};
 
 use crate::ask::Ask;
 use crate::refusal::Refusal;
@@ -59,6 +59,12 @@ fn read_words(fields: &mut Fields<'_>) -> Result<Ask, ScenarioFault>
         state(fields)
     } else if fields.takes("seen") {
         Ok(Ask::Seen)
+    } else if fields.takes("band") {
+        band(fields)
+    } else if fields.takes("limits") {
+        limits(fields)
+    } else if fields.takes("narrow") {
+        narrow(fields)
     } else {
         job(fields)
     }
@@ -89,6 +95,39 @@ fn state(fields: &mut Fields<'_>) -> Result<Ask, ScenarioFault>
 {
     let cell = read_cell(Form::Second, fields)?;
     Ok(Ask::State(cell))
+}
+
+// `band O`.
+#[tactic(auto, unfolding(crate::specs::AskLines::band_rest))]
+fn band(fields: &mut Fields<'_>) -> Result<Ask, ScenarioFault>
+    ensures { Reads result fields.new (band_rest fields.old) }
+{
+    let output = fields.small_number()?;
+    Ok(Ask::Band(output))
+}
+
+// `limits O`.
+#[tactic(auto, unfolding(crate::specs::AskLines::limits_rest))]
+fn limits(fields: &mut Fields<'_>) -> Result<Ask, ScenarioFault>
+    ensures { Reads result fields.new (limits_rest fields.old) }
+{
+    let output = fields.small_number()?;
+    Ok(Ask::Limits(output))
+}
+
+// `narrow O LEAST MOST`.
+#[tactic(auto, unfolding(crate::specs::AskLines::narrow_rest))]
+fn narrow(fields: &mut Fields<'_>) -> Result<Ask, ScenarioFault>
+    ensures { Reads result fields.new (narrow_rest fields.old) }
+{
+    let output = fields.small_number()?;
+    let least = fields.signed_64()?;
+    let most = fields.signed_64()?;
+    Ok(Ask::Narrow {
+        output,
+        least,
+        most,
+    })
 }
 
 // `got HEX ..`: the bytes of all words that are left.

@@ -123,12 +123,12 @@ fn serve_host<P: Port, E: Write>(options: &Options<'_>, port: &mut P, errors: &m
       errors' = errors.new;
     } in ServeEnds P.goes run result (start_of options.now) }
 {
-    let host = match options.start() {
-        Ok(host) => host,
+    let guard = match options.start() {
+        Ok(guard) => guard,
         Err(fault) => {
             say(errors, NAME, fault.words());
             return fault.status();
         }
     };
-    serve(&mut Session { host }, NAME, port, errors)
+    serve(&mut Session { guard }, NAME, port, errors)
 }

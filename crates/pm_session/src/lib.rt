@@ -22,7 +22,7 @@ mod speaking;
 pub use ask::Ask;
 pub use ask_line::read_ask;
 pub use execution::{program, run};
-pub use options::{Options, StartFault};
+pub use options::{Options, OutputLimits, StartFault};
 pub use refusal::Refusal;
 pub use reply::Reply;
 pub use reply_text::{ReplyText, reply_text as text_of};

@@ -1,19 +1,22 @@
-//! The command line of `pmbhost`, by the rules of `clap`, and the host that its options make. The options
+//! The command line of `pmbhost`, by the rules of `clap`, and the host with limits that its options make. The options
 //! are optional for the parser: which texts they may have is for `Options::start` to judge.
-ghost use Rattle.std.specs.Prelude.{◌≡◌, IfErr, IfOk, IfSome, MatchResult, Err, Ok, codes, true};
+ghost use Rattle.std.specs.Prelude.{◌≡◌, IfErr, IfOk, IfSome, MatchResult, Err, Ok, codes, map, true};
 ghost use Rattle.clap.specs.Walk.{texts};
 ghost use Rattle.clap.specs.Words.{FailsBy, app_of, fault_of, kind_of, matches_of, new_app, takes};
 ghost use Rattle.clap.specs.declared.error.kind.ErrorKind.TheVariants.{OutOfMemory};
 ghost use Rattle.pm_table.specs.Address.{IsAddress};
-ghost use Rattle.pm_session.specs.Options.{HasTexts, address_of, pmbhost, start_of, with_version};
+ghost use Rattle.pm_session.specs.Options.{HasTexts, address_of, limited, limited_once, limits_of, pmbhost, start_of, with_version};
 
+mod limit_text;
 mod start_fault;
 
 use clap::{Command, Error};
-use pm_host::Host;
+use limit_text::read_limits;
+use pm_limits::Guard;
 use pm_lines::{read_byte, read_u8};
-use pm_program::{VERSION, text_of, with_option};
+use pm_program::{VERSION, all_texts_of, text_of, with_option, with_repeated};
 use pm_table::address_ok;
+pub use limit_text::OutputLimits;
 pub use start_fault::StartFault;
 use std::alloc::{AllocError, Global};
 
@@ -31,7 +34,10 @@ const LINES: &str = "Each line of standard input gets one line at once. A line s
   sending                        say again what is to be sent
   state 0 VOUT_COMMAND           what is known of a setting; state - WRITE_PROTECT
   seen                           whether a restart of the device was seen
-  restart                        forget all
+  band 0                         between which voltages an output may be, after learn
+  limits 0                       the limits of an output, in microvolts
+  narrow 0 3200000 3465000       give an output narrower limits, or its first ones
+  restart                        forget all but the limits
 An answer says:
   send B0 05 04 00 21 CD 34 5A   send this write, then say finished
   send B0 06 02 00 21 read 4     send this request, read 4 bytes behind the read address, say got
@@ -39,14 +45,17 @@ An answer says:
   idle                           nothing is to be sent
   state confirmed 34CD possible 34CD | state unknown possible 1000 34CD | state unknown possible any
   seen yes | seen no
+  band 1000000 3300049 | band unknown
+  limits 3200000 3465000 | limits none
+  narrowed
   restarted
-  refused H6 TooUncertain        nothing has changed: X1 to X3, S2, S3, H3 to H7, N3 to N5
+  refused H6 TooUncertain        nothing has changed: X1 to X3, S2, S3, H3 to H7, N3 to N5, L1 to L6
 
   $ echo 'order 0 VOUT_COMMAND 34CD' | pmbhost --address=58 --outputs=2 --passes=2
   send B0 05 04 00 21 CD 34 5A";
 
 /// The texts of the options, empty for one that isn't used.
-#[derive(Clone, Copy, Debug)]
+#[derive(Debug, Drop)]
 pub struct Options<'a> {
     /// `--address`: the device's address, two hexadecimal digits.
     pub address: &'a str,
@@ -54,6 +63,8 @@ pub struct Options<'a> {
     pub outputs: &'a str,
     /// `--passes`: how many passes a job has at most, 1 to 15.
     pub passes: &'a str,
+    /// Each `--limit`, in their order: `O:LEAST:MOST`, the limits of an output in microvolts.
+    pub limits: Vec<&'a str>,
 }
 
 impl<'a> Options<'a> {
@@ -76,13 +87,14 @@ impl<'a> Options<'a> {
             address: text_of(&matches, "address"),
             outputs: text_of(&matches, "outputs"),
             passes: text_of(&matches, "passes"),
+            limits: all_texts_of(alloc, &matches, "limit")?,
         })
     }
 
-    /// The host that the options make, or the first fault of them.
+    /// The host with its limits that the options make, or the first fault of them.
     #[tactic(auto, unfolding(crate::specs::Options::start_of))]
-    pub fn start(&self) -> Result<Host, StartFault>
-        ensures { MatchResult result (λ host. start_of self.now ≡ Ok host)
+    pub fn start(&self) -> Result<Guard, StartFault>
+        ensures { MatchResult result (λ guard. start_of self.now ≡ Ok guard)
             (λ fault. start_of self.now ≡ Err fault) }
     {
         let Some(address) = read_address(self.address.as_bytes()) else {
@@ -94,10 +106,40 @@ impl<'a> Options<'a> {
         let Some(passes) = read_u8(self.passes.as_bytes()) else {
             return Err(StartFault::Passes);
         };
-        match Host::new(address, outputs, passes) {
-            Ok(host) => Ok(host),
+        match Guard::new(address, outputs, passes, [None; 8]) {
+            Ok(guard) => with_limits(guard, self.limits.as_slice()),
             Err(fault) => Err(StartFault::Host(fault)),
         }
+    }
+}
+
+// The host with the limits that these texts write, each of an output that has none yet.
+fn with_limits(mut guard: Guard, texts: &[&str]) -> Result<Guard, StartFault>
+    ensures { MatchResult result (λ limits. limited (map (λ text. text.now) texts.now) guard.entry ≡ Ok limits)
+        (λ fault. limited (map (λ text. text.now) texts.now) guard.entry ≡ Err fault) }
+{
+    for text in texts {
+        if let Err(fault) = limit_once(&mut guard, text) {
+            return Err(fault);
+        }
+    }
+    Ok(guard)
+}
+
+// Gives an output the limits that a text writes, where it has none yet.
+fn limit_once(guard: &mut Guard, text: &str) -> Result<(), StartFault>
+    ensures { MatchResult result (λ _. limited_once guard.old (limits_of text.now) ≡ Ok guard.new)
+        (λ fault. limited_once guard.old (limits_of text.now) ≡ Err fault) }
+{
+    let Some(limits) = read_limits(text) else {
+        return Err(StartFault::Limit);
+    };
+    if guard.limits(limits.output).is_some() {
+        return Err(StartFault::Limit);
+    }
+    match guard.narrow(limits.output, limits.least, limits.most) {
+        Ok(()) => Ok(()),
+        Err(fault) => Err(StartFault::Limits(fault)),
     }
 }
 
@@ -128,11 +170,17 @@ fn host_command<'a>(alloc: Global) -> Result<Command<'a>, AllocError>
         ("outputs", "N"),
         "How many outputs the device has, 1 to 8",
     )?;
-    with_option(
+    let bounded = with_option(
         counted,
         alloc,
         ("passes", "N"),
         "How many passes or tries a job has at most, 1 to 15",
+    )?;
+    with_repeated(
+        bounded,
+        alloc,
+        ("limit", "O:LEAST:MOST"),
+        "The limits of an output's voltage in microvolts, once an output at most",
     )
 }
 

@@ -1,7 +1,7 @@
-use pm_host::HostFault;
+use pm_host::Untold;
+use pm_limits::LimitFault;
 use pm_lines::TextFault;
 use pm_text::ScenarioFault;
-use pm_world::Cause;
 use thiserror::Error;
 
 /// Why a line is refused. Then nothing has changed.
@@ -14,12 +14,10 @@ pub enum Refusal {
     BadHex,
     /// X3: the line has more than 256 bytes.
     TooLong,
-    /// S2: it is told what became of a frame, and none is being sent.
-    NothingSent,
-    /// S3: it is told the end of a write while a read is being sent, or an answer while a write is.
-    WrongKind,
-    /// H3 to H7 and N3 to N5: the host refuses.
-    Host(HostFault),
+    /// S2 or S3: it can't be told what became of a frame.
+    Untold(Untold),
+    /// H3 to H7, N3 to N5 and L1 to L6: the host refuses, or the limits do.
+    Guard(LimitFault),
 }
 
 impl Refusal {
@@ -34,9 +32,8 @@ impl Refusal {
             Refusal::Syntax => TextFault::Syntax(1).words(),
             Refusal::BadHex => TextFault::BadHex(1).words(),
             Refusal::TooLong => TextFault::TooLong.words(),
-            Refusal::NothingSent => Cause::NothingSent.words(),
-            Refusal::WrongKind => Cause::WrongKind.words(),
-            Refusal::Host(fault) => fault.words(),
+            Refusal::Untold(fault) => fault.words(),
+            Refusal::Guard(fault) => fault.words(),
         }
     }
 }

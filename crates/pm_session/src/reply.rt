@@ -1,6 +1,7 @@
 use crate::refusal::Refusal;
 use pm_frame::Frame;
 use pm_host::{JobEnd, Possible, Standing};
+use pm_limits::{Band, Limits};
 use pm_table::Cell;
 
 /// The answer to a line.
@@ -22,6 +23,13 @@ pub enum Reply {
     State(Cell, Standing, Possible),
     /// `seen yes` or `seen no`: whether a restart of the device was seen.
     Seen(bool),
+    /// `band 1000000 3300049`: between which voltages an output may be, in whole microvolts, the least rounded down and
+    /// the greatest up; `band unknown` where its format isn't known.
+    Band(Option<Band>),
+    /// `limits 3200000 3465000`, `limits none`: an output's limits, in microvolts.
+    Limits(Option<Limits>),
+    /// `narrowed`: an output has the limits that were given.
+    Narrowed,
     /// `refused H6 TooUncertain`: nothing has changed.
     Refused(Refusal),
 }

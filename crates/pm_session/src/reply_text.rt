@@ -1,14 +1,17 @@
 //! The line of an answer. Nothing here takes memory: the longest line has 110 bytes.
 ghost use Rattle.std.specs.Prelude.{◌≡◌, ◌+◌, ◌*◌, ◌≤◌, ◌++◌, codes, length};
+ghost use Rattle.std.specs.Fmt.{signed_decimal};
 ghost use Rattle.arrayvec.specs.ArrayVec.{array_vec_len};
-ghost use Rattle.pm_text.specs.Report.{cell_text, end_text, possible_text, spaced_words, standing_text};
-ghost use Rattle.pm_session.specs.ReplyText.{refusal_words, reply_text as spec_reply_text, reply_words, spaced_bytes};
+ghost use Rattle.pm_text.specs.Report.{cell_text, end_text, floor_micros, possible_text, spaced_words, standing_text};
+ghost use Rattle.pm_session.specs.ReplyText.{band_text, ceil_micros, limits_text, refusal_words, reply_text as spec_reply_text, reply_words, spaced_bytes, spaced_pair};
 ghost use Rattle.pm_lines.specs.Numbers.{hex_byte, hex_word};
 
 use crate::refusal::Refusal;
 use crate::reply::Reply;
 use pm_host::{JobEnd, Possible, Standing};
+use pm_limits::{Band, Limits};
 use pm_lines::hex_digits;
+use pm_num::Frac;
 use pm_table::Cell;
 use pm_talk::AnswerText;
 
@@ -63,11 +66,88 @@ fn push_reply(text: &mut ReplyText, reply: &Reply)
                 },
             );
         }
+        Reply::Band(band) => {
+            push(text, b"band");
+            push_band(text, *band);
+        }
+        Reply::Limits(limits) => {
+            push(text, b"limits");
+            push_limits(text, *limits);
+        }
+        Reply::Narrowed => push(text, b"narrowed"),
         Reply::Refused(refusal) => {
             push(text, b"refused ");
             push(text, short_words(*refusal).as_bytes());
         }
     }
+}
+
+// Appends a band.
+fn push_band(text: &mut ReplyText, band: Option<Band>)
+    requires { array_vec_len text.old + 82 ≤ 128 }
+    ensures words { text.new.items ≡ text.old.items ++ band_text band }
+    ensures room { array_vec_len text.new ≤ array_vec_len text.old + 82 }
+{
+    match band {
+        Some(band) => push_pair(text, floor_of(&band.least), ceil_of(&band.greatest)),
+        None => push(text, b" unknown"),
+    }
+}
+
+// Appends limits.
+fn push_limits(text: &mut ReplyText, limits: Option<Limits>)
+    requires { array_vec_len text.old + 82 ≤ 128 }
+    ensures words { text.new.items ≡ text.old.items ++ limits_text limits }
+    ensures room { array_vec_len text.new ≤ array_vec_len text.old + 82 }
+{
+    match limits {
+        Some(limits) => push_pair(
+            text,
+            i128::from(limits.least()),
+            i128::from(limits.most()),
+        ),
+        None => push(text, b" none"),
+    }
+}
+
+// The whole microvolts of a voltage, of which none is above it.
+fn floor_of(value: &Frac) -> i128
+    ensures { result ≡ floor_micros value.now }
+{
+    value.floor_micro()
+}
+
+// The same of which none is below it.
+fn ceil_of(value: &Frac) -> i128
+    ensures { result ≡ ceil_micros value.now }
+{
+    match Frac::new(-value.num(), value.den()) {
+        Some(below) => -floor_of(&below),
+        None => unreachable!(),
+    }
+}
+
+// Appends two numbers, with a space before each.
+#[tactic(auto, using(crate::proofs::Joins::signed_joins))]
+fn push_pair(text: &mut ReplyText, first: i128, second: i128)
+    requires { array_vec_len text.old + 82 ≤ 128 }
+    ensures words { text.new.items ≡ text.old.items ++ spaced_pair first second }
+    ensures room { array_vec_len text.new ≤ array_vec_len text.old + 82 }
+{
+    push_number(text, first);
+    push_number(text, second);
+}
+
+// Appends a number, with a space before it.
+#[tactic(auto, using(crate::proofs::Joins::signed_joins))]
+fn push_number(text: &mut ReplyText, number: i128)
+    requires { array_vec_len text.old + 41 ≤ 128 }
+    ensures words { text.new.items ≡ text.old.items ++ (codes " " ++ signed_decimal number) }
+    ensures room { array_vec_len text.new ≤ array_vec_len text.old + 41 }
+{
+    let mut digits = itoa::Buffer::new();
+    push(text, b" ");
+    push(text, digits.format(number).as_bytes());
 }
 
 // The words of a refusal, which are short.

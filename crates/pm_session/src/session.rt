@@ -1,106 +1,118 @@
 //! What the host answers to a line.
 ghost use Rattle.std.specs.Prelude.{◌≡◌, true};
 ghost use Rattle.pm_host.specs.Transcript.{Got};
+ghost use Rattle.pm_host.specs.declared.fault.HostFault.TheVariants.{UnknownOutput};
+ghost use Rattle.pm_limits.specs.declared.fault.LimitFault.TheVariants as fault;
 ghost use Rattle.pm_session.specs.Session.{answer_to, answers, sending_reply, step_reply, tells};
 ghost use Rattle.pm_session.specs.declared.ask.Ask.TheVariants as ask;
+ghost use Rattle.pm_session.specs.declared.refusal.Refusal.TheVariants as refusal;
+ghost use Rattle.pm_session.specs.declared.reply.Reply.TheVariants as reply;
 
 use crate::ask::Ask;
 use crate::ask_line::read_ask;
 use crate::refusal::Refusal;
 use crate::reply::Reply;
 use pm_frame::Frame;
-use pm_host::{Host, HostFault, Job, Step, Told, Turn};
+use pm_host::{HostFault, Job, Step, Told, Turn, Untold};
+use pm_limits::{Guard, LimitFault};
 use pm_table::Cell;
 
-/// Answers a line, which is without its line feed. The answer and the host after it are those that the
-/// host's own model has for the line; a refused line changes nothing. It takes no memory.
-pub fn answer_line(host: &mut Host, line: &[u8]) -> Reply
-    ensures reply { result ≡ (answer_to host.old line.now).reply }
-    ensures after { host.new ≡ (answer_to host.old line.now).after }
+/// Answers a line, which is without its line feed. The answer, and the host and its limits after it, are those that
+/// the guard's own model has for the line; a refused line changes nothing. It takes no memory.
+pub fn answer_line(guard: &mut Guard, line: &[u8]) -> Reply
+    ensures reply { result ≡ (answer_to guard.old line.now).reply }
+    ensures after { guard.new ≡ (answer_to guard.old line.now).after }
 {
     match read_ask(line) {
-        Ok(ask) => answer(host, ask),
+        Ok(ask) => answer(guard, ask),
         Err(refusal) => Reply::Refused(refusal),
     }
 }
 
 // Answers what a line asks.
-fn answer(host: &mut Host, ask: Ask) -> Reply
-    ensures reply { result ≡ (answers host.old ask).reply }
-    ensures after { host.new ≡ (answers host.old ask).after }
+fn answer(guard: &mut Guard, ask: Ask) -> Reply
+    ensures reply { result ≡ (answers guard.old ask).reply }
+    ensures after { guard.new ≡ (answers guard.old ask).after }
 {
     match ask {
-        Ask::Job(job) => begin(host, job),
-        Ask::Finished(acked) => finished(host, acked),
-        Ask::Got(frame) => got(host, frame.as_slice()),
-        Ask::Sending => sending(host),
+        Ask::Job(job) => begin(guard, job),
+        Ask::Finished(acked) => finished(guard, acked),
+        Ask::Got(frame) => got(guard, frame.as_slice()),
+        Ask::Sending => sending(guard),
         Ask::Restart => {
-            host.restart();
+            guard.restart();
             Reply::Restarted
         }
-        Ask::State(cell) => state(host, cell),
-        Ask::Seen => Reply::Seen(host.restart_seen()),
+        Ask::State(cell) => state(guard, cell),
+        Ask::Seen => Reply::Seen(guard.host().restart_seen()),
+        Ask::Band(output) => band(guard, output),
+        Ask::Limits(output) => limits(guard, output),
+        Ask::Narrow {
+            output,
+            least,
+            most,
+        } => narrow(guard, output, least, most),
     }
 }
 
 // A job begins with its first frame, or is refused.
 #[tactic(auto, using(crate::proofs::JobLemmas::begun_with))]
-fn begin(host: &mut Host, job: Job) -> Reply
-    ensures reply { result ≡ (answers host.old (ask.Job job)).reply }
-    ensures after { host.new ≡ (answers host.old (ask.Job job)).after }
+fn begin(guard: &mut Guard, job: Job) -> Reply
+    ensures reply { result ≡ (answers guard.old (ask.Job job)).reply }
+    ensures after { guard.new ≡ (answers guard.old (ask.Job job)).after }
 {
-    match host.begin(job) {
-        Ok(()) => sending(host),
-        Err(fault) => Reply::Refused(Refusal::Host(fault)),
+    match guard.begin(job) {
+        Ok(()) => sending(guard),
+        Err(fault) => Reply::Refused(Refusal::Guard(fault)),
     }
 }
 
 // The write that was sent is over.
-fn finished(host: &mut Host, acked: bool) -> Reply
-    ensures reply { result ≡ (answers host.old (ask.Finished acked)).reply }
-    ensures after { host.new ≡ (answers host.old (ask.Finished acked)).after }
+fn finished(guard: &mut Guard, acked: bool) -> Reply
+    ensures reply { result ≡ (answers guard.old (ask.Finished acked)).reply }
+    ensures after { guard.new ≡ (answers guard.old (ask.Finished acked)).after }
 {
-    match host.turn() {
-        Turn::Idle => Reply::Refused(Refusal::NothingSent),
-        Turn::Request { .. } => Reply::Refused(Refusal::WrongKind),
+    match guard.turn() {
+        Turn::Idle => Reply::Refused(Refusal::Untold(Untold::NothingSent)),
+        Turn::Request { .. } => Reply::Refused(Refusal::Untold(Untold::WrongKind)),
         Turn::Write(_) => {
-            let step = host.told(Told::Finished { acked });
-            stepped(host, step)
+            let step = guard.told(Told::Finished { acked });
+            stepped(guard, step)
         }
     }
 }
 
 // These bytes came back for the request.
-fn got(host: &mut Host, bytes: &[u8]) -> Reply
-    ensures reply { result ≡ (tells host.old (Got bytes.now)).reply }
-    ensures after { host.new ≡ (tells host.old (Got bytes.now)).after }
+fn got(guard: &mut Guard, bytes: &[u8]) -> Reply
+    ensures reply { result ≡ (tells guard.old (Got bytes.now)).reply }
+    ensures after { guard.new ≡ (tells guard.old (Got bytes.now)).after }
 {
-    match host.turn() {
-        Turn::Idle => Reply::Refused(Refusal::NothingSent),
-        Turn::Write(_) => Reply::Refused(Refusal::WrongKind),
+    match guard.turn() {
+        Turn::Idle => Reply::Refused(Refusal::Untold(Untold::NothingSent)),
+        Turn::Write(_) => Reply::Refused(Refusal::Untold(Untold::WrongKind)),
         Turn::Request { .. } => {
-            let step = host.told(Told::Got(bytes));
-            stepped(host, step)
+            let step = guard.told(Told::Got(bytes));
+            stepped(guard, step)
         }
     }
 }
 
 // How the job goes on or ends.
-fn stepped(host: &Host, step: Step) -> Reply
-    ensures { result ≡ step_reply host.now step }
+fn stepped(guard: &Guard, step: Step) -> Reply
+    ensures { result ≡ step_reply guard.now.host step }
 {
     match step {
-        Step::Next => sending(host),
+        Step::Next => sending(guard),
         Step::Ended(end) => Reply::Ended(end),
     }
 }
 
 // What is to be sent now.
 #[tactic(auto, unfolding(crate::specs::Session::sending_reply))]
-fn sending(host: &Host) -> Reply
-    ensures { result ≡ sending_reply host.now }
+fn sending(guard: &Guard) -> Reply
+    ensures { result ≡ sending_reply guard.now.host }
 {
-    match host.turn() {
+    match guard.turn() {
         Turn::Idle => Reply::Idle,
         Turn::Write(frame) => Reply::Write(copy_of(frame)),
         Turn::Request { frame, bytes } => Reply::Request(copy_of(frame), bytes - 1),
@@ -117,12 +129,52 @@ fn copy_of(frame: &Frame) -> Frame
 }
 
 // What is known of a cell: H4 where its output isn't there.
-fn state(host: &Host, cell: Cell) -> Reply
-    ensures { result ≡ (answers host.now (ask.State cell)).reply }
+fn state(guard: &Guard, cell: Cell) -> Reply
+    ensures { result ≡ (answers guard.now (ask.State cell)).reply }
 {
-    if cell.is_there(host.outputs()) {
-        Reply::State(cell, host.standing(cell), host.possible(cell))
+    if cell.is_there(guard.host().outputs()) {
+        Reply::State(cell, guard.standing(cell), guard.possible(cell))
     } else {
-        Reply::Refused(Refusal::Host(HostFault::UnknownOutput))
+        no_output()
+    }
+}
+
+// Between which voltages an output may be: H4 where it isn't there.
+fn band(guard: &Guard, output: u8) -> Reply
+    ensures { result ≡ (answers guard.now (ask.Band output)).reply }
+{
+    if output < guard.host().outputs() {
+        Reply::Band(guard.band(output))
+    } else {
+        no_output()
+    }
+}
+
+// The limits of an output: H4 where it isn't there.
+fn limits(guard: &Guard, output: u8) -> Reply
+    ensures { result ≡ (answers guard.now (ask.Limits output)).reply }
+{
+    if output < guard.host().outputs() {
+        Reply::Limits(guard.limits(output))
+    } else {
+        no_output()
+    }
+}
+
+// H4: the output isn't there.
+fn no_output() -> Reply
+    ensures { result ≡ reply.Refused (refusal.Guard (fault.Host UnknownOutput)) }
+{
+    Reply::Refused(Refusal::Guard(LimitFault::Host(HostFault::UnknownOutput)))
+}
+
+// An output gets narrower limits.
+fn narrow(guard: &mut Guard, output: u8, least: i64, most: i64) -> Reply
+    ensures reply { result ≡ (answers guard.old (ask.Narrow output least most)).reply }
+    ensures after { guard.new ≡ (answers guard.old (ask.Narrow output least most)).after }
+{
+    match guard.narrow(output, least, most) {
+        Ok(()) => Reply::Narrowed,
+        Err(fault) => Reply::Refused(Refusal::Guard(fault)),
     }
 }

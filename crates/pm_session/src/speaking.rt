@@ -1,13 +1,13 @@
 use crate::reply_text::reply_text;
 use crate::session::answer_line;
-use pm_host::Host;
+use pm_limits::Guard;
 use pm_talk::{AnswerText, Speaker};
 
-/// A host that is spoken to in lines.
+/// A host, with its limits, that is spoken to in lines.
 #[derive(Debug, Drop)]
 pub struct Session {
-    /// The host.
-    pub host: Host,
+    /// The host and its limits.
+    pub guard: Guard,
 }
 
 impl Speaker for Session {
@@ -18,7 +18,7 @@ impl Speaker for Session {
 
     #[tactic(auto, unfolding(crate::specs::Speaking::answer_text))]
     fn answer(&mut self, line: &[u8]) -> AnswerText {
-        reply_text(&answer_line(&mut self.host, line))
+        reply_text(&answer_line(&mut self.guard, line))
     }
 
     ghost kept_text = { kept_text };

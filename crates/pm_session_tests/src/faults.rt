@@ -1,26 +1,36 @@
 //! The texts of errors: each shows as programs print it.
 
 use crate::checks::equal;
-use pm_host::HostFault;
+use pm_host::{HostFault, Untold};
+use pm_limits::LimitFault;
 use pm_session::{Refusal, StartFault};
 use std::fmt::Display;
 use std::process::Abort;
 use std::test::Fail;
 
-static START: [(StartFault, &str); 4] = [
+static START: [(StartFault, &str); 6] = [
     (StartFault::Address, "bad address"),
     (StartFault::Outputs, "bad outputs"),
     (StartFault::Passes, "bad passes"),
     (StartFault::Host(HostFault::OutputCount), "H1 OutputCount"),
+    (StartFault::Limit, "bad limit"),
+    (
+        StartFault::Limits(LimitFault::LimitsInverted),
+        "L1 LimitsInverted",
+    ),
 ];
 
-static REFUSALS: [(Refusal, &str); 6] = [
+static REFUSALS: [(Refusal, &str); 7] = [
     (Refusal::Syntax, "X1 Syntax"),
     (Refusal::BadHex, "X2 BadHex"),
     (Refusal::TooLong, "X3 TooLong"),
-    (Refusal::NothingSent, "S2 NothingSent"),
-    (Refusal::WrongKind, "S3 WrongKind"),
-    (Refusal::Host(HostFault::Busy), "H3 Busy"),
+    (Refusal::Untold(Untold::NothingSent), "S2 NothingSent"),
+    (Refusal::Untold(Untold::WrongKind), "S3 WrongKind"),
+    (
+        Refusal::Guard(LimitFault::Host(HostFault::Busy)),
+        "H3 Busy",
+    ),
+    (Refusal::Guard(LimitFault::BelowLimit), "L3 BelowLimit"),
 ];
 
 // Each fault of a table is told by its text.

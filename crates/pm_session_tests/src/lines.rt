@@ -1,11 +1,11 @@
 //! Lines and their answers, one after another at one host.
 use crate::checks::is_true;
-use pm_host::Host;
+use pm_limits::Guard;
 use pm_session::{answer_line, text_of};
 use std::process::Abort;
 
-fn expect(rt: &impl Abort, host: &mut Host, line: &[u8], wanted: &str) {
-    let reply = answer_line(host, line);
+fn expect(rt: &impl Abort, guard: &mut Guard, line: &[u8], wanted: &str) {
+    let reply = answer_line(guard, line);
     is_true(rt, text_of(&reply).as_slice() == wanted.as_bytes(), &wanted);
 }
 
@@ -141,26 +141,106 @@ static REFUSED: [(&[u8], &str); 19] = [
     (b"order 0 OPERATION B0", "refused H5 BadWord\n"),
 ];
 
+// Limits of an output, and what they refuse. A format is learned on the way.
+static LIMITS: [(&[u8], &str); 31] = [
+    (b"limits 0", "limits none\n"),
+    (b"band 0", "band unknown\n"),
+    (b"narrow 2 1 2", "refused H4 UnknownOutput\n"),
+    (b"narrow 0 1 1000000000000001", "refused N5 TooLarge\n"),
+    (b"narrow 0 3465000 3200000", "refused L1 LimitsInverted\n"),
+    (b"narrow 0 3200000 3465000", "narrowed\n"),
+    (b"limits 0", "limits 3200000 3465000\n"),
+    (b"limits 1", "limits none\n"),
+    (b"narrow 0 3200000 3465001", "refused L6 LimitsWidened\n"),
+    (b"order 0 VOUT_COMMAND 34CD", "refused L2 FormatUnknown\n"),
+    (
+        b"volts 0 VOUT_COMMAND 3300000",
+        "refused H7 FormatUnknown\n",
+    ),
+    (b"learn 0", "send B0 06 02 00 20 read 3\n"),
+    (b"narrow 0 3250000 3400000", "narrowed\n"),
+    (b"got B1 01 14 4E", "ended learned\n"),
+    (b"limits 0", "limits 3250000 3400000\n"),
+    (b"band 0", "band 0 15999756\n"),
+    (b"order 0 VOUT_COMMAND 3333", "refused L3 BelowLimit\n"),
+    (
+        b"volts 0 VOUT_MAX 12000000",
+        "refused L4 AboveLimit\n",
+    ),
+    (b"order 0 OPERATION 80", "refused L5 NotKnownWithin\n"),
+    (b"order 0 OPERATION 00", "send B0 05 03 00 01 00 8B\n"),
+    (b"order 0 VOUT_COMMAND 3333", "refused H3 Busy\n"),
+    (b"restart", "restarted\n"),
+    (b"limits 0", "limits 3250000 3400000\n"),
+    (b"narrow 1 -5000 -4000", "narrowed\n"),
+    (b"limits 1", "limits -5000 -4000\n"),
+    (b"limits 2", "refused H4 UnknownOutput\n"),
+    (b"band 2", "refused H4 UnknownOutput\n"),
+    (b"band", "refused X1 Syntax\n"),
+    (b"limits 0 1", "refused X1 Syntax\n"),
+    (b"narrow 0 1", "refused X1 Syntax\n"),
+    (b"narrow 0 1 +2", "refused X1 Syntax\n"),
+];
+
+// A band whose ends lie between two microvolts, at an output without limits.
+static BAND: [(&[u8], &str); 14] = [
+    (b"learn 0", "send B0 06 02 00 20 read 3\n"),
+    (b"got B1 01 14 4E", "ended learned\n"),
+    (b"check 0 OPERATION", "send B0 06 02 00 01 read 3\n"),
+    (b"got B1 01 80 73", "ended done\n"),
+    (b"check 0 VOUT_MAX", "send B0 06 02 00 24 read 4\n"),
+    (b"got B1 02 00 40 1B", "ended done\n"),
+    (b"check 0 VOUT_MIN", "send B0 06 02 00 2B read 4\n"),
+    (b"got B1 02 00 00 EC", "ended done\n"),
+    (b"check 0 VOUT_COMMAND", "send B0 06 02 00 21 read 4\n"),
+    (b"got B1 02 00 10 41", "ended done\n"),
+    (b"band 0", "band 1000000 1000000\n"),
+    (
+        b"order 0 VOUT_COMMAND 34CD",
+        "send B0 05 04 00 21 CD 34 5A\n",
+    ),
+    (b"band 0", "band 1000000 3300049\n"),
+    (b"band 1", "band unknown\n"),
+];
+
+// A host of two outputs without limits.
+fn guard(rt: &impl Abort) -> Guard {
+    match Guard::new(0x58, 2, 2, [None; 8]) {
+        Ok(guard) => guard,
+        Err(_) => panic!(rt; "a host"),
+    }
+}
+
+#[test]
+fn limits_refuse_and_bands_are_told(rt: HostRuntime) {
+    let mut limited = guard(&rt);
+    for &(line, wanted) in &LIMITS {
+        expect(&rt, &mut limited, line, wanted);
+    }
+    let mut free = guard(&rt);
+    for &(line, wanted) in &BAND {
+        expect(&rt, &mut free, line, wanted);
+    }
+}
+
 #[test]
 fn each_line_has_its_answer(rt: HostRuntime) {
-    let Ok(mut host) = Host::new(0x58, 2, 2) else {
-        panic!(rt; "a host");
-    };
+    let mut guard = guard(&rt);
     for &(line, wanted) in &ORDER {
-        expect(&rt, &mut host, line, wanted);
+        expect(&rt, &mut guard, line, wanted);
     }
     for &(line, wanted) in &VOLTS {
-        expect(&rt, &mut host, line, wanted);
+        expect(&rt, &mut guard, line, wanted);
     }
     for &(line, wanted) in &OTHERS {
-        expect(&rt, &mut host, line, wanted);
+        expect(&rt, &mut guard, line, wanted);
     }
     for &(line, wanted) in &STORED {
-        expect(&rt, &mut host, line, wanted);
+        expect(&rt, &mut guard, line, wanted);
     }
     for &(line, wanted) in &REFUSED {
-        expect(&rt, &mut host, line, wanted);
+        expect(&rt, &mut guard, line, wanted);
     }
-    expect(&rt, &mut host, &[b' '; 256], "refused X1 Syntax\n");
-    expect(&rt, &mut host, &[b' '; 257], "refused X3 TooLong\n");
+    expect(&rt, &mut guard, &[b' '; 256], "refused X1 Syntax\n");
+    expect(&rt, &mut guard, &[b' '; 257], "refused X3 TooLong\n");
 }

@@ -1,7 +1,7 @@
 //! In which order a port is used, and what is left where it fails.
 use crate::checks::{equal, is_true};
 use crate::fakes::{Drops, Log, Slip};
-use pm_host::Host;
+use pm_limits::Guard;
 use pm_lines::{Sink, Source, TextFault};
 use pm_session::{Session, run};
 use pm_talk::{Happening, Port, Streams, converse};
@@ -13,9 +13,9 @@ const LINES: &[u8] = b"seen\nsending";
 
 const ANSWERS: &[u8] = b"seen no\nidle\n";
 
-fn host(rt: &impl Abort) -> Host {
-    match Host::new(0x58, 2, 2) {
-        Ok(host) => host,
+fn host(rt: &impl Abort) -> Guard {
+    match Guard::new(0x58, 2, 2, [None; 8]) {
+        Ok(guard) => guard,
         Err(_) => panic!(rt; "a host"),
     }
 }

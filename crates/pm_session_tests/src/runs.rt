@@ -125,6 +125,69 @@ fn each_end_has_its_status_and_its_line(rt: HostRuntime) {
     );
 }
 
+// The limits of a host, the status, and what is written and said.
+static LIMITS: [([&str; 2], u8, &str, &str); 9] = [
+    (
+        ["--limit=0:3200000:3465000", "--limit=1:-5:5"],
+        0,
+        "seen no\n",
+        "",
+    ),
+    (
+        ["--limit=1:0:0", "--limit=0:3465000:3200000"],
+        2,
+        "",
+        "pmbhost: L1 LimitsInverted\n",
+    ),
+    (
+        ["--limit=2:1:2", "--limit=0:2:1"],
+        2,
+        "",
+        "pmbhost: H4 UnknownOutput\n",
+    ),
+    (
+        ["--limit=0:1:1000000000000001", "--limit=nothing"],
+        2,
+        "",
+        "pmbhost: N5 TooLarge\n",
+    ),
+    (
+        ["--limit=0:1:2", "--limit=0:1:2"],
+        2,
+        "",
+        "pmbhost: bad limit\n",
+    ),
+    (["--limit=0:1", "--limit=0:1:2"], 2, "", "pmbhost: bad limit\n"),
+    (["--limit=0:1:2:3", "--limit="], 2, "", "pmbhost: bad limit\n"),
+    (
+        ["--limit=1:1:2", "--limit=0:one:2"],
+        2,
+        "",
+        "pmbhost: bad limit\n",
+    ),
+    (
+        ["--limit=0:1:2", "--limit=256:1:2"],
+        2,
+        "",
+        "pmbhost: bad limit\n",
+    ),
+];
+
+#[test]
+fn each_output_has_its_limits_once(rt: HostRuntime) {
+    for &(limits, status, written, said) in &LIMITS {
+        let words = [
+            "pmbhost",
+            "--address=58",
+            "--outputs=2",
+            "--passes=2",
+            limits[0],
+            limits[1],
+        ];
+        expect_run(&rt, ran(rt.alloc(), Ok(&words), 0), status, written, said);
+    }
+}
+
 const HELP: &str = "\
 A proved PMBus host that is spoken to in lines, for scripts that drive a bus
 
@@ -134,6 +197,7 @@ Options:
       --address <HH>  The device's address, two hexadecimal digits from 08 to 77
       --outputs <N>   How many outputs the device has, 1 to 8
       --passes <N>    How many passes or tries a job has at most, 1 to 15
+      --limit <O:LEAST:MOST>  The limits of an output's voltage in microvolts, once an output at most
   -h, --help          Print help
   -V, --version       Print version
 
@@ -150,7 +214,10 @@ Each line of standard input gets one line at once. A line says:
   sending                        say again what is to be sent
   state 0 VOUT_COMMAND           what is known of a setting; state - WRITE_PROTECT
   seen                           whether a restart of the device was seen
-  restart                        forget all
+  band 0                         between which voltages an output may be, after learn
+  limits 0                       the limits of an output, in microvolts
+  narrow 0 3200000 3465000       give an output narrower limits, or its first ones
+  restart                        forget all but the limits
 An answer says:
   send B0 05 04 00 21 CD 34 5A   send this write, then say finished
   send B0 06 02 00 21 read 4     send this request, read 4 bytes behind the read address, say got
@@ -158,8 +225,11 @@ An answer says:
   idle                           nothing is to be sent
   state confirmed 34CD possible 34CD | state unknown possible 1000 34CD | state unknown possible any
   seen yes | seen no
+  band 1000000 3300049 | band unknown
+  limits 3200000 3465000 | limits none
+  narrowed
   restarted
-  refused H6 TooUncertain        nothing has changed: X1 to X3, S2, S3, H3 to H7, N3 to N5
+  refused H6 TooUncertain        nothing has changed: X1 to X3, S2, S3, H3 to H7, N3 to N5, L1 to L6
 
   $ echo 'order 0 VOUT_COMMAND 34CD' | pmbhost --address=58 --outputs=2 --passes=2
   send B0 05 04 00 21 CD 34 5A

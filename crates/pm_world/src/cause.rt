@@ -1,7 +1,7 @@
 ghost use Rattle.std.specs.Prelude.{◌≡◌};
 ghost use Rattle.pm_world.specs.declared.cause.Cause.TheVariants as causes;
 
-use pm_host::HostFault;
+use pm_host::{HostFault, Untold};
 use thiserror::Error;
 
 /// Why an event isn't taken: the first that applies, in the order of these.
@@ -32,8 +32,8 @@ impl Cause {
     {
         match self {
             Cause::NotBetrayed => "S1 NotBetrayed",
-            Cause::NothingSent => "S2 NothingSent",
-            Cause::WrongKind => "S3 WrongKind",
+            Cause::NothingSent => Untold::NothingSent.words(),
+            Cause::WrongKind => Untold::WrongKind.words(),
             Cause::Host(_) => "S4 Host",
             Cause::Full => "S5 Full",
         }

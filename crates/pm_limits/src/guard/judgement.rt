@@ -27,7 +27,9 @@ impl Guard {
         self.pass_on(Job::Order(cell, word))
     }
 
-    /// Begins an order of the word that is nearest to a number of microvolts.
+    /// Begins an order of the word that is nearest to a number of microvolts. It isn't inlined: it would weigh on each
+    /// order of a word.
+    #[inline(never)]
     pub(super) fn begin_micro(&mut self, cell: Cell, x: i64) -> Result<(), LimitFault>
         ensures { LetsBegin self.old (Job.OrderMicro cell x) result self.new }
     {
@@ -83,6 +85,7 @@ impl Guard {
     }
 
     // Refuses what the limits don't let through.
+    #[inline]
     fn judge(&self, cell: Cell, word: u16) -> Result<(), LimitFault>
         requires { IsCell self.now.host.setup.outputs cell }
         ensures { result_err result ≡ judged self.now cell word }
@@ -110,7 +113,9 @@ impl Guard {
         }
     }
 
-    // Refuses a byte that leaves the output on where that isn't known to be within its limits.
+    // Refuses a byte that leaves the output on where that isn't known to be within its limits. It isn't inlined: it
+    // would weigh on each order of a voltage.
+    #[inline(never)]
     fn judge_operation(&self, output: u8, byte: u16) -> Result<(), LimitFault>
         requires { output < self.now.host.setup.outputs }
         ensures { result_err result ≡ operation_limit self.now output byte }

@@ -1,9 +1,9 @@
-use Rattle.std.specs.Prelude.{◌≡◌, ◌≢◌, ℕ, ◌*◌, ◌^◌, ◌<◌, suc, ℤ, pos, negsuc, ◌-ℤ◌, ◌*ℤ◌, ◌≤ℤ◌, unsigned_abs, refl}
-use Rattle.std.proofs.Common.{arith, lit<}
+use Rattle.std.specs.Prelude.{◌≡◌, ◌≢◌, ℕ, ◌*◌, ◌^◌, ◌<◌, suc, ℤ, pos, negsuc, ◌-ℤ◌, ◌*ℤ◌, ◌≤ℤ◌, unsigned_abs, int_lt, refl}
+use Rattle.std.proofs.Common.{◌<ℤ◌, ap, arith, lit<, sym}
 use Rattle.std.proofs.lemmas.Int.{ints}
 use Rattle.std.proofs.lemmas.Bool.Decides.{nat_tests}
 use Rattle.std.proofs.Math.Nat.{one-le-pow, mul-pos}
-use Rattle.pm_num.specs.Ratio.{AtMost, IsBetween}
+use Rattle.pm_num.specs.Ratio.{Ratio, AtMost, IsBetween, SameValue, is_above}
 use Rattle.pm_num.specs.Value.{upper, lower, signed, sign, direct_value, direct_least, direct_greatest}
 use Rattle.pm_num.specs.Nearest.{IsValue, one_rank}
 use Rattle.pm_num.specs.Lemmas.Integers.{le-times, same_from_times}
@@ -92,6 +92,30 @@ direct-one_word m b r slope u w hu hw same _ =
     let f = same_by_sign m (y -ℤ c) (z -ℤ c) e in
     let g : y ≡ z = omega (arith, ints) in
     signed-one u w hu hw (same_from_times (signed 16 u) (signed 16 w) (lower 10 r) (lower_ten-positive r) g)
+
+-- A value is above another exactly where its number is, if the greater number has the greater value and no two numbers
+-- have one.
+above_by_number : (p q : Ratio) (y z : ℤ) → (z ≤ℤ y → AtMost q p) → (y ≤ℤ z → AtMost p q) → (SameValue p q → y ≡ z)
+    → int_lt z y ≡ is_above p q
+above_by_number p q y z back at_most one = grind (arith, ints, nat_tests, back, at_most, one)
+
+-- with a slope above 0 the greater number has the greater value,
+pub direct-above_rising : (m b r : ℤ) (u w : ℕ) → m ≢ pos 0 → pos 0 ≤ℤ m → u < 2 ^ 16 → w < 2 ^ 16
+    → int_lt (signed 16 w) (signed 16 u) ≡ is_above (direct_value m b r u) (direct_value m b r w)
+direct-above_rising (pos n) b r u w slope rising hu hw =
+    above_by_number (direct_value (pos n) b r u) (direct_value (pos n) b r w) (signed 16 u) (signed 16 w)
+    (λ h. at_most_by_sign (pos n) b r w u (omega (arith, ints))) (λ h. at_most_by_sign (pos n) b r u w (omega (arith, ints)))
+    (λ same. ap (signed 16) (direct-one_word (pos n) b r slope u w hu hw same refl))
+direct-above_rising (negsuc n) b r u w slope rising hu hw = absurd (omega (arith, ints))
+
+-- and with one below 0 the lesser
+pub direct-above_falling : (m b r : ℤ) (u w : ℕ) → m ≢ pos 0 → m <ℤ pos 0 → u < 2 ^ 16 → w < 2 ^ 16
+    → int_lt (signed 16 u) (signed 16 w) ≡ is_above (direct_value m b r u) (direct_value m b r w)
+direct-above_falling (pos n) b r u w slope falling hu hw = absurd (omega (arith, ints))
+direct-above_falling (negsuc n) b r u w slope falling hu hw =
+    above_by_number (direct_value (negsuc n) b r u) (direct_value (negsuc n) b r w) (signed 16 w) (signed 16 u)
+    (λ h. at_most_by_sign (negsuc n) b r w u (omega (arith, ints))) (λ h. at_most_by_sign (negsuc n) b r u w (omega (arith, ints)))
+    (λ same. ap (signed 16) (sym (direct-one_word (negsuc n) b r slope u w hu hw same refl)))
 
 -- a word has the least value,
 pub direct-least_met : (m b r : ℤ) → IsValue (direct_value m b r) (direct_value m b r (direct_least m))

@@ -2,7 +2,7 @@
 use Rattle.std.specs.Prelude.{◌≡◌, ◌<◌, ℕ, true, List, length, take, Err, refl}
 use Rattle.std.proofs.Common.{ap, ltb}
 use Rattle.std.proofs.lemmas.Bool.{lt-ltb}
-use Rattle.pm_host.specs.Summary.{Summary}
+use Rattle.pm_limits.specs.Guard.{Guarded}
 use Rattle.pm_session.specs.AskLines.{ask_of}
 use Rattle.pm_session.specs.ReplyText.{reply_text}
 use Rattle.pm_session.specs.Session.{Answered, answer_to, answers_asked}
@@ -16,12 +16,12 @@ long_asks : (long : List ℕ) → 256 < length long → ask_of long ≡ Err TooL
 unfolding ask_of
 long_asks long more = let test : ltb 256 (length long) ≡ true = lt-ltb 256 (length long) more in rw test refl
 
-kept_answers : (s : Summary) (line : List ℕ) → answer_to s (take 257 line) ≡ answer_to s line
+kept_answers : (s : Guarded) (line : List ℕ) → answer_to s (take 257 line) ≡ answer_to s line
 kept_answers s line = ap (answers_asked s) (kept_asks ask_of (Err TooLong) long_asks line)
 
 pub kept_text : (s : Session) (line : List ℕ) → spoken.text s (take 257 line) ≡ spoken.text s line
 unfolding answer_text
-kept_text s line = ap (λ (a : Answered). reply_text a.reply) (kept_answers s.host line)
+kept_text s line = ap (λ (a : Answered). reply_text a.reply) (kept_answers s.guard line)
 
 pub kept_after : (s : Session) (line : List ℕ) → spoken.after s (take 257 line) ≡ spoken.after s line
-kept_after s line = ap (λ (a : Answered). record { host = a.after }) (kept_answers s.host line)
+kept_after s line = ap (λ (a : Answered). record { guard = a.after }) (kept_answers s.guard line)

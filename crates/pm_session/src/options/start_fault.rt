@@ -1,4 +1,5 @@
 use pm_host::HostFault;
+use pm_limits::LimitFault;
 use thiserror::Error;
 
 /// Why the options make no host: the first that applies, in the order of these.
@@ -13,6 +14,12 @@ pub enum StartFault {
     Passes,
     /// H1 or H2: the host can't have this many.
     Host(HostFault),
+    /// A `--limit` isn't `O:LEAST:MOST`, or is a second one of its output.
+    #[error("a bad limit")]
+    Limit,
+    /// H4, N5 or L1: an output can't have such limits.
+    #[error("{0}")]
+    Limits(LimitFault),
 }
 
 impl StartFault {
@@ -28,11 +35,13 @@ impl StartFault {
             StartFault::Outputs => "bad outputs",
             StartFault::Passes => "bad passes",
             StartFault::Host(fault) => fault.words(),
+            StartFault::Limit => "bad limit",
+            StartFault::Limits(fault) => fault.words(),
         }
     }
 
-    /// The status with which the program then ends: 2 for a text that is no such option, 1 where the host
-    /// refuses.
+    /// The status with which the program then ends: 1 where the host can't have so many outputs or passes, 2 for a
+    /// text that is no such option, and for limits that an output can't have.
     pub fn status(self) -> u8
         ensures { result ≡ start_status self }
     {

@@ -1,4 +1,3 @@
-use Rattle.std.proofs.Common.{ℕ}
 use Rattle.pm_num.specs.Lemmas.Found.{nearest_word-found}
 use Rattle.pm_num.specs.Lemmas.OneWord.{same_from_nearest}
 use Rattle.pm_num.proofs.laws.nearest_words_hold.Goals as goal
