@@ -5,19 +5,16 @@ use thiserror::Error;
 
 /// Why a line is refused. Then nothing has changed. What the converter itself refuses of a frame is none of these.
 #[derive(Clone, Copy, Debug, PartialEq, Eq, Error)]
+#[error("{words}", words = self.words())]
 pub enum Refusal {
     /// X1: the line isn't one of those that may be said; an empty line is none.
-    #[error("an unexpected line")]
     Syntax,
     /// X2: a word should be hexadecimal of a stated length and isn't, or the line is neither a frame nor begins
     /// with a word that asks something.
-    #[error("bad hexadecimal")]
     BadHex,
     /// X3: the line has more than 256 bytes.
-    #[error("a line of more than 256 bytes")]
     TooLong,
     /// H4: there is no such output.
-    #[error("an unknown output")]
     UnknownOutput,
 }
 

@@ -13,7 +13,7 @@ const LINES: &[u8] = b"seen\nsending";
 
 const ANSWERS: &[u8] = b"seen no\nidle\n";
 
-fn host(rt: &impl Abort) -> Guard {
+fn guard(rt: &impl Abort) -> Guard {
     match Guard::new(0x58, 2, 2, [None; 8]) {
         Ok(guard) => guard,
         Err(_) => panic!(rt; "a host"),
@@ -43,7 +43,7 @@ fn an_answer_is_flushed_before_another_byte_is_read(rt: HostRuntime) {
         kept: Vec::new(rt.alloc()),
         whole: true,
     };
-    let result = converse(&mut Session { host: host(&rt) }, &mut port);
+    let result = converse(&mut Session { guard: guard(&rt) }, &mut port);
     equal(&rt, &result, &Ok(()), &1);
     is_true(&rt, port.whole, &2);
     let wanted = "cccccwwwwwwwwfccccccce".chars().chain("wwwwwf".chars());
@@ -94,7 +94,7 @@ fn talked(
             calls: 0,
         }),
     };
-    let result = converse(&mut Session { host: host(rt) }, &mut streams);
+    let result = converse(&mut Session { guard: guard(rt) }, &mut streams);
     (result, streams.sink.into_inner().taken)
 }
 

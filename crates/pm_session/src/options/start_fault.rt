@@ -15,10 +15,8 @@ pub enum StartFault {
     /// H1 or H2: the host can't have this many.
     Host(HostFault),
     /// A `--limit` isn't `O:LEAST:MOST`, or is a second one of its output.
-    #[error("a bad limit")]
     Limit,
     /// H4, N5 or L1: an output can't have such limits.
-    #[error("{0}")]
     Limits(LimitFault),
 }
 
