@@ -1,6 +1,10 @@
 -- What the crate promises.
 pub mod Desk
+pub mod Guard
 pub mod Host
+pub mod Known
+pub mod Limits
+pub mod Names
 pub mod Numbers
 pub mod Packets
 pub mod Sizes

@@ -1,11 +1,14 @@
 -- The numbers that calls answer, of which no two mean two things: 0 where nothing is refused; a refusal,
--- of which H1 to H7 are 1 to 7, N1 to N5 are 11h to 15h, and what only a caller in C can ask wrongly is
--- E0h to E5h; and what a converter on a desk makes of a frame, from 81h on. This project's own choice.
+-- of which H1 to H7 are 1 to 7, N1 to N5 are 11h to 15h, L1 to L6 are 21h to 26h, and what only a caller in C can ask wrongly is
+-- E0h to E7h; and what a converter on a desk makes of a frame, from 81h on. This project's own choice.
 use Rattle.std.specs.Prelude.{ℕ, Option, Some, None}
 use Rattle.pm_num.specs.declared.fault.NumFault.{NumFault}
 use Rattle.pm_num.specs.declared.fault.NumFault.TheVariants.{ZeroSlope, ExponentRange, BelowLeast, AboveGreatest, TooLarge}
 use Rattle.pm_host.specs.declared.fault.HostFault.{HostFault}
 use Rattle.pm_host.specs.declared.fault.HostFault.TheVariants.{OutputCount, Passes, Busy, UnknownOutput, BadWord, TooUncertain, FormatUnknown, Num}
+use Rattle.pm_limits.specs.declared.fault.LimitFault.{LimitFault}
+use Rattle.pm_limits.specs.declared.fault.LimitFault.TheVariants.{LimitsInverted, BelowLimit, AboveLimit, NotKnownWithin, LimitsWidened, Host}
+use Rattle.pm_limits.specs.declared.fault.LimitFault.TheVariants as limits
 
 -- nothing is refused
 abbrev pub accepted : ℕ
@@ -34,6 +37,24 @@ no_packet = 0xE4
 -- the memory holds no converter
 abbrev pub no_converter : ℕ
 no_converter = 0xE5
+
+-- the output has no limits
+abbrev pub no_limits_there : ℕ
+no_limits_there = 0xE6
+
+-- the number has no name
+abbrev pub no_name : ℕ
+no_name = 0xE7
+
+-- an output's voltage lies within its limits, or outside them, or it isn't known
+abbrev pub within_yes : ℕ
+within_yes = 0x91
+
+abbrev pub within_no : ℕ
+within_no = 0x92
+
+abbrev pub within_not_known : ℕ
+within_not_known = 0x93
 
 -- a converter stays silent, takes a write, or answers a read
 abbrev pub silent : ℕ
@@ -66,3 +87,17 @@ host_number (Num fault) = num_number fault
 abbrev pub outcome : Option HostFault → ℕ
 outcome None = accepted
 outcome (Some fault) = host_number fault
+
+abbrev pub limit_number : LimitFault → ℕ
+limit_number LimitsInverted = 0x21
+limit_number limits.FormatUnknown = 0x22
+limit_number BelowLimit = 0x23
+limit_number AboveLimit = 0x24
+limit_number NotKnownWithin = 0x25
+limit_number LimitsWidened = 0x26
+limit_number (Host fault) = host_number fault
+
+-- what a call answers that limits or the host refuse, or accepted
+abbrev pub limit_outcome : Option LimitFault → ℕ
+limit_outcome None = accepted
+limit_outcome (Some fault) = limit_number fault

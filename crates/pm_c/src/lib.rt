@@ -6,10 +6,17 @@
 //! where none is. The library takes no memory, keeps nothing between calls and calls nothing.
 #![tactic(auto)]
 
+mod answer;
 mod desk;
+mod guard_image;
 mod host;
 mod host_step;
 mod known;
+mod known_cells;
+mod laws;
+mod limits;
+mod name_image;
+mod names;
 mod numbers;
 mod output_words;
 mod packet;

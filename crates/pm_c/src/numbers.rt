@@ -1,14 +1,14 @@
 //! The numbers that calls answer.
 
 ghost use Rattle.std.specs.Prelude.{◌≡◌, ◌≢◌};
-ghost use Rattle.std.specs.Result.{result_err};
 ghost use Rattle.pm_c.specs.Desk.{device_number};
-ghost use Rattle.pm_c.specs.Numbers.{host_number, num_number, outcome as spec_outcome};
+ghost use Rattle.pm_c.specs.Numbers.{host_number, limit_number, num_number};
 ghost use Rattle.pm_c.specs.Packets.{frame_number};
 
 use pm_device::DeviceFault;
 use pm_frame::FrameFault;
 use pm_host::HostFault;
+use pm_limits::LimitFault;
 use pm_num::NumFault;
 
 /// Nothing is refused.
@@ -31,6 +31,21 @@ pub const NO_PACKET: u8 = 0xE4;
 
 /// The memory holds no converter.
 pub const NO_CONVERTER: u8 = 0xE5;
+
+/// The output has no limits.
+pub const NO_LIMITS: u8 = 0xE6;
+
+/// The number has no name.
+pub const NO_NAME: u8 = 0xE7;
+
+/// An output's voltage lies within its limits.
+pub const WITHIN_YES: u8 = 0x91;
+
+/// It lies outside them.
+pub const WITHIN_NO: u8 = 0x92;
+
+/// It isn't known.
+pub const WITHIN_NOT_KNOWN: u8 = 0x93;
 
 /// A converter is silent: the frame is for another device.
 pub const SILENT: u8 = 0x81;
@@ -75,13 +90,19 @@ pub fn of_host(fault: HostFault) -> u8
     }
 }
 
-/// What a call answers that a host refused with this fault, or accepted.
-pub fn number_of(outcome: Result<(), HostFault>) -> u8
-    ensures { result ≡ spec_outcome (result_err outcome) }
+/// The number of a fault of limits or of their host.
+pub fn of_limits(fault: LimitFault) -> u8
+    ensures number { result ≡ limit_number fault }
+    ensures some { result ≢ 0 }
 {
-    match outcome {
-        Ok(()) => ACCEPTED,
-        Err(fault) => of_host(fault),
+    match fault {
+        LimitFault::LimitsInverted => 0x21,
+        LimitFault::FormatUnknown => 0x22,
+        LimitFault::BelowLimit => 0x23,
+        LimitFault::AboveLimit => 0x24,
+        LimitFault::NotKnownWithin => 0x25,
+        LimitFault::LimitsWidened => 0x26,
+        LimitFault::Host(fault) => of_host(fault),
     }
 }
 

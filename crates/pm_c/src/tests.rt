@@ -9,14 +9,15 @@ use self::calls::{
 };
 use self::checks::{equal, is_true};
 use crate::desk::pm_desk_size;
+use crate::guard_image::GuardImage;
 use crate::host::{pm_host_size, pm_host_version};
 use crate::packet::pm_pec;
-use pm_host::{FormatImage, Image, WordsImage};
+use pm_host::{FormatImage, WordsImage};
 
 #[test]
 fn sizes_are_those_of_the_header(rt: HostRuntime) {
-    equal(&rt, &(pm_host_size(), pm_desk_size()), &(1926, 122), &1);
-    equal(&rt, &pm_host_version(), &3, &2);
+    equal(&rt, &(pm_host_size(), pm_desk_size()), &(2056, 122), &1);
+    equal(&rt, &pm_host_version(), &4, &2);
 }
 
 #[test]
@@ -114,7 +115,7 @@ fn a_restore_leaves_no_word_of_an_output_confirmed(rt: HostRuntime) {
 
 #[test]
 fn a_refusal_has_its_number(rt: HostRuntime) {
-    let mut image = Image::blank();
+    let mut image = GuardImage::blank();
     equal(&rt, &new(&mut image, 0x07, 2, 2), &0xE3, &1);
     equal(&rt, &new(&mut image, 0x78, 2, 2), &0xE3, &2);
     equal(&rt, &new(&mut image, 0x58, 0, 2), &1, &3);
@@ -137,7 +138,7 @@ fn a_refusal_has_its_number(rt: HostRuntime) {
 }
 
 // Whether each call of a host says that the memory holds none.
-fn is_refused(image: &mut Image) -> bool {
+fn is_refused(image: &mut GuardImage) -> bool {
     let begun = [
         order(image, 0, 0x21, 0x1000),
         order_micro(image, 0, 0x21, 1),
@@ -159,26 +160,26 @@ fn is_refused(image: &mut Image) -> bool {
 }
 
 // An image of a host with an open order, with one number changed.
-fn changed(change: u8) -> Image {
+fn changed(change: u8) -> GuardImage {
     let mut image = host(2);
     let _ = order(&mut image, 0, 0x21, 0x34CD);
     match change {
-        0 => image.version = 2,
-        1 => image.mark = 0,
-        2 => image.state.address = 0x78,
-        3 => image.state.outputs = 9,
-        4 => image.state.passes = 0,
-        5 => image.stage.kind = 8,
-        6 => image.stage.code = 0x20,
-        7 => image.stage.count = 2,
-        8 => image.stage.output = 2,
-        9 => image.state.known.possible[1] = WordsImage {
+        0 => image.host.version = 2,
+        1 => image.host.mark = 0,
+        2 => image.host.state.address = 0x78,
+        3 => image.host.state.outputs = 9,
+        4 => image.host.state.passes = 0,
+        5 => image.host.stage.kind = 8,
+        6 => image.host.stage.code = 0x20,
+        7 => image.host.stage.count = 2,
+        8 => image.host.stage.output = 2,
+        9 => image.host.state.known.possible[1] = WordsImage {
             count: 1,
             words: [0; 16],
         },
-        10 => image.state.known.standing[1].is_confirmed = 1,
-        11 => image.stage.kind = 6,
-        12 => image.stage.kind = 7,
+        10 => image.host.state.known.standing[1].is_confirmed = 1,
+        11 => image.host.stage.kind = 6,
+        12 => image.host.stage.kind = 7,
         _ => {}
     }
     image
@@ -186,7 +187,7 @@ fn changed(change: u8) -> Image {
 
 #[test]
 fn memory_that_holds_no_host_is_refused(rt: HostRuntime) {
-    is_true(&rt, is_refused(&mut Image::blank()), &"zeros");
+    is_true(&rt, is_refused(&mut GuardImage::blank()), &"zeros");
     for change in 0..13 {
         is_true(&rt, is_refused(&mut changed(change)), &change);
     }
@@ -198,7 +199,7 @@ fn memory_that_holds_no_host_is_refused(rt: HostRuntime) {
 #[test]
 fn damaged_memory_says_what_can_be_read(rt: HostRuntime) {
     let mut image = host(2);
-    let state = &mut image.state;
+    let state = &mut image.host.state;
     state.known.possible[7].count = 0x0400;
     state.known.standing[7].is_confirmed = 2;
     state.formats[1].kind = 1;

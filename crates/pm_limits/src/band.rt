@@ -1,12 +1,13 @@
-ghost use Rattle.std.specs.Prelude.{◌≡◌, ◌<◌};
+ghost use Rattle.std.specs.Prelude.{◌≡◌, ◌<◌, None};
+ghost use Rattle.pm_host.specs.Image.{held};
 ghost use Rattle.pm_num.specs.AnyFormat.{shape_of};
 ghost use Rattle.pm_limits.specs.Band.{band_at, band_on as spec_band_on, band_with, known_of, operations as spec_operations};
 
-use crate::ends::end_with;
+use crate::ends::{end_with, format_in, possible_in};
 use crate::side::Side;
-use pm_host::{Host, Possible};
+use pm_host::{Host, Possible, State};
 use pm_num::{AnyFormat, Frac};
-use pm_table::{Cell, Reg};
+use pm_table::Reg;
 
 // What stands for the bytes that OPERATION may be where it may be any: on, on with margin high, and on with
 // margin low.
@@ -31,30 +32,38 @@ pub fn band_of(host: &Host, output: u8) -> Option<Band>
     requires { output < host.now.setup.outputs }
     ensures { result ≡ band_at host.now output }
 {
-    match host.format(output) {
+    band_in(host.state(), output)
+}
+
+/// The same by what is held beside the open job. The output's number is below 8.
+pub fn band_in(host: &State, output: u8) -> Option<Band>
+    requires { output < 8 }
+    ensures { result ≡ band_at (held None host.now) output }
+{
+    match format_in(host, output) {
         Some(format) => {
-            let operation = host.possible(Cell::Out(output, Reg::Operation));
-            Some(band_in(&format, host, output, operations(&operation)))
+            let operation = possible_in(host, output, Reg::Operation);
+            Some(band_by(&format, host, output, operations(&operation)))
         }
         None => None,
     }
 }
 
 /// What the band would be with this byte in OPERATION.
-pub(crate) fn band_on(host: &Host, output: u8, byte: u16) -> Option<Band>
-    requires { output < host.now.setup.outputs }
-    ensures { result ≡ spec_band_on host.now output byte }
+pub(crate) fn band_on(host: &State, output: u8, byte: u16) -> Option<Band>
+    requires { output < 8 }
+    ensures { result ≡ spec_band_on (held None host.now) output byte }
 {
-    match host.format(output) {
-        Some(format) => Some(band_in(&format, host, output, &[byte])),
+    match format_in(host, output) {
+        Some(format) => Some(band_by(&format, host, output, &[byte])),
         None => None,
     }
 }
 
 // The band with one of these bytes in OPERATION.
-fn band_in(format: &AnyFormat, host: &Host, output: u8, bytes: &[u16]) -> Band
-    requires { output < host.now.setup.outputs }
-    ensures { result ≡ band_with (shape_of format.now) (known_of host.now output) bytes.now }
+fn band_by(format: &AnyFormat, host: &State, output: u8, bytes: &[u16]) -> Band
+    requires { output < 8 }
+    ensures { result ≡ band_with (shape_of format.now) (known_of (held None host.now) output) bytes.now }
 {
     Band {
         least: end_with(Side::Lowest, format, host, output, bytes),

@@ -1,14 +1,17 @@
 //! The words of an output's registers whose values lie farthest out on a side.
 
-ghost use Rattle.std.specs.Prelude.{◌≡◌, ◌<◌, ℕ};
+ghost use Rattle.std.specs.Prelude.{◌≡◌, ◌<◌, ℕ, None, option_map};
 ghost use Rattle.pm_num.specs.AnyFormat.{any_value, shape_of};
+ghost use Rattle.pm_host.specs.Image.{held};
+ghost use Rattle.pm_host.specs.Summary.{format_at, possible_at};
+ghost use Rattle.pm_table.specs.declared.cell.Cell.TheVariants.{Out};
 ghost use Rattle.pm_model.specs.Commanded.{limited as spec_limited, selected_register as spec_selected_register};
 ghost use Rattle.pm_limits.specs.Band.{end_with as spec_end_with, known_of, word_end};
 ghost use Rattle.pm_limits.specs.Ends.{candidates as spec_candidates, end_of as spec_end_of, farthest as spec_farthest, farthest_of as spec_farthest_of, is_farther as spec_is_farther};
 ghost use Rattle.pm_limits.specs.Selectable.{end_in, selected_value};
 
 use crate::side::Side;
-use pm_host::{Host, Possible};
+use pm_host::{Possible, State};
 use pm_num::{AnyFormat, Frac, NumFormat};
 use pm_table::{Cell, Reg};
 
@@ -28,18 +31,18 @@ struct Selectable {
     low: u16,
 }
 
-/// How far out on a side an output may command, with one of these bytes in OPERATION. The output is there.
+/// How far out on a side an output may command, with one of these bytes in OPERATION.
 #[tactic(auto, unfolding(crate::specs::Band::end_with))]
 pub(crate) fn end_with(
     side: Side,
     format: &AnyFormat,
-    host: &Host,
+    host: &State,
     output: u8,
     bytes: &[u16],
 ) -> Frac
-    requires { output < host.now.setup.outputs }
+    requires { output < 8 }
     ensures { result
-        ≡ spec_end_with side (shape_of format.now) (known_of host.now output) bytes.now }
+        ≡ spec_end_with side (shape_of format.now) (known_of (held None host.now) output) bytes.now }
 {
     let ends = Selectable::of(side, format, host, output);
     let selected = ends.word(ends.farthest(side, format, bytes));
@@ -48,20 +51,36 @@ pub(crate) fn end_with(
     limited(format, selected, least, greatest)
 }
 
-// The word of an output's voltage, of those that it may hold, whose value lies farthest out.
-fn end_at(side: Side, format: &AnyFormat, host: &Host, output: u8, register: Reg) -> u16
-    requires { output < host.now.setup.outputs }
-    ensures { result ≡ word_end side (shape_of format.now) (known_of host.now output) register }
+/// The format of an output's voltages, as far as it is known.
+pub(crate) fn format_in(host: &State, output: u8) -> Option<AnyFormat>
+    requires { output < 8 }
+    ensures { option_map shape_of result ≡ format_at (held None host.now) output }
 {
-    end_of(side, format, &host.possible(Cell::Out(output, register)))
+    host.format(output).format()
+}
+
+/// The words that an output's register may hold.
+pub(crate) fn possible_in(host: &State, output: u8, register: Reg) -> Possible
+    requires { output < 8 }
+    ensures { result ≡ possible_at (held None host.now) (Out output register) }
+{
+    host.known.possible(Cell::Out(output, register)).possible()
+}
+
+// The word of an output's voltage, of those that it may hold, whose value lies farthest out.
+fn end_at(side: Side, format: &AnyFormat, host: &State, output: u8, register: Reg) -> u16
+    requires { output < 8 }
+    ensures { result ≡ word_end side (shape_of format.now) (known_of (held None host.now) output) register }
+{
+    end_of(side, format, &possible_in(host, output, register))
 }
 
 impl Selectable {
     // The ends of what an output's registers may hold.
-    fn of(side: Side, format: &AnyFormat, host: &Host, output: u8) -> Selectable
-        requires { output < host.now.setup.outputs }
+    fn of(side: Side, format: &AnyFormat, host: &State, output: u8) -> Selectable
+        requires { output < 8 }
         ensures { (byte : ℕ) → end_in result (spec_selected_register byte)
-            ≡ word_end side (shape_of format.now) (known_of host.now output) (spec_selected_register byte) }
+            ≡ word_end side (shape_of format.now) (known_of (held None host.now) output) (spec_selected_register byte) }
     {
         Selectable {
             command: end_at(side, format, host, output, Reg::VoutCommand),

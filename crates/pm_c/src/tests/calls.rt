@@ -1,5 +1,6 @@
 //! The calls, with no contract of their own: what a test says is run, and the prover needn't carry it.
 
+use crate::guard_image::GuardImage;
 use crate::host::{
     pm_host_check, pm_host_clear, pm_host_learn, pm_host_new, pm_host_order, pm_host_order_micro,
     pm_host_restart, pm_host_restore, pm_host_store,
@@ -10,7 +11,7 @@ use crate::sending::pm_host_sending;
 use crate::sending_image::SendingImage;
 use crate::told::{pm_host_finished, pm_host_got};
 use crate::voltages::{pm_host_format, pm_microvolts, pm_nearest_word};
-use pm_host::{FormatImage, Image, StandingImage, WordsImage};
+use pm_host::{FormatImage, StandingImage, WordsImage};
 
 pub(super) const NOTHING: SendingImage = SendingImage {
     kind: 9,
@@ -29,67 +30,67 @@ pub(super) const PACKET: Packet = Packet {
 };
 
 // A host with two outputs and at most this many passes.
-pub(super) fn host(passes: u8) -> Image {
-    let mut image = Image::blank();
+pub(super) fn host(passes: u8) -> GuardImage {
+    let mut image = GuardImage::blank();
     let _ = pm_host_new(&mut image, 0x58, 2, passes);
     image
 }
 
 // The frame that is being sent.
-pub(super) fn sending(image: &Image) -> SendingImage {
+pub(super) fn sending(image: &GuardImage) -> SendingImage {
     let mut frame = NOTHING;
     let _ = pm_host_sending(image, &mut frame);
     frame
 }
 
-pub(super) fn new(image: &mut Image, address: u8, outputs: u8, passes: u8) -> u8 {
+pub(super) fn new(image: &mut GuardImage, address: u8, outputs: u8, passes: u8) -> u8 {
     pm_host_new(image, address, outputs, passes)
 }
 
-pub(super) fn order(image: &mut Image, output: u8, code: u8, word: u16) -> u8 {
+pub(super) fn order(image: &mut GuardImage, output: u8, code: u8, word: u16) -> u8 {
     pm_host_order(image, output, code, word)
 }
 
-pub(super) fn order_micro(image: &mut Image, output: u8, code: u8, microvolts: i64) -> u8 {
+pub(super) fn order_micro(image: &mut GuardImage, output: u8, code: u8, microvolts: i64) -> u8 {
     pm_host_order_micro(image, output, code, microvolts)
 }
 
-pub(super) fn check(image: &mut Image, output: u8, code: u8) -> u8 {
+pub(super) fn check(image: &mut GuardImage, output: u8, code: u8) -> u8 {
     pm_host_check(image, output, code)
 }
 
-pub(super) fn learn(image: &mut Image, output: u8) -> u8 {
+pub(super) fn learn(image: &mut GuardImage, output: u8) -> u8 {
     pm_host_learn(image, output)
 }
 
-pub(super) fn clear(image: &mut Image, output: u8) -> u8 {
+pub(super) fn clear(image: &mut GuardImage, output: u8) -> u8 {
     pm_host_clear(image, output)
 }
 
-pub(super) fn store(image: &mut Image) -> u8 {
+pub(super) fn store(image: &mut GuardImage) -> u8 {
     pm_host_store(image)
 }
 
-pub(super) fn restore(image: &mut Image) -> u8 {
+pub(super) fn restore(image: &mut GuardImage) -> u8 {
     pm_host_restore(image)
 }
 
-pub(super) fn restart(image: &mut Image) -> u8 {
+pub(super) fn restart(image: &mut GuardImage) -> u8 {
     pm_host_restart(image)
 }
 
-pub(super) fn finished(image: &mut Image, acked: u8) -> (u16, u16) {
+pub(super) fn finished(image: &mut GuardImage, acked: u8) -> (u16, u16) {
     let step = pm_host_finished(image, acked);
     (step.kind, step.word)
 }
 
-pub(super) fn got(image: &mut Image, bytes: &[u8]) -> (u16, u16) {
+pub(super) fn got(image: &mut GuardImage, bytes: &[u8]) -> (u16, u16) {
     let step = pm_host_got(image, bytes);
     (step.kind, step.word)
 }
 
 // The number, and what was said: 7 where nothing was.
-pub(super) fn standing(image: &Image, output: u8, code: u8) -> (u8, u16, u16) {
+pub(super) fn standing(image: &GuardImage, output: u8, code: u8) -> (u8, u16, u16) {
     let mut said = StandingImage {
         is_confirmed: 7,
         word: 7,
@@ -98,7 +99,7 @@ pub(super) fn standing(image: &Image, output: u8, code: u8) -> (u8, u16, u16) {
     (number, said.is_confirmed, said.word)
 }
 
-pub(super) fn possible(image: &Image, output: u8, code: u8) -> (u8, u16, u16) {
+pub(super) fn possible(image: &GuardImage, output: u8, code: u8) -> (u8, u16, u16) {
     let mut words = WordsImage {
         count: 7,
         words: [7; 16],
@@ -107,7 +108,7 @@ pub(super) fn possible(image: &Image, output: u8, code: u8) -> (u8, u16, u16) {
     (number, words.count, words.words[0])
 }
 
-pub(super) fn format(image: &Image, output: u8) -> (u8, u8, i8) {
+pub(super) fn format(image: &GuardImage, output: u8) -> (u8, u8, i8) {
     let mut format = FormatImage {
         kind: 7,
         exponent: 7,
@@ -118,12 +119,12 @@ pub(super) fn format(image: &Image, output: u8) -> (u8, u8, i8) {
     (number, format.kind, format.exponent)
 }
 
-pub(super) fn restart_seen(image: &Image) -> u8 {
+pub(super) fn restart_seen(image: &GuardImage) -> u8 {
     pm_host_restart_seen(image)
 }
 
 // Kind, length and bytes to be read of what is being sent, and whether its bytes begin so.
-pub(super) fn shown(image: &Image, bytes: &[u8]) -> (u8, u8, u8, bool) {
+pub(super) fn shown(image: &GuardImage, bytes: &[u8]) -> (u8, u8, u8, bool) {
     let frame = sending(image);
     (
         frame.kind,

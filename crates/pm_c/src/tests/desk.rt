@@ -3,10 +3,10 @@
 use super::calls::{finished, got, host, order, sending, standing};
 use super::checks::{equal, is_true};
 use crate::desk::{Desk, pm_desk_commanded, pm_desk_hear, pm_desk_word};
+use crate::guard_image::GuardImage;
 use crate::numbers::TAKEN;
 use crate::output_words::OutputWords;
 use crate::reply_image::ReplyImage;
-use pm_host::Image;
 
 const OUTPUT: OutputWords = OutputWords {
     mode: 0x14,
@@ -108,7 +108,7 @@ fn memory_that_holds_no_converter_is_refused(rt: HostRuntime) {
 
 // What becomes of one frame: the desk hears it, unless it is lost, and its answer comes back, or a damaged
 // one; the acknowledgement may be lost.
-fn exchanged(image: &mut Image, desk: &mut Desk, fate: u32) -> (u16, u16) {
+fn exchanged(image: &mut GuardImage, desk: &mut Desk, fate: u32) -> (u16, u16) {
     let frame = sending(image);
     let length = if fate == 1 {
         0
@@ -127,7 +127,7 @@ fn exchanged(image: &mut Image, desk: &mut Desk, fate: u32) -> (u16, u16) {
 }
 
 // A whole order under these fates, three bits for each frame: how it ended.
-fn lived(image: &mut Image, desk: &mut Desk, word: u16, fates: u32) -> u16 {
+fn lived(image: &mut GuardImage, desk: &mut Desk, word: u16, fates: u32) -> u16 {
     let mut end = 0xE0;
     if order(image, 1, 0x21, word) == 0 {
         for frame in 0..6u32 {
@@ -140,7 +140,7 @@ fn lived(image: &mut Image, desk: &mut Desk, word: u16, fates: u32) -> u16 {
 }
 
 // Whether the word that the host calls confirmed, if it does, is the desk's.
-fn is_right(image: &Image, desk: &Desk) -> bool {
+fn is_right(image: &GuardImage, desk: &Desk) -> bool {
     let mut held = 0;
     let number = pm_desk_word(desk, 1, 0x21, &mut held);
     let (_, is_confirmed, word) = standing(image, 1, 0x21);

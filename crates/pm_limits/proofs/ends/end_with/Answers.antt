@@ -1,9 +1,10 @@
-use Rattle.std.proofs.Common.{◌∙◌, ℕ, ap}
+use Rattle.std.proofs.Common.{None, ◌∙◌, ℕ, ap}
 use Rattle.std.proofs.Math.Path.{fun_ext}
 use Rattle.pm_num.specs.AnyFormat.{any_value, shape_of}
 use Rattle.pm_num.specs.Ratio.{Ratio}
 use Rattle.pm_table.specs.declared.reg.Reg.TheVariants.{VoutMin}
 use Rattle.pm_model.specs.Commanded.{limited, selected_register}
+use Rattle.pm_host.specs.Image.{held}
 use Rattle.pm_limits.specs.Band.{end_with, known_of, operation_end, reach, word_end}
 use Rattle.pm_limits.specs.Ends.{farthest_of}
 use Rattle.pm_limits.specs.Selectable.{selected_value}
@@ -15,7 +16,7 @@ returns c =
     let side = c.args.side in
     let value = any_value c.args.format.now in
     let shape = shape_of c.args.format.now in
-    let known = known_of c.args.host.now c.args.output in
+    let known = known_of (held None c.args.host.now) c.args.output in
     let bytes = c.args.bytes.now in
     let far = c.farthest.ensures ∙ ap (λ (v : ℕ → Ratio). farthest_of side v bytes)
     (fun_ext (λ (byte : ℕ). ap value (c.of-ends.ensures byte))) in
