@@ -52,14 +52,14 @@ frame (UnknownCode place) = refl
 frame (WrongDirection place) = refl
 frame (Nested place) = refl
 
-device : (fault : DeviceFault) → refusal_words (device_number fault) ≡ Some (device_fault_words fault)
-device (device.Frame fault) = refl
-device device.UnsupportedCode = refl
-device device.UnsupportedData = refl
-device device.BadPage = refl
-device device.Protected = refl
-device device.Nested = refl
-device device.ReadOnly = refl
+converter : (fault : DeviceFault) → refusal_words (device_number fault) ≡ Some (device_fault_words fault)
+converter (device.Frame fault) = refl
+converter device.UnsupportedCode = refl
+converter device.UnsupportedData = refl
+converter device.BadPage = refl
+converter device.Protected = refl
+converter device.Nested = refl
+converter device.ReadOnly = refl
 
 step : (s : Step) → end_words (step_kind s) ≡ Some (step_words s)
 step Next = refl
@@ -69,4 +69,4 @@ step (Ended Unknown) = refl
 step (Ended Learned) = refl
 
 pub named : RefusalsAreNamed
-named = record { limit = limit; frame = frame; device = device; step = step }
+named = record { limit = limit; frame = frame; device = converter; step = step }

@@ -8,7 +8,7 @@ use Rattle.pm_frame.specs.Fault.{whole_answer}
 use Rattle.pm_frame.specs.Layout.{is_read_message}
 use Rattle.pm_limits.specs.Guard.{Guarded, guard_fault}
 use Rattle.pm_c.specs.declared.guard_image.GuardImage.{GuardImage}
-use Rattle.pm_c.specs.Guard.{guard_of, limits_kept}
+use Rattle.pm_c.specs.Guard.{guard_of}
 use Rattle.pm_host.specs.declared.job.Job.{Job}
 use Rattle.pm_host.specs.declared.job_end.JobEnd.TheVariants.{Done, Differs, Unknown, Learned}
 use Rattle.pm_host.specs.declared.step.Step.{Step}
@@ -47,7 +47,7 @@ job_begun host job = option_and_then (λ s. option_map (λ accepted. next s (Acc
 pub record BeginsJob (old : GuardImage) (job : Option Job) (result : ℕ) (new : GuardImage) : Type 0 where
   pub number : result ≡ job_number (guard_of old) job
   pub begun : result ≡ 0 → host_of new.host ≡ job_begun (host_of old.host) job
-  pub limits : limits_kept new ≡ limits_kept old
+  pub limits : new.limits ≡ old.limits
   pub refused : result ≢ 0 → new ≡ old
 
 -- the memory holds a host
@@ -113,7 +113,7 @@ after host entry = option_map (λ s. next s entry) host
 pub record TellsHost (old : GuardImage) (entry : Entry) (result : HostStep) (new : GuardImage) : Type 0 where
   pub answer : result ≡ told_answer (host_of old.host) entry
   pub told : is_told (host_of old.host) entry ≡ true → host_of new.host ≡ after (host_of old.host) entry
-  pub limits : limits_kept new ≡ limits_kept old
+  pub limits : new.limits ≡ old.limits
   pub refused : is_told (host_of old.host) entry ≡ false → new ≡ old
 
 -- what is asked of a cell

@@ -8,11 +8,11 @@ use Rattle.pm_c.specs.declared.known_cells.KnownCell.{KnownCell}
 use Rattle.pm_c.specs.declared.known_cells.KnownCells.{KnownCells}
 
 -- these numbers name the cell, and say what is known of it
-pub record IsKnown (s : Summary) (cell : Cell) (known : KnownCell) : Type 0 where
-  pub cell : cell_at known.code known.output ≡ Some cell
-  pub standing : standing_held known.standing ≡ standing_at s cell
+pub record IsKnown (s : Summary) (of : Cell) (known : KnownCell) : Type 0 where
+  pub cell : cell_at known.code known.output ≡ Some of
+  pub standing : standing_held known.standing ≡ standing_at s of
   pub flag : known.standing.is_confirmed ≤ 1
-  pub words : words_held known.words ≡ possible_at s cell
+  pub words : words_held known.words ≡ possible_at s of
   pub count : known.words.count ≤ 16
 
 -- of no cell

@@ -94,7 +94,7 @@ named_number words = if is_none words then no_name else accepted
 
 -- a text of C: the characters, and zeros behind them
 pub record HasText (words : List ℕ) (name : NameImage) : Type 0 where
-  pub words : take (length words) name.text ≡ words
+  pub spelled : take (length words) name.text ≡ words
   pub zeros : drop (length words) name.text ≡ drop (length words) (replicate 32 0)
 
 -- No fault is without its name: each type's own words stand under its number.

@@ -30,6 +30,11 @@ pub record IsNear (x : ℤ) : Type 0 where
   pub above : neg_ℤ (pos (10 ^ 15)) ≤ℤ x
   pub below : x ≤ℤ pos (10 ^ 15)
 
+-- within 10^16 in size
+pub record IsSmall (x : ℤ) : Type 0 where
+  pub above : neg_ℤ (pos (10 ^ 16)) ≤ℤ x
+  pub below : x ≤ℤ pos (10 ^ 16)
+
 -- The format that numbers of a caller's own mean: of kind 3 LINEAR11, which readings of PMBus have and no output's
 -- voltage has; of any other kind what they mean in a host.
 abbrev pub format_meant : FormatImage → Option Shape

@@ -43,7 +43,7 @@ pub extern "C" fn pm_packet_read_answer(
         Some(message) if message.is_read() && fits(&message) => {
             match read_answer(address, &message, bytes) {
                 Ok(found) => {
-                    *payload = PayloadImage::of(found);
+                    *payload = PayloadImage::of(&found[..message.answer_length()]);
                     ACCEPTED
                 }
                 Err(fault) => of_frame(fault),

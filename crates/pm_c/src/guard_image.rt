@@ -1,4 +1,4 @@
-ghost use Rattle.std.specs.Prelude.{◌≡◌, ◌<◌, slice_index_or, slice_set, Some, None};
+ghost use Rattle.std.specs.Prelude.{◌≡◌, ◌<◌, map, slice_index_or, slice_set, Some, None};
 ghost use Rattle.pm_c.specs.Guard.{job_limits, limits_held, limits_kept, no_limits};
 
 use pm_host::{Image, Job};
@@ -64,6 +64,7 @@ impl GuardImage {
     }
 
     /// No output has limits.
+    #[tactic(auto, unfolding(crate::specs::Guard::limits_kept))]
     pub(crate) fn free(&mut self)
         ensures free { limits_kept self.new ≡ no_limits }
         ensures host { self.new.host ≡ self.old.host }
@@ -72,13 +73,16 @@ impl GuardImage {
         self.limits.fill(LimitsImage::NONE);
     }
 
-    /// The limits of an output, where it has any.
+    /// The limits of an output, where it has any; one that isn't there has none.
+    #[tactic(auto, unfolding(crate::specs::Guard::limits_kept))]
     pub(crate) fn limits(&self, output: u8) -> Option<Limits>
         ensures { result ≡ slice_index_or (limits_kept self.now) output None }
     {
-        match self.limits.get(usize::from(output)) {
-            Some(limits) => limits.limits(),
-            None => None,
+        let place = usize::from(output);
+        if place < OUTPUTS {
+            self.limits[place].limits()
+        } else {
+            None
         }
     }
 
@@ -93,11 +97,20 @@ impl GuardImage {
     }
 
     /// Gives an output limits.
+    #[tactic(auto, unfolding(crate::specs::Guard::limits_kept))]
     pub(crate) fn put_limits(&mut self, output: u8, limits: &Limits)
         requires { output < 8 }
         ensures limits { limits_kept self.new ≡ slice_set (limits_kept self.old) output (Some limits.now) }
         ensures host { self.new.host ≡ self.old.host }
     {
-        self.limits[usize::from(output)] = LimitsImage::of(limits);
+        put(&mut self.limits, output, LimitsImage::of(limits));
     }
+}
+
+// Gives an output limits.
+fn put(all: &mut [LimitsImage; OUTPUTS], output: u8, limits: LimitsImage)
+    requires { output < 8 }
+    ensures { map limits_held all.new ≡ slice_set (map limits_held all.old) output (limits_held limits) }
+{
+    all[usize::from(output)] = limits;
 }

@@ -8,7 +8,7 @@ ghost use Rattle.pm_host.specs.Sound.{IsSound};
 ghost use Rattle.pm_host.specs.Summary.{start};
 ghost use Rattle.pm_host.specs.Transcript.{Setup, Restarted};
 ghost use Rattle.pm_limits.specs.Guard.{limited_fault};
-ghost use Rattle.pm_c.specs.Guard.{guard_of, limits_kept, no_limits};
+ghost use Rattle.pm_c.specs.Guard.{guard_of, no_limits};
 ghost use Rattle.pm_c.specs.Sizes.{host_size, library_version};
 ghost use Rattle.pm_c.specs.Host.{new_number, memory_number, after, job_begun, BeginsJob};
 
@@ -181,7 +181,7 @@ pub extern "C" fn pm_host_restore(host: &mut GuardImage) -> u8
 pub extern "C" fn pm_host_restart(host: &mut GuardImage) -> u8
     ensures number { result ≡ memory_number (host_of host.old.host) }
     ensures begun { host_of host.new.host ≡ after (host_of host.old.host) Restarted }
-    ensures limits { limits_kept host.new ≡ limits_kept host.old }
+    ensures limits { host.new.limits ≡ host.old.limits }
     ensures refused { result ≢ 0 → host.new ≡ host.old }
 {
     if host.host.read_stage().is_err() {

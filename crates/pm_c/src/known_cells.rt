@@ -4,7 +4,7 @@ ghost use Rattle.std.specs.Prelude.{◌≡◌, ◌≢◌, ◌<◌, ◌≤◌, Is
 ghost use Rattle.pm_table.specs.Cell.{nth_cell, IsCell};
 ghost use Rattle.pm_host.specs.Image.{held, host_of};
 ghost use Rattle.pm_c.specs.Host.{memory_number};
-ghost use Rattle.pm_c.specs.Known.{cell_count, IsKnown, IsKnownOf};
+ghost use Rattle.pm_c.specs.Known.{cell_count, AreKnown, IsKnown, IsKnownOf};
 
 use crate::guard_image::GuardImage;
 use crate::known::{counted, flagged};
@@ -47,13 +47,21 @@ pub extern "C" fn pm_host_known(host: &GuardImage, known: &mut KnownCells) -> u8
     if host.host.read_stage().is_err() {
         return NO_HOST;
     }
-    let outputs = host.host.state.outputs;
-    let count = usize::from(outputs) * Reg::COUNT + 1;
-    for number in 0..count {
-        known.cells[number] = of_cell(&host.host.state, cell_of_number(outputs, number));
-    }
-    known.count = count as u16;
+    known.count = fill(&host.host.state, &mut known.cells);
     ACCEPTED
+}
+
+// Says what is known of each cell of the device, and how many there are.
+fn fill(state: &State, cells: &mut [KnownCell; Cell::PLACES]) -> u16
+    requires { state.now.outputs ≤ 8 }
+    ensures count { result ≡ cell_count state.now.outputs }
+    ensures cells { AreKnown (held None state.now) result cells.new }
+{
+    let count = usize::from(state.outputs) * Reg::COUNT + 1;
+    for number in 0..count {
+        cells[number] = of_cell(state, cell_of_number(state.outputs, number));
+    }
+    count as u16
 }
 
 // The cell of this number on a device with this many outputs.

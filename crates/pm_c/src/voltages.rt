@@ -1,17 +1,18 @@
 //! Words and microvolts, both ways.
 
-ghost use Rattle.std.specs.Prelude.{◌≡◌, ◌≢◌, pos, Some, IsSomeAnd, option_map};
+ghost use Rattle.std.specs.Prelude.{◌≡◌, ◌≢◌, ◌<◌, pos, Some, IsSomeAnd, option_map};
 ghost use Rattle.pm_num.specs.AnyFormat.{shape_of, shape_value, shape_rank};
 ghost use Rattle.pm_num.specs.NearestWord.{nearest_word as spec_nearest_word};
-ghost use Rattle.pm_num.specs.Ratio.{micros, InBounds};
+ghost use Rattle.pm_num.specs.Ratio.{is_above as spec_is_above, micros, InBounds};
 ghost use Rattle.pm_host.specs.Image.{format_held, host_of};
 ghost use Rattle.pm_host.specs.Summary.{format_at};
-ghost use Rattle.pm_c.specs.Voltages.{floor_number, is_far as spec_is_far, output_number, format_meant, value_number, word_number, IsCeil, IsFloor, IsFormat, IsNear};
+ghost use Rattle.pm_c.specs.Voltages.{floor_number, is_far as spec_is_far, output_number, format_meant, value_number, word_number, IsCeil, IsFloor, IsFormat, IsNear, IsSmall};
 
 use crate::guard_image::GuardImage;
 use crate::numbers::{ACCEPTED, NO_HOST, of_host, of_number};
 use pm_host::{FormatImage, HostFault, nearest_word};
-use pm_num::{AnyFormat, Frac, NumFault, NumFormat};
+use pm_num::{AnyFormat, Frac, NumFault, NumFormat, micro};
+use std::cmp::Ordering;
 
 // The greatest number of microvolts that is answered, in size.
 const LIMIT: i128 = 1_000_000_000_000_000;
@@ -88,6 +89,7 @@ pub(crate) fn put_floor(value: &Frac, microvolts: &mut i64) -> u8
     ensures number { result ≡ floor_number value.now }
     ensures floor { result ≡ 0 → IsFloor value.now microvolts.new }
     ensures near { result ≡ 0 → IsNear microvolts.new }
+    ensures positive { 0 < value.now.den }
     ensures refused { result ≢ 0 → microvolts.new ≡ microvolts.old }
 {
     if is_far(value) {
@@ -101,6 +103,7 @@ pub(crate) fn put_floor(value: &Frac, microvolts: &mut i64) -> u8
 pub(crate) fn put_ceil(value: &Frac, microvolts: &mut i64) -> u8
     ensures number { result ≡ floor_number value.now }
     ensures ceil { result ≡ 0 → IsCeil value.now microvolts.new }
+    ensures small { result ≡ 0 → IsSmall microvolts.new }
     ensures refused { result ≢ 0 → microvolts.new ≡ microvolts.old }
 {
     let mut floor = 0;
@@ -108,9 +111,30 @@ pub(crate) fn put_ceil(value: &Frac, microvolts: &mut i64) -> u8
     if number != ACCEPTED {
         return number;
     }
-    let is_whole = value.num() * MILLION <= i128::from(floor) * value.den();
-    *microvolts = if is_whole { floor } else { floor + 1 };
+    *microvolts = if is_above(value, &whole(floor)) {
+        floor + 1
+    } else {
+        floor
+    };
     ACCEPTED
+}
+
+// This many microvolts as a fraction.
+fn whole(x: i64) -> Frac
+    requires { IsNear x }
+    ensures { result ≡ micros x }
+{
+    match micro(x) {
+        Ok(value) => value,
+        Err(_) => unreachable!(),
+    }
+}
+
+// Whether the first value is the greater one.
+fn is_above(p: &Frac, q: &Frac) -> bool
+    ensures { result ≡ spec_is_above p.now q.now }
+{
+    p.cmp_value(q) == Ordering::Greater
 }
 
 // Whether a value is beyond 10^15 microvolts in size, by cross products.

@@ -2,7 +2,7 @@ ghost use Rattle.std.specs.Prelude.{◌≡◌, ◌≤◌, ◌^◌, ℤ, unsigned
 ghost use Rattle.std.specs.Result.{result_err};
 ghost use Rattle.pm_num.specs.Ratio.{is_above as spec_is_above, micros};
 ghost use Rattle.pm_limits.specs.Band.{band_within};
-ghost use Rattle.pm_limits.specs.Bounds.{bounds_fault, is_wider, outside_fault};
+ghost use Rattle.pm_limits.specs.Bounds.{bounds_fault, is_wider, outside_fault, AreBounds};
 ghost use Rattle.pm_limits.specs.Guard.{narrower_fault};
 
 use crate::band::Band;
@@ -56,7 +56,8 @@ impl Limits {
 
     /// The least voltage, in microvolts.
     pub fn least(&self) -> i64
-        ensures { result ≡ self.now.least }
+        ensures value { result ≡ self.now.least }
+        ensures bounds { AreBounds self.now.least self.now.most }
     {
         self.least
     }
