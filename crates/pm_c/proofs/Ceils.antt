@@ -21,16 +21,17 @@ next value x is more = record {
   least = λ k above. beyond k (is_above (micros (x +ℤ pos 1)) (micros k)) refl above;
 }
   where
-  reach : (b : Bool) → is_above value (micros (x +ℤ pos 1)) ≡ b → AtMost value (micros (x +ℤ pos 1))
-  reach false h = at-most value (micros (x +ℤ pos 1)) h
-  reach true h =
-      let no = is.greatest (x +ℤ pos 1) (above-at-most value (micros (x +ℤ pos 1)) h) in
-      omega (arith, ints)
-  beyond : (k : ℤ) (b : Bool) → is_above (micros (x +ℤ pos 1)) (micros k) ≡ b → AtMost value (micros k) → (x +ℤ pos 1) ≤ℤ k
-  beyond k false h above =
-      let up = at-most (micros (x +ℤ pos 1)) (micros k) h in
-      omega (arith, ints)
-  beyond k true h above =
-      let down : AtMost (micros k) (micros x) = let strict = above-at-most (micros (x +ℤ pos 1)) (micros k) h in grind (arith, ints) in
-      let never = not-above value (micros x) (through value (micros k) (micros x) (omega (arith)) above down) in
-      cc
+    reach : (b : Bool) → is_above value (micros (x +ℤ pos 1)) ≡ b → AtMost value (micros (x +ℤ pos 1))
+    reach false h = at-most value (micros (x +ℤ pos 1)) h
+    reach true h =
+        let no = is.greatest (x +ℤ pos 1) (above-at-most value (micros (x +ℤ pos 1)) h) in
+        omega (arith, ints)
+
+    beyond : (k : ℤ) (b : Bool) → is_above (micros (x +ℤ pos 1)) (micros k) ≡ b → AtMost value (micros k) → (x +ℤ pos 1) ≤ℤ k
+    beyond k false h above =
+        let up = at-most (micros (x +ℤ pos 1)) (micros k) h in
+        omega (arith, ints)
+    beyond k true h above =
+        let down : AtMost (micros k) (micros x) = let strict = above-at-most (micros (x +ℤ pos 1)) (micros k) h in grind (arith, ints) in
+        let never = not-above value (micros x) (through value (micros k) (micros x) (omega (arith)) above down) in
+        cc

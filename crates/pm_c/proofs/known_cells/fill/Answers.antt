@@ -13,16 +13,16 @@ further : (s : Summary) (n : ℕ) (cells : List KnownCell) (known : KnownCell) �
     → IsKnown s (nth_cell s.setup.outputs n) known → AreKnown s (n + 1) (set cells n known)
 further s n cells known there before one = λ k below. at k (nat_eq k n) refl below
   where
-  at : (k : ℕ) (b : Bool) → nat_eq k n ≡ b → k < n + 1
-      → IsKnown s (nth_cell s.setup.outputs k) (get_or (set cells n known) k no_cell_known)
-  at k true h below =
-      let same : k ≡ n = search rules in
-      subst (λ j. IsKnown s (nth_cell s.setup.outputs j) (get_or (set cells n known) j no_cell_known)) (sym same)
-      (subst (IsKnown s (nth_cell s.setup.outputs n)) (sym (get_or-set_same cells n known no_cell_known there)) one)
-  at k false h below =
-      let other : k ≢ n = search rules in
-      let less : k < n = search rules in
-      subst (IsKnown s (nth_cell s.setup.outputs k)) (sym (get_or-set_other cells n k known no_cell_known other)) (before k less)
+    at : (k : ℕ) (b : Bool) → nat_eq k n ≡ b → k < n + 1
+        → IsKnown s (nth_cell s.setup.outputs k) (get_or (set cells n known) k no_cell_known)
+    at k true h below =
+        let same : k ≡ n = search rules in
+        subst (λ j. IsKnown s (nth_cell s.setup.outputs j) (get_or (set cells n known) j no_cell_known)) (sym same)
+        (subst (IsKnown s (nth_cell s.setup.outputs n)) (sym (get_or-set_same cells n known no_cell_known there)) one)
+    at k false h below =
+        let other : k ≢ n = search rules in
+        let less : k < n = search rules in
+        subst (IsKnown s (nth_cell s.setup.outputs k)) (sym (get_or-set_other cells n k known no_cell_known other)) (before k less)
 
 pub loop-number-preserved : goal.loop-number-preserved
 loop-number-preserved c =
