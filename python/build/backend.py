@@ -88,7 +88,7 @@ def add_facts(wheel):
 
 
 def sources():
-    folder = os.path.join(HOME, "pmhost")
+    folder = os.path.join(HOME, "src", "pmhost")
     return sorted(name for name in os.listdir(folder) if name.endswith((".py", ".typed")))
 
 
@@ -103,7 +103,7 @@ def build_wheel(wheel_directory, config_settings=None, metadata_directory=None):
         library = read(shared_object(folder))
         wheel = Wheel(os.path.join(wheel_directory, name))
         for source in sources():
-            wheel.add(f"pmhost/{source}", read(os.path.join(HOME, "pmhost", source)))
+            wheel.add(f"pmhost/{source}", read(os.path.join(HOME, "src", "pmhost", source)))
         wheel.add(f"pmhost/{LIBRARY}", library, 0o755)
         add_facts(wheel)
     return name
@@ -112,9 +112,9 @@ def build_wheel(wheel_directory, config_settings=None, metadata_directory=None):
 def build_editable(wheel_directory, config_settings=None, metadata_directory=None):
     """The package in its place: the shared object is made beside its files."""
     name = f"{stem()}-{tag()}.whl"
-    os.replace(shared_object(os.path.join(HOME, "pmhost")), os.path.join(HOME, "pmhost", LIBRARY))
+    shared_object(os.path.join(HOME, "src", "pmhost"))
     wheel = Wheel(os.path.join(wheel_directory, name))
-    wheel.add("pmhost.pth", (HOME + "\n").encode())
+    wheel.add("pmhost.pth", (os.path.join(HOME, "src") + "\n").encode())
     add_facts(wheel)
     return name
 

@@ -43,7 +43,7 @@ class Frames(unittest.TestCase):
         self.assertEqual(Format("ULINEAR16", -12).word("3.3"), 0x34CD)
         self.assertEqual(Format("ULINEAR16", -12).value(0x34CD), Decimal("3.300048"))
         self.assertEqual(Format("DIRECT", 3, 1, 0).value(0x0CE4), Decimal("3.3"))
-        self.assertEqual((LINEAR11.value(0xD300), LINEAR11.word("12")), (Decimal(12), 0xD300))
+        self.assertEqual((LINEAR11.value(0xD300), LINEAR11.word("12")), (Decimal(12), 0x000C))
 
 
 class Jobs(unittest.TestCase):
