@@ -79,9 +79,8 @@ impl Part {
     pub fn hear(&mut self, frame: &[u8], is_request: bool) -> Result<Heard, Refusal> {
         let mut reply = ffi::ReplyImage::default();
         // SAFETY: the references are valid, those that are written overlap nothing, the slice's pointer and count are its own.
-        match unsafe {
-            ffi::pm_desk_hear(&mut self.image, frame.as_ptr(), frame.len() as u64, u8::from(is_request), &mut reply)
-        } {
+        match unsafe { ffi::pm_desk_hear(&mut self.image, frame.as_ptr(), frame.len() as u64, u8::from(is_request), &mut reply) }
+        {
             0x81 => Ok(Heard::Silent),
             0x82 => Ok(Heard::Taken),
             0x83 => Ok(Heard::Answered(Bytes::of(reply.length, reply.bytes))),

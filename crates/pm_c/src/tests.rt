@@ -1,23 +1,24 @@
 mod calls;
 mod checks;
 mod desk;
+mod limits;
 
 use self::calls::{
-    PACKET, check, clear, finished, format, got, host, learn, microvolts, nearest, new, order,
-    order_micro, possible, read_request, read_write, restart, restart_seen, restore, sending,
-    shown, standing, store, written,
+    PACKET, band, check, clear, finished, format, got, host, learn, limits, microvolts, narrow,
+    nearest, new, order, order_micro, possible, read_request, read_write, restart, restart_seen,
+    restore, sending, shown, standing, store, within, written,
 };
 use self::checks::{equal, is_true};
 use crate::desk::pm_desk_size;
 use crate::guard_image::GuardImage;
-use crate::host::{pm_host_size, pm_host_version};
+use crate::host::{pm_host_size, pm_host_version, pm_version};
 use crate::packet::pm_pec;
 use pm_host::{FormatImage, WordsImage};
 
 #[test]
 fn sizes_are_those_of_the_header(rt: HostRuntime) {
     equal(&rt, &(pm_host_size(), pm_desk_size()), &(2056, 122), &1);
-    equal(&rt, &pm_host_version(), &4, &2);
+    equal(&rt, &(pm_version(), pm_host_version()), &(0x0100, 4), &2);
 }
 
 #[test]
@@ -152,8 +153,12 @@ fn is_refused(image: &mut GuardImage) -> bool {
         possible(image, 0, 0x21).0,
         format(image, 0).0,
         restart_seen(image),
+        narrow(image, 0, 0, 1),
+        limits(image, 0).0,
+        within(image, 0),
+        band(image, 0).0,
     ];
-    begun == [0xE0; 12]
+    begun == [0xE0; 16]
         && shown(image, &[]) == (0, 0, 0, true)
         && finished(image, 1) == (0xE0, 0)
         && got(image, &[]) == (0xE0, 0)
@@ -253,6 +258,9 @@ fn numbers_stand_alone(rt: HostRuntime) {
         m: 0,
         b: 0,
     };
+    let linear11 = FormatImage { kind: 3, ..none };
+    equal(&rt, &microvolts(&linear11, 0xD300), &(0, 12_000_000), &8);
+    equal(&rt, &nearest(&linear11, -500_000), &(0, 0xFFFF), &9);
     equal(&rt, &nearest(&none, 1), &(7, 7), &6);
     equal(&rt, &microvolts(&none, 1), &(7, 7), &7);
 }

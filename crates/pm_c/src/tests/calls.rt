@@ -1,17 +1,23 @@
 //! The calls, with no contract of their own: what a test says is run, and the prover needn't carry it.
 
-use crate::guard_image::GuardImage;
+use crate::answer::{PayloadImage, pm_packet_read_answer};
+use crate::guard_image::{GuardImage, LimitsImage};
 use crate::host::{
     pm_host_check, pm_host_clear, pm_host_learn, pm_host_new, pm_host_order, pm_host_order_micro,
     pm_host_restart, pm_host_restore, pm_host_store,
 };
 use crate::known::{pm_host_possible, pm_host_restart_seen, pm_host_standing};
+use crate::known_cells::{KnownCell, KnownCells, pm_host_known};
+use crate::limits::{BandImage, pm_host_band, pm_host_limits, pm_host_narrow, pm_host_within};
+use crate::name_image::NameImage;
+use crate::names::{pm_end_name, pm_refusal_name};
 use crate::packet::{Packet, pm_packet_read_request, pm_packet_read_write, pm_packet_write};
 use crate::sending::pm_host_sending;
 use crate::sending_image::SendingImage;
 use crate::told::{pm_host_finished, pm_host_got};
 use crate::voltages::{pm_host_format, pm_microvolts, pm_nearest_word};
 use pm_host::{FormatImage, StandingImage, WordsImage};
+use pm_table::Cell;
 
 pub(super) const NOTHING: SendingImage = SendingImage {
     kind: 9,
@@ -161,4 +167,76 @@ pub(super) fn nearest(format: &FormatImage, microvolts: i64) -> (u8, u16) {
     let mut word = 7;
     let number = pm_nearest_word(format, microvolts, &mut word);
     (number, word)
+}
+
+pub(super) fn narrow(image: &mut GuardImage, output: u8, least: i64, most: i64) -> u8 {
+    pm_host_narrow(image, output, least, most)
+}
+
+pub(super) fn limits(image: &GuardImage, output: u8) -> (u8, i64, i64) {
+    let mut limits = LimitsImage { least: 7, most: 7 };
+    let number = pm_host_limits(image, output, &mut limits);
+    (number, limits.least, limits.most)
+}
+
+pub(super) fn within(image: &GuardImage, output: u8) -> u8 {
+    pm_host_within(image, output)
+}
+
+pub(super) fn band(image: &GuardImage, output: u8) -> (u8, i64, i64) {
+    let mut band = BandImage {
+        least: 7,
+        greatest: 7,
+    };
+    let number = pm_host_band(image, output, &mut band);
+    (number, band.least, band.greatest)
+}
+
+// Whether the number has a name that begins so.
+pub(super) fn refusal_name(number: u8, text: &[u8]) -> bool {
+    let mut name = NameImage { text: [7; 32] };
+    pm_refusal_name(number, &mut name) == 0 && name.text.starts_with(text)
+}
+
+pub(super) fn end_name(kind: u16, text: &[u8]) -> bool {
+    let mut name = NameImage { text: [7; 32] };
+    pm_end_name(kind, &mut name) == 0 && name.text.starts_with(text)
+}
+
+// What came back for a packet of this kind and VOUT_COMMAND.
+pub(super) fn answer(address: u8, kind: u8, bytes: &[u8]) -> (u8, u8, u16) {
+    let request = Packet {
+        kind,
+        page: 0,
+        code: 0x21,
+        count: 2,
+        word: 0,
+    };
+    let mut payload = PayloadImage {
+        length: 7,
+        bytes: [7; 5],
+        word: 7,
+    };
+    let number = pm_packet_read_answer(address, &request, bytes, &mut payload);
+    (number, payload.length, payload.word)
+}
+
+pub(super) fn known(image: &GuardImage) -> (u8, KnownCells) {
+    let mut known = KnownCells {
+        count: 7,
+        cells: [KnownCell {
+            code: 7,
+            output: 7,
+            standing: StandingImage {
+                is_confirmed: 7,
+                word: 7,
+            },
+            words: WordsImage {
+                count: 7,
+                words: [7; 16],
+            },
+        }; Cell::PLACES],
+    };
+    let number = pm_host_known(image, &mut known);
+    (number, known)
 }
