@@ -7,6 +7,7 @@
     scripts/bus.py 1 58 learn 0 + volts 0 VOUT_COMMAND 3300000
     scripts/bus.py 1 58 check 0 VOUT_COMMAND + state 0 VOUT_COMMAND
     scripts/bus.py 1 58 --trace=order.trace order 0 VOUT_COMMAND 34CD
+    scripts/bus.py 1 58 apply rails.toml
 
 BUS is the number of /dev/i2c-BUS, ADDRESS two hexadecimal digits. A JOB is what is said to pmbhost:
 `order O NAME HEX`, `volts O NAME MICROVOLTS`, `check O NAME`, `learn O`, `clear O`, `store`, `restore`; `state O NAME`
@@ -15,9 +16,16 @@ colon, a blank and the last answer of pmbhost, as `learn 0: ended learned`. Afte
 or `learned` no further one is begun, and only questions are answered. `probe` stands alone and needs no pmbhost: it
 reads whether the part has PEC and PAGE_PLUS, how many outputs, and their formats.
 
+`apply FILE` and `verify FILE` stand alone too. FILE has the settings of a board's rails (scripts/rails.py says how), and is
+judged whole before the first frame. `apply` checks them, orders what differs, checks them all again and prints a table; it
+stops at the first word that isn't confirmed, and never stores. `verify` orders nothing. The status is 0 only where every
+setting is confirmed as wanted and no restart of the part was seen.
+
     --outputs=N     how many outputs the device has, 8 where it isn't given
     --passes=N      how often a job is tried at most, 3 where it isn't given
     --trace=FILE    appends what went over the wire to FILE, for `pmb decode < FILE`
+    --dry-run       of apply: checks, and says what would be ordered
+    --json          of apply and verify: one object in the place of the table
     --force         goes on where a driver of the kernel holds the address (docs/bus.md)
 
 Standard error says in one line why a job ended badly. The status is 0 where every job ended as done or learned and
@@ -38,6 +46,7 @@ import sys  # noqa: E402
 
 sys.dont_write_bytecode = True
 
+import apply_rails  # noqa: E402
 import bus_arguments  # noqa: E402
 import standard_streams  # noqa: E402
 from attempts import Attempts, refused_words  # noqa: E402
@@ -110,6 +119,17 @@ class Run:
         self.bus.trace.raise_fault()
         return 0 if is_fit else 1
 
+    def rails(self):
+        """The status of a file of rails."""
+        status, why = apply_rails.carry_out(self, self.call.rails, self.call.jobs[0][0], self.call.is_dry, self.call.is_json)
+        if why:
+            complain(f"{' '.join(self.call.jobs[0])}: {why}")
+        return status
+
+    @staticmethod
+    def frame_of(answer):
+        return frame_of(answer)
+
     def jobs(self):
         """The status."""
         is_well = True
@@ -154,7 +174,7 @@ def carry_out(call, kernel):
             return run.probe()
         host = Session(f"{call.address:02X}", call.outputs, call.passes)
         run = Run(call, bus, host)
-        return run.jobs()
+        return run.rails() if call.rails else run.jobs()
     except Interrupted:
         during = f" during {run.attempts.said}" if run and run.attempts else ""
         complain(f"interrupted{during}: {run.unsure() if run else 'no job was open'}{run.unsaid if run else ''}")

@@ -3,9 +3,12 @@ import re
 from dataclasses import dataclass
 from decimal import Decimal
 
+import rails
 from plain.converter import PROTECT, REGISTERS
 from plain.packets import CODES, length_of, name_of
 
+# Of a whole file of rails; each stands alone.
+RAILS = ("apply", "verify")
 SETTINGS = [name_of(code) for code in REGISTERS]
 DEVICE_SETTING = name_of(PROTECT[1])
 # The jobs, and what stands behind each; `probe` stands alone.
@@ -32,6 +35,9 @@ class Call:
     passes: int = 3
     trace: str = None
     is_forced: bool = False
+    is_dry: bool = False
+    is_json: bool = False
+    rails: object = None
     jobs: tuple = ()
 
 
@@ -48,8 +54,26 @@ def read(words):
     rest = list(words[2:])
     while rest and rest[0].startswith("-"):
         take_option(call, rest.pop(0))
+    if rest[:1] and rest[0] in RAILS:
+        take_rails(call, rest)
+        return call
+    if call.is_dry or call.is_json:
+        raise Refused("--dry-run and --json are of `apply` and `verify`")
     call.jobs = tuple(jobs_of(rest, call.outputs))
     return call
+
+
+def take_rails(call, words):
+    """The file of rails, judged whole."""
+    if len(words) != 2:
+        raise Refused(f"{words[0]}: give one file, as {words[0]} rails.toml")
+    if call.is_dry and words[0] == "verify":
+        raise Refused("verify: it orders nothing, with --dry-run or without")
+    try:
+        call.rails = rails.read(words[1])
+    except rails.BadRails as bad:
+        raise Refused(bad) from bad
+    call.outputs, call.jobs = call.rails.outputs, (words,)
 
 
 def bus_of(word):
@@ -86,6 +110,8 @@ def take_option(call, word):
         if equals:
             raise Refused(f"{shown(word)}: give --force alone")
         call.is_forced = True
+    elif word in ("--dry-run", "--json"):
+        call.is_dry, call.is_json = call.is_dry or word == "--dry-run", call.is_json or word == "--json"
     elif name == "--trace":
         if not value or "\0" in value:
             raise Refused(f"{shown(word)}: give a file, as --trace=bus.trace")

@@ -1,7 +1,8 @@
 /* Both ends under faults: random jobs, frames that are lost, cut or damaged, answers that are lost or
  * damaged, false acknowledgements, and restarts of either end. It counts the words that the host calls
  * confirmed, and those of them that the converter doesn't hold, which the guarantees rule out while it
- * didn't restart. Damage here changes one byte, which the PEC always betrays. */
+ * didn't restart. Damage here changes one byte, which the PEC always betrays. Half of the jobs are carried out by
+ * pm_host_run, half by calls of their own. */
 #include "pm.h"
 #include "pm_part.h"
 #include <stdio.h>
@@ -67,6 +68,34 @@ static pm_step exchange(pm_host *host, pm_part *part) {
     return pm_host_got(host, reply.bytes, fate == 4 ? 0 : count);
 }
 
+/* The same by pm_host_run's two calls, on whose bus the read address is the host's own. */
+static uint8_t put(void *part, const uint8_t *bytes, uint64_t count) {
+    pm_part_reply reply = {0, 0, {0}};
+    uint8_t sent[16];
+    unsigned fate = draw(8);
+    memcpy(sent, bytes, (size_t)count);
+    if (fate == 0)
+        count = damage(sent, (size_t)count);
+    int taken = fate != 1 && pm_part_hear((pm_part *)part, sent, count, 0, &reply) == PM_HEARD_TAKEN;
+    return (uint8_t)(fate == 2 ? !taken : taken);
+}
+
+static uint64_t ask(void *part, const uint8_t *request, uint64_t count, uint8_t *answer, uint64_t room) {
+    pm_part_reply reply = {0, 0, {0}};
+    uint8_t sent[16];
+    unsigned fate = draw(8);
+    memcpy(sent, request, (size_t)count);
+    if (fate == 0)
+        count = damage(sent, (size_t)count);
+    if (fate != 1)
+        pm_part_hear((pm_part *)part, sent, count, 1, &reply);
+    size_t came = reply.length ? (size_t)reply.length - 1 : 0;
+    if (fate == 3 && came)
+        came = damage(reply.bytes + 1, came);
+    memcpy(answer, reply.bytes + 1, came < room ? came : (size_t)room);
+    return fate == 4 ? 0 : fate == 5 ? room + 1 : came;
+}
+
 static void begin(pm_host *host) {
     uint8_t output = (uint8_t)draw(OUTPUTS), code = codes[draw(CODES)];
     switch (draw(10)) {
@@ -93,6 +122,11 @@ int main(int count, char **words) {
     for (long job = 0; job < jobs; job++) {
         pm_sending frame;
         begin(&host);
+        if (draw(2)) {
+            pm_step step = pm_host_run(&host, put, ask, &part);
+            done += step.kind == PM_DONE;
+            ended++;
+        }
         for (pm_host_sending(&host, &frame); frame.kind != PM_NOTHING; pm_host_sending(&host, &frame)) {
             pm_step step = exchange(&host, &part);
             done += step.kind == PM_DONE;

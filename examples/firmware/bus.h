@@ -8,8 +8,8 @@
 /* Writes a frame of `count` bytes, which a stop ends: 1 where every byte was acknowledged, otherwise 0. */
 uint8_t bus_write(const uint8_t *frame, unsigned count);
 
-/* Writes a request of `count` bytes, then after a repeated start reads: answer[0] is the read address byte, and after
- * it come what the part sends, `wanted` bytes in all. How many are there in the end, 0 where the part didn't answer. */
+/* Writes a request of `count` bytes, then after a repeated start and the read address reads what the part sends,
+ * `wanted` bytes. How many are there in the end, 0 where the part didn't answer. */
 unsigned bus_read(const uint8_t *request, unsigned count, uint8_t *answer, unsigned wanted);
 
 #endif

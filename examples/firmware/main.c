@@ -4,17 +4,17 @@
 #include "bus.h"
 #include "console.h"
 #include "pm.h"
-#include <string.h>
+#include <stddef.h>
 
 enum { ADDRESS = 0x58, PASSES = 3, ROUNDS = 24, RAILS = 2, ATTEMPTS = 4 };
 
 typedef struct {
     const char *name;
     uint8_t output;
-    int64_t microvolts;
+    int64_t microvolts, least, most; /* nothing outside these is ever ordered */
 } rail;
 
-static const rail rails[RAILS] = {{"core", 0, 900000}, {"io", 1, 3300000}};
+static const rail rails[RAILS] = {{"core", 0, 900000, 850000, 950000}, {"io", 1, 3300000, 3135000, 3465000}};
 
 /* ---- What is said ---- */
 
@@ -62,20 +62,19 @@ static void say_held(const pm_host *host, const rail *of) {
 
 /* ---- The driver's loop ---- */
 
+static uint8_t put(void *context, const uint8_t *bytes, uint64_t count) {
+    (void)context;
+    return bus_write(bytes, (unsigned)count);
+}
+
+static uint64_t ask(void *context, const uint8_t *request, uint64_t count, uint8_t *answer, uint64_t room) {
+    (void)context;
+    return bus_read(request, (unsigned)count, answer, (unsigned)room);
+}
+
 /* Carries frames until the open job ends: how it ended, PM_UNKNOWN where none was open. */
 static pm_step carry_out(pm_host *host) {
-    pm_step step = {PM_UNKNOWN, 0};
-    pm_sending frame;
-    uint8_t answer[8];
-    while (pm_host_sending(host, &frame) == PM_OK && frame.kind != PM_NOTHING) {
-        if (frame.kind == PM_WRITE) {
-            step = pm_host_finished(host, bus_write(frame.bytes, frame.length));
-        } else {
-            memset(answer, 0, sizeof answer);
-            step = pm_host_got(host, answer, bus_read(frame.bytes, frame.length, answer, frame.answer));
-        }
-    }
-    return step;
+    return pm_host_run(host, put, ask, NULL);
 }
 
 /* ---- The rails ---- */
@@ -164,6 +163,9 @@ int main(void) {
     }
     if (pm_host_new(&host, ADDRESS, RAILS, PASSES) != PM_OK)
         return 1;
+    for (int i = 0; i < RAILS; i++)
+        if (pm_host_narrow(&host, rails[i].output, rails[i].least, rails[i].most) != PM_OK)
+            return 1;
     is_well = set_all(&host);
     for (int round = 1; round <= ROUNDS; round++)
         is_well = supervise(&host, round);

@@ -75,10 +75,10 @@ uint8_t bus_write(const uint8_t *frame, unsigned count) {
 unsigned bus_read(const uint8_t *request, unsigned count, uint8_t *answer, unsigned wanted) {
     fault wrong = next_fault();
     pm_part_reply reply;
-    if (hear(request, count, wrong, 1, &reply) != PM_HEARD_ANSWERED || reply.length > wanted || wrong == ANSWER_LOST)
+    if (hear(request, count, wrong, 1, &reply) != PM_HEARD_ANSWERED || reply.length > wanted + 1 || wrong == ANSWER_LOST)
         return 0;
     if (wrong == ANSWER_DAMAGED)
-        damage(reply.bytes, reply.length);
-    memcpy(answer, reply.bytes, reply.length);
-    return reply.length;
+        damage(reply.bytes + 1, reply.length - 1u);
+    memcpy(answer, reply.bytes + 1, reply.length - 1u);
+    return reply.length - 1u;
 }

@@ -5,7 +5,8 @@
 
 Lives of random jobs, refusals, lost, cut and damaged answers and restarts of either end: after each event the two
 say the same of the frame that is sent, the end of a job, each refusal, the restart that was seen, and of a cell what
-is said of it and which words it may hold; after a life so for every cell, with each format. A plain converter answers.
+is said of it and which words it may hold, and of an output its limits and its band; limits are narrowed meanwhile. After a
+life so for every cell, with each format. A plain converter answers.
 Writes a line for the first difference, and the status is then 1. Without --archive it takes the archive that
 `rt lib` left in crates/pm_c/out. EVENTS is 100000 if left out.
 """
@@ -16,17 +17,21 @@ import subprocess
 import sys
 import tempfile
 from collections import Counter
+from math import ceil, floor
 
 sys.dont_write_bytecode = True
 HOME = os.path.dirname(os.path.dirname(os.path.abspath(__file__)))
 sys.path.insert(0, HOME)
 
+from plain import limits  # noqa: E402
 from plain.converter import PROTECT, REGISTERS, Converter  # noqa: E402
 from plain.host import ANY, Host  # noqa: E402
 
 ADDRESS = 0x58
 KINDS = {"next": 0, "done": 1, "differs": 2, "unknown": 3, "learned": 4}
-NUMBERS = {"H": 0, "N": 0x10}
+NUMBERS = {"H": 0, "N": 0x10, "L": 0x20}
+WITHIN = {"yes": 0x91, "no": 0x92, "unknown": 0x93}
+PLACES = 49
 
 
 class Sending(ctypes.Structure):
@@ -42,6 +47,19 @@ class Words(ctypes.Structure):
     _fields_ = [("count", ctypes.c_uint16), ("words", ctypes.c_uint16 * 16)]
 
 
+class Known(ctypes.Structure):
+    _fields_ = [("code", ctypes.c_uint8), ("output", ctypes.c_uint8), ("standing", Step), ("words", Words)]
+
+
+class AllKnown(ctypes.Structure):
+    _fields_ = [("count", ctypes.c_uint16), ("cells", Known * PLACES)]
+
+
+class Pair(ctypes.Structure):
+    """Limits, or a band."""
+    _fields_ = [("least", ctypes.c_int64), ("most", ctypes.c_int64)]
+
+
 class Format(ctypes.Structure):
     _fields_ = [("kind", ctypes.c_uint8), ("exponent", ctypes.c_int8), ("m", ctypes.c_int16), ("b", ctypes.c_int16)]
 
@@ -55,7 +73,8 @@ def library(archive, folder):
     loaded = ctypes.CDLL(shared)
     for name in ("pm_host_new", "pm_host_order", "pm_host_order_micro", "pm_host_check", "pm_host_learn", "pm_host_clear",
                  "pm_host_store", "pm_host_restore", "pm_host_sending", "pm_host_restart", "pm_host_standing",
-                 "pm_host_possible", "pm_host_format", "pm_host_restart_seen"):
+                 "pm_host_possible", "pm_host_format", "pm_host_restart_seen", "pm_host_narrow", "pm_host_limits",
+                 "pm_host_within", "pm_host_band", "pm_host_known"):
         getattr(loaded, name).restype = ctypes.c_uint8
     loaded.pm_host_finished.restype = loaded.pm_host_got.restype = Step
     loaded.pm_host_size.restype = ctypes.c_size_t
@@ -88,8 +107,9 @@ class Life:
         }
         self.plain = Host(ADDRESS, self.count, self.passes)
         self.device = Converter(self.setup)
-        self.image = (ctypes.c_uint16 * (loaded.pm_host_size() // 2))()
+        self.image = (ctypes.c_uint64 * (loaded.pm_host_size() // 8))()
         self.same("new", loaded.pm_host_new(self.image, ADDRESS, self.count, self.passes), 0)
+        self.limits = [None] * self.count
 
     def same(self, what, found, wanted):
         if found != wanted:
@@ -100,6 +120,32 @@ class Life:
             return PROTECT
         return self.draw.randint(0, self.count - 1 + (self.draw.random() < 0.05)), self.draw.choice(REGISTERS)
 
+    def narrow(self):
+        """Other limits of an output."""
+        output, (least, most) = self.draw.randint(0, self.count), sorted(self.draw.sample(range(0, 4000000, 100000), 2))
+        if self.draw.random() < 0.1:
+            least, most = self.draw.choice(((most, least), (-10**15 - 1, most), (least, 10**15 + 1)))
+        fault = self.narrow_fault(output, least, most)
+        number = self.loaded.pm_host_narrow(self.image, output, ctypes.c_int64(least), ctypes.c_int64(most))
+        self.same(f"narrow {output} {least} {most}", number, number_of(fault))
+        if not fault:
+            self.limits[output] = least, most
+        self.seen[f"narrow {fault or 'accepted'}"] += 1
+
+    def narrow_fault(self, output, least, most):
+        if output >= self.count:
+            return "H4 UnknownOutput"
+        if max(abs(least), abs(most)) > 10**15:
+            return "N5 TooLarge"
+        if most < least:
+            return "L1 LimitsInverted"
+        old = self.limits[output]
+        return "L6 LimitsWidened" if old and (least < old[0] or most > old[1]) else None
+
+    def judged(self, *event):
+        """Why limits refuse an order before the host does."""
+        return limits.refusal(self.plain, [*self.limits, None], event)
+
     def begin(self):
         """A job, and what both say of it."""
         cell, draw = self.cell(), self.draw.random()
@@ -107,11 +153,11 @@ class Life:
         if draw < 0.6:
             word = self.draw.choice((0x00, 0x20, 0x80, 0x94, 0xB0)) if code in (0x01, 0x10) else self.draw.choice(
                 (self.draw.randint(0, 0xFFFF), 0x1000 + self.draw.randint(0, 19)))
-            name, fault = "order", self.plain.order(cell, word)
+            name, fault = "order", self.judged("order", cell, word) or self.plain.order(cell, word)
             number = self.loaded.pm_host_order(self.image, output, code, word)
         elif draw < 0.7:
             micro = self.draw.choice((self.draw.randint(-10**6, 5 * 10**6), 10**15 + 1, -10**14))
-            name, fault = "order_micro", self.plain.order_micro(cell, micro)
+            name, fault = "order_micro", self.judged("volts", cell, micro) or self.plain.order_micro(cell, micro)
             number = self.loaded.pm_host_order_micro(self.image, output, code, ctypes.c_int64(micro))
         elif draw < 0.82:
             name, fault, number = "check", self.plain.check(cell), self.loaded.pm_host_check(self.image, output, code)
@@ -181,8 +227,35 @@ class Life:
             found = {1: ("ulinear16", form.exponent), 2: ("direct", form.m, form.b, form.exponent)}.get(form.kind)
             self.same(f"format of {output}", found, wanted)
 
+    def same_band(self, output):
+        """Between which voltages an output may be, and whether that lies within its limits."""
+        found, band, own = limits.band(self.plain, output), Pair(), Pair()
+        number = self.loaded.pm_host_band(self.image, output, ctypes.byref(band))
+        wanted = 7 if found is None else 0x15 if max(abs(it) for it in found) > 10**9 else 0
+        self.same(f"band of {output}", number, wanted)
+        if not number:
+            ends = floor(found[0] * 10**6), ceil(found[1] * 10**6)
+            self.same(f"ends of the band of {output}", (band.least, band.most), ends)
+        within = WITHIN[limits.within(self.limits[output], found)]
+        self.same(f"within {output}", self.loaded.pm_host_within(self.image, output), within)
+        number = self.loaded.pm_host_limits(self.image, output, ctypes.byref(own))
+        self.same(f"limits of {output}", number or (own.least, own.most), self.limits[output] or 0xE6)
+
+    def same_known(self):
+        """All that is known in one answer is what is known of each cell."""
+        known = AllKnown()
+        self.same("known", self.loaded.pm_host_known(self.image, ctypes.byref(known)), 0)
+        cells = [(output, register) for output in range(self.count) for register in REGISTERS] + [PROTECT]
+        self.same("cells", [(it.output, it.code) for it in known.cells[:known.count]], [code_of(cell) for cell in cells])
+        for cell, it in zip(cells, known.cells):
+            possible = self.plain.possible(cell)
+            self.same(f"known of {cell}", list(it.words.words[:it.words.count]), [] if possible is ANY else possible)
+            self.same(f"word of {cell}", it.standing.word if it.standing.kind == 1 else None, self.plain.standing(cell))
+
     def event(self):
         draw, cell = self.draw.random(), PROTECT
+        if self.draw.random() < 0.03:
+            self.narrow()
         if draw < 0.004:
             self.plain.restart()
             self.same("restart", self.loaded.pm_host_restart(self.image), 0)
@@ -196,6 +269,7 @@ class Life:
             self.told()
         self.same_frame()
         self.same_cell(cell)
+        self.same_band(self.draw.randrange(self.count))
         self.same("restart seen", self.loaded.pm_host_restart_seen(self.image), int(self.plain.restart_seen()))
 
     def live(self, events):
@@ -204,6 +278,7 @@ class Life:
         for cell in [(output, register) for output in range(self.count) for register in REGISTERS] + [PROTECT]:
             self.same_cell(cell)
         self.same_formats()
+        self.same_known()
 
 
 def main(arguments):

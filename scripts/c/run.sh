@@ -1,6 +1,7 @@
 #!/usr/bin/env bash
 # Builds the static libraries of crates/pm_c and crates/pm_part and, with each compiler of this machine, the programs of
-# examples/c and examples/rust over them; runs them and compares what they write.
+# examples/c over them; runs them and compares what they write. So it does with the packages rust/ and python/, and
+# their tests.
 #
 #   scripts/c/run.sh [--built FOLDER] [JOBS]
 #
@@ -227,16 +228,29 @@ for each in gcc clang g++ clang++; do
         esac
     done
 done
-if command -v rustc > /dev/null; then
-    cp examples/c/order.expected "$folder/wanted"; : > "$folder/out"
-    if rustc --edition 2024 -D warnings -A dead_code -O examples/rust/order.rs -C link-arg="${archives[0]}" \
-        -o "$folder/program" > "$folder/log" 2>&1; then
-        "$folder/program" > "$folder/out" 2> "$folder/log"; told "rustc order" $?
-    else
-        told "rustc order" build
-    fi
+# packaged NAME WORDS ..: a package's own tests, which say how it ended by their status
+packaged() {
+    local name=$1; shift
+    : > "$folder/wanted"; : > "$folder/out"
+    "$@" > "$folder/log" 2>&1
+    told "$name" $?
+}
+
+if command -v cargo > /dev/null; then
+    export PM_ARCHIVES=$built CARGO_TARGET_DIR=$folder/cargo
+    packaged "Rust package" cargo test --offline --manifest-path rust/Cargo.toml
+    cp examples/c/order.expected "$folder/wanted"
+    cargo run -q --offline --manifest-path rust/Cargo.toml --example order > "$folder/out" 2> "$folder/log"
+    told "Rust order" $?
 else
-    echo "rustc: not on this machine"
+    echo "cargo: not on this machine"
+fi
+if command -v python3 > /dev/null && python3 -c 'import venv, ensurepip' 2> /dev/null; then
+    packaged "Python package, installed" sh -c "python3 -m venv '$folder/venv' && cp -r python '$folder/python' &&
+        PMHOST_ARCHIVES='$built' '$folder/venv/bin/pip' install --no-index '$folder/python'"
+    packaged "Python package" "$folder/venv/bin/python" -B -m unittest discover -s python/tests -t python
+else
+    echo "python3 with venv: not on this machine"
 fi
 echo "$passed passed, $failed failed"
 [ "$failed" = 0 ]

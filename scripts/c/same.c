@@ -42,10 +42,10 @@ uint32_t wide_word(const pm_format *format, int64_t microvolts, uint16_t *word) 
 #define wide_word pm_nearest_word
 #endif
 
-enum { HOSTS = 4, HALVES = PM_HOST_SIZE / 2, GUARD = 4, ROOM = 320, EXPORTS = 38 };
+enum { HOSTS = 4, HALVES = PM_HOST_SIZE / 2, GUARD = 4, ROOM = 320, EXPORTS = 47 };
 
-/* Hosts at addresses of each kind that two bytes may have, with guards around them: the last is damaged. */
-static uint16_t memory[HOSTS][GUARD + HALVES + GUARD];
+/* Hosts at addresses that eight divides, with guards around them: the last is damaged. */
+static uint64_t memory[HOSTS][(GUARD + HALVES + GUARD) / 4];
 static struct { uint16_t before[3]; pm_part part; uint16_t after[3]; } kept;
 static uint8_t room[ROOM];
 
@@ -53,8 +53,11 @@ static uint8_t room[ROOM];
 static struct {
     uint8_t a[3]; pm_sending sending; uint8_t b; pm_part_reply reply; uint16_t c; pm_words words; uint16_t d; pm_standing standing;
     uint16_t e; pm_format format; uint16_t f; pm_packet packet; uint16_t g; uint16_t word; uint16_t h[4]; int64_t microvolts;
-    uint16_t i[4];
+    uint16_t i[4]; pm_limits limits; uint16_t j[4]; pm_band band; uint16_t k[4]; pm_name name; pm_payload payload; uint16_t l[4];
 } out;
+
+/* What is known of all cells, which is large: with guards of its own. */
+static struct { uint16_t before[3]; pm_known known; uint16_t after[3]; } cells;
 
 static uint64_t seed;
 static uint32_t sum, turned, calls, taken, ends, narrow;
@@ -86,11 +89,11 @@ static void add_bytes(const void *from, unsigned count) {
 }
 
 static uint16_t *halves_at(unsigned number) {
-    return memory[number] + 1 + number % GUARD;
+    return (uint16_t *)(memory[number] + GUARD / 4);
 }
 
 static pm_host *host_at(unsigned number) {
-    return (pm_host *)halves_at(number);
+    return (pm_host *)(memory[number] + GUARD / 4);
 }
 
 /* An answer of export number `which`: a register's width where the library has to widen it. */
@@ -138,7 +141,7 @@ static int64_t draw_microvolts(void) {
 static pm_format draw_format(void) {
     pm_format format;
     unsigned is_any = draw(8) == 0;
-    format.kind = (uint8_t)(is_any ? draw(256) : draw(3));
+    format.kind = (uint8_t)(is_any ? draw(256) : draw(4));
     format.exponent = (int8_t)(is_any ? (int)draw(256) - 128 : (int)draw(30) - 15);
     format.m = (int16_t)((int)draw(65536) - 32768);
     format.b = (int16_t)((int)draw(65536) - 32768);
@@ -256,17 +259,40 @@ static void exchange(pm_host *host) {
     told(11, pm_host_got(host, at, fate == 5 ? 0 : count));
 }
 
+/* Limits of an output, near those that an order is drawn from; the names of numbers. */
+static void limit(pm_host *host) {
+    uint8_t output = draw_output();
+    int64_t least = draw_microvolts(), most = least + draw_microvolts();
+    heard(28, pm_host_narrow(host, output, draw(4) ? -least : least, most), 255);
+}
+
+static void names(void) {
+    memset(&out, (int)draw(256), sizeof out);
+    if (draw(2))
+        heard(29, pm_refusal_name((uint8_t)draw(256), &out.name), 255);
+    else
+        heard(30, pm_end_name((uint16_t)(draw(8) ? draw(6) : draw(65536)), &out.name), 255);
+    add_bytes(&out, sizeof out);
+}
+
 /* What is known. A call that only reads changes no host: that goes into the sums too. */
 static void ask(const pm_host *host) {
     uint8_t output = draw_output(), code = draw_code();
     memset(&out, (int)draw(256), sizeof out);
-    switch (draw(5)) {
+    switch (draw(9)) {
+    case 5: heard(31, pm_host_limits(host, output, &out.limits), 255); break;
+    case 6: heard(32, pm_host_within(host, output), 255); break;
+    case 7: heard(33, pm_host_band(host, output, &out.band), 255); break;
+    case 8: memset(&cells, (int)draw(256), sizeof cells);
+        heard(34, pm_host_known(host, &cells.known), 255);
+        add_halves((const uint16_t *)&cells, sizeof cells / 2); break;
     case 0: heard(12, pm_host_standing(host, output, code, &out.standing), 255); break;
     case 1: heard(13, pm_host_possible(host, output, code, &out.words), 255); break;
     case 2: heard(14, pm_host_format(host, output, &out.format), 255); break;
     case 3: heard(15, wide_restart_seen(host), 255); break;
     default: heard(16, (uint32_t)pm_host_size() ^ wide_version() << 16 ^ (uint32_t)(pm_host_size() >> 32), UINT32_MAX);
-        heard(17, wide_version(), 65535); break;
+        heard(17, wide_version(), 65535);
+        heard(35, pm_version(), 65535); break;
     }
     add_bytes(&out, sizeof out);
 }
@@ -297,7 +323,20 @@ static void packets(void) {
     if (draw(8) == 0)
         count = draw(24);
     heard(21, wide_pec(at, count), 255);
-    if (draw(2))
+    if (draw(3) == 0) {
+        uint8_t came[9];
+        for (unsigned i = 0; i < sizeof came; i++)
+            came[i] = (uint8_t)draw(256);
+        unsigned length = (unsigned)draw(sizeof came + 1);
+        came[0] = (uint8_t)(address << 1 | 1), came[1] = (uint8_t)(draw(3));
+        if (!refused && length > 1) {
+            uint8_t whole[32];
+            memcpy(whole, out.sending.bytes, 16);
+            memcpy(whole + count % 17, came, length - 1);
+            came[length - 1] = pm_pec(whole, count % 17 + length - 1);
+        }
+        heard(36, pm_packet_read_answer(address, &packet, came, length, &out.payload), 255);
+    } else if (draw(2))
         heard(22, pm_packet_read_write(address, at, count, &out.packet), 255);
     else
         heard(23, pm_packet_read_request(address, at, count, &out.packet), 255);
@@ -314,16 +353,16 @@ static void parts(void) {
     case 1: heard(25, (uint32_t)pm_part_size() ^ (uint32_t)(pm_part_size() >> 32), UINT32_MAX); break;
     case 2: hear(room, count, is_request); break;
     case 3: case 4: heard(26, pm_part_commanded(part, output, &out.microvolts), 255); break;
-    case 5: heard(28, pm_part_stored(part, output, code, &out.word), 255); break;
-    case 6: heard(29, pm_part_page(part, &small), 255); break;
-    case 7: heard(30, pm_part_is_on(part, output, &small), 255); break;
-    case 8: heard(31, pm_part_status_byte(part, output, &small), 255); break;
-    case 9: heard(32, pm_part_status_word(part, output, &out.word), 255); break;
-    case 10: heard(33, pm_part_status_vout(part, output, &small), 255); break;
-    case 11: heard(34, pm_part_status_cml(part, &small), 255); break;
-    case 12: heard(35, pm_part_restart(part), 255); break;
-    case 13: heard(36, pm_part_set_reading(part, output, (uint8_t)(draw(4) ? 0x88 + draw(6) : draw(256)), draw_word()), 255); break;
-    default: heard(37, pm_part_word(part, output, code, &out.word), 255); break;
+    case 5: heard(37, pm_part_stored(part, output, code, &out.word), 255); break;
+    case 6: heard(38, pm_part_page(part, &small), 255); break;
+    case 7: heard(39, pm_part_is_on(part, output, &small), 255); break;
+    case 8: heard(40, pm_part_status_byte(part, output, &small), 255); break;
+    case 9: heard(41, pm_part_status_word(part, output, &out.word), 255); break;
+    case 10: heard(42, pm_part_status_vout(part, output, &small), 255); break;
+    case 11: heard(43, pm_part_status_cml(part, &small), 255); break;
+    case 12: heard(44, pm_part_restart(part), 255); break;
+    case 13: heard(45, pm_part_set_reading(part, output, (uint8_t)(draw(4) ? 0x88 + draw(6) : draw(256)), draw_word()), 255); break;
+    default: heard(46, pm_part_word(part, output, code, &out.word), 255); break;
     }
     add(small);
     add_bytes(&out, sizeof out);
@@ -350,14 +389,16 @@ static void step(void) {
         new_host(number);
     else if (kind < 4)
         heard(27, pm_host_restart(host), 255);
-    else if (kind < 20)
+    else if (kind < 5)
+        limit(host);
+    else if (kind < 21)
         begin(host);
     else if (kind < 56)
         exchange(host);
     else if (kind < 70)
         ask(host);
     else if (kind < 78)
-        numbers();
+        (draw(8) ? numbers : names)();
     else if (kind < 88)
         packets();
     else if (kind < 98)
@@ -365,7 +406,7 @@ static void step(void) {
     else
         damage_host();
     if (kind < 56 || draw(8) == 0)
-        add_halves(memory[number], sizeof memory[number] / 2);
+        add_halves((const uint16_t *)memory[number], sizeof memory[number] / 2);
 }
 
 static int life(unsigned number, uint32_t steps) {

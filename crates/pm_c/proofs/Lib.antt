@@ -1,1 +1,3 @@
 mod Tells
+mod Named
+mod Ceils

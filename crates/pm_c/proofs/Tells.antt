@@ -1,6 +1,5 @@
 -- What became of a frame is told where it is of the frame's kind.
 use Rattle.std.proofs.Common.{◌≡◌, true, Some, refl}
-use Rattle.pm_host.specs.declared.image.Image.{Image}
 use Rattle.pm_host.specs.declared.stage.Stage.{Stage}
 use Rattle.pm_host.specs.declared.state.State.{State}
 use Rattle.pm_host.specs.declared.told.Told.{Told}
@@ -10,6 +9,7 @@ use Rattle.pm_host.specs.Refusals.{may_come}
 use Rattle.pm_host.specs.Summary.{Summary, next, step_of}
 use Rattle.pm_host.specs.Told.{entry_told, is_awaited}
 use Rattle.pm_host.specs.Transcript.{Entry}
+use Rattle.pm_c.specs.declared.guard_image.GuardImage.{GuardImage}
 use Rattle.pm_c.specs.declared.host_step.HostStep.{HostStep}
 use Rattle.pm_c.specs.Host.{host_step, TellsHost}
 
@@ -20,11 +20,12 @@ awaited stage state (Finished acked) is = is
 awaited stage state (Got bytes) is = is
 
 -- the host takes it, and answers how the job stands
-pub tells : (old new : Image) (s : Summary) (e : Entry) (result : HostStep) → host_of old ≡ Some s
-    → may_come s e ≡ true → host_of new ≡ Some (next s e) → result ≡ host_step (step_of s e)
-    → TellsHost old e result new
-tells old new s e result found may became answered = record {
+pub tells : (old new : GuardImage) (s : Summary) (e : Entry) (result : HostStep) → host_of old.host ≡ Some s
+    → may_come s e ≡ true → host_of new.host ≡ Some (next s e) → result ≡ host_step (step_of s e)
+    → new.limits ≡ old.limits → TellsHost old e result new
+tells old new s e result found may became answered limits = record {
   answer = rw (found, may) answered;
   told = λ is. rw found became;
+  limits = limits;
   refused = λ is. let never = rw found at is in cc;
 }

@@ -6,7 +6,9 @@ use Rattle.pm_table.specs.declared.cell.Cell.{Cell}
 use Rattle.pm_frame.specs.declared.message.Message.{Message}
 use Rattle.pm_frame.specs.Fault.{whole_answer}
 use Rattle.pm_frame.specs.Layout.{is_read_message}
-use Rattle.pm_host.specs.declared.image.Image.{Image}
+use Rattle.pm_limits.specs.Guard.{Guarded, guard_fault}
+use Rattle.pm_c.specs.declared.guard_image.GuardImage.{GuardImage}
+use Rattle.pm_c.specs.Guard.{guard_of}
 use Rattle.pm_host.specs.declared.job.Job.{Job}
 use Rattle.pm_host.specs.declared.job_end.JobEnd.TheVariants.{Done, Differs, Unknown, Learned}
 use Rattle.pm_host.specs.declared.step.Step.{Step}
@@ -17,13 +19,13 @@ use Rattle.pm_host.specs.declared.words_image.WordsImage.{WordsImage}
 use Rattle.pm_table.specs.Cell.{is_cell}
 use Rattle.pm_host.specs.Image.{host_of, standing_held, words_held}
 use Rattle.pm_host.specs.Messages.{IsFrameOf}
-use Rattle.pm_host.specs.Jobs.{accepted_job, begin_fault}
+use Rattle.pm_host.specs.Jobs.{accepted_job}
 use Rattle.pm_host.specs.Refusals.{is_within, setup_fault, may_come}
 use Rattle.pm_host.specs.Summary.{Summary, next, step_of, sending_in, possible_at, standing_at}
 use Rattle.pm_host.specs.Transcript.{Entry, Accepted}
 use Rattle.pm_c.specs.declared.host_step.HostStep.{HostStep}
 use Rattle.pm_c.specs.declared.sending_image.SendingImage.{SendingImage}
-use Rattle.pm_c.specs.Numbers.{accepted, no_host, no_cell, other_frame, no_address, outcome}
+use Rattle.pm_c.specs.Numbers.{accepted, no_host, no_cell, other_frame, no_address, outcome, limit_outcome}
 use Rattle.pm_host.specs.FaultWords.{host_fault_number}
 
 -- a host is made
@@ -32,19 +34,21 @@ new_number address outputs passes =
     if is_within 0x08 0x77 address then outcome (setup_fault outputs passes) else no_address
 
 -- A job begins: the number, and the host after it. None is asked for by a code that is no cell's.
-abbrev pub job_number : Option Summary → Option Job → ℕ
+abbrev pub job_number : Option Guarded → Option Job → ℕ
 job_number None job = no_host
-job_number (Some s) None = no_cell
-job_number (Some s) (Some job) = outcome (begin_fault s job)
+job_number (Some g) None = no_cell
+job_number (Some g) (Some job) = limit_outcome (guard_fault g job)
 
 abbrev pub job_begun : Option Summary → Option Job → Option Summary
 job_begun host job = option_and_then (λ s. option_map (λ accepted. next s (Accepted accepted))
     (option_and_then (accepted_job s) job)) host
 
--- how a call begins a job: a refused call leaves the memory as it is
-pub record BeginsJob (old : Image) (job : Option Job) (result : ℕ) (new : Image) : Type 0 where
-  pub number : result ≡ job_number (host_of old) job
-  pub begun : result ≡ 0 → host_of new ≡ job_begun (host_of old) job
+-- How a call begins a job: exactly where the guard of these limits refuses it, it is refused, and leaves the
+-- memory as it is. The limits stay.
+pub record BeginsJob (old : GuardImage) (job : Option Job) (result : ℕ) (new : GuardImage) : Type 0 where
+  pub number : result ≡ job_number (guard_of old) job
+  pub begun : result ≡ 0 → host_of new.host ≡ job_begun (host_of old.host) job
+  pub limits : new.limits ≡ old.limits
   pub refused : result ≢ 0 → new ≡ old
 
 -- the memory holds a host
@@ -106,11 +110,12 @@ told_answer (Some s) entry =
 abbrev pub after : Option Summary → Entry → Option Summary
 after host entry = option_map (λ s. next s entry) host
 
--- how a call tells it: a refused call leaves the memory as it is
-pub record TellsHost (old : Image) (entry : Entry) (result : HostStep) (new : Image) : Type 0 where
-  pub answer : result ≡ told_answer (host_of old) entry
-  pub told : is_told (host_of old) entry ≡ true → host_of new ≡ after (host_of old) entry
-  pub refused : is_told (host_of old) entry ≡ false → new ≡ old
+-- how a call tells it: a refused call leaves the memory as it is, and the limits stay
+pub record TellsHost (old : GuardImage) (entry : Entry) (result : HostStep) (new : GuardImage) : Type 0 where
+  pub answer : result ≡ told_answer (host_of old.host) entry
+  pub told : is_told (host_of old.host) entry ≡ true → host_of new.host ≡ after (host_of old.host) entry
+  pub limits : new.limits ≡ old.limits
+  pub refused : is_told (host_of old.host) entry ≡ false → new ≡ old
 
 -- what is asked of a cell
 abbrev pub cell_number : Option Summary → Option Cell → ℕ

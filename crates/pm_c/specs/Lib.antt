@@ -1,5 +1,9 @@
 -- What the crate promises.
+pub mod Guard
 pub mod Host
+pub mod Known
+pub mod Limits
+pub mod Names
 pub mod Numbers
 pub mod Packets
 pub mod Sizes

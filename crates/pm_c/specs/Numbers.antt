@@ -1,9 +1,11 @@
 -- The numbers that calls answer, of which no two mean two things: 0 where nothing is refused; a refusal's own,
--- which stands beside its words, and E0h to E4h for what only a caller in C can ask wrongly. This project's own
--- choice.
+-- which stands beside its words; E0h to E4h, E6h and E7h for what only a caller in C can ask wrongly; and 91h to 93h
+-- for where a voltage lies. This project's own choice.
 use Rattle.std.specs.Prelude.{ℕ, Option, Some, None}
 use Rattle.pm_host.specs.declared.fault.HostFault.{HostFault}
 use Rattle.pm_host.specs.FaultWords.{host_fault_number}
+use Rattle.pm_limits.specs.declared.fault.LimitFault.{LimitFault}
+use Rattle.pm_limits.specs.FaultWords.{limit_fault_number}
 
 -- nothing is refused
 abbrev pub accepted : ℕ
@@ -29,8 +31,30 @@ no_address = 0xE3
 abbrev pub no_packet : ℕ
 no_packet = 0xE4
 
+-- the output has no limits
+abbrev pub no_limits_there : ℕ
+no_limits_there = 0xE6
+
+-- the number has no name
+abbrev pub no_name : ℕ
+no_name = 0xE7
+
+-- an output's voltage lies within its limits, or outside them, or it isn't known
+abbrev pub within_yes : ℕ
+within_yes = 0x91
+
+abbrev pub within_no : ℕ
+within_no = 0x92
+
+abbrev pub within_not_known : ℕ
+within_not_known = 0x93
 
 -- what a call answers that is refused with this, or accepted
 abbrev pub outcome : Option HostFault → ℕ
 outcome None = accepted
 outcome (Some fault) = host_fault_number fault
+
+-- what a call answers that limits or the host refuse, or accepted
+abbrev pub limit_outcome : Option LimitFault → ℕ
+limit_outcome None = accepted
+limit_outcome (Some fault) = limit_fault_number fault

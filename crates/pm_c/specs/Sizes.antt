@@ -1,5 +1,6 @@
 -- How many bytes stand in a caller's memory, by the counts of outputs, registers and places. None is padding:
--- a byte stands anywhere, a word of two bytes at an even place.
+-- a byte stands anywhere, a word of two bytes at an even place,
+-- a number of eight at one that eight divides.
 use Rattle.std.specs.Prelude.{ℕ, ◌+◌, ◌*◌}
 use Rattle.pm_table.specs.Cell.{places, register_count}
 
@@ -19,7 +20,16 @@ stage_size = 4 + word_size
 abbrev pub format_size : ℕ
 format_size = 2 + 2 * word_size
 
+-- the limits of an output: two numbers of eight bytes
+abbrev pub limits_size : ℕ
+limits_size = 2 * 8
+
 -- a host: the mark, the version, four bytes of setup, its stage, the formats, what is known of each cell, and
--- whether a restart was seen
+-- whether a restart was seen; a word of no meaning, and the limits of each output
 abbrev pub host_size : ℕ
 host_size = 2 * word_size + 4 + stage_size + 8 * format_size + places * cell_size + word_size
+    + word_size + 8 * limits_size
+
+-- the version of this library, 1.0: the greater part in the upper byte, the lesser in the lower one
+abbrev pub library_version : ℕ
+library_version = 0x0100

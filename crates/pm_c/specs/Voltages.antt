@@ -1,7 +1,7 @@
 -- The word of a voltage and the voltage of a word, in the format that an image means.
-use Rattle.std.specs.Prelude.{◌≡◌, ℕ, ℤ, pos, neg_ℤ, ◌≤ℤ◌, ◌^◌, Bool, ◌||◌, nat_lt, if◌then◌else◌, Option, Some, None}
+use Rattle.std.specs.Prelude.{◌≡◌, ℕ, ℤ, pos, neg_ℤ, ◌≤ℤ◌, ◌^◌, Bool, ◌||◌, nat_lt, if◌then◌else◌, ◌==◌, Option, Some, None}
 use Rattle.pm_num.specs.declared.fault.NumFault.TheVariants.{TooLarge}
-use Rattle.pm_num.specs.AnyFormat.{Shape, shape_value}
+use Rattle.pm_num.specs.AnyFormat.{Shape, InLinear11, shape_value}
 use Rattle.pm_num.specs.Ratio.{Ratio, AtMost, is_above, micros}
 use Rattle.pm_host.specs.declared.fault.HostFault.TheVariants.{FormatUnknown, UnknownOutput}
 use Rattle.pm_host.specs.Refusals.{range_fault}
@@ -21,6 +21,26 @@ word_number (Some shape) x = outcome (range_fault shape x)
 pub record IsFloor (value : Ratio) (x : ℤ) : Type 0 where
   pub reached : AtMost (micros x) value
   pub greatest : (k : ℤ) → AtMost (micros k) value → k ≤ℤ x
+
+-- this many are the least that aren't below it
+pub record IsCeil (value : Ratio) (x : ℤ) : Type 0 where
+  pub reached : AtMost value (micros x)
+  pub least : (k : ℤ) → AtMost value (micros k) → x ≤ℤ k
+
+-- within 10^15 in size
+pub record IsNear (x : ℤ) : Type 0 where
+  pub above : neg_ℤ (pos (10 ^ 15)) ≤ℤ x
+  pub below : x ≤ℤ pos (10 ^ 15)
+
+-- within 10^16 in size
+pub record IsSmall (x : ℤ) : Type 0 where
+  pub above : neg_ℤ (pos (10 ^ 16)) ≤ℤ x
+  pub below : x ≤ℤ pos (10 ^ 16)
+
+-- The format that numbers of a caller's own mean: of kind 3 LINEAR11, which readings of PMBus have and no output's
+-- voltage has; of any other kind what they mean in a host.
+abbrev pub format_meant : FormatImage → Option Shape
+format_meant i = if i.kind == 3 then Some InLinear11 else format_held i
 
 -- the value is beyond 10^15 microvolts in size
 abbrev pub is_far : Ratio → Bool

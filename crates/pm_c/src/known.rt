@@ -5,37 +5,38 @@ ghost use Rattle.pm_table.specs.Cell.{cell_at};
 ghost use Rattle.pm_host.specs.Image.{host_of, standing_held, words_held};
 ghost use Rattle.pm_c.specs.Host.{cell_number, IsStanding, IsPossible, seen_number};
 
+use crate::guard_image::GuardImage;
 use crate::numbers::{ACCEPTED, NO_CELL, NO_HOST};
-use pm_host::{HostFault, Image, StandingImage, WordsImage};
+use pm_host::{HostFault, StandingImage, WordsImage};
 use pm_table::{Code, cell_of};
 
 /// What is known of a cell's word. E0h, E1h, H4.
 #[unsafe(no_mangle)]
 pub extern "C" fn pm_host_standing(
-    host: &Image,
+    host: &GuardImage,
     output: u8,
     code: u8,
     standing: &mut StandingImage,
 ) -> u8
-    ensures number { result ≡ cell_number (host_of host.now) (cell_at code output) }
-    ensures said { result ≡ 0 → IsStanding (host_of host.now) (cell_at code output) standing.new }
+    ensures number { result ≡ cell_number (host_of host.now.host) (cell_at code output) }
+    ensures said { result ≡ 0 → IsStanding (host_of host.now.host) (cell_at code output) standing.new }
     ensures refused { result ≢ 0 → standing.new ≡ standing.old }
 {
-    if host.read_stage().is_err() {
+    if host.host.read_stage().is_err() {
         return NO_HOST;
     }
     let Some(cell) = cell_of(Code(code), output) else {
         return NO_CELL;
     };
-    if !cell.is_there(host.state.outputs) {
+    if !cell.is_there(host.host.state.outputs) {
         return HostFault::UnknownOutput.number();
     }
-    *standing = flagged(host.state.known.standing(cell));
+    *standing = flagged(host.host.state.known.standing(cell));
     ACCEPTED
 }
 
-// The same with 0 for any number that isn't 1, which damaged memory may have.
-fn flagged(standing: StandingImage) -> StandingImage
+/// The same with 0 for any number that isn't 1, which damaged memory may have.
+pub(crate) fn flagged(standing: StandingImage) -> StandingImage
     ensures same { standing_held result ≡ standing_held standing }
     ensures flag { result.is_confirmed ≤ 1 }
 {
@@ -51,26 +52,31 @@ fn flagged(standing: StandingImage) -> StandingImage
 
 /// The words that a cell may hold. E0h, E1h, H4.
 #[unsafe(no_mangle)]
-pub extern "C" fn pm_host_possible(host: &Image, output: u8, code: u8, words: &mut WordsImage) -> u8
-    ensures number { result ≡ cell_number (host_of host.now) (cell_at code output) }
-    ensures said { result ≡ 0 → IsPossible (host_of host.now) (cell_at code output) words.new }
+pub extern "C" fn pm_host_possible(
+    host: &GuardImage,
+    output: u8,
+    code: u8,
+    words: &mut WordsImage,
+) -> u8
+    ensures number { result ≡ cell_number (host_of host.now.host) (cell_at code output) }
+    ensures said { result ≡ 0 → IsPossible (host_of host.now.host) (cell_at code output) words.new }
     ensures refused { result ≢ 0 → words.new ≡ words.old }
 {
-    if host.read_stage().is_err() {
+    if host.host.read_stage().is_err() {
         return NO_HOST;
     }
     let Some(cell) = cell_of(Code(code), output) else {
         return NO_CELL;
     };
-    if !cell.is_there(host.state.outputs) {
+    if !cell.is_there(host.host.state.outputs) {
         return HostFault::UnknownOutput.number();
     }
-    *words = counted(host.state.known.possible(cell));
+    *words = counted(host.host.state.known.possible(cell));
     ACCEPTED
 }
 
-// The same with 0 for a count above 16, which damaged memory may have.
-fn counted(words: &WordsImage) -> WordsImage
+/// The same with 0 for a count above 16, which damaged memory may have.
+pub(crate) fn counted(words: &WordsImage) -> WordsImage
     ensures same { words_held result ≡ words_held words.now }
     ensures count { result.count ≤ 16 }
 {
@@ -86,11 +92,11 @@ fn counted(words: &WordsImage) -> WordsImage
 
 /// 1 where a restart of the device was seen since the host started, 0 where none was. E0h.
 #[unsafe(no_mangle)]
-pub extern "C" fn pm_host_restart_seen(host: &Image) -> u8
-    ensures { result ≡ seen_number (host_of host.now) }
+pub extern "C" fn pm_host_restart_seen(host: &GuardImage) -> u8
+    ensures { result ≡ seen_number (host_of host.now.host) }
 {
-    if host.read_stage().is_err() {
+    if host.host.read_stage().is_err() {
         return NO_HOST;
     }
-    u8::from(host.state.known.restart_seen())
+    u8::from(host.host.state.known.restart_seen())
 }

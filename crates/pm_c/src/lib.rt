@@ -6,9 +6,16 @@
 //! where none is. The library takes no memory, keeps nothing between calls and calls nothing.
 #![tactic(auto)]
 
+mod answer;
+mod guard_image;
 mod host;
 mod host_step;
 mod known;
+mod known_cells;
+mod laws;
+mod limits;
+mod name_image;
+mod names;
 mod numbers;
 mod packet;
 mod sending;

@@ -1,10 +1,4 @@
-//! The numbers that calls answer.
-
-ghost use Rattle.std.specs.Prelude.{◌≡◌};
-ghost use Rattle.std.specs.Result.{result_err};
-ghost use Rattle.pm_c.specs.Numbers.{outcome as spec_outcome};
-
-use pm_host::HostFault;
+//! The numbers that calls answer, beside those of faults.
 
 /// Nothing is refused.
 pub const ACCEPTED: u8 = 0;
@@ -24,13 +18,17 @@ pub const NO_ADDRESS: u8 = 0xE3;
 /// The numbers mean no packet that there is.
 pub const NO_PACKET: u8 = 0xE4;
 
+/// The output has no limits.
+pub const NO_LIMITS: u8 = 0xE6;
 
-/// What a call answers that a host refused with this fault, or accepted.
-pub fn number_of(outcome: Result<(), HostFault>) -> u8
-    ensures { result ≡ spec_outcome (result_err outcome) }
-{
-    match outcome {
-        Ok(()) => ACCEPTED,
-        Err(fault) => fault.number(),
-    }
-}
+/// The number has no name.
+pub const NO_NAME: u8 = 0xE7;
+
+/// An output's voltage lies within its limits.
+pub const WITHIN_YES: u8 = 0x91;
+
+/// It lies outside them.
+pub const WITHIN_NO: u8 = 0x92;
+
+/// It isn't known.
+pub const WITHIN_NOT_KNOWN: u8 = 0x93;

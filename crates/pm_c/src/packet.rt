@@ -30,8 +30,8 @@ pub struct Packet {
 }
 
 impl Packet {
-    // The message; `None` where the numbers mean none.
-    fn message(&self) -> Option<Message>
+    /// The message; `None` where the numbers mean none.
+    pub(crate) fn message(&self) -> Option<Message>
         ensures { result ≡ packet_message self.now }
     {
         let (code, page) = (self.code, self.page);

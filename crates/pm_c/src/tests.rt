@@ -1,20 +1,22 @@
 mod calls;
 mod checks;
+mod limits;
 
 use self::calls::{
-    PACKET, check, clear, finished, format, got, host, learn, microvolts, nearest, new, order,
-    order_micro, possible, read_request, read_write, restart, restart_seen, restore, sending,
-    shown, standing, store, written,
+    PACKET, band, check, clear, finished, format, got, host, learn, limits, microvolts, narrow,
+    nearest, new, order, order_micro, possible, read_request, read_write, restart, restart_seen,
+    restore, sending, shown, standing, store, within, written,
 };
 use self::checks::{equal, is_true};
-use crate::host::{pm_host_size, pm_host_version};
+use crate::guard_image::GuardImage;
+use crate::host::{pm_host_size, pm_host_version, pm_version};
 use crate::packet::pm_pec;
-use pm_host::{FormatImage, Image, WordsImage};
+use pm_host::{FormatImage, WordsImage};
 
 #[test]
 fn sizes_are_those_of_the_header(rt: HostRuntime) {
-    equal(&rt, &pm_host_size(), &1926, &1);
-    equal(&rt, &pm_host_version(), &3, &2);
+    equal(&rt, &pm_host_size(), &2056, &1);
+    equal(&rt, &(pm_version(), pm_host_version()), &(0x0100, 4), &2);
 }
 
 #[test]
@@ -112,7 +114,7 @@ fn a_restore_leaves_no_word_of_an_output_confirmed(rt: HostRuntime) {
 
 #[test]
 fn a_refusal_has_its_number(rt: HostRuntime) {
-    let mut image = Image::blank();
+    let mut image = GuardImage::blank();
     equal(&rt, &new(&mut image, 0x07, 2, 2), &0xE3, &1);
     equal(&rt, &new(&mut image, 0x78, 2, 2), &0xE3, &2);
     equal(&rt, &new(&mut image, 0x58, 0, 2), &1, &3);
@@ -135,7 +137,7 @@ fn a_refusal_has_its_number(rt: HostRuntime) {
 }
 
 // Whether each call of a host says that the memory holds none.
-fn is_refused(image: &mut Image) -> bool {
+fn is_refused(image: &mut GuardImage) -> bool {
     let begun = [
         order(image, 0, 0x21, 0x1000),
         order_micro(image, 0, 0x21, 1),
@@ -149,34 +151,38 @@ fn is_refused(image: &mut Image) -> bool {
         possible(image, 0, 0x21).0,
         format(image, 0).0,
         restart_seen(image),
+        narrow(image, 0, 0, 1),
+        limits(image, 0).0,
+        within(image, 0),
+        band(image, 0).0,
     ];
-    begun == [0xE0; 12]
+    begun == [0xE0; 16]
         && shown(image, &[]) == (0, 0, 0, true)
         && finished(image, 1) == (0xE0, 0)
         && got(image, &[]) == (0xE0, 0)
 }
 
 // An image of a host with an open order, with one number changed.
-fn changed(change: u8) -> Image {
+fn changed(change: u8) -> GuardImage {
     let mut image = host(2);
     let _ = order(&mut image, 0, 0x21, 0x34CD);
     match change {
-        0 => image.version = 2,
-        1 => image.mark = 0,
-        2 => image.state.address = 0x78,
-        3 => image.state.outputs = 9,
-        4 => image.state.passes = 0,
-        5 => image.stage.kind = 8,
-        6 => image.stage.code = 0x20,
-        7 => image.stage.count = 2,
-        8 => image.stage.output = 2,
-        9 => image.state.known.possible[1] = WordsImage {
+        0 => image.host.version = 2,
+        1 => image.host.mark = 0,
+        2 => image.host.state.address = 0x78,
+        3 => image.host.state.outputs = 9,
+        4 => image.host.state.passes = 0,
+        5 => image.host.stage.kind = 8,
+        6 => image.host.stage.code = 0x20,
+        7 => image.host.stage.count = 2,
+        8 => image.host.stage.output = 2,
+        9 => image.host.state.known.possible[1] = WordsImage {
             count: 1,
             words: [0; 16],
         },
-        10 => image.state.known.standing[1].is_confirmed = 1,
-        11 => image.stage.kind = 6,
-        12 => image.stage.kind = 7,
+        10 => image.host.state.known.standing[1].is_confirmed = 1,
+        11 => image.host.stage.kind = 6,
+        12 => image.host.stage.kind = 7,
         _ => {}
     }
     image
@@ -184,7 +190,7 @@ fn changed(change: u8) -> Image {
 
 #[test]
 fn memory_that_holds_no_host_is_refused(rt: HostRuntime) {
-    is_true(&rt, is_refused(&mut Image::blank()), &"zeros");
+    is_true(&rt, is_refused(&mut GuardImage::blank()), &"zeros");
     for change in 0..13 {
         is_true(&rt, is_refused(&mut changed(change)), &change);
     }
@@ -196,7 +202,7 @@ fn memory_that_holds_no_host_is_refused(rt: HostRuntime) {
 #[test]
 fn damaged_memory_says_what_can_be_read(rt: HostRuntime) {
     let mut image = host(2);
-    let state = &mut image.state;
+    let state = &mut image.host.state;
     state.known.possible[7].count = 0x0400;
     state.known.standing[7].is_confirmed = 2;
     state.formats[1].kind = 1;
@@ -250,6 +256,9 @@ fn numbers_stand_alone(rt: HostRuntime) {
         m: 0,
         b: 0,
     };
+    let linear11 = FormatImage { kind: 3, ..none };
+    equal(&rt, &microvolts(&linear11, 0xD300), &(0, 12_000_000), &8);
+    equal(&rt, &nearest(&linear11, -500_000), &(0, 0xFFFF), &9);
     equal(&rt, &nearest(&none, 1), &(7, 7), &6);
     equal(&rt, &microvolts(&none, 1), &(7, 7), &7);
 }

@@ -131,7 +131,7 @@ abbrev pub image_mark : ℕ
 image_mark = 0x504D
 
 abbrev pub image_version : ℕ
-image_version = 3
+image_version = 4
 
 -- the image has this layout
 abbrev pub is_current : Image → Bool

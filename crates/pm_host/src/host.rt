@@ -6,10 +6,11 @@ ghost use Rattle.pm_table.specs.Address.{IsAddress};
 ghost use Rattle.pm_table.specs.Cell.{IsCell};
 ghost use Rattle.pm_host.specs.Ended.{StepTells};
 ghost use Rattle.pm_host.specs.Frames.{frames_left};
-ghost use Rattle.pm_host.specs.Image.{listing};
+ghost use Rattle.pm_host.specs.Image.{held, listing};
 ghost use Rattle.pm_host.specs.Jobs.{Begins};
 ghost use Rattle.pm_host.specs.Messages.{IsFrameOf};
 ghost use Rattle.pm_host.specs.Refusals.{IsSetup, setup_fault, may_come, sends_read};
+ghost use Rattle.pm_host.specs.Sound.{IsSound};
 ghost use Rattle.pm_host.specs.Summary.{start, next, step_of, possible_at, standing_at, format_at, sending_in};
 ghost use Rattle.pm_host.specs.Told.{entry_told, OnEnded};
 ghost use Rattle.pm_host.specs.Transcript.{Setup, Restarted};
@@ -21,6 +22,7 @@ use crate::job::Job;
 use crate::possible::Possible;
 use crate::progress::Progress;
 use crate::sending::Sending;
+use crate::stage::Stage;
 use crate::standing::Standing;
 use crate::state::State;
 use crate::step::Step;
@@ -99,10 +101,7 @@ impl Host {
     pub fn begin(&mut self, job: Job) -> Result<(), HostFault>
         ensures { Begins self.old job result self.new }
     {
-        let stage = match &self.sending {
-            Some(sending) => Some(sending.stage),
-            None => None,
-        };
+        let stage = self.stage();
         let stage = self.state.begin(stage, job)?;
         self.sending = Some(Sending::of(stage, self.state.address));
         Ok(())
@@ -253,6 +252,24 @@ impl Host {
     {
         self.state.restart();
         self.sending = None;
+    }
+
+    /// What it holds beside its open job.
+    pub fn state(&self) -> &State
+        ensures state { held self.now.stage result.now ≡ self.now }
+        ensures sound { IsSound self.now }
+    {
+        &self.state
+    }
+
+    /// Where its open job stands; `None` where none is open.
+    pub fn stage(&self) -> Option<Stage>
+        ensures { result ≡ self.now.stage }
+    {
+        match &self.sending {
+            Some(sending) => Some(sending.stage),
+            None => None,
+        }
     }
 
     /// The address of its device.

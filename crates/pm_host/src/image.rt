@@ -43,8 +43,8 @@ impl Image {
     /// The mark of an image.
     pub const MARK: u16 = 0x504D;
 
-    /// The number of this layout.
-    pub const VERSION: u16 = 3;
+    /// The number of the layout that this is a part of: `pm_c` keeps limits behind it.
+    pub const VERSION: u16 = 4;
 
     /// Zeros, which are the image of no host.
     #[tactic(auto, unfolding(crate::specs::Image::host_of))]

@@ -24,7 +24,7 @@ impl WordsImage {
     };
 
     /// The words that are listed; `None` where any word is possible.
-    pub(crate) fn listed(&self) -> Option<&[u16]>
+    pub fn listed(&self) -> Option<&[u16]>
         ensures { MatchOption result (words_held self.now ≡ Possible.Any)
             (λ words. words_held self.now ≡ listing words.now) }
     {

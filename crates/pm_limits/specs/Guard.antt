@@ -1,5 +1,5 @@
 -- What a guard holds and when it refuses: this project's own choice.
-use Rattle.std.specs.Prelude.{◌≡◌, ◌*◌, ◌≤◌, ℕ, ℤ, Bool, not, ◌&&◌, nat_le, nat_lt, if◌then◌else◌, List, [], ◌∷◌, slice_index_or, slice_set, Option, Some, None, option_map, option_and_then, is_none, IsSomeAnd, Result, OnOk, OnErr}
+use Rattle.std.specs.Prelude.{◌≡◌, ◌*◌, ◌≤◌, ℕ, ℤ, Bool, not, ◌&&◌, nat_le, nat_lt, if◌then◌else◌, List, [], ◌∷◌, slice_index_or, slice_set, Option, Some, None, option_map, option_and_then, is_none, IsSomeAnd, IfOk, IfErr, Result, OnOk, OnErr}
 use Rattle.std.specs.Option.{option_or}
 use Rattle.std.specs.Result.{result_err}
 use Rattle.pm_num.specs.AnyFormat.{Shape, shape_value}
@@ -43,47 +43,67 @@ voltage_limit (Some bounds) None word = Some FormatUnknown
 voltage_limit (Some bounds) (Some shape) word = outside_fault bounds (shape_value shape word)
 
 -- L5 for a byte that leaves the output on, unless the band with this byte lies within the limits
-abbrev pub operation_limit : Guarded → ℕ → ℕ → Option LimitFault
-operation_limit g output byte =
-    rule (has_on byte && not (is_yes (within_of (limits_at g output) (band_on g.host output byte)))) NotKnownWithin
+abbrev pub operation_limit : Option Bounds → Summary → ℕ → ℕ → Option LimitFault
+operation_limit limits s output byte =
+    rule (has_on byte && not (is_yes (within_of limits (band_on s output byte)))) NotKnownWithin
 
--- what the limits say of a word for a cell
-abbrev pub judged : Guarded → Cell → ℕ → Option LimitFault
-judged g (Out output Operation) byte = operation_limit g output byte
-judged g (Out output register) word = voltage_limit (limits_at g output) (format_at g.host output) word
-judged g Protect word = None
+-- what the limits of a cell's output say of a word for it
+abbrev pub judged : Option Bounds → Summary → Cell → ℕ → Option LimitFault
+judged limits s (Out output Operation) byte = operation_limit limits s output byte
+judged limits s (Out output register) word = voltage_limit limits (format_at s output) word
+judged limits s Protect word = None
 
 -- Why an order is refused: H3, H4, then what the limits say, then H5 and H6. L5 is said of accepted bytes alone,
 -- so after H5.
-abbrev pub guarded_order : Guarded → Cell → ℕ → Option LimitFault
-guarded_order g cell word = first (
-    of_host (cell_fault g.host cell) ∷
-    judged g cell word ∷
-    of_host (order_fault g.host cell word) ∷
+abbrev pub guarded_order : Option Bounds → Summary → Cell → ℕ → Option LimitFault
+guarded_order limits s cell word = first (
+    of_host (cell_fault s cell) ∷
+    judged limits s cell word ∷
+    of_host (order_fault s cell word) ∷
     [])
 
 -- why a cell that is there has no word for a number of microvolts: H5 where it is no voltage, H7, N5, N3, N4
-abbrev pub word_fault : Guarded → Cell → ℤ → Option LimitFault
-word_fault g cell x = first (
+abbrev pub word_fault : Summary → Cell → ℤ → Option LimitFault
+word_fault s cell x = first (
     rule (not (is_voltage_cell cell)) (Host BadWord) ∷
-    rule (is_none (format_at g.host (output_of cell))) (Host (host.FormatUnknown)) ∷
-    of_host (option_and_then (λ shape. range_fault shape x) (format_at g.host (output_of cell))) ∷
+    rule (is_none (format_at s (output_of cell))) (Host (host.FormatUnknown)) ∷
+    of_host (option_and_then (λ shape. range_fault shape x) (format_at s (output_of cell))) ∷
     [])
 
 -- In microvolts: H3, H4, H5, H7, then N5, N3, N4, then what an order of the nearest word is refused for, L3, L4
 -- and H6.
-abbrev pub guarded_micro : Guarded → Cell → ℤ → Option LimitFault
-guarded_micro g cell x = first (
-    of_host (cell_fault g.host cell) ∷
-    word_fault g cell x ∷
-    option_and_then (λ word. guarded_order g cell word) (micro_word g.host cell x) ∷
+abbrev pub guarded_micro : Option Bounds → Summary → Cell → ℤ → Option LimitFault
+guarded_micro limits s cell x = first (
+    of_host (cell_fault s cell) ∷
+    word_fault s cell x ∷
+    option_and_then (λ word. guarded_order limits s cell word) (micro_word s cell x) ∷
     [])
 
--- every other job is refused as the host refuses it
+-- why a job is refused whose output has these limits; one that orders nothing as the host refuses it
+abbrev pub limited_fault : Option Bounds → Summary → Job → Option LimitFault
+limited_fault limits s (Order cell word) = guarded_order limits s cell word
+limited_fault limits s (OrderMicro cell x) = guarded_micro limits s cell x
+limited_fault limits s job = of_host (begin_fault s job)
+
+-- the limits of the output whose cell a job orders
+abbrev pub ordered_output : Job → Option ℕ
+ordered_output (Order cell word) = Some (output_of cell)
+ordered_output (OrderMicro cell x) = Some (output_of cell)
+ordered_output job = None
+
+abbrev pub limits_for : Guarded → Job → Option Bounds
+limits_for g job = option_and_then (limits_at g) (ordered_output job)
+
 abbrev pub guard_fault : Guarded → Job → Option LimitFault
-guard_fault g (Order cell word) = guarded_order g cell word
-guard_fault g (OrderMicro cell x) = guarded_micro g cell x
-guard_fault g job = of_host (begin_fault g.host job)
+guard_fault g job = limited_fault (limits_for g job) g.host job
+
+-- How a job is judged before the host is asked: it is refused, or the host is asked for another that means the same
+-- and that it refuses for all that is left.
+pub record IsJudged (limits : Option Bounds) (s : Summary) (job : Job) (result : Result Job LimitFault) : Type 0 where
+  pub refused : IfErr result (λ fault. limited_fault limits s job ≡ Some fault)
+  pub passed : IfOk result (λ asked. limited_fault limits s job ≡ of_host (begin_fault s asked))
+  pub same : IfOk result (λ asked. accepted_job s asked ≡ accepted_job s job)
+  pub nearest : OnOk result (HasNearestWord s job)
 
 -- how a job begins that is refused exactly for this
 pub record BeginsUnless (refusal : Option LimitFault) (old : Guarded) (job : Job) (result : Result (Unit {0}) LimitFault) (new : Guarded) : Type 0 where
@@ -104,12 +124,18 @@ pub record BeginsUnless (refusal : Option LimitFault) (old : Guarded) (job : Job
 abbrev pub LetsBegin : Guarded → Job → Result (Unit {0}) LimitFault → Guarded → Type 0
 LetsBegin old job result new = BeginsUnless (guard_fault old job) old job result new
 
--- why limits can't be narrowed: H4, N5, L1, then L6 where the new ones let through what the old ones don't
+-- why an output's limits can't be narrowed: N5, L1, then L6 where the new ones let through what the old ones don't
+abbrev pub narrower_fault : Option Bounds → ℤ → ℤ → Option LimitFault
+narrower_fault old least most = first (
+    bounds_fault least most ∷
+    rule (is_wider old (record { least = least; most = most })) LimitsWidened ∷
+    [])
+
+-- those of an output that isn't there, H4
 abbrev pub narrow_fault : Guarded → ℕ → ℤ → ℤ → Option LimitFault
 narrow_fault g output least most = first (
     rule (not (nat_lt output g.host.setup.outputs)) (Host UnknownOutput) ∷
-    bounds_fault least most ∷
-    rule (is_wider (limits_at g output) (record { least = least; most = most })) LimitsWidened ∷
+    narrower_fault (limits_at g output) least most ∷
     [])
 
 -- the guard with other limits for an output

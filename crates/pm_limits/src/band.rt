@@ -1,13 +1,14 @@
-ghost use Rattle.std.specs.Prelude.{◌≡◌, ◌<◌};
+ghost use Rattle.std.specs.Prelude.{◌≡◌, ◌<◌, None};
+ghost use Rattle.pm_host.specs.Image.{held};
 ghost use Rattle.pm_num.specs.AnyFormat.{shape_of};
 ghost use Rattle.pm_table.specs.declared.cell.Cell.TheVariants.{Out};
 ghost use Rattle.pm_table.specs.declared.reg.Reg.TheVariants.{Operation};
 ghost use Rattle.pm_host.specs.Summary.{possible_at};
 ghost use Rattle.pm_limits.specs.Band.{band_at, band_on as spec_band_on, band_with, known_of, operations as spec_operations};
 
-use crate::ends::OutputEnds;
+use crate::ends::{OutputEnds, format_in};
 use crate::side::Side;
-use pm_host::Host;
+use pm_host::{Host, State};
 use pm_num::{AnyFormat, Frac};
 use pm_table::{Cell, Reg};
 
@@ -34,29 +35,35 @@ pub fn band_of(host: &Host, output: u8) -> Option<Band>
     requires { output < host.now.setup.outputs }
     ensures { result ≡ band_at host.now output }
 {
-    match host.format(output) {
-        Some(format) => {
-            Some(band_in(&format, host, output, operations(host, output)))
-        }
+    band_in(host.state(), output)
+}
+
+/// The same by what is held beside the open job. The output's number is below 8.
+pub fn band_in(host: &State, output: u8) -> Option<Band>
+    requires { output < 8 }
+    ensures { result ≡ band_at (held None host.now) output }
+{
+    match format_in(host, output) {
+        Some(format) => { Some(band_by(&format, host, output, operations(host, output))) }
         None => None,
     }
 }
 
 /// What the band would be with this byte in OPERATION.
-pub(crate) fn band_on(host: &Host, output: u8, byte: u16) -> Option<Band>
-    requires { output < host.now.setup.outputs }
-    ensures { result ≡ spec_band_on host.now output byte }
+pub(crate) fn band_on(host: &State, output: u8, byte: u16) -> Option<Band>
+    requires { output < 8 }
+    ensures { result ≡ spec_band_on (held None host.now) output byte }
 {
-    match host.format(output) {
-        Some(format) => Some(band_in(&format, host, output, &[byte])),
+    match format_in(host, output) {
+        Some(format) => Some(band_by(&format, host, output, &[byte])),
         None => None,
     }
 }
 
 // The band with one of these bytes in OPERATION.
-fn band_in(format: &AnyFormat, host: &Host, output: u8, bytes: &[u16]) -> Band
-    requires { output < host.now.setup.outputs }
-    ensures { result ≡ band_with (shape_of format.now) (known_of host.now output) bytes.now }
+fn band_by(format: &AnyFormat, host: &State, output: u8, bytes: &[u16]) -> Band
+    requires { output < 8 }
+    ensures { result ≡ band_with (shape_of format.now) (known_of (held None host.now) output) bytes.now }
 {
     let ends = OutputEnds::of(format, host, output);
     Band {
@@ -66,11 +73,15 @@ fn band_in(format: &AnyFormat, host: &Host, output: u8, bytes: &[u16]) -> Band
 }
 
 // The bytes that an output's OPERATION may be, as far as it matters.
-fn operations(host: &Host, output: u8) -> &[u16]
-    requires { output < host.now.setup.outputs }
-    ensures { result.now ≡ spec_operations (possible_at host.now (Out output Operation)) }
+fn operations(host: &State, output: u8) -> &[u16]
+    requires { output < 8 }
+    ensures { result.now ≡ spec_operations (possible_at (held None host.now) (Out output Operation)) }
 {
-    match host.listed(Cell::Out(output, Reg::Operation)) {
+    match host
+        .known
+        .possible(Cell::Out(output, Reg::Operation))
+        .listed()
+    {
         Some(bytes) => bytes,
         None => &EACH_SELECTION,
     }

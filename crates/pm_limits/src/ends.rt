@@ -1,10 +1,11 @@
 //! The words of an output's registers whose values lie farthest out on a side.
 
-ghost use Rattle.std.specs.Prelude.{◌≡◌, ◌<◌, ℕ};
+ghost use Rattle.std.specs.Prelude.{◌≡◌, ◌<◌, ℕ, None, option_map};
+ghost use Rattle.pm_host.specs.Image.{held};
 ghost use Rattle.pm_num.specs.AnyFormat.{any_value, shape_of};
 ghost use Rattle.pm_table.specs.declared.reg.Reg.TheVariants.{VoutMax, VoutMin};
 ghost use Rattle.pm_table.specs.Cell.{IsCell};
-ghost use Rattle.pm_host.specs.Summary.{possible_at};
+ghost use Rattle.pm_host.specs.Summary.{format_at, possible_at};
 ghost use Rattle.pm_model.specs.Commanded.{limited as spec_limited, selected_register};
 ghost use Rattle.pm_limits.specs.Band.{known_of, word_end};
 ghost use Rattle.pm_limits.specs.Ends.{candidates as spec_candidates, farthest as spec_farthest, farthest_of as spec_farthest_of, is_farther as spec_is_farther};
@@ -12,7 +13,7 @@ ghost use Rattle.pm_limits.specs.OutputEnds.{end_in, selected_value, word_on};
 ghost use Rattle.pm_limits.specs.declared.side.Side.{Side};
 
 use crate::side::Side;
-use pm_host::Host;
+use pm_host::State;
 use pm_num::{AnyFormat, Frac, NumFormat};
 use pm_table::{Cell, Operation, Reg};
 
@@ -54,16 +55,16 @@ impl WordEnds {
 }
 
 impl OutputEnds {
-    /// The ends of what an output's registers may hold. The output is there.
-    pub(crate) fn of(format: &AnyFormat, host: &Host, output: u8) -> OutputEnds
-        requires { output < host.now.setup.outputs }
+    /// The ends of what an output's registers may hold. The output's number is below 8.
+    pub(crate) fn of(format: &AnyFormat, host: &State, output: u8) -> OutputEnds
+        requires { output < 8 }
         ensures selected { (side : Side) (byte : ℕ) →
             word_on side (end_in result (selected_register byte))
-            ≡ word_end side (shape_of format.now) (known_of host.now output) (selected_register byte) }
+            ≡ word_end side (shape_of format.now) (known_of (held None host.now) output) (selected_register byte) }
         ensures least { (side : Side) → word_on side result.min
-            ≡ word_end side (shape_of format.now) (known_of host.now output) VoutMin }
+            ≡ word_end side (shape_of format.now) (known_of (held None host.now) output) VoutMin }
         ensures greatest { (side : Side) → word_on side result.max
-            ≡ word_end side (shape_of format.now) (known_of host.now output) VoutMax }
+            ≡ word_end side (shape_of format.now) (known_of (held None host.now) output) VoutMax }
     {
         OutputEnds {
             command: ends_at(format, host, output, Reg::VoutCommand),
@@ -132,11 +133,19 @@ impl OutputEnds {
     }
 }
 
+/// The format of an output's voltages, as far as it is known.
+pub(crate) fn format_in(host: &State, output: u8) -> Option<AnyFormat>
+    requires { output < 8 }
+    ensures { option_map shape_of result ≡ format_at (held None host.now) output }
+{
+    host.format(output).format()
+}
+
 // The words of an output's voltage, of those that it may hold, whose values lie farthest out.
-fn ends_at(format: &AnyFormat, host: &Host, output: u8, register: Reg) -> WordEnds
-    requires { output < host.now.setup.outputs }
+fn ends_at(format: &AnyFormat, host: &State, output: u8, register: Reg) -> WordEnds
+    requires { output < 8 }
     ensures { (side : Side) → word_on side result
-        ≡ word_end side (shape_of format.now) (known_of host.now output) register }
+        ≡ word_end side (shape_of format.now) (known_of (held None host.now) output) register }
 {
     let words = candidates(format, host, Cell::Out(output, register));
     WordEnds {
@@ -162,11 +171,11 @@ fn limited(format: &AnyFormat, selected: u16, least: u16, greatest: u16) -> Frac
 }
 
 // The words among which those that a voltage may hold reach farthest.
-fn candidates<'a>(format: &AnyFormat, host: &'a Host, cell: Cell) -> &'a [u16]
-    requires { IsCell host.now.setup.outputs cell }
-    ensures { result.now ≡ spec_candidates (shape_of format.now) (possible_at host.now cell) }
+fn candidates<'a>(format: &AnyFormat, host: &'a State, cell: Cell) -> &'a [u16]
+    requires { IsCell 8 cell }
+    ensures { result.now ≡ spec_candidates (shape_of format.now) (possible_at (held None host.now) cell) }
 {
-    match host.listed(cell) {
+    match host.known.possible(cell).listed() {
         Some(words) => words,
         None => match format {
             AnyFormat::Linear11 => &LINEAR11_ENDS,

@@ -1,4 +1,4 @@
-ghost use Rattle.std.specs.Prelude.{◌≡◌};
+ghost use Rattle.std.specs.Prelude.{◌≡◌, ◌≢◌};
 
 use pm_host::HostFault;
 use thiserror::Error;
@@ -25,7 +25,7 @@ pub enum LimitFault {
 }
 
 impl LimitFault {
-    ghost use Rattle.pm_limits.specs.FaultWords.{limit_fault_words};
+    ghost use Rattle.pm_limits.specs.FaultWords.{limit_fault_number, limit_fault_words};
 
     /// The letter and the name of the fault, as programs print them: `L3 BelowLimit`. A refusal of the host
     /// is told as that: `H6 TooUncertain`.
@@ -40,6 +40,22 @@ impl LimitFault {
             LimitFault::NotKnownWithin => "L5 NotKnownWithin",
             LimitFault::LimitsWidened => "L6 LimitsWidened",
             LimitFault::Host(fault) => fault.words(),
+        }
+    }
+
+    /// The number of the fault as `pm.h` has it, 21h to 26h; a refusal of the host has its own.
+    pub fn number(self) -> u8
+        ensures number { result ≡ limit_fault_number self }
+        ensures some { result ≢ 0 }
+    {
+        match self {
+            LimitFault::LimitsInverted => 0x21,
+            LimitFault::FormatUnknown => 0x22,
+            LimitFault::BelowLimit => 0x23,
+            LimitFault::AboveLimit => 0x24,
+            LimitFault::NotKnownWithin => 0x25,
+            LimitFault::LimitsWidened => 0x26,
+            LimitFault::Host(fault) => fault.number(),
         }
     }
 }

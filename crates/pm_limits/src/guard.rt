@@ -1,5 +1,4 @@
 mod calls;
-mod judgement;
 
 ghost use Rattle.std.specs.Prelude.{◌≡◌, ◌<◌, Some, IfOk, OnOk, OnErr, slice_set};
 ghost use Rattle.std.specs.Result.{result_err};
@@ -8,11 +7,11 @@ ghost use Rattle.pm_host.specs.Refusals.{IsSetup, setup_fault};
 ghost use Rattle.pm_host.specs.Summary.{start};
 ghost use Rattle.pm_host.specs.Transcript.{Setup};
 ghost use Rattle.pm_limits.specs.Band.{band_at, within_of};
-ghost use Rattle.pm_limits.specs.Bounds.{is_wider};
-ghost use Rattle.pm_limits.specs.Guard.{LetsBegin, limits_at, narrow_fault, narrowed};
+ghost use Rattle.pm_limits.specs.Guard.{LetsBegin, limits_at, limits_for as spec_limits_for, narrow_fault, narrowed};
 
 use crate::band::{Band, band_of};
 use crate::fault::LimitFault;
+use crate::judgement::{judge, ordered_output, within_limits};
 use crate::limits::Limits;
 use crate::within::Within;
 use pm_host::{Host, HostFault, Job};
@@ -77,10 +76,21 @@ impl Guard {
     pub fn begin(&mut self, job: Job) -> Result<(), LimitFault>
         ensures { LetsBegin self.old job result self.new }
     {
-        match job {
-            Job::Order(cell, word) => self.begin_order(cell, word),
-            Job::OrderMicro(cell, x) => self.begin_micro(cell, x),
-            _ => self.pass_on(job),
+        let limits = self.limits_for(job);
+        let asked = judge(self.host.state(), self.host.stage(), limits, job)?;
+        match self.host.begin(asked) {
+            Ok(()) => Ok(()),
+            Err(fault) => Err(LimitFault::Host(fault)),
+        }
+    }
+
+    // The limits of the output whose cell a job orders.
+    fn limits_for(&self, job: Job) -> Option<Limits>
+        ensures { result ≡ spec_limits_for self.now job }
+    {
+        match ordered_output(job) {
+            Some(output) => self.limits(output),
+            None => None,
         }
     }
 
@@ -108,22 +118,9 @@ impl Guard {
         if output >= self.host.outputs() {
             return Err(LimitFault::Host(HostFault::UnknownOutput));
         }
-        let limits = Limits::new(least, most)?;
-        if self.widens(output, &limits) {
-            return Err(LimitFault::LimitsWidened);
-        }
+        let limits = Limits::narrower(self.limits(output), least, most)?;
         put(&mut self.limits, output, limits);
         Ok(())
-    }
-
-    // Whether limits let through what those of an output don't.
-    fn widens(&self, output: u8, limits: &Limits) -> bool
-        ensures { result ≡ is_wider (limits_at self.now output) limits.now }
-    {
-        match self.limits(output) {
-            Some(old) => limits.is_wider(&old),
-            None => false,
-        }
     }
 
     /// Between which voltages an output may be, as [`band_of`] says. The output is there.
@@ -145,7 +142,7 @@ impl Guard {
         requires { output < self.now.host.setup.outputs }
         ensures { result ≡ within_of (limits_at self.now output) (band_at self.now.host output) }
     {
-        self.within_band(output, self.band(output))
+        within_limits(self.limits(output), self.band(output))
     }
 }
 

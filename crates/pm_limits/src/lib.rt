@@ -23,14 +23,16 @@ mod band;
 mod ends;
 mod fault;
 mod guard;
+mod judgement;
 mod laws;
 mod limits;
 mod side;
 mod within;
 
-pub use band::{Band, band_of};
+pub use band::{Band, band_in, band_of};
 pub use fault::LimitFault;
 pub use guard::Guard;
+pub use judgement::{judge, ordered_output, within_limits};
 pub use laws::{bands_are_ends, guarded_orders_are_within};
 pub use limits::Limits;
 pub use side::Side;

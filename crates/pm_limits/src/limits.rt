@@ -2,7 +2,8 @@ ghost use Rattle.std.specs.Prelude.{◌≡◌, ◌≤◌, ◌^◌, ℤ, unsigned
 ghost use Rattle.std.specs.Result.{result_err};
 ghost use Rattle.pm_num.specs.Ratio.{is_above as spec_is_above, micros};
 ghost use Rattle.pm_limits.specs.Band.{band_within};
-ghost use Rattle.pm_limits.specs.Bounds.{bounds_fault, is_wider, outside_fault};
+ghost use Rattle.pm_limits.specs.Bounds.{bounds_fault, is_wider, outside_fault, AreBounds};
+ghost use Rattle.pm_limits.specs.Guard.{narrower_fault};
 
 use crate::band::Band;
 use crate::fault::LimitFault;
@@ -55,7 +56,8 @@ impl Limits {
 
     /// The least voltage, in microvolts.
     pub fn least(&self) -> i64
-        ensures { result ≡ self.now.least }
+        ensures value { result ≡ self.now.least }
+        ensures bounds { AreBounds self.now.least self.now.most }
     {
         self.least
     }
@@ -67,8 +69,21 @@ impl Limits {
         self.most
     }
 
-    /// Whether they let through what others don't.
-    pub(crate) fn is_wider(&self, old: &Limits) -> bool
+    /// Limits of these microvolts in the place of others, or of none. N5 and L1 as for new ones, then L6 where these
+    /// let through what those don't.
+    pub fn narrower(old: Option<Limits>, least: i64, most: i64) -> Result<Limits, LimitFault>
+        ensures made { IfOk result (λ limits. limits ≡ record { least = least; most = most }) }
+        ensures fault { result_err result ≡ narrower_fault old least most }
+    {
+        let limits = Limits::new(least, most)?;
+        match old {
+            Some(old) if limits.is_wider(&old) => Err(LimitFault::LimitsWidened),
+            _ => Ok(limits),
+        }
+    }
+
+    // Whether they let through what others don't.
+    fn is_wider(&self, old: &Limits) -> bool
         ensures { result ≡ is_wider (Some old.now) self.now }
     {
         self.least < old.least || old.most < self.most

@@ -1,16 +1,23 @@
 //! The calls, with no contract of their own: what a test says is run, and the prover needn't carry it.
 
+use crate::answer::{PayloadImage, pm_packet_read_answer};
+use crate::guard_image::{GuardImage, LimitsImage};
 use crate::host::{
     pm_host_check, pm_host_clear, pm_host_learn, pm_host_new, pm_host_order, pm_host_order_micro,
     pm_host_restart, pm_host_restore, pm_host_store,
 };
 use crate::known::{pm_host_possible, pm_host_restart_seen, pm_host_standing};
+use crate::known_cells::{KnownCell, KnownCells, pm_host_known};
+use crate::limits::{BandImage, pm_host_band, pm_host_limits, pm_host_narrow, pm_host_within};
+use crate::name_image::NameImage;
+use crate::names::{pm_end_name, pm_refusal_name};
 use crate::packet::{Packet, pm_packet_read_request, pm_packet_read_write, pm_packet_write};
 use crate::sending::pm_host_sending;
 use crate::sending_image::SendingImage;
 use crate::told::{pm_host_finished, pm_host_got};
 use crate::voltages::{pm_host_format, pm_microvolts, pm_nearest_word};
-use pm_host::{FormatImage, Image, StandingImage, WordsImage};
+use pm_host::{FormatImage, StandingImage, WordsImage};
+use pm_table::Cell;
 
 pub(super) const NOTHING: SendingImage = SendingImage {
     kind: 9,
@@ -29,67 +36,67 @@ pub(super) const PACKET: Packet = Packet {
 };
 
 // A host with two outputs and at most this many passes.
-pub(super) fn host(passes: u8) -> Image {
-    let mut image = Image::blank();
+pub(super) fn host(passes: u8) -> GuardImage {
+    let mut image = GuardImage::blank();
     let _ = pm_host_new(&mut image, 0x58, 2, passes);
     image
 }
 
 // The frame that is being sent.
-pub(super) fn sending(image: &Image) -> SendingImage {
+pub(super) fn sending(image: &GuardImage) -> SendingImage {
     let mut frame = NOTHING;
     let _ = pm_host_sending(image, &mut frame);
     frame
 }
 
-pub(super) fn new(image: &mut Image, address: u8, outputs: u8, passes: u8) -> u8 {
+pub(super) fn new(image: &mut GuardImage, address: u8, outputs: u8, passes: u8) -> u8 {
     pm_host_new(image, address, outputs, passes)
 }
 
-pub(super) fn order(image: &mut Image, output: u8, code: u8, word: u16) -> u8 {
+pub(super) fn order(image: &mut GuardImage, output: u8, code: u8, word: u16) -> u8 {
     pm_host_order(image, output, code, word)
 }
 
-pub(super) fn order_micro(image: &mut Image, output: u8, code: u8, microvolts: i64) -> u8 {
+pub(super) fn order_micro(image: &mut GuardImage, output: u8, code: u8, microvolts: i64) -> u8 {
     pm_host_order_micro(image, output, code, microvolts)
 }
 
-pub(super) fn check(image: &mut Image, output: u8, code: u8) -> u8 {
+pub(super) fn check(image: &mut GuardImage, output: u8, code: u8) -> u8 {
     pm_host_check(image, output, code)
 }
 
-pub(super) fn learn(image: &mut Image, output: u8) -> u8 {
+pub(super) fn learn(image: &mut GuardImage, output: u8) -> u8 {
     pm_host_learn(image, output)
 }
 
-pub(super) fn clear(image: &mut Image, output: u8) -> u8 {
+pub(super) fn clear(image: &mut GuardImage, output: u8) -> u8 {
     pm_host_clear(image, output)
 }
 
-pub(super) fn store(image: &mut Image) -> u8 {
+pub(super) fn store(image: &mut GuardImage) -> u8 {
     pm_host_store(image)
 }
 
-pub(super) fn restore(image: &mut Image) -> u8 {
+pub(super) fn restore(image: &mut GuardImage) -> u8 {
     pm_host_restore(image)
 }
 
-pub(super) fn restart(image: &mut Image) -> u8 {
+pub(super) fn restart(image: &mut GuardImage) -> u8 {
     pm_host_restart(image)
 }
 
-pub(super) fn finished(image: &mut Image, acked: u8) -> (u16, u16) {
+pub(super) fn finished(image: &mut GuardImage, acked: u8) -> (u16, u16) {
     let step = pm_host_finished(image, acked);
     (step.kind, step.word)
 }
 
-pub(super) fn got(image: &mut Image, bytes: &[u8]) -> (u16, u16) {
+pub(super) fn got(image: &mut GuardImage, bytes: &[u8]) -> (u16, u16) {
     let step = pm_host_got(image, bytes);
     (step.kind, step.word)
 }
 
 // The number, and what was said: 7 where nothing was.
-pub(super) fn standing(image: &Image, output: u8, code: u8) -> (u8, u16, u16) {
+pub(super) fn standing(image: &GuardImage, output: u8, code: u8) -> (u8, u16, u16) {
     let mut said = StandingImage {
         is_confirmed: 7,
         word: 7,
@@ -98,7 +105,7 @@ pub(super) fn standing(image: &Image, output: u8, code: u8) -> (u8, u16, u16) {
     (number, said.is_confirmed, said.word)
 }
 
-pub(super) fn possible(image: &Image, output: u8, code: u8) -> (u8, u16, u16) {
+pub(super) fn possible(image: &GuardImage, output: u8, code: u8) -> (u8, u16, u16) {
     let mut words = WordsImage {
         count: 7,
         words: [7; 16],
@@ -107,7 +114,7 @@ pub(super) fn possible(image: &Image, output: u8, code: u8) -> (u8, u16, u16) {
     (number, words.count, words.words[0])
 }
 
-pub(super) fn format(image: &Image, output: u8) -> (u8, u8, i8) {
+pub(super) fn format(image: &GuardImage, output: u8) -> (u8, u8, i8) {
     let mut format = FormatImage {
         kind: 7,
         exponent: 7,
@@ -118,12 +125,12 @@ pub(super) fn format(image: &Image, output: u8) -> (u8, u8, i8) {
     (number, format.kind, format.exponent)
 }
 
-pub(super) fn restart_seen(image: &Image) -> u8 {
+pub(super) fn restart_seen(image: &GuardImage) -> u8 {
     pm_host_restart_seen(image)
 }
 
 // Kind, length and bytes to be read of what is being sent, and whether its bytes begin so.
-pub(super) fn shown(image: &Image, bytes: &[u8]) -> (u8, u8, u8, bool) {
+pub(super) fn shown(image: &GuardImage, bytes: &[u8]) -> (u8, u8, u8, bool) {
     let frame = sending(image);
     (
         frame.kind,
@@ -160,4 +167,76 @@ pub(super) fn nearest(format: &FormatImage, microvolts: i64) -> (u8, u16) {
     let mut word = 7;
     let number = pm_nearest_word(format, microvolts, &mut word);
     (number, word)
+}
+
+pub(super) fn narrow(image: &mut GuardImage, output: u8, least: i64, most: i64) -> u8 {
+    pm_host_narrow(image, output, least, most)
+}
+
+pub(super) fn limits(image: &GuardImage, output: u8) -> (u8, i64, i64) {
+    let mut limits = LimitsImage { least: 7, most: 7 };
+    let number = pm_host_limits(image, output, &mut limits);
+    (number, limits.least, limits.most)
+}
+
+pub(super) fn within(image: &GuardImage, output: u8) -> u8 {
+    pm_host_within(image, output)
+}
+
+pub(super) fn band(image: &GuardImage, output: u8) -> (u8, i64, i64) {
+    let mut band = BandImage {
+        least: 7,
+        greatest: 7,
+    };
+    let number = pm_host_band(image, output, &mut band);
+    (number, band.least, band.greatest)
+}
+
+// Whether the number has a name that begins so.
+pub(super) fn refusal_name(number: u8, text: &[u8]) -> bool {
+    let mut name = NameImage { text: [7; 32] };
+    pm_refusal_name(number, &mut name) == 0 && name.text.starts_with(text)
+}
+
+pub(super) fn end_name(kind: u16, text: &[u8]) -> bool {
+    let mut name = NameImage { text: [7; 32] };
+    pm_end_name(kind, &mut name) == 0 && name.text.starts_with(text)
+}
+
+// What came back for a packet of this kind and VOUT_COMMAND.
+pub(super) fn answer(address: u8, kind: u8, bytes: &[u8]) -> (u8, u8, u16) {
+    let request = Packet {
+        kind,
+        page: 0,
+        code: 0x21,
+        count: 2,
+        word: 0,
+    };
+    let mut payload = PayloadImage {
+        length: 7,
+        bytes: [7; 5],
+        word: 7,
+    };
+    let number = pm_packet_read_answer(address, &request, bytes, &mut payload);
+    (number, payload.length, payload.word)
+}
+
+pub(super) fn known(image: &GuardImage) -> (u8, KnownCells) {
+    let mut known = KnownCells {
+        count: 7,
+        cells: [KnownCell {
+            code: 7,
+            output: 7,
+            standing: StandingImage {
+                is_confirmed: 7,
+                word: 7,
+            },
+            words: WordsImage {
+                count: 7,
+                words: [7; 16],
+            },
+        }; Cell::PLACES],
+    };
+    let number = pm_host_known(image, &mut known);
+    (number, known)
 }

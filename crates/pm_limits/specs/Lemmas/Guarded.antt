@@ -8,7 +8,7 @@ use Rattle.pm_table.specs.declared.cell.Cell.{Cell}
 use Rattle.pm_table.specs.declared.cell.Cell.TheVariants.{Out}
 use Rattle.pm_table.specs.declared.reg.Reg.{Reg}
 use Rattle.pm_table.specs.declared.reg.Reg.TheVariants.{Operation}
-use Rattle.pm_table.specs.Cell.{is_voltage}
+use Rattle.pm_table.specs.Cell.{is_voltage, output_of}
 use Rattle.pm_table.specs.Operation.{has_on}
 use Rattle.pm_host.specs.declared.fault.HostFault.{HostFault}
 use Rattle.pm_host.specs.declared.job.Job.{Job}
@@ -56,18 +56,18 @@ let-through (Some own) (Some shape) word bounds is free =
 
 -- what is judged of a voltage
 judged-voltage : (g : Guarded) (output : ℕ) (register : Reg) (word : ℕ) → is_voltage register ≡ true →
-    judged g (Out output register) word ≡ voltage_limit (limits_at g output) (format_at g.host output) word
+    judged (limits_at g output) g.host (Out output register) word ≡ voltage_limit (limits_at g output) (format_at g.host output) word
 judged-voltage g output Operation word h = cc
 judged-voltage g output register word h = refl
 
 -- an order that is let through
 order-within : (g : Guarded) (cell : Cell) (output : ℕ) (register : Reg) (word : ℕ) (bounds : Bounds) →
-    guarded_order g cell word ≡ None → cell ≡ Out output register → is_voltage register ≡ true →
+    guarded_order (limits_at g (output_of cell)) g.host cell word ≡ None → cell ≡ Out output register → is_voltage register ≡ true →
     limits_at g output ≡ Some bounds →
     IsSomeAnd (format_at g.host output) (λ shape. IsWithin bounds (shape_value shape word))
 order-within g cell output register word bounds free is voltage limits =
-    let judge = head (judged g cell word) _ (second (of_host (cell_fault g.host cell)) _ free) in
-    let none = sym (judged-voltage g output register word voltage) ∙ ap (λ (c : Cell). judged g c word) (sym is) ∙ judge in
+    let judge = head (judged (limits_at g (output_of cell)) g.host cell word) _ (second (of_host (cell_fault g.host cell)) _ free) in
+    let none = sym (judged-voltage g output register word voltage) ∙ ap (λ (c : Cell). judged (limits_at g (output_of c)) g.host c word) (sym is) ∙ judge in
     let-through (limits_at g output) (format_at g.host output) word bounds limits none
 
 -- as a word or in microvolts
@@ -81,10 +81,10 @@ guarded-voltage g (job.Order cell w) output register word bounds free is voltage
     subst (λ n. IsSomeAnd (format_at g.host output) (λ shape. IsWithin bounds (shape_value shape n))) same_word
     (order-within g cell output register w bounds free same_cell voltage limits)
 guarded-voltage g (job.OrderMicro cell x) output register word bounds free is voltage limits =
-    let third = second (word_fault g cell x) _ (second (of_host (cell_fault g.host cell)) _ free) in
-    go (micro_word g.host cell x) (head (option_and_then (λ n. guarded_order g cell n) (micro_word g.host cell x)) None third) is
+    let third = second (word_fault g.host cell x) _ (second (of_host (cell_fault g.host cell)) _ free) in
+    go (micro_word g.host cell x) (head (option_and_then (λ n. guarded_order (limits_at g (output_of cell)) g.host cell n) (micro_word g.host cell x)) None third) is
   where
-    go : (found : Option ℕ) → option_and_then (λ n. guarded_order g cell n) found ≡ None →
+    go : (found : Option ℕ) → option_and_then (λ n. guarded_order (limits_at g (output_of cell)) g.host cell n) found ≡ None →
         option_map (λ n. Order cell n) found ≡ Some (Order (Out output register) word) →
         IsSomeAnd (format_at g.host output) (λ shape. IsWithin bounds (shape_value shape word))
     go None none is' = cc
@@ -102,7 +102,7 @@ pub guarded-on : (g : Guarded) (output byte : ℕ) → guard_fault g (job.Order 
     has_on byte ≡ true → within_of (limits_at g output) (band_on g.host output byte) ≡ Yes
 guarded-on g output byte free on =
     go (has_on byte) (within_of (limits_at g output) (band_on g.host output byte)) on
-    (head (operation_limit g output byte) _ (second (of_host (cell_fault g.host (Out output Operation))) _ free))
+    (head (operation_limit (limits_at g output) g.host output byte) _ (second (of_host (cell_fault g.host (Out output Operation))) _ free))
   where
     go : (b : Bool) (w : Within) → b ≡ true → cond (b && not (is_yes w)) (Some NotKnownWithin) None ≡ None → w ≡ Yes
     go false w on' none = cc
@@ -111,8 +111,8 @@ guarded-on g output byte free on =
     go true NotKnown on' none = cc
 
 -- where the limits say nothing, the host alone refuses
-alone : (g : Guarded) (cell : Cell) (word : ℕ) → judged g cell word ≡ None →
-    guarded_order g cell word ≡ of_host (order_fault g.host cell word)
+alone : (g : Guarded) (cell : Cell) (word : ℕ) → judged (limits_at g (output_of cell)) g.host cell word ≡ None →
+    guarded_order (limits_at g (output_of cell)) g.host cell word ≡ of_host (order_fault g.host cell word)
 alone g cell word none =
     ap (λ (j : Option LimitFault). option_or (of_host (cell_fault g.host cell)) (option_or j (option_or (of_host (order_fault g.host cell word)) None)))
     none
@@ -132,7 +132,7 @@ guarded-off g output byte off = alone g (Out output Operation) byte
 
 -- where an output has no limits, they say nothing
 judged-free : (g : Guarded) (output : ℕ) (register : Reg) (word : ℕ) → limits_at g output ≡ None →
-    judged g (Out output register) word ≡ None
+    judged (limits_at g output) g.host (Out output register) word ≡ None
 judged-free g output Operation word none =
     ap (λ (l : Option Bounds). cond (has_on word && not (is_yes (within_of l (band_on g.host output word)))) (Some NotKnownWithin) None) none
     ∙ go (has_on word)

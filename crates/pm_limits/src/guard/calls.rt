@@ -22,14 +22,14 @@ impl Guard {
     pub fn order(&mut self, cell: Cell, word: u16) -> Result<(), LimitFault>
         ensures { LetsBegin self.old (Job.Order cell word) result self.new }
     {
-        self.begin_order(cell, word)
+        self.begin(Job::Order(cell, word))
     }
 
     /// Begins an order of a number of microvolts, as [`Guard::begin`].
     pub fn order_micro(&mut self, cell: Cell, x: i64) -> Result<(), LimitFault>
         ensures { LetsBegin self.old (Job.OrderMicro cell x) result self.new }
     {
-        self.begin_micro(cell, x)
+        self.begin(Job::OrderMicro(cell, x))
     }
 
     /// Begins a check, as [`Job::Check`] says.

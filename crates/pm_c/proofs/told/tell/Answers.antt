@@ -1,4 +1,4 @@
-use Rattle.std.proofs.Common.{◌≡◌, Some, ap, ◌∙◌, rules}
+use Rattle.std.proofs.Common.{◌≡◌, Some, ap, ◌∙◌, refl, rules}
 use Rattle.pm_host.specs.Image.{held, host_of}
 use Rattle.pm_host.specs.Summary.{next, step_of}
 use Rattle.pm_host.specs.Told.{entry_told}
@@ -12,8 +12,8 @@ returns-in-Some c =
     let before = c.args.host.now in
     let entry = entry_told c.args.told in
     let is_open : c.in-Ok.stage ≡ Some stage = search rules in
-    let became : host_of c.write_stage.new.self ≡ Some (next (held (Some stage) before.state) entry) = search rules in
-    let answered : c.step_after.result ≡ host_step (step_of (held (Some stage) before.state) entry) = search rules in
-    tells before c.write_stage.new.self (held (Some stage) before.state) entry c.step_after.result
-    (c.in-Ok.ensures.found ∙ ap (λ at. Some (held at before.state)) is_open)
-    (awaited stage before.state c.args.told (search rules)) became answered
+    let became : host_of c.write_stage.new.self ≡ Some (next (held (Some stage) before.host.state) entry) = search rules in
+    let answered : c.step_after.result ≡ host_step (step_of (held (Some stage) before.host.state) entry) = search rules in
+    tells before (record before { host = c.write_stage.new.self }) (held (Some stage) before.host.state) entry c.step_after.result
+    (c.in-Ok.ensures.found ∙ ap (λ at. Some (held at before.host.state)) is_open)
+    (awaited stage before.host.state c.args.told (search rules)) became answered refl

@@ -5,7 +5,7 @@ use Rattle.std.proofs.lemmas.Int.{ints}
 use Rattle.std.specs.Int.{w128}
 use Rattle.std.specs.Prelude.{int_lt}
 use Rattle.pm_num.specs.Ratio.{Ratio}
-use Rattle.pm_c.specs.Voltages.{is_far, IsFloor}
+use Rattle.pm_c.specs.Voltages.{is_far, IsFloor, IsNear}
 use Rattle.pm_c.proofs.voltages.put_floor.Goals as goal
 
 -- what isn't less is at least as great
@@ -19,11 +19,6 @@ within (pos n) most den positive h =
     let below : n * den ≤ most * den = omega (arith, ints) in
     let small : n ≤ most = le_of_mul-le-mul_right below positive in
     omega (arith, ints)
-
--- within 10^15 microvolts in size
-record IsNear (x : ℤ) : Type 0 where
-  above : neg_ℤ (pos (10 ^ 15)) ≤ℤ x
-  below : x ≤ℤ pos (10 ^ 15)
 
 -- so is the floor of a value that isn't beyond them
 near : (value : Ratio) (x : ℤ) → 0 < value.den → is_far value ≡ false → IsFloor value x → IsNear x
@@ -53,3 +48,9 @@ returns-clause-floor c = λ accepted.
     let same : to_z w64 (of_z w64 (to_z w128 (of_z w128 c.floor_micro.result))) ≡ c.floor_micro.result = omega (arith, ints) in
     subst (λ x. IsFloor c.args.value.now x) (sym same)
     record { reached = c.floor_micro.ensures.reached; greatest = c.floor_micro.ensures.greatest }
+
+pub returns-clause-near : goal.returns-clause-near
+returns-clause-near c = λ accepted.
+    let is_near = found c in
+    let same : to_z w64 (of_z w64 (to_z w128 (of_z w128 c.floor_micro.result))) ≡ c.floor_micro.result = omega (arith, ints) in
+    subst IsNear (sym same) is_near

@@ -1,31 +1,15 @@
-use Rattle.std.proofs.Common.{◌≡◌, ◌∙◌, ℕ, ap, ap₂}
-use Rattle.std.proofs.Math.Path.{fun_ext}
-use Rattle.pm_num.specs.AnyFormat.{any_value, shape_of}
-use Rattle.pm_num.specs.Ratio.{Ratio}
-use Rattle.pm_table.specs.declared.reg.Reg.TheVariants.{VoutMin}
-use Rattle.pm_model.specs.Commanded.{limited}
-use Rattle.pm_limits.specs.declared.side.Side.{Side}
-use Rattle.pm_limits.specs.declared.side.Side.TheVariants.{Lowest, Highest}
-use Rattle.pm_limits.specs.Band.{end_with, known_of, reach, word_end}
-use Rattle.pm_limits.specs.Ends.{farthest_of}
-use Rattle.pm_limits.specs.OutputEnds.{selected_value, word_on}
+use Rattle.std.proofs.Common.{◌∙◌, ℕ, List, Some, None, option_map, ap, sym}
+use Rattle.pm_num.specs.AnyFormat.{Shape, shape_of}
+use Rattle.pm_host.specs.Image.{held}
+use Rattle.pm_limits.specs.Band.{band_with, known_of, operations}
+use Rattle.pm_table.specs.declared.reg.Reg.TheVariants.{Operation}
 use Rattle.pm_limits.proofs.band.band_in.Goals as goal
 
-pub returns : goal.returns
-unfolding end_with selected_value
-returns c =
-    let value = any_value c.args.format.now in
-    let shape = shape_of c.args.format.now in
-    let known = known_of c.args.host.now c.args.output in
-    let bytes = c.args.bytes.now in
-    let ends = c.of-ends.result in
-    let at : (side : Side) → limited (selected_value side value ends (farthest_of side (selected_value side value ends) bytes))
-        (value (word_on side ends.min)) (value (word_on side ends.max)) ≡ end_with side shape known bytes
-    = λ side.
-        let far = fun_ext (λ (byte : ℕ). ap value (c.of-ends.ensures.selected side byte)) in
-        ap (λ (v : ℕ → Ratio). limited (v (farthest_of side v bytes)) (value (word_on side ends.min)) (value (word_on side ends.max))) far
-        ∙ ap (λ (w : ℕ). limited (reach side shape known (farthest_of side (reach side shape known) bytes)) (value w) (value (word_on side ends.max))) (c.of-ends.ensures.least side)
-        ∙ ap (λ (w : ℕ). limited (reach side shape known (farthest_of side (reach side shape known) bytes)) (value (word_end side shape known VoutMin)) (value w)) (c.of-ends.ensures.greatest side)
-    in
-    ap₂ (λ least greatest. record { least = least; greatest = greatest })
-    (c.reached.ensures ∙ at Lowest) (c.reached-2.ensures ∙ at Highest)
+pub returns-in-Some : goal.returns-in-Some
+returns-in-Some c =
+    let known = known_of (held None c.args.host.now) c.args.output in
+    let shape = shape_of c.in-Some.format in
+    ap (λ b. Some b) c.band_by.ensures
+    ∙ ap (λ (bs : List ℕ). Some (band_with shape known bs)) c.operations.ensures
+    ∙ sym (ap (option_map (λ (x : Shape). band_with x known (operations (known Operation))))
+    (sym c.format_in.ensures ∙ ap (option_map shape_of) c.in-Some.is))

@@ -1,14 +1,7 @@
-use Rattle.std.proofs.Common.{◌∙◌, ℕ, List, Some, option_map, ap, sym}
-use Rattle.pm_num.specs.AnyFormat.{Shape, shape_of}
-use Rattle.pm_limits.specs.Band.{band_with, known_of, operations}
-use Rattle.pm_table.specs.declared.reg.Reg.TheVariants.{Operation}
+use Rattle.std.proofs.Common.{◌∙◌, ap}
+use Rattle.pm_host.specs.Summary.{Summary}
+use Rattle.pm_limits.specs.Band.{band_at}
 use Rattle.pm_limits.proofs.band.band_of.Goals as goal
 
-pub returns-in-Some : goal.returns-in-Some
-returns-in-Some c =
-    let known = known_of c.args.host.now c.args.output in
-    let shape = shape_of c.in-Some.format in
-    ap (λ b. Some b) c.band_in.ensures
-    ∙ ap (λ (bs : List ℕ). Some (band_with shape known bs)) c.operations.ensures
-    ∙ sym (ap (option_map (λ (x : Shape). band_with x known (operations (known Operation))))
-    (sym c.format.ensures ∙ ap (option_map shape_of) c.in-Some.is))
+pub returns : goal.returns
+returns c = c.band_in.ensures ∙ ap (λ (s : Summary). band_at s c.args.output) c.state.ensures.state

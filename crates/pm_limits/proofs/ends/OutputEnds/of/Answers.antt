@@ -1,4 +1,5 @@
-use Rattle.std.proofs.Common.{◌≡◌}
+use Rattle.std.proofs.Common.{◌≡◌, None}
+use Rattle.pm_host.specs.Image.{held}
 use Rattle.pm_num.specs.AnyFormat.{shape_of}
 use Rattle.pm_table.specs.declared.reg.Reg.{Reg}
 use Rattle.pm_limits.specs.declared.ends.OutputEnds.{OutputEnds}
@@ -17,5 +18,5 @@ returns-clause-selected c =
       max = c.ends_at-5.result;
     } in
     λ side. each-selected
-    (λ (r : Reg). word_on side (end_in ends r) ≡ word_end side (shape_of c.args.format.now) (known_of c.args.host.now c.args.output) r)
+    (λ (r : Reg). word_on side (end_in ends r) ≡ word_end side (shape_of c.args.format.now) (known_of (held None c.args.host.now) c.args.output) r)
     (c.ends_at.ensures side) (c.ends_at-2.ensures side) (c.ends_at-3.ensures side)

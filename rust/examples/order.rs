@@ -1,28 +1,24 @@
-//! An order over a scripted bus, in safe Rust: it prints what `examples/c/order.c` does.
+//! An order over a scripted bus: it prints what `examples/c/order.c` does.
 
-mod pm;
-
-use pm::{Host, Refused, Step, Turn};
-
-const VOUT_COMMAND: u8 = 0x21;
+use pm_host::{Cell, Host, Refusal, Register, Sending, Step};
 
 fn hex(bytes: &[u8]) -> String {
     bytes.iter().map(|byte| format!(" {byte:02X}")).collect()
 }
 
-fn main() -> Result<(), Refused> {
+fn main() -> Result<(), Refusal> {
+    let command = Cell::Output(0, Register::VoutCommand);
     let mut host = Host::new(0x58, 2, 2)?;
-    host.order(0, VOUT_COMMAND, 0x34CD)?;
+    host.order(command, 0x34CD)?;
     let end = loop {
-        let sending = host.sending();
-        let step = match sending.turn() {
-            Turn::Nothing => return Ok(()),
-            Turn::Write(frame) => {
-                println!("write{}", hex(frame));
+        let step = match host.sending() {
+            Sending::Nothing => return Ok(()),
+            Sending::Write(frame) => {
+                println!("write{}", hex(&frame));
                 host.finished(false)?
             }
-            Turn::Request { frame, answer } => {
-                println!("request{}\nwants {answer} bytes", hex(frame));
+            Sending::Request { frame, answer } => {
+                println!("request{}\nwants {answer} bytes", hex(&frame));
                 host.got(&[0xB1, 0x02, 0xCD, 0x34, 0xB9])?
             }
         };
@@ -37,7 +33,7 @@ fn main() -> Result<(), Refused> {
         Step::Unknown => 3,
         Step::Learned => 4,
     };
-    match host.confirmed(0, VOUT_COMMAND)? {
+    match host.standing(command)? {
         Some(word) => println!("ended {kind}, confirmed {word:04X}"),
         None => println!("ended {kind}, unknown 0000"),
     }

@@ -1,0 +1,170 @@
+//! What limits refuse beside a host, by what is held beside its open job.
+
+ghost use Rattle.std.specs.Prelude.{◌≡◌, ◌<◌, None, Some, IfOk, OnOk};
+ghost use Rattle.std.specs.Result.{result_err};
+ghost use Rattle.pm_table.specs.Cell.{IsCell};
+ghost use Rattle.pm_host.specs.Image.{held};
+ghost use Rattle.pm_host.specs.Jobs.{HasNearestWord};
+ghost use Rattle.pm_host.specs.Refusals.{cell_fault, micro_word as spec_micro_word};
+ghost use Rattle.pm_host.specs.Sound.{IsSound};
+ghost use Rattle.pm_host.specs.Summary.{format_at};
+ghost use Rattle.pm_limits.specs.Band.{within_of};
+ghost use Rattle.pm_limits.specs.Guard.{IsJudged, judged, of_host, operation_limit, ordered_output as spec_ordered_output, voltage_limit, word_fault};
+
+use crate::band::{Band, band_on};
+use crate::ends::format_in;
+use crate::fault::LimitFault;
+use crate::limits::Limits;
+use crate::within::Within;
+use pm_host::{HostFault, Job, Stage, State, nearest_word};
+use pm_num::NumFormat;
+use pm_table::{Cell, Operation, Reg};
+
+/// What a host is to be asked for in place of this job, whose output has these limits: the same, and of an order in
+/// microvolts the order of the nearest word. Or why it isn't asked at all, as [`crate::Guard::begin`] says. A guard
+/// asks its host so; who keeps limits otherwise asks as well, and then begins what is answered.
+pub fn judge(
+    state: &State,
+    stage: Option<Stage>,
+    limits: Option<Limits>,
+    job: Job,
+) -> Result<Job, LimitFault>
+    requires { IsSound (held stage state.now) }
+    ensures { IsJudged limits (held stage state.now) job result }
+{
+    match job {
+        Job::Order(cell, word) => {
+            refuse_cell(state, stage, cell)?;
+            judge_word(state, limits, cell, word)?;
+            Ok(job)
+        }
+        Job::OrderMicro(cell, x) => {
+            refuse_cell(state, stage, cell)?;
+            let word = micro_word(state, stage, cell, x)?;
+            judge_word(state, limits, cell, word)?;
+            Ok(Job::Order(cell, word))
+        }
+        _ => Ok(job),
+    }
+}
+
+/// The output whose cell a job orders: its limits are those by which the job is judged.
+pub fn ordered_output(job: Job) -> Option<u8>
+    ensures { result ≡ spec_ordered_output job }
+{
+    match job {
+        Job::Order(Cell::Out(output, _), _) | Job::OrderMicro(Cell::Out(output, _), _) => {
+            Some(output)
+        }
+        Job::Order(Cell::Protect, _) | Job::OrderMicro(Cell::Protect, _) => Some(0),
+        _ => None,
+    }
+}
+
+/// Whether a band lies within limits; any does where there are none.
+pub fn within_limits(limits: Option<Limits>, band: Option<Band>) -> Within
+    ensures { result ≡ within_of limits band }
+{
+    match (limits, band) {
+        (None, _) => Within::Yes,
+        (Some(limits), Some(band)) => limits.within(&band),
+        (Some(_), None) => Within::NotKnown,
+    }
+}
+
+// Refuses where a job is open, or the cell isn't there.
+fn refuse_cell(state: &State, stage: Option<Stage>, cell: Cell) -> Result<(), LimitFault>
+    requires { IsSound (held stage state.now) }
+    ensures fault { result_err result ≡ of_host (cell_fault (held stage state.now) cell) }
+    ensures there { OnOk result (IsCell state.now.outputs cell) }
+    ensures near { OnOk result (IsCell 8 cell) }
+{
+    if stage.is_some() {
+        return Err(LimitFault::Host(HostFault::Busy));
+    }
+    if !cell.is_there(state.outputs) {
+        return Err(LimitFault::Host(HostFault::UnknownOutput));
+    }
+    Ok(())
+}
+
+// The word for a number of microvolts, in the format of a cell's output. It isn't inlined: it would weigh on each order
+// of a word.
+#[inline(never)]
+fn micro_word(state: &State, stage: Option<Stage>, cell: Cell, x: i64) -> Result<u16, LimitFault>
+    requires { IsCell 8 cell }
+    ensures fault { result_err result ≡ word_fault (held stage state.now) cell x }
+    ensures word { IfOk result (λ word. spec_micro_word (held stage state.now) cell x ≡ Some word) }
+    ensures nearest { OnOk result (HasNearestWord (held stage state.now) (Job.OrderMicro cell x)) }
+{
+    let output = match cell {
+        Cell::Out(output, register) if register.is_voltage() => output,
+        _ => return Err(LimitFault::Host(HostFault::BadWord)),
+    };
+    let format = match format_in(state, output) {
+        Some(format) => format,
+        None => return Err(LimitFault::Host(HostFault::FormatUnknown)),
+    };
+    match nearest_word(&format, x) {
+        Ok(word) => Ok(word),
+        Err(fault) => Err(LimitFault::Host(fault)),
+    }
+}
+
+// Refuses what the limits of the cell's output don't let through.
+#[inline]
+fn judge_word(
+    state: &State,
+    limits: Option<Limits>,
+    cell: Cell,
+    word: u16,
+) -> Result<(), LimitFault>
+    requires { IsCell 8 cell }
+    ensures { result_err result ≡ judged limits (held None state.now) cell word }
+{
+    match cell {
+        Cell::Out(output, Reg::Operation) => judge_operation(state, limits, output, word),
+        Cell::Out(output, _) => judge_voltage(state, limits, output, word),
+        Cell::Protect => Ok(()),
+    }
+}
+
+// Refuses a voltage beyond limits.
+fn judge_voltage(
+    state: &State,
+    limits: Option<Limits>,
+    output: u8,
+    word: u16,
+) -> Result<(), LimitFault>
+    requires { output < 8 }
+    ensures { result_err result ≡ voltage_limit limits (format_at (held None state.now) output) word }
+{
+    let limits = match limits {
+        Some(limits) => limits,
+        None => return Ok(()),
+    };
+    match format_in(state, output) {
+        Some(format) => limits.refuse(&format.value_of(word)),
+        None => Err(LimitFault::FormatUnknown),
+    }
+}
+
+// Refuses a byte that leaves the output on where that isn't known to be within its limits. It isn't inlined: it would
+// weigh on each order of a voltage.
+#[inline(never)]
+fn judge_operation(
+    state: &State,
+    limits: Option<Limits>,
+    output: u8,
+    byte: u16,
+) -> Result<(), LimitFault>
+    requires { output < 8 }
+    ensures { result_err result ≡ operation_limit limits (held None state.now) output byte }
+{
+    if Operation::has_on(byte)
+        && within_limits(limits, band_on(state, output, byte)) != Within::Yes
+    {
+        return Err(LimitFault::NotKnownWithin);
+    }
+    Ok(())
+}

@@ -1,0 +1,27 @@
+"""A PMBus host that sets supply voltages: Python over the library of crates/pm_c.
+
+    from pmhost import LinuxBus, Pmbus
+    with LinuxBus(1, 0x58) as bus:
+        part = Pmbus(bus, 0x58, limits={0: ("3.2", "3.465")})
+        part.learn(0)
+        print(part.order_volts(0, "3.3"))
+
+What the library's calls answer is proved (docs/firmware.md says of what); this package is tested, and not proved.
+"""
+from .buses import LinuxBus, Smbus2Bus
+from .errors import (Differs, FrameRefused, HostRefused, LimitRefused, MemoryRefused, NotDone, NumberRefused, PartRefused,
+                     PmhostError, Refused, Unknown)
+from .host import Band, Bus, Host, Known, Limits, Sending, Step
+from .packets import Packet, pec, read_answer, read_request, read_write
+from .part import Output, Part, PartBus
+from .pmbus import Pmbus
+from .values import CODES, LINEAR11, Format
+
+__version__ = "1.0.0"
+
+__all__ = [
+    "Band", "Bus", "CODES", "Differs", "Format", "FrameRefused", "Host", "HostRefused", "Known", "LINEAR11", "LimitRefused",
+    "Limits", "LinuxBus", "MemoryRefused", "NotDone", "NumberRefused", "Output", "Packet", "Part", "PartBus", "PartRefused",
+    "PmhostError", "Pmbus", "Refused", "Sending", "Smbus2Bus", "Step", "Unknown", "pec", "read_answer", "read_request",
+    "read_write",
+]

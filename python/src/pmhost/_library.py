@@ -1,0 +1,139 @@
+"""The calls of the library, as its header pm.h has them."""
+import ctypes as c
+import os
+
+PATH = os.environ.get("PMHOST_LIBRARY") or os.path.join(os.path.dirname(os.path.abspath(__file__)), "libpm_c.so")
+
+VERSION = 0x0100
+HOST_VERSION = 4
+HOST_SIZE = 2056
+DESK_SIZE = 122
+CELLS = 49
+
+
+class HostImage(c.Structure):
+    _fields_ = [("held", c.c_uint64 * (HOST_SIZE // 8))]
+
+
+class SendingImage(c.Structure):
+    _fields_ = [("kind", c.c_uint8), ("length", c.c_uint8), ("answer", c.c_uint8), ("unused", c.c_uint8),
+                ("bytes", c.c_uint8 * 16)]
+
+
+class StepImage(c.Structure):
+    _fields_ = [("kind", c.c_uint16), ("word", c.c_uint16)]
+
+
+class StandingImage(c.Structure):
+    _fields_ = [("is_confirmed", c.c_uint16), ("word", c.c_uint16)]
+
+
+class WordsImage(c.Structure):
+    _fields_ = [("count", c.c_uint16), ("words", c.c_uint16 * 16)]
+
+
+class CellImage(c.Structure):
+    _fields_ = [("code", c.c_uint8), ("output", c.c_uint8), ("standing", StandingImage), ("words", WordsImage)]
+
+
+class KnownImage(c.Structure):
+    _fields_ = [("count", c.c_uint16), ("cells", CellImage * CELLS)]
+
+
+class FormatImage(c.Structure):
+    _fields_ = [("kind", c.c_uint8), ("exponent", c.c_int8), ("m", c.c_int16), ("b", c.c_int16)]
+
+
+class LimitsImage(c.Structure):
+    _fields_ = [("least", c.c_int64), ("most", c.c_int64)]
+
+
+class BandImage(c.Structure):
+    _fields_ = [("least", c.c_int64), ("greatest", c.c_int64)]
+
+
+class NameImage(c.Structure):
+    _fields_ = [("text", c.c_char * 32)]
+
+
+class PacketImage(c.Structure):
+    _fields_ = [("kind", c.c_uint8), ("page", c.c_uint8), ("code", c.c_uint8), ("count", c.c_uint8),
+                ("word", c.c_uint16)]
+
+
+class PayloadImage(c.Structure):
+    _fields_ = [("length", c.c_uint8), ("bytes", c.c_uint8 * 5), ("word", c.c_uint16)]
+
+
+class OutputImage(c.Structure):
+    _fields_ = [("mode", c.c_uint8), ("unused", c.c_uint8)] + [
+        (name, c.c_uint16) for name in ("operation", "command", "max", "high", "low", "min")]
+
+
+class DeskImage(c.Structure):
+    _fields_ = [("address", c.c_uint8), ("outputs", c.c_uint8), ("r", c.c_int8), ("unused", c.c_uint8),
+                ("m", c.c_int16), ("b", c.c_int16), ("protect", c.c_uint16), ("words", OutputImage * 8)]
+
+
+class ReplyImage(c.Structure):
+    _fields_ = [("length", c.c_uint8), ("unused", c.c_uint8), ("bytes", c.c_uint8 * 16)]
+
+
+_u8, _u16, _u64, _i64, _at = c.c_uint8, c.c_uint16, c.c_uint64, c.c_int64, c.POINTER
+_host, _bytes = _at(HostImage), c.c_char_p
+
+# Each call: what it answers, and what it takes.
+CALLS = {
+    "pm_version": (_u16, []),
+    "pm_host_size": (_u64, []),
+    "pm_host_version": (_u16, []),
+    "pm_host_new": (_u8, [_host, _u8, _u8, _u8]),
+    "pm_host_narrow": (_u8, [_host, _u8, _i64, _i64]),
+    "pm_host_limits": (_u8, [_host, _u8, _at(LimitsImage)]),
+    "pm_host_within": (_u8, [_host, _u8]),
+    "pm_host_band": (_u8, [_host, _u8, _at(BandImage)]),
+    "pm_host_order": (_u8, [_host, _u8, _u8, _u16]),
+    "pm_host_order_micro": (_u8, [_host, _u8, _u8, _i64]),
+    "pm_host_check": (_u8, [_host, _u8, _u8]),
+    "pm_host_learn": (_u8, [_host, _u8]),
+    "pm_host_clear": (_u8, [_host, _u8]),
+    "pm_host_store": (_u8, [_host]),
+    "pm_host_restore": (_u8, [_host]),
+    "pm_host_sending": (_u8, [_host, _at(SendingImage)]),
+    "pm_host_finished": (StepImage, [_host, _u8]),
+    "pm_host_got": (StepImage, [_host, _bytes, _u64]),
+    "pm_host_restart": (_u8, [_host]),
+    "pm_host_standing": (_u8, [_host, _u8, _u8, _at(StandingImage)]),
+    "pm_host_possible": (_u8, [_host, _u8, _u8, _at(WordsImage)]),
+    "pm_host_format": (_u8, [_host, _u8, _at(FormatImage)]),
+    "pm_host_known": (_u8, [_host, _at(KnownImage)]),
+    "pm_host_restart_seen": (_u8, [_host]),
+    "pm_refusal_name": (_u8, [_u8, _at(NameImage)]),
+    "pm_end_name": (_u8, [_u16, _at(NameImage)]),
+    "pm_microvolts": (_u8, [_at(FormatImage), _u16, _at(_i64)]),
+    "pm_nearest_word": (_u8, [_at(FormatImage), _i64, _at(_u16)]),
+    "pm_pec": (_u8, [_bytes, _u64]),
+    "pm_packet_write": (_u8, [_u8, _at(PacketImage), _at(SendingImage)]),
+    "pm_packet_read_write": (_u8, [_u8, _bytes, _u64, _at(PacketImage)]),
+    "pm_packet_read_request": (_u8, [_u8, _bytes, _u64, _at(PacketImage)]),
+    "pm_packet_read_answer": (_u8, [_u8, _at(PacketImage), _bytes, _u64, _at(PayloadImage)]),
+    "pm_desk_size": (_u64, []),
+    "pm_desk_hear": (_u8, [_at(DeskImage), _bytes, _u64, _u8, _at(ReplyImage)]),
+    "pm_desk_word": (_u8, [_at(DeskImage), _u8, _u8, _at(_u16)]),
+    "pm_desk_commanded": (_u8, [_at(DeskImage), _u8, _at(_i64)]),
+}
+
+
+def _load():
+    loaded = c.CDLL(PATH)
+    for name, (answers, takes) in CALLS.items():
+        call = getattr(loaded, name)
+        call.restype, call.argtypes = answers, takes
+    found = loaded.pm_version() >> 8, loaded.pm_host_version(), loaded.pm_host_size(), loaded.pm_desk_size()
+    wanted = VERSION >> 8, HOST_VERSION, c.sizeof(HostImage), c.sizeof(DeskImage)
+    if found != wanted:
+        raise ImportError(f"{PATH} is another library than this package is for: it says {found}, and not {wanted}")
+    return loaded
+
+
+library = _load()

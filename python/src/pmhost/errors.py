@@ -1,0 +1,119 @@
+"""What goes wrong: each refusal has its number, its letter and its name, as the library names it."""
+from __future__ import annotations
+
+import ctypes
+
+from ._library import NameImage, library
+
+SAYINGS = {
+    "H1": "give 1 to 8 outputs",
+    "H2": "give 1 to 15 passes",
+    "H3": "a job is open: carry it out first",
+    "H4": "the host has no such output",
+    "H5": "the register doesn't take this word, or isn't a voltage",
+    "H6": "16 words are possible already: check the register first",
+    "H7": "the output's format isn't known: learn it first",
+    "N1": "m of DIRECT is 0",
+    "N2": "R of DIRECT is outside -12 to 12",
+    "N3": "below all values of the output's format",
+    "N4": "above all values of the output's format",
+    "N5": "beyond 10^15 microvolts",
+    "L1": "the least is above the most",
+    "L2": "the output has limits, and its format isn't known: learn it first",
+    "L3": "below the output's limits",
+    "L4": "above the output's limits",
+    "L5": "the output isn't known to be within its limits: check its registers first",
+    "L6": "limits are narrowed, never widened",
+    "F1": "bytes of another device, or none",
+    "F2": "too few bytes",
+    "F3": "too many bytes",
+    "F4": "a wrong count",
+    "F5": "a wrong packet error code",
+    "F6": "a code that isn't in the command table",
+    "F7": "a code that isn't written, or isn't read",
+    "F8": "a code that PAGE_PLUS doesn't carry",
+    "K1": "a faulty frame",
+    "K2": "a code that the part doesn't support",
+    "K3": "data that the code doesn't take",
+    "K4": "no output with this page",
+    "K5": "the write is protected",
+    "K6": "a code that PAGE_PLUS doesn't carry",
+    "K7": "a code that isn't written, or isn't read",
+}
+
+
+class PmhostError(Exception):
+    """Whatever this package raises beside TypeError and ValueError."""
+
+
+class Refused(PmhostError):
+    """A call that the library refused: nothing changed, and nothing was sent."""
+
+    def __init__(self, number: int) -> None:
+        self.number = number
+        letter, _, name = name_of(number).rpartition(" ")
+        self.letter, self.name = letter, name
+        saying = SAYINGS.get(letter)
+        super().__init__(f"{name_of(number)}: {saying}" if saying else name)
+
+
+class HostRefused(Refused):
+    """H1 to H7: what a host refuses."""
+
+
+class NumberRefused(Refused):
+    """N1 to N5: a number that a format doesn't have."""
+
+
+class LimitRefused(Refused):
+    """L1 to L6: what limits refuse."""
+
+
+class FrameRefused(Refused):
+    """F1 to F8: bytes that are no packet."""
+
+
+class PartRefused(Refused):
+    """K1 to K7: a frame that a converter refuses."""
+
+
+class MemoryRefused(Refused):
+    """What only a caller of the library can ask wrongly: no host, no cell, a frame of the other kind."""
+
+
+FAMILIES = {"H": HostRefused, "N": NumberRefused, "L": LimitRefused, "F": FrameRefused, "K": PartRefused}
+
+
+class NotDone(PmhostError):
+    """A job that didn't end well: `kind` says how, and `possible` which words the register may hold, None for any."""
+
+    def __init__(self, text: str, kind: str, word: int | None = None, possible: tuple[int, ...] | None = None) -> None:
+        super().__init__(text)
+        self.kind, self.word, self.possible = kind, word, possible
+
+
+class Differs(NotDone):
+    """An order whose word wasn't read back: another was."""
+
+
+class Unknown(NotDone):
+    """A job with no good answer in its last pass."""
+
+
+def name_of(number: int) -> str:
+    """The letter and the name of a refusal, as `H6 TooUncertain`."""
+    name = NameImage()
+    if library.pm_refusal_name(number, ctypes.byref(name)):
+        return f"number {number:02X}h"
+    return name.text.decode("ascii")
+
+
+def refusal(number: int) -> Refused:
+    """The exception of a refusal's number."""
+    return FAMILIES.get(name_of(number)[:1] if " " in name_of(number) else "", MemoryRefused)(number)
+
+
+def accepted(number: int) -> None:
+    """Raises what a call was refused for, if it was."""
+    if number:
+        raise refusal(number)

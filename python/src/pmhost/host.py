@@ -1,0 +1,279 @@
+"""The host: each call of the library, as a method."""
+from __future__ import annotations
+
+import ctypes
+from dataclasses import dataclass
+from typing import Protocol
+
+from . import _library as at
+from ._library import library
+from .errors import accepted, refusal
+from .values import NAMES, Format, code_of, frame_bytes, whole
+
+REFERENCE = ctypes.byref
+
+
+class Bus(Protocol):
+    """What a host needs of a bus. Neither call may try again by itself, nor hand over an older answer."""
+
+    def write(self, frame: bytes) -> bool:
+        """Puts a packet on the bus, the address byte first, and says whether every byte was acknowledged."""
+
+    def read(self, request: bytes, count: int) -> bytes:
+        """Sends a request and a repeated start, and answers what came after the read address: at most `count` bytes,
+        none where there was no answer."""
+
+
+@dataclass(frozen=True)
+class Sending:
+    """The frame that is to be sent now: a write, or a request whose whole answer has `answer` bytes behind the read
+    address."""
+
+    frame: bytes
+    is_request: bool
+    answer: int
+
+
+@dataclass(frozen=True)
+class Step:
+    """How a job stands: `next`, or how it ended, `done`, `differs` with the word that was read, `unknown`, `learned`."""
+
+    kind: str
+    word: int | None = None
+
+    @property
+    def is_over(self) -> bool:
+        return self.kind != "next"
+
+
+@dataclass(frozen=True)
+class Known:
+    """What is known of a register: its word, where that is confirmed, and the words that it may hold, None for any."""
+
+    output: int | None
+    register: str
+    confirmed: int | None
+    possible: tuple[int, ...] | None
+
+
+@dataclass(frozen=True)
+class Limits:
+    """The least and the most that an output's voltage may be, in microvolts."""
+
+    least: int
+    most: int
+
+
+@dataclass(frozen=True)
+class Band:
+    """Between which voltages an output may be, in microvolts, the least rounded down and the greatest up."""
+
+    least: int
+    greatest: int
+
+
+ENDS = ("next", "done", "differs", "unknown", "learned")
+WITHIN = {0x91: True, 0x92: False, 0x93: None}
+
+
+def words_of(image: at.WordsImage) -> tuple[int, ...] | None:
+    return tuple(image.words[: image.count]) or None
+
+
+def word_of(image: at.StandingImage) -> int | None:
+    return image.word if image.is_confirmed == 1 else None
+
+
+class Host:
+    """A host for the device at an address, 08h to 77h, with 1 to 8 outputs; a job has at most 1 to 15 passes.
+
+    It says by `sending` what to send, and is told what became of it by `finished` or `got`; `run` does so over a bus.
+    Copies share nothing. It isn't for several threads at once.
+    """
+
+    def __init__(self, address: int, outputs: int = 1, passes: int = 3) -> None:
+        self._image = at.HostImage()
+        self._address = whole(address, 0x08, 0x77, "address")
+        self._outputs = whole(outputs, 1, 8, "outputs")
+        self._passes = whole(passes, 1, 15, "passes")
+        accepted(library.pm_host_new(REFERENCE(self._image), address, outputs, passes))
+
+    @property
+    def address(self) -> int:
+        return self._address
+
+    @property
+    def outputs(self) -> int:
+        return self._outputs
+
+    @property
+    def passes(self) -> int:
+        return self._passes
+
+    def _there(self, output: int) -> int:
+        return whole(output, 0, self._outputs - 1, "output")
+
+    # ---- Limits ----
+
+    def narrow(self, output: int, least: int, most: int) -> None:
+        """Gives an output limits in microvolts, or narrower ones. N5, L1, L6."""
+        least = whole(least, -(2**63), 2**63 - 1, "least")
+        most = whole(most, -(2**63), 2**63 - 1, "most")
+        accepted(library.pm_host_narrow(REFERENCE(self._image), self._there(output), least, most))
+
+    def limits(self, output: int) -> Limits | None:
+        """The limits of an output, None where it has none."""
+        found = at.LimitsImage()
+        number = library.pm_host_limits(REFERENCE(self._image), self._there(output), REFERENCE(found))
+        if number == 0xE6:
+            return None
+        accepted(number)
+        return Limits(found.least, found.most)
+
+    def within(self, output: int) -> bool | None:
+        """Whether an output's voltage lies within its limits, by what is known: None where that doesn't tell."""
+        number = library.pm_host_within(REFERENCE(self._image), self._there(output))
+        if number not in WITHIN:
+            raise refusal(number)
+        return WITHIN[number]
+
+    def band(self, output: int) -> Band:
+        """Between which voltages an output may be. H7 where its format isn't known, N5."""
+        found = at.BandImage()
+        accepted(library.pm_host_band(REFERENCE(self._image), self._there(output), REFERENCE(found)))
+        return Band(found.least, found.greatest)
+
+    # ---- Jobs ----
+
+    def order(self, output: int, register: str | int, word: int) -> None:
+        """Begins an order of a word. H3, L2, L3, L4, H5, L5, H6."""
+        code, word = code_of(register), whole(word, 0, 0xFFFF, "word")
+        accepted(library.pm_host_order(REFERENCE(self._image), self._there(output), code, word))
+
+    def order_micro(self, output: int, register: str | int, microvolts: int) -> None:
+        """Begins an order of the word nearest to microvolts. H3, H5, H7, N5, N3, N4, L3, L4, H6."""
+        code, microvolts = code_of(register), whole(microvolts, -(2**63), 2**63 - 1, "microvolts")
+        accepted(library.pm_host_order_micro(REFERENCE(self._image), self._there(output), code, microvolts))
+
+    def check(self, output: int, register: str | int) -> None:
+        """Begins to read a register back. H3."""
+        code = code_of(register)
+        accepted(library.pm_host_check(REFERENCE(self._image), self._there(output), code))
+
+    def learn(self, output: int) -> None:
+        """Begins to learn the format of an output's voltages. H3."""
+        accepted(library.pm_host_learn(REFERENCE(self._image), self._there(output)))
+
+    def clear(self, output: int) -> None:
+        """Begins to send CLEAR_FAULTS. H3."""
+        accepted(library.pm_host_clear(REFERENCE(self._image), self._there(output)))
+
+    def store(self) -> None:
+        """Begins to send STORE_USER_ALL. H3."""
+        accepted(library.pm_host_store(REFERENCE(self._image)))
+
+    def restore(self) -> None:
+        """Begins to send RESTORE_USER_ALL. H3."""
+        accepted(library.pm_host_restore(REFERENCE(self._image)))
+
+    def restart(self) -> None:
+        """Drops the open job and all that is known; the limits stay."""
+        accepted(library.pm_host_restart(REFERENCE(self._image)))
+
+    # ---- Frames ----
+
+    def sending(self) -> Sending | None:
+        """What to send now, None where no job is open."""
+        found = at.SendingImage()
+        accepted(library.pm_host_sending(REFERENCE(self._image), REFERENCE(found)))
+        if found.kind == 0:
+            return None
+        is_request = found.kind == 2
+        return Sending(bytes(found.bytes[: found.length]), is_request, found.answer - 1 if is_request else 0)
+
+    def finished(self, acked: bool) -> Step:
+        """A write was sent, and acknowledged or not."""
+        if not isinstance(acked, bool):
+            raise TypeError(f"acked: True or False is wanted, and not {acked!r}")
+        return self._step(library.pm_host_finished(REFERENCE(self._image), acked))
+
+    def got(self, answer: bytes) -> Step:
+        """A request was sent, and these bytes came back, the read address first; none where there was no answer."""
+        taken = frame_bytes(answer, 2**16, "answer")
+        return self._step(library.pm_host_got(REFERENCE(self._image), taken, len(taken)))
+
+    @staticmethod
+    def _step(step: at.StepImage) -> Step:
+        if step.kind >= len(ENDS):
+            raise refusal(step.kind)
+        return Step(ENDS[step.kind], step.word if step.kind == 2 else None)
+
+    def run(self, bus: Bus) -> Step:
+        """Carries the open job out over a bus, and says how it ended. An OSError of the bus is a frame that failed."""
+        step = None
+        while (sending := self.sending()) is not None:
+            step = self._asked(bus, sending) if sending.is_request else self._written(bus, sending)
+        if step is None:
+            raise ValueError("run: no job is open")
+        return step
+
+    def _written(self, bus: Bus, sending: Sending) -> Step:
+        try:
+            return self.finished(bool(bus.write(sending.frame)))
+        except OSError:
+            return self.finished(False)
+
+    def _asked(self, bus: Bus, sending: Sending) -> Step:
+        try:
+            came = bytes(bus.read(sending.frame, sending.answer))
+        except OSError:
+            came = b""
+        return self.got(bytes([self._address << 1 | 1]) + came if came else b"")
+
+    # ---- What is known ----
+
+    def standing(self, output: int, register: str | int) -> int | None:
+        """The word of a register, where it is confirmed."""
+        code, found = code_of(register), at.StandingImage()
+        accepted(library.pm_host_standing(REFERENCE(self._image), self._there(output), code, REFERENCE(found)))
+        return word_of(found)
+
+    def possible(self, output: int, register: str | int) -> tuple[int, ...] | None:
+        """The words that a register may hold, None for any."""
+        code, found = code_of(register), at.WordsImage()
+        accepted(library.pm_host_possible(REFERENCE(self._image), self._there(output), code, REFERENCE(found)))
+        return words_of(found)
+
+    def format(self, output: int) -> Format | None:
+        """The format of an output's voltages, None where it wasn't learned."""
+        found = at.FormatImage()
+        accepted(library.pm_host_format(REFERENCE(self._image), self._there(output), REFERENCE(found)))
+        return Format.read(found)
+
+    def known(self) -> list[Known]:
+        """What is known of every register."""
+        found = at.KnownImage()
+        accepted(library.pm_host_known(REFERENCE(self._image), REFERENCE(found)))
+        return [Known(None if NAMES[cell.code] == "WRITE_PROTECT" else cell.output, NAMES[cell.code],
+                      word_of(cell.standing), words_of(cell.words)) for cell in found.cells[: found.count]]
+
+    @property
+    def restart_seen(self) -> bool:
+        """Whether a restart of the device was seen since the host started."""
+        number = library.pm_host_restart_seen(REFERENCE(self._image))
+        if number > 1:
+            raise refusal(number)
+        return number == 1
+
+    # ---- Its memory ----
+
+    def save(self) -> bytes:
+        """The host as bytes, to be kept with a checksum of one's own."""
+        return bytes(self._image)
+
+    def copy(self) -> Host:
+        """Another host that knows the same."""
+        other = object.__new__(type(self))
+        other._image = at.HostImage.from_buffer_copy(self._image)
+        other._address, other._outputs, other._passes = self._address, self._outputs, self._passes
+        return other

@@ -1,0 +1,76 @@
+"""Packets of PMBus alone: their bytes, what bytes say, and what came back."""
+from __future__ import annotations
+
+import ctypes
+from dataclasses import dataclass
+
+from ._library import PacketImage, PayloadImage, SendingImage, library
+from .errors import accepted
+from .values import frame_bytes, whole
+
+KINDS = ("", "send byte", "write byte", "write word", "PAGE_PLUS_WRITE", "read", "PAGE_PLUS_READ", "COEFFICIENTS")
+MOST = 2**16
+
+
+@dataclass(frozen=True)
+class Packet:
+    """What a packet says: its kind, one of `send byte`, `write byte`, `write word`, `PAGE_PLUS_WRITE`, `read`,
+    `PAGE_PLUS_READ` and `COEFFICIENTS`, its command code, its page (of COEFFICIENTS the side), and what is written."""
+
+    kind: str
+    code: int
+    page: int = 0
+    count: int = 0
+    word: int = 0
+
+    def __post_init__(self) -> None:
+        if not isinstance(self.kind, str) or self.kind not in KINDS[1:]:
+            raise ValueError(f"kind: {self.kind!r} isn't one of {', '.join(KINDS[1:])}")
+        for name, most in (("code", 255), ("page", 255), ("count", 2), ("word", 0xFFFF)):
+            whole(getattr(self, name), 0, most, name)
+
+    @classmethod
+    def _read(cls, image: PacketImage) -> Packet:
+        return cls(KINDS[image.kind], image.code, image.page, image.count, image.word)
+
+    def _image(self) -> PacketImage:
+        return PacketImage(KINDS.index(self.kind), self.page, self.code, self.count, self.word)
+
+    def frame(self, address: int) -> bytes:
+        """Its bytes for a device, the address byte first; a write ends with its packet error code."""
+        found = SendingImage()
+        address = whole(address, 0, 255, "address")
+        accepted(library.pm_packet_write(address, ctypes.byref(self._image()), ctypes.byref(found)))
+        return bytes(found.bytes[: found.length])
+
+
+def pec(data: bytes) -> int:
+    """The packet error code of bytes."""
+    taken = frame_bytes(data, MOST)
+    return library.pm_pec(taken, len(taken))
+
+
+def read_write(address: int, data: bytes) -> Packet:
+    """What the bytes of a write say. F1 to F8."""
+    taken, found = frame_bytes(data, MOST), PacketImage()
+    address = whole(address, 0, 255, "address")
+    accepted(library.pm_packet_read_write(address, taken, len(taken), ctypes.byref(found)))
+    return Packet._read(found)
+
+
+def read_request(address: int, data: bytes) -> Packet:
+    """What the bytes of a request say. F1 to F8."""
+    taken, found = frame_bytes(data, MOST), PacketImage()
+    address = whole(address, 0, 255, "address")
+    accepted(library.pm_packet_read_request(address, taken, len(taken), ctypes.byref(found)))
+    return Packet._read(found)
+
+
+def read_answer(address: int, request: Packet, data: bytes) -> bytes:
+    """The payload of what came back after a request, the read address first. F1 to F5."""
+    if not isinstance(request, Packet):
+        raise TypeError(f"request: a pmhost.Packet is wanted, and not {request!r}")
+    taken, found = frame_bytes(data, MOST), PayloadImage()
+    address, asked = whole(address, 0, 255, "address"), request._image()
+    accepted(library.pm_packet_read_answer(address, ctypes.byref(asked), taken, len(taken), ctypes.byref(found)))
+    return bytes(found.bytes[: found.length])

@@ -1,0 +1,148 @@
+"""Supply voltages over a bus: jobs that are carried out, and volts as exact decimals."""
+from __future__ import annotations
+
+from decimal import Decimal
+from typing import Iterable, Mapping
+
+from .errors import Differs, Refused, Unknown
+from .host import Bus, Host, Known, Step
+from .values import Volts, code_of, microvolts_of, volts_of, NAMES
+
+
+class Pmbus:
+    """A part on a bus, through a host of its own.
+
+    `limits` gives outputs a least and a most, as {0: ("3.2", "3.465")}: no order beyond them leaves this host, and
+    they can be narrowed by `limit`. Volts are text, as "3.3", or a decimal.Decimal; never a float.
+    """
+
+    def __init__(self, bus: Bus, address: int, outputs: int = 1, passes: int = 3,
+                 limits: Mapping[int, tuple[Volts, Volts]] | None = None) -> None:
+        for name in ("write", "read"):
+            if not callable(getattr(bus, name, None)):
+                raise TypeError(f"bus: {bus!r} has no call {name}: see pmhost.Bus")
+        self.bus, self.host = bus, Host(address, outputs, passes)
+        for output, pair in dict(limits or {}).items():
+            if not isinstance(pair, (tuple, list)) or len(pair) != 2:
+                raise TypeError(f"limits of output {output}: give a least and a most, and not {pair!r}")
+            self.limit(output, *pair)
+
+    # ---- Limits and what is known ----
+
+    def limit(self, output: int, least: Volts, most: Volts) -> None:
+        """Gives an output limits, or narrower ones. N5, L1, L6."""
+        self.host.narrow(output, microvolts_of(least, "least"), microvolts_of(most, "most"))
+
+    def limits(self, output: int) -> tuple[Decimal, Decimal] | None:
+        """The limits of an output in volts, None where it has none."""
+        found = self.host.limits(output)
+        return found and (volts_of(found.least), volts_of(found.most))
+
+    def within(self, output: int) -> bool | None:
+        """Whether the output lies within its limits, by what is known: None where that doesn't tell."""
+        return self.host.within(output)
+
+    def band(self, output: int) -> tuple[Decimal, Decimal] | None:
+        """Between which volts the output may be, by what is known; None where its format isn't known."""
+        try:
+            found = self.host.band(output)
+        except Refused as it:
+            if it.letter == "H7":
+                return None
+            raise
+        return volts_of(found.least), volts_of(found.greatest)
+
+    def volts(self, output: int, register: str | int = "VOUT_COMMAND") -> Decimal | None:
+        """The volts of a register whose word is confirmed, rounded down to microvolts; None where none is."""
+        word, form = self.host.standing(output, register), self.host.format(output)
+        return None if word is None or form is None else form.value(word)
+
+    def known(self) -> list[Known]:
+        """What is known of every register."""
+        return self.host.known()
+
+    # ---- Jobs ----
+
+    def learn(self, output: int) -> str:
+        """Learns the format of an output's voltages, and says it: ULINEAR16 or DIRECT."""
+        self.host.learn(output)
+        self._ended(self.host.run(self.bus), f"learn {output}", None)
+        form = self.host.format(output)
+        assert form is not None
+        return form.kind
+
+    def learn_all(self) -> None:
+        """Learns the formats of all outputs."""
+        for output in range(self.host.outputs):
+            self.learn(output)
+
+    def order_volts(self, output: int, volts: Volts, register: str | int = "VOUT_COMMAND") -> Decimal:
+        """Orders the word nearest to a voltage, reads it back, and answers the volts that it stands for.
+
+        The output's format has to be learned first (H7). Raises a Refused before anything is sent, and Differs or
+        Unknown where the word wasn't confirmed."""
+        self.host.order_micro(output, register, microvolts_of(volts))
+        self._ended(self.host.run(self.bus), f"order {output} {volts} V", (output, register))
+        found = self.volts(output, register)
+        assert found is not None
+        return found
+
+    def order(self, output: int, register: str | int, word: int) -> None:
+        """Orders a word and reads it back."""
+        self.host.order(output, register, word)
+        self._ended(self.host.run(self.bus), f"order {output} {NAMES[code_of(register)]}", (output, register))
+
+    def check(self, output: int, register: str | int = "VOUT_COMMAND") -> int:
+        """Reads a register back, and answers its word."""
+        self.host.check(output, register)
+        self._ended(self.host.run(self.bus), f"check {output} {NAMES[code_of(register)]}", (output, register))
+        word = self.host.standing(output, register)
+        assert word is not None
+        return word
+
+    def check_all(self, outputs: Iterable[int] | None = None) -> None:
+        """Reads every register of these outputs back, or of all."""
+        for output in range(self.host.outputs) if outputs is None else outputs:
+            for register in NAMES.values():
+                if register != "WRITE_PROTECT":
+                    self.check(output, register)
+
+    def turn_on(self, output: int) -> None:
+        """Orders OPERATION 80h. L5 where the output has limits and isn't known to lie within them."""
+        self.order(output, "OPERATION", 0x80)
+
+    def turn_off(self, output: int) -> None:
+        """Orders OPERATION 00h. No limit refuses it."""
+        self.order(output, "OPERATION", 0x00)
+
+    def clear(self, output: int) -> None:
+        """Clears the latched faults of an output: acknowledged, and no more than that."""
+        self.host.clear(output)
+        self._ended(self.host.run(self.bus), f"clear {output}", None)
+
+    def store(self) -> None:
+        """Has the part store its settings: acknowledged, and no more than that."""
+        self.host.store()
+        self._ended(self.host.run(self.bus), "store", None)
+
+    def restore(self) -> None:
+        """Has the part bring its stored settings back: acknowledged, and no more than that."""
+        self.host.restore()
+        self._ended(self.host.run(self.bus), "restore", None)
+
+    @property
+    def restart_seen(self) -> bool:
+        """Whether a restart of the part was seen: what was confirmed before is to be checked again."""
+        return self.host.restart_seen
+
+    def restart(self) -> None:
+        """Forgets all that is known; the limits stay."""
+        self.host.restart()
+
+    def _ended(self, step: Step, job: str, cell: tuple[int, str | int] | None) -> None:
+        possible = None if cell is None else self.host.possible(*cell)
+        if step.kind == "differs":
+            raise Differs(f"{job}: the part holds {step.word:04X}h: the write was lost, refused, limited or rounded",
+                          step.kind, step.word, possible)
+        if step.kind == "unknown":
+            raise Unknown(f"{job}: no good answer", step.kind, None, possible)

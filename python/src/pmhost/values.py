@@ -1,0 +1,135 @@
+"""Numbers, volts and registers as callers write them, taken exactly or refused with what was wrong."""
+from __future__ import annotations
+
+import ctypes
+import re
+from dataclasses import dataclass
+from decimal import Decimal
+from fractions import Fraction
+from typing import Union
+
+from ._library import FormatImage, library
+from .errors import accepted
+
+Volts = Union[str, Decimal]
+
+# The cells of a host, by their names in PMBus 1.3 Part II.
+CODES = {
+    "OPERATION": 0x01,
+    "VOUT_COMMAND": 0x21,
+    "VOUT_MAX": 0x24,
+    "VOUT_MARGIN_HIGH": 0x25,
+    "VOUT_MARGIN_LOW": 0x26,
+    "VOUT_MIN": 0x2B,
+    "WRITE_PROTECT": 0x10,
+}
+NAMES = {code: name for name, code in CODES.items()}
+MOST = 10**15
+DECIMAL = re.compile(r"-?[0-9]+(\.[0-9]+)?\Z")
+
+
+def whole(number: object, least: int, most: int, what: str) -> int:
+    """A whole number from least to most."""
+    if isinstance(number, bool) or not isinstance(number, int):
+        raise TypeError(f"{what}: a whole number is wanted, and not {number!r}")
+    if not least <= number <= most:
+        raise ValueError(f"{what}: {number} isn't {least} to {most}")
+    return number
+
+
+def code_of(register: object) -> int:
+    """The command code of a register that is named, or given by its code."""
+    if isinstance(register, str):
+        if register not in CODES:
+            raise ValueError(f"register: {register!r} isn't one of {', '.join(CODES)}")
+        return CODES[register]
+    code = whole(register, 0, 255, "register")
+    if code not in NAMES:
+        raise ValueError(f"register: {code:02X}h isn't one of {', '.join(CODES)}")
+    return code
+
+
+def microvolts_of(volts: object, what: str = "volts") -> int:
+    """The microvolts of a number of volts, exactly: text as "3.3", or a decimal.Decimal."""
+    if isinstance(volts, float):
+        raise TypeError(f"{what}: a float isn't exact, {volts!r} is {Decimal(volts)}: give text or a decimal.Decimal")
+    if isinstance(volts, str):
+        if not DECIMAL.match(volts):
+            raise ValueError(f'{what}: {volts!r} is no decimal number, as "3.3"')
+        volts = Decimal(volts)
+    if not isinstance(volts, Decimal):
+        raise TypeError(f'{what}: give volts as text, as "3.3", or as a decimal.Decimal, and not {volts!r}')
+    if not volts.is_finite():
+        raise ValueError(f"{what}: {volts} is no number of volts")
+    exact = Fraction(volts) * 1_000_000
+    if exact.denominator != 1:
+        raise ValueError(f"{what}: {volts} V is no whole number of microvolts")
+    if abs(exact) > MOST:
+        raise ValueError(f"{what}: {volts} V is beyond 10^9 V")
+    return int(exact)
+
+
+def volts_of(microvolts: int) -> Decimal:
+    """So many microvolts in volts."""
+    return Decimal(microvolts).scaleb(-6)
+
+
+def frame_bytes(frame: object, most: int, what: str = "bytes") -> bytes:
+    """At most so many bytes."""
+    if not isinstance(frame, (bytes, bytearray, memoryview)):
+        raise TypeError(f"{what}: bytes are wanted, and not {frame!r}")
+    taken = bytes(frame)
+    if len(taken) > most:
+        raise ValueError(f"{what}: {len(taken)} are more than {most}")
+    return taken
+
+
+@dataclass(frozen=True)
+class Format:
+    """How a word stands for a number: `ULINEAR16` with an exponent, `DIRECT` with m, b and R, or `LINEAR11`."""
+
+    kind: str
+    exponent: int = 0
+    m: int = 0
+    b: int = 0
+
+    KINDS = ("", "ULINEAR16", "DIRECT", "LINEAR11")
+
+    def __post_init__(self) -> None:
+        if not isinstance(self.kind, str) or self.kind not in Format.KINDS[1:]:
+            raise ValueError(f"format: {self.kind!r} isn't one of {', '.join(Format.KINDS[1:])}")
+        whole(self.m, -(2**15), 2**15 - 1, "m")
+        whole(self.b, -(2**15), 2**15 - 1, "b")
+        least, most = (-16, 15) if self.kind == "ULINEAR16" else (-12, 12)
+        whole(self.exponent, least, most, "R" if self.kind == "DIRECT" else "exponent")
+        if self.kind == "DIRECT" and self.m == 0:
+            raise ValueError("m: 0 is no slope")
+
+    @classmethod
+    def read(cls, image: FormatImage) -> Format | None:
+        """What the library says, None where no format is known."""
+        if image.kind == 0:
+            return None
+        return cls(cls.KINDS[image.kind], image.exponent, image.m, image.b)
+
+    def image(self) -> FormatImage:
+        return FormatImage(Format.KINDS.index(self.kind), self.exponent, self.m, self.b)
+
+    def microvolts(self, word: int) -> int:
+        """The whole millionths of a word's value, rounded down."""
+        found = ctypes.c_int64()
+        accepted(library.pm_microvolts(self.image(), whole(word, 0, 0xFFFF, "word"), ctypes.byref(found)))
+        return found.value
+
+    def value(self, word: int) -> Decimal:
+        """A word's value, in volts or the unit of a reading, rounded down to millionths."""
+        return volts_of(self.microvolts(word))
+
+    def word(self, value: Volts) -> int:
+        """The word nearest to a value."""
+        found = ctypes.c_uint16()
+        accepted(library.pm_nearest_word(self.image(), microvolts_of(value, "value"), ctypes.byref(found)))
+        return found.value
+
+
+LINEAR11 = Format("LINEAR11")

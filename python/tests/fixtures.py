@@ -1,0 +1,63 @@
+"""A part with two outputs on a bus that keeps what was sent, and a bus with faults."""
+from pmhost import Output, Part, PartBus, Pmbus
+
+ADDRESS = 0x58
+# ULINEAR16 with the exponent -12: 3.3 V is 34CDh, 1 V is 1000h.
+RAILS = (Output(command=0x34CD, max=0x3770, high=0x3600, low=0x3400, min=0x3334), Output())
+
+
+class Recorded(PartBus):
+    """It keeps each frame."""
+
+    def __init__(self, part):
+        super().__init__(part)
+        self.frames = []
+
+    def write(self, frame):
+        self.frames.append(frame)
+        return super().write(frame)
+
+    def read(self, request, count):
+        self.frames.append(request)
+        return super().read(request, count)
+
+
+class Faulty(PartBus):
+    """Each transfer meets the next fate of a list; at its end all goes well.
+
+    `ok`, `lost` (heard, and the acknowledgement or the answer is lost), `deaf` (not heard), `error` (an OSError), `cut` (the
+    answer ends early), `bit` (a bit of the answer is another), `long` (a byte too many), `acked` (not heard, and acknowledged
+    all the same)."""
+
+    def __init__(self, part, fates=()):
+        super().__init__(part)
+        self.fates = list(fates)
+
+    def fate(self):
+        return self.fates.pop(0) if self.fates else "ok"
+
+    def write(self, frame):
+        fate = self.fate()
+        if fate == "error":
+            raise OSError(121, "Remote I/O error")
+        if fate in ("deaf", "acked"):
+            return fate == "acked"
+        return super().write(frame) and fate != "lost"
+
+    def read(self, request, count):
+        fate = self.fate()
+        if fate == "error":
+            raise OSError(121, "Remote I/O error")
+        if fate == "deaf":
+            return b""
+        answer = super().read(request, count)
+        return {"lost": b"", "cut": answer[:-1], "bit": bytes([answer[0] ^ 1]) + answer[1:] if answer else answer,
+                "long": answer + b"\0"}.get(fate, answer)
+
+
+def rails(bus_type=PartBus, **named):
+    """A part with two learned rails; output 0 has limits of 3.2 to 3.465 V."""
+    part = Part(ADDRESS, RAILS)
+    pmbus = Pmbus(bus_type(part), ADDRESS, outputs=2, **{"limits": {0: ("3.2", "3.465")}, **named})
+    pmbus.learn_all()
+    return pmbus

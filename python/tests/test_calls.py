@@ -1,0 +1,116 @@
+"""Each call on its good path, with frames and words from the worked examples of docs/."""
+import unittest
+from decimal import Decimal
+
+import pmhost
+from pmhost import Band, Format, Host, Known, Limits, LINEAR11, Packet, Sending, Step
+from pmhost import _library
+from pmhost.errors import name_of, refusal
+
+from .fixtures import RAILS, rails
+
+
+class Frames(unittest.TestCase):
+    def test_an_order_is_written_and_read_back(self):
+        host = Host(0x58, 2, 2)
+        host.order(0, "VOUT_COMMAND", 0x34CD)
+        self.assertEqual(host.sending(), Sending(bytes.fromhex("B0050400 21CD345A"), False, 0))
+        self.assertEqual(host.finished(False), Step("next"))
+        self.assertEqual(host.sending(), Sending(bytes.fromhex("B006020021"), True, 4))
+        self.assertEqual(host.got(bytes.fromhex("B102CD34B9")), Step("done"))
+        self.assertEqual((host.sending(), host.standing(0, 0x21)), (None, 0x34CD))
+        self.assertEqual(host.possible(0, "VOUT_COMMAND"), (0x34CD,))
+        self.assertFalse(host.restart_seen)
+
+    def test_a_host_is_copied_and_saved(self):
+        host = Host(0x58)
+        other = host.copy()
+        host.order(0, "OPERATION", 0x80)
+        self.assertIsNone(other.sending())
+        self.assertEqual((len(host.save()), host.address, host.outputs, host.passes), (_library.HOST_SIZE, 0x58, 1, 3))
+        self.assertNotEqual(host.save(), other.save())
+
+    def test_packets_are_written_and_read(self):
+        write = Packet("PAGE_PLUS_WRITE", 0x21, 0, 2, 0x34CD)
+        self.assertEqual(write.frame(0x58), bytes.fromhex("B005040021CD345A"))
+        self.assertEqual(pmhost.read_write(0x58, write.frame(0x58)), write)
+        request = Packet("PAGE_PLUS_READ", 0x21)
+        self.assertEqual(pmhost.read_request(0x58, request.frame(0x58)), request)
+        self.assertEqual(pmhost.read_answer(0x58, request, bytes.fromhex("B102CD34B9")), bytes.fromhex("CD34"))
+        self.assertEqual(pmhost.pec(bytes.fromhex("B005040021CD34")), 0x5A)
+
+    def test_numbers_stand_alone(self):
+        self.assertEqual(Format("ULINEAR16", -12).word("3.3"), 0x34CD)
+        self.assertEqual(Format("ULINEAR16", -12).value(0x34CD), Decimal("3.300048"))
+        self.assertEqual(Format("DIRECT", 3, 1, 0).value(0x0CE4), Decimal("3.3"))
+        self.assertEqual((LINEAR11.value(0xD300), LINEAR11.word("12")), (Decimal(12), 0x000C))
+
+
+class Jobs(unittest.TestCase):
+    def test_a_voltage_is_ordered_in_exact_decimals(self):
+        pmbus = rails()
+        self.assertEqual(pmbus.order_volts(0, "3.3"), Decimal("3.300048"))
+        self.assertEqual(pmbus.order_volts(0, Decimal("3.25")), Decimal("3.25"))
+        self.assertEqual((pmbus.volts(0), pmbus.bus.part.volts(0)), (Decimal("3.25"), Decimal("3.25")))
+        self.assertIsNone(pmbus.volts(1))
+
+    def test_limits_and_the_band(self):
+        pmbus = rails()
+        self.assertIsNone(pmbus.within(0))
+        pmbus.check_all([0])
+        self.assertEqual(pmbus.band(0), (Decimal("3.300048"), Decimal("3.300049")))
+        self.assertTrue(pmbus.within(0))
+        self.assertEqual(pmbus.limits(0), (Decimal("3.2"), Decimal("3.465")))
+        self.assertEqual(pmbus.host.limits(0), Limits(3200000, 3465000))
+        self.assertIsNone(pmbus.limits(1))
+        self.assertEqual(pmbus.host.band(0), Band(3300048, 3300049))
+        pmbus.turn_on(0)
+        pmbus.limit(0, "3.2", "3.25")
+        self.assertFalse(pmbus.within(0))
+        pmbus.turn_off(0)
+        pmbus.restart()
+        self.assertEqual((pmbus.limits(0)[1], pmbus.band(0)), (Decimal("3.25"), None))
+
+    def test_each_kind_of_job_ends(self):
+        pmbus = rails()
+        self.assertEqual((pmbus.learn(0), pmbus.check(1), pmbus.check(1, "WRITE_PROTECT")), ("ULINEAR16", 0x1000, 0))
+        pmbus.clear(0)
+        pmbus.store()
+        pmbus.order(1, "VOUT_MAX", 0x2000)
+        pmbus.restore()
+        self.assertIsNone(pmbus.host.possible(1, "VOUT_MAX"))
+        self.assertEqual(pmbus.host.format(1), Format("ULINEAR16", -12))
+
+    def test_what_is_known_of_every_register(self):
+        pmbus = rails()
+        pmbus.check(1, "VOUT_MIN")
+        known = pmbus.known()
+        self.assertEqual([(it.output, it.register) for it in known[:6]],
+                         [(0, name) for name in ("OPERATION", "VOUT_COMMAND", "VOUT_MAX", "VOUT_MARGIN_HIGH", "VOUT_MARGIN_LOW", "VOUT_MIN")])
+        self.assertEqual((len(known), known[11], known[12]),
+                         (13, Known(1, "VOUT_MIN", 0, (0,)), Known(None, "WRITE_PROTECT", None, None)))
+        for it in known:
+            output = it.output or 0
+            self.assertEqual(it.possible, pmbus.host.possible(output, it.register))
+            self.assertEqual(it.confirmed, pmbus.host.standing(output, it.register))
+
+    def test_a_restart_of_the_part_is_seen(self):
+        pmbus = rails()
+        pmbus.order_volts(0, "3.25")
+        pmbus.bus.part.restart()
+        self.assertEqual(pmbus.check(0), RAILS[0].command)
+        self.assertTrue(pmbus.restart_seen)
+
+
+class Names(unittest.TestCase):
+    def test_each_refusal_has_its_letter_and_its_name(self):
+        self.assertEqual((name_of(0x06), name_of(0x22), name_of(0xE0)), ("H6 TooUncertain", "L2 FormatUnknown", "NoHost"))
+        found = refusal(0x24)
+        self.assertEqual((type(found), found.letter, found.name, found.number),
+                         (pmhost.LimitRefused, "L4", "AboveLimit", 0x24))
+        self.assertEqual([name_of(number) for number in (0, 0x08, 0x27, 0xFF)],
+                         [f"number {number:02X}h" for number in (0, 0x08, 0x27, 0xFF)])
+
+    def test_what_the_package_hands_out_is_there(self):
+        for name in pmhost.__all__:
+            self.assertTrue(hasattr(pmhost, name), name)

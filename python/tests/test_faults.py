@@ -1,0 +1,62 @@
+"""Buses with faults: what a job says of each, and that it never says what isn't so."""
+import itertools
+import random
+import unittest
+
+from pmhost import Differs, Part, Pmbus, Unknown
+
+from .fixtures import ADDRESS, RAILS, Faulty
+
+FATES = ("ok", "lost", "deaf", "error", "cut", "bit", "long", "acked")
+
+
+def faulty(fates, passes=2):
+    pmbus = Pmbus(Faulty(Part(ADDRESS, RAILS)), ADDRESS, outputs=2, passes=passes)
+    pmbus.learn_all()
+    pmbus.bus.fates = list(fates)
+    return pmbus
+
+
+class Faults(unittest.TestCase):
+    def test_an_order_under_each_two_faults(self):
+        for fates in itertools.product(FATES, repeat=3):
+            with self.subTest(fates=fates):
+                pmbus = faulty(fates)
+                try:
+                    pmbus.order(0, "VOUT_COMMAND", 0x3400)
+                except Differs as it:
+                    self.assertEqual((it.kind, it.word, it.possible), ("differs", RAILS[0].command, (RAILS[0].command,)))
+                except Unknown as it:
+                    self.assertIn(it.possible, (None, (0x3400,)))
+                else:
+                    self.assertEqual(pmbus.bus.part.word(0, "VOUT_COMMAND"), 0x3400)
+
+    def test_a_lost_acknowledgement_misleads_nobody(self):
+        pmbus = faulty(["lost"])
+        pmbus.order(0, "VOUT_COMMAND", 0x3400)
+        pmbus = faulty(["acked", "ok", "acked"])
+        with self.assertRaises(Differs) as raised:
+            pmbus.order(0, "VOUT_COMMAND", 0x3400)
+        self.assertEqual(raised.exception.word, RAILS[0].command)
+
+    def test_a_silent_part_is_unknown(self):
+        pmbus = faulty(["error"] * 8)
+        with self.assertRaises(Unknown) as raised:
+            pmbus.check(0)
+        self.assertIn("check 0 VOUT_COMMAND: no good answer", str(raised.exception))
+
+    def test_no_confirmed_word_is_wrong_over_random_lives(self):
+        draw = random.Random(1)
+        for _ in range(300):
+            pmbus = faulty([draw.choice(FATES) for _ in range(40)], draw.randint(1, 3))
+            for _ in range(6):
+                word = draw.randint(0x3000, 0x3700)
+                try:
+                    pmbus.order(1, "VOUT_COMMAND", word)
+                except (Differs, Unknown):
+                    pass
+                confirmed = pmbus.host.standing(1, "VOUT_COMMAND")
+                held = pmbus.bus.part.word(1, "VOUT_COMMAND")
+                self.assertIn(confirmed, (None, held))
+                possible = pmbus.host.possible(1, "VOUT_COMMAND")
+                self.assertTrue(possible is None or held in possible)

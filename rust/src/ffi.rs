@@ -1,0 +1,184 @@
+//! The calls of the library, as its header pm.h has them. scripts/compare_layers.py compares names, numbers and sizes.
+
+pub const VERSION: u16 = 0x0100;
+pub const HOST_VERSION: u16 = 4;
+pub const HOST_SIZE: usize = 2056;
+pub const DESK_SIZE: usize = 122;
+pub const CELLS: usize = 49;
+
+#[repr(C)]
+#[derive(Clone)]
+pub struct HostImage {
+    pub held: [u64; HOST_SIZE / 8],
+}
+
+#[repr(C)]
+#[derive(Clone, Copy, Default)]
+pub struct SendingImage {
+    pub kind: u8,
+    pub length: u8,
+    pub answer: u8,
+    pub unused: u8,
+    pub bytes: [u8; 16],
+}
+
+#[repr(C)]
+#[derive(Clone, Copy, Default)]
+pub struct StepImage {
+    pub kind: u16,
+    pub word: u16,
+}
+
+#[repr(C)]
+#[derive(Clone, Copy, Default)]
+pub struct StandingImage {
+    pub is_confirmed: u16,
+    pub word: u16,
+}
+
+#[repr(C)]
+#[derive(Clone, Copy, Default)]
+pub struct WordsImage {
+    pub count: u16,
+    pub words: [u16; 16],
+}
+
+#[repr(C)]
+#[derive(Clone, Copy, Default)]
+pub struct CellImage {
+    pub code: u8,
+    pub output: u8,
+    pub standing: StandingImage,
+    pub words: WordsImage,
+}
+
+#[repr(C)]
+#[derive(Clone, Copy)]
+pub struct KnownImage {
+    pub count: u16,
+    pub cells: [CellImage; CELLS],
+}
+
+#[repr(C)]
+#[derive(Clone, Copy, Default)]
+pub struct FormatImage {
+    pub kind: u8,
+    pub exponent: i8,
+    pub m: i16,
+    pub b: i16,
+}
+
+#[repr(C)]
+#[derive(Clone, Copy, Default)]
+pub struct LimitsImage {
+    pub least: i64,
+    pub most: i64,
+}
+
+#[repr(C)]
+#[derive(Clone, Copy, Default)]
+pub struct BandImage {
+    pub least: i64,
+    pub greatest: i64,
+}
+
+#[repr(C)]
+#[derive(Clone, Copy, Default)]
+pub struct NameImage {
+    pub text: [u8; 32],
+}
+
+#[repr(C)]
+#[derive(Clone, Copy, Default)]
+pub struct PacketImage {
+    pub kind: u8,
+    pub page: u8,
+    pub code: u8,
+    pub count: u8,
+    pub word: u16,
+}
+
+#[repr(C)]
+#[derive(Clone, Copy, Default)]
+pub struct PayloadImage {
+    pub length: u8,
+    pub bytes: [u8; 5],
+    pub word: u16,
+}
+
+#[repr(C)]
+#[derive(Clone, Copy, Default)]
+pub struct OutputImage {
+    pub mode: u8,
+    pub unused: u8,
+    pub words: [u16; 6],
+}
+
+#[repr(C)]
+#[derive(Clone, Copy, Default)]
+pub struct DeskImage {
+    pub address: u8,
+    pub outputs: u8,
+    pub r: i8,
+    pub unused: u8,
+    pub m: i16,
+    pub b: i16,
+    pub protect: u16,
+    pub words: [OutputImage; 8],
+}
+
+#[repr(C)]
+#[derive(Clone, Copy, Default)]
+pub struct ReplyImage {
+    pub length: u8,
+    pub unused: u8,
+    pub bytes: [u8; 16],
+}
+
+const _: () = assert!(size_of::<HostImage>() == HOST_SIZE && size_of::<DeskImage>() == DESK_SIZE);
+
+extern "C" {
+    pub fn pm_version() -> u16;
+    pub fn pm_host_size() -> u64;
+    pub fn pm_host_version() -> u16;
+    pub fn pm_host_new(host: &mut HostImage, address: u8, outputs: u8, passes: u8) -> u8;
+    pub fn pm_host_narrow(host: &mut HostImage, output: u8, least: i64, most: i64) -> u8;
+    pub fn pm_host_limits(host: &HostImage, output: u8, limits: &mut LimitsImage) -> u8;
+    pub fn pm_host_within(host: &HostImage, output: u8) -> u8;
+    pub fn pm_host_band(host: &HostImage, output: u8, band: &mut BandImage) -> u8;
+    pub fn pm_host_order(host: &mut HostImage, output: u8, code: u8, word: u16) -> u8;
+    pub fn pm_host_order_micro(host: &mut HostImage, output: u8, code: u8, microvolts: i64) -> u8;
+    pub fn pm_host_check(host: &mut HostImage, output: u8, code: u8) -> u8;
+    pub fn pm_host_learn(host: &mut HostImage, output: u8) -> u8;
+    pub fn pm_host_clear(host: &mut HostImage, output: u8) -> u8;
+    pub fn pm_host_store(host: &mut HostImage) -> u8;
+    pub fn pm_host_restore(host: &mut HostImage) -> u8;
+    pub fn pm_host_sending(host: &HostImage, sending: &mut SendingImage) -> u8;
+    pub fn pm_host_finished(host: &mut HostImage, acked: u8) -> StepImage;
+    pub fn pm_host_got(host: &mut HostImage, bytes: *const u8, count: u64) -> StepImage;
+    pub fn pm_host_restart(host: &mut HostImage) -> u8;
+    pub fn pm_host_standing(host: &HostImage, output: u8, code: u8, standing: &mut StandingImage) -> u8;
+    pub fn pm_host_possible(host: &HostImage, output: u8, code: u8, words: &mut WordsImage) -> u8;
+    pub fn pm_host_format(host: &HostImage, output: u8, format: &mut FormatImage) -> u8;
+    pub fn pm_host_known(host: &HostImage, known: &mut KnownImage) -> u8;
+    pub fn pm_host_restart_seen(host: &HostImage) -> u8;
+    pub fn pm_refusal_name(number: u8, name: &mut NameImage) -> u8;
+    pub fn pm_end_name(kind: u16, name: &mut NameImage) -> u8;
+    pub fn pm_microvolts(format: &FormatImage, word: u16, microvolts: &mut i64) -> u8;
+    pub fn pm_nearest_word(format: &FormatImage, microvolts: i64, word: &mut u16) -> u8;
+    pub fn pm_pec(bytes: *const u8, count: u64) -> u8;
+    pub fn pm_packet_write(address: u8, packet: &PacketImage, frame: &mut SendingImage) -> u8;
+    pub fn pm_packet_read_write(address: u8, bytes: *const u8, count: u64, packet: &mut PacketImage) -> u8;
+    pub fn pm_packet_read_request(address: u8, bytes: *const u8, count: u64, packet: &mut PacketImage) -> u8;
+    pub fn pm_packet_read_answer(
+        address: u8,
+        request: &PacketImage,
+        bytes: *const u8,
+        count: u64,
+        payload: &mut PayloadImage,
+    ) -> u8;
+    pub fn pm_desk_size() -> u64;
+    pub fn pm_desk_hear(desk: &mut DeskImage, bytes: *const u8, count: u64, is_request: u8, reply: &mut ReplyImage) -> u8;
+    pub fn pm_desk_word(desk: &DeskImage, output: u8, code: u8, word: &mut u16) -> u8;
+    pub fn pm_desk_commanded(desk: &DeskImage, output: u8, microvolts: &mut i64) -> u8;
+}

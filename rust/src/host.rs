@@ -1,0 +1,448 @@
+//! The host.
+
+use core::fmt;
+
+use crate::bus::{Bus, Operation};
+use crate::ffi;
+use crate::number::Format;
+use crate::packet::Bytes;
+use crate::refusal::{accepted, Refusal};
+
+/// A register of an output.
+#[derive(Clone, Copy, Debug, PartialEq, Eq, Hash)]
+pub enum Register {
+    /// OPERATION.
+    Operation,
+    /// VOUT_COMMAND.
+    VoutCommand,
+    /// VOUT_MAX.
+    VoutMax,
+    /// VOUT_MARGIN_HIGH.
+    VoutMarginHigh,
+    /// VOUT_MARGIN_LOW.
+    VoutMarginLow,
+    /// VOUT_MIN.
+    VoutMin,
+}
+
+/// A setting that a host orders and checks: a register of an output, or the device's WRITE_PROTECT.
+#[derive(Clone, Copy, Debug, PartialEq, Eq, Hash)]
+pub enum Cell {
+    /// A register of an output, by its number.
+    Output(u8, Register),
+    /// WRITE_PROTECT.
+    WriteProtect,
+}
+
+impl Cell {
+    /// The output, 0 of WRITE_PROTECT, and the command code.
+    fn numbers(self) -> (u8, u8) {
+        match self {
+            Cell::Output(output, register) => (output, register.code()),
+            Cell::WriteProtect => (0, 0x10),
+        }
+    }
+
+    fn of(output: u8, code: u8) -> Cell {
+        Register::ALL
+            .into_iter()
+            .find(|register| register.code() == code)
+            .map_or(Cell::WriteProtect, |register| Cell::Output(output, register))
+    }
+}
+
+impl Register {
+    /// Every register, in the order in which a device has them.
+    pub const ALL: [Register; 6] = [
+        Register::Operation,
+        Register::VoutCommand,
+        Register::VoutMax,
+        Register::VoutMarginHigh,
+        Register::VoutMarginLow,
+        Register::VoutMin,
+    ];
+
+    /// Its command code.
+    pub const fn code(self) -> u8 {
+        match self {
+            Register::Operation => 0x01,
+            Register::VoutCommand => 0x21,
+            Register::VoutMax => 0x24,
+            Register::VoutMarginHigh => 0x25,
+            Register::VoutMarginLow => 0x26,
+            Register::VoutMin => 0x2B,
+        }
+    }
+}
+
+/// How a job stands.
+#[derive(Clone, Copy, Debug, PartialEq, Eq)]
+pub enum Step {
+    /// It goes on: send what is to be sent now.
+    Next,
+    /// An order's word was read back, a check read its cell, or a command was acknowledged.
+    Done,
+    /// The last pass of an order read this other word.
+    Differs(u16),
+    /// No good answer came in the last pass.
+    Unknown,
+    /// A learn found the format.
+    Learned,
+}
+
+impl fmt::Display for Step {
+    fn fmt(&self, to: &mut fmt::Formatter<'_>) -> fmt::Result {
+        match self {
+            Step::Next => to.write_str("next"),
+            Step::Done => to.write_str("done"),
+            Step::Differs(word) => write!(to, "differs {word:04X}"),
+            Step::Unknown => to.write_str("unknown"),
+            Step::Learned => to.write_str("learned"),
+        }
+    }
+}
+
+/// What is to be sent now.
+#[derive(Clone, Copy, Debug, PartialEq, Eq)]
+pub enum Sending {
+    /// Nothing: no job is open.
+    Nothing,
+    /// A packet, which a stop ends: the address byte first, its packet error code last.
+    Write(Bytes),
+    /// A request, which a repeated start ends.
+    Request {
+        /// Its bytes, the address byte first.
+        frame: Bytes,
+        /// How many bytes a whole answer has, the read address first.
+        answer: usize,
+    },
+}
+
+/// The words that a cell may hold.
+#[derive(Clone, Copy, Debug, PartialEq, Eq)]
+pub struct Possible {
+    count: u16,
+    words: [u16; 16],
+}
+
+impl Possible {
+    fn of(image: ffi::WordsImage) -> Possible {
+        Possible { count: image.count.min(16), words: image.words }
+    }
+
+    /// The words, `None` where it may hold any.
+    pub fn words(&self) -> Option<&[u16]> {
+        if self.count == 0 {
+            None
+        } else {
+            Some(&self.words[..usize::from(self.count)])
+        }
+    }
+
+    /// Whether it may hold this word.
+    pub fn allows(&self, word: u16) -> bool {
+        self.words().map_or(true, |words| words.contains(&word))
+    }
+}
+
+/// What is known of one cell.
+#[derive(Clone, Copy, Debug, PartialEq, Eq)]
+pub struct Known {
+    /// The cell.
+    pub cell: Cell,
+    /// Its word, where that is confirmed.
+    pub confirmed: Option<u16>,
+    /// The words that it may hold.
+    pub possible: Possible,
+}
+
+/// The least and the most that an output's voltage may be, in microvolts. Both count as within.
+#[derive(Clone, Copy, Debug, PartialEq, Eq)]
+pub struct Limits {
+    /// The least.
+    pub least: i64,
+    /// The most.
+    pub most: i64,
+}
+
+/// Between which voltages an output may be, in microvolts, the least rounded down and the greatest up.
+#[derive(Clone, Copy, Debug, PartialEq, Eq)]
+pub struct Band {
+    /// The least.
+    pub least: i64,
+    /// The greatest.
+    pub greatest: i64,
+}
+
+/// Whether an output's voltage lies within its limits, by what is known.
+#[derive(Clone, Copy, Debug, PartialEq, Eq)]
+pub enum Within {
+    /// Its whole band does, or it has no limits.
+    Yes,
+    /// Its whole band lies below them, or above them.
+    No,
+    /// What is known doesn't tell.
+    NotKnown,
+}
+
+/// What a job may want to be sent beside cells.
+#[derive(Clone, Copy, Debug, PartialEq, Eq)]
+pub enum Job {
+    /// The word is written and read back.
+    Order(Cell, u16),
+    /// The same of the word nearest to microvolts.
+    OrderMicro(Cell, i64),
+    /// The cell is read.
+    Check(Cell),
+    /// The format of an output's voltages is learned.
+    Learn(u8),
+    /// CLEAR_FAULTS goes to an output.
+    Clear(u8),
+    /// STORE_USER_ALL.
+    Store,
+    /// RESTORE_USER_ALL.
+    Restore,
+}
+
+/// A host for one device: it says what to send, and is told what came of it. It takes no memory beside its own, and may
+/// be copied.
+///
+/// ```
+/// use pm_host::{Cell, Host, Register, Sending, Step};
+///
+/// let mut host = Host::new(0x58, 2, 2)?;
+/// let cell = Cell::Output(0, Register::VoutCommand);
+/// host.order(cell, 0x34CD)?;
+/// let Sending::Write(frame) = host.sending() else { panic!() };
+/// assert_eq!(&*frame, [0xB0, 0x05, 0x04, 0x00, 0x21, 0xCD, 0x34, 0x5A]);
+/// assert_eq!(host.finished(false)?, Step::Next); // the acknowledgement is lost
+/// assert_eq!(host.got(&[0xB1, 0x02, 0xCD, 0x34, 0xB9])?, Step::Done);
+/// assert_eq!(host.standing(cell)?, Some(0x34CD));
+/// # Ok::<(), pm_host::Refusal>(())
+/// ```
+#[derive(Clone)]
+pub struct Host {
+    image: ffi::HostImage,
+}
+
+impl fmt::Debug for Host {
+    fn fmt(&self, to: &mut fmt::Formatter<'_>) -> fmt::Result {
+        to.debug_struct("Host").finish_non_exhaustive()
+    }
+}
+
+// SAFETY of each call of the library: references are valid and aligned, the one that is written overlaps nothing, a
+// slice's pointer and count are its own. The library wants nothing else, and takes memory of any bytes.
+impl Host {
+    /// A host for the device at this address, 08h to 77h, with 1 to 8 outputs; a job has at most 1 to 15 passes. Nothing is
+    /// known, and no output has limits. NoAddress, H1, H2; NoHost where the library is of another version.
+    pub fn new(address: u8, outputs: u8, passes: u8) -> Result<Host, Refusal> {
+        let found = unsafe { (ffi::pm_version() >> 8, ffi::pm_host_version(), ffi::pm_host_size(), ffi::pm_desk_size()) };
+        let wanted = (ffi::VERSION >> 8, ffi::HOST_VERSION, ffi::HOST_SIZE as u64, ffi::DESK_SIZE as u64);
+        if found != wanted {
+            return Err(Refusal::NoHost);
+        }
+        let mut image = ffi::HostImage { held: [0; ffi::HOST_SIZE / 8] };
+        accepted(unsafe { ffi::pm_host_new(&mut image, address, outputs, passes) })?;
+        Ok(Host { image })
+    }
+
+    /// Gives an output limits, or narrower ones. H4, N5, L1, L6.
+    pub fn narrow(&mut self, output: u8, limits: Limits) -> Result<(), Refusal> {
+        accepted(unsafe { ffi::pm_host_narrow(&mut self.image, output, limits.least, limits.most) })
+    }
+
+    /// The limits of an output, where it has any. H4.
+    pub fn limits(&self, output: u8) -> Result<Option<Limits>, Refusal> {
+        let mut found = ffi::LimitsImage::default();
+        match accepted(unsafe { ffi::pm_host_limits(&self.image, output, &mut found) }) {
+            Err(Refusal::NoLimits) => Ok(None),
+            other => other.map(|()| Some(Limits { least: found.least, most: found.most })),
+        }
+    }
+
+    /// Whether an output's voltage lies within its limits, by what is known. H4.
+    pub fn within(&self, output: u8) -> Result<Within, Refusal> {
+        match unsafe { ffi::pm_host_within(&self.image, output) } {
+            0x91 => Ok(Within::Yes),
+            0x92 => Ok(Within::No),
+            0x93 => Ok(Within::NotKnown),
+            number => Err(Refusal::of(number)),
+        }
+    }
+
+    /// Between which voltages an output may be, by what is known. H4, H7 where its format isn't known, N5.
+    pub fn band(&self, output: u8) -> Result<Band, Refusal> {
+        let mut found = ffi::BandImage::default();
+        accepted(unsafe { ffi::pm_host_band(&self.image, output, &mut found) })?;
+        Ok(Band { least: found.least, greatest: found.greatest })
+    }
+
+    /// Begins a job, as the call of its kind does.
+    pub fn begin(&mut self, job: Job) -> Result<(), Refusal> {
+        match job {
+            Job::Order(cell, word) => self.order(cell, word),
+            Job::OrderMicro(cell, microvolts) => self.order_micro(cell, microvolts),
+            Job::Check(cell) => self.check(cell),
+            Job::Learn(output) => self.learn(output),
+            Job::Clear(output) => self.clear(output),
+            Job::Store => self.store(),
+            Job::Restore => self.restore(),
+        }
+    }
+
+    /// Begins an order of a word. H3, H4, L2, L3, L4, H5, L5, H6.
+    pub fn order(&mut self, cell: Cell, word: u16) -> Result<(), Refusal> {
+        let (output, code) = cell.numbers();
+        accepted(unsafe { ffi::pm_host_order(&mut self.image, output, code, word) })
+    }
+
+    /// Begins an order of the word nearest to microvolts. H3, H4, H5, H7, N5, N3, N4, L3, L4, H6.
+    pub fn order_micro(&mut self, cell: Cell, microvolts: i64) -> Result<(), Refusal> {
+        let (output, code) = cell.numbers();
+        accepted(unsafe { ffi::pm_host_order_micro(&mut self.image, output, code, microvolts) })
+    }
+
+    /// Begins a check. H3, H4.
+    pub fn check(&mut self, cell: Cell) -> Result<(), Refusal> {
+        let (output, code) = cell.numbers();
+        accepted(unsafe { ffi::pm_host_check(&mut self.image, output, code) })
+    }
+
+    /// Begins a learn of an output's format. H3, H4.
+    pub fn learn(&mut self, output: u8) -> Result<(), Refusal> {
+        accepted(unsafe { ffi::pm_host_learn(&mut self.image, output) })
+    }
+
+    /// Begins a clear of an output's latched faults. H3, H4.
+    pub fn clear(&mut self, output: u8) -> Result<(), Refusal> {
+        accepted(unsafe { ffi::pm_host_clear(&mut self.image, output) })
+    }
+
+    /// Begins a store of the outputs' settings. H3.
+    pub fn store(&mut self) -> Result<(), Refusal> {
+        accepted(unsafe { ffi::pm_host_store(&mut self.image) })
+    }
+
+    /// Begins a restore of the outputs' settings. H3.
+    pub fn restore(&mut self) -> Result<(), Refusal> {
+        accepted(unsafe { ffi::pm_host_restore(&mut self.image) })
+    }
+
+    /// What is to be sent now.
+    pub fn sending(&self) -> Sending {
+        let mut found = ffi::SendingImage::default();
+        unsafe { ffi::pm_host_sending(&self.image, &mut found) };
+        let frame = Bytes::of(found.length, found.bytes);
+        match found.kind {
+            1 => Sending::Write(frame),
+            2 => Sending::Request { frame, answer: usize::from(found.answer) },
+            _ => Sending::Nothing,
+        }
+    }
+
+    /// A write was sent, and acknowledged or not. OtherFrame where none is to be sent.
+    pub fn finished(&mut self, acked: bool) -> Result<Step, Refusal> {
+        step_of(unsafe { ffi::pm_host_finished(&mut self.image, u8::from(acked)) })
+    }
+
+    /// A request was sent, and these bytes came back, the read address first; none where there was no answer. OtherFrame
+    /// where none is to be sent.
+    pub fn got(&mut self, bytes: &[u8]) -> Result<Step, Refusal> {
+        step_of(unsafe { ffi::pm_host_got(&mut self.image, bytes.as_ptr(), bytes.len() as u64) })
+    }
+
+    /// Carries the open job out over a bus, and says how it ended: `Unknown` where none was open. What the bus says of a
+    /// transaction that failed is let go: the host tries again by itself.
+    pub fn run<B: Bus>(&mut self, bus: &mut B) -> Result<Step, Refusal> {
+        let mut step = Step::Unknown;
+        loop {
+            step = match self.sending() {
+                Sending::Nothing => return Ok(step),
+                Sending::Write(frame) => self.written(bus, &frame)?,
+                Sending::Request { frame, answer } => self.asked(bus, &frame, answer)?,
+            };
+        }
+    }
+
+    fn written<B: Bus>(&mut self, bus: &mut B, frame: &[u8]) -> Result<Step, Refusal> {
+        let acked = bus.transaction(frame[0] >> 1, &mut [Operation::Write(&frame[1..])]).is_ok();
+        self.finished(acked)
+    }
+
+    fn asked<B: Bus>(&mut self, bus: &mut B, frame: &[u8], answer: usize) -> Result<Step, Refusal> {
+        let mut bytes = [0; 8];
+        let came = &mut bytes[..answer.min(8)];
+        let mut operations = [Operation::Write(&frame[1..]), Operation::Read(&mut came[1..])];
+        let is_good = bus.transaction(frame[0] >> 1, &mut operations).is_ok();
+        came[0] = frame[0] | 1;
+        if is_good {
+            self.got(came)
+        } else {
+            self.got(&[])
+        }
+    }
+
+    /// Begins a job and carries it out over a bus.
+    pub fn carry_out<B: Bus>(&mut self, job: Job, bus: &mut B) -> Result<Step, Refusal> {
+        self.begin(job)?;
+        self.run(bus)
+    }
+
+    /// Drops the open job and all that is known; the limits stay.
+    pub fn restart(&mut self) {
+        unsafe { ffi::pm_host_restart(&mut self.image) };
+    }
+
+    /// The word of a cell, where it is confirmed. H4.
+    pub fn standing(&self, cell: Cell) -> Result<Option<u16>, Refusal> {
+        let ((output, code), mut found) = (cell.numbers(), ffi::StandingImage::default());
+        accepted(unsafe { ffi::pm_host_standing(&self.image, output, code, &mut found) })?;
+        Ok(confirmed(found))
+    }
+
+    /// The words that a cell may hold. H4.
+    pub fn possible(&self, cell: Cell) -> Result<Possible, Refusal> {
+        let ((output, code), mut found) = (cell.numbers(), ffi::WordsImage::default());
+        accepted(unsafe { ffi::pm_host_possible(&self.image, output, code, &mut found) })?;
+        Ok(Possible::of(found))
+    }
+
+    /// The format of an output's voltages, where it was learned. H4.
+    pub fn format(&self, output: u8) -> Result<Option<Format>, Refusal> {
+        let mut found = ffi::FormatImage::default();
+        accepted(unsafe { ffi::pm_host_format(&self.image, output, &mut found) })?;
+        Ok(Format::of(found))
+    }
+
+    /// What is known of every cell, output by output and WRITE_PROTECT last.
+    pub fn known(&self) -> impl Iterator<Item = Known> {
+        let mut found = ffi::KnownImage { count: 0, cells: [ffi::CellImage::default(); ffi::CELLS] };
+        unsafe { ffi::pm_host_known(&self.image, &mut found) };
+        found.cells.into_iter().take(usize::from(found.count)).map(|it| Known {
+            cell: Cell::of(it.output, it.code),
+            confirmed: confirmed(it.standing),
+            possible: Possible::of(it.words),
+        })
+    }
+
+    /// Whether a restart of the device was seen since the host started.
+    pub fn restart_seen(&self) -> bool {
+        unsafe { ffi::pm_host_restart_seen(&self.image) == 1 }
+    }
+}
+
+fn confirmed(standing: ffi::StandingImage) -> Option<u16> {
+    (standing.is_confirmed == 1).then_some(standing.word)
+}
+
+fn step_of(step: ffi::StepImage) -> Result<Step, Refusal> {
+    match step.kind {
+        0 => Ok(Step::Next),
+        1 => Ok(Step::Done),
+        2 => Ok(Step::Differs(step.word)),
+        3 => Ok(Step::Unknown),
+        4 => Ok(Step::Learned),
+        number => Err(Refusal::of(number.to_le_bytes()[0])),
+    }
+}

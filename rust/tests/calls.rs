@@ -1,0 +1,184 @@
+//! Each call on its good path, and refusals; over the model part, whole and with faults.
+
+use pm_host::*;
+
+const COMMAND: Cell = Cell::Output(0, Register::VoutCommand);
+
+fn part() -> Part {
+    Part::new(0x58, &[Output { command: 0x34CD, ..Output::default() }, Output::default()], (1, 0, 3)).unwrap()
+}
+
+fn learned() -> (Host, Part) {
+    let (mut host, mut part) = (Host::new(0x58, 2, 3).unwrap(), part());
+    for output in 0..2 {
+        assert_eq!(host.carry_out(Job::Learn(output), &mut part), Ok(Step::Learned));
+    }
+    (host, part)
+}
+
+#[test]
+fn every_job_ends() {
+    let (mut host, mut part) = learned();
+    for (job, end) in [
+        (Job::Order(COMMAND, 0x3400), Step::Done),
+        (Job::OrderMicro(COMMAND, 3_300_000), Step::Done),
+        (Job::Check(Cell::WriteProtect), Step::Done),
+        (Job::Clear(1), Step::Done),
+        (Job::Store, Step::Done),
+        (Job::Restore, Step::Done),
+    ] {
+        assert_eq!(host.carry_out(job, &mut part), Ok(end), "{job:?}");
+    }
+    assert_eq!((part.word(COMMAND), part.commanded(0)), (Ok(0x34CD), Ok(3_300_048)));
+    assert_eq!(host.possible(COMMAND).unwrap().words(), None);
+    assert_eq!(host.run(&mut part), Ok(Step::Unknown));
+    assert_eq!(host.sending(), Sending::Nothing);
+    assert_eq!(host.format(1), Ok(Some(Format::Ulinear16(-12))));
+}
+
+#[test]
+fn limits_are_kept_by_the_host() {
+    let (mut host, mut part) = learned();
+    let limits = Limits { least: 3_200_000, most: 3_465_000 };
+    assert_eq!((host.limits(0), host.within(0)), (Ok(None), Ok(Within::Yes)));
+    host.narrow(0, limits).unwrap();
+    assert_eq!((host.limits(0), host.within(0)), (Ok(Some(limits)), Ok(Within::NotKnown)));
+    assert_eq!(host.order(COMMAND, 0xFFFF), Err(Refusal::L4AboveLimit));
+    assert_eq!(host.order_micro(COMMAND, 3_199_000), Err(Refusal::L3BelowLimit));
+    assert_eq!(host.order(Cell::Output(0, Register::Operation), 0x80), Err(Refusal::L5NotKnownWithin));
+    assert_eq!(host.narrow(0, Limits { most: 3_500_000, ..limits }), Err(Refusal::L6LimitsWidened));
+    assert_eq!(host.narrow(1, Limits { least: 2, most: 1 }), Err(Refusal::L1LimitsInverted));
+    assert_eq!(host.narrow(1, Limits { least: 0, most: i64::MAX }), Err(Refusal::N5TooLarge));
+    assert_eq!(host.narrow(2, limits), Err(Refusal::H4UnknownOutput));
+    for register in Register::ALL {
+        host.carry_out(Job::Check(Cell::Output(0, register)), &mut part).unwrap();
+    }
+    assert_eq!((host.band(0), host.within(0)), (Ok(Band { least: 3_300_048, greatest: 3_300_049 }), Ok(Within::Yes)));
+    host.restart();
+    assert_eq!((host.limits(0), host.band(0)), (Ok(Some(limits)), Err(Refusal::H7FormatUnknown)));
+    assert_eq!(host.order(COMMAND, 0x34CD), Err(Refusal::L2FormatUnknown));
+}
+
+#[test]
+fn what_is_known_of_every_cell() {
+    let (mut host, mut part) = learned();
+    host.carry_out(Job::Check(COMMAND), &mut part).unwrap();
+    let known: Vec<Known> = host.known().collect();
+    assert_eq!((known.len(), known[1].cell, known[1].confirmed), (13, COMMAND, Some(0x34CD)));
+    assert_eq!(known[12].cell, Cell::WriteProtect);
+    for it in &known {
+        assert_eq!((host.standing(it.cell), host.possible(it.cell)), (Ok(it.confirmed), Ok(it.possible)));
+    }
+    assert!(!host.restart_seen());
+    part.restart();
+    part.hear(&Packet::WriteWord { code: 0x21, word: 7 }.bytes(0x58).unwrap(), false).unwrap();
+    assert_eq!(host.carry_out(Job::Check(COMMAND), &mut part), Ok(Step::Done));
+    assert!(host.restart_seen());
+}
+
+#[test]
+fn a_refusal_has_its_letter_and_its_name() {
+    assert_eq!(Refusal::H6TooUncertain.to_string(), "H6 TooUncertain");
+    assert_eq!((Refusal::L4AboveLimit.number(), Refusal::Other(9).to_string()), (0x24, "number 09h".to_string()));
+    let boxed: Box<dyn core::error::Error> = Box::new(Refusal::NoHost);
+    assert_eq!(boxed.to_string(), "NoHost");
+    for refusal in Refusal::ALL {
+        // The name of the variant is the letter and the name that the library says.
+        assert_eq!(refusal.to_string().replace(' ', ""), format!("{refusal:?}"));
+    }
+    let names: Vec<String> = (0..6).filter_map(|kind| end_name(kind).map(|name| name.to_string())).collect();
+    assert_eq!(names, ["next", "done", "differs", "unknown", "learned"]);
+    assert_eq!(Step::Differs(0x34CD).to_string(), "differs 34CD");
+    for (number, made) in [(0, Host::new(0x58, 0, 1)), (1, Host::new(0x58, 1, 16)), (2, Host::new(0x78, 1, 1))] {
+        let wanted = [Refusal::H1OutputCount, Refusal::H2Passes, Refusal::NoAddress][number];
+        assert_eq!(made.err(), Some(wanted));
+    }
+}
+
+#[test]
+fn a_frame_of_the_other_kind_is_refused() {
+    let mut host = Host::new(0x58, 1, 2).unwrap();
+    assert_eq!(host.finished(true), Err(Refusal::OtherFrame));
+    host.check(COMMAND).unwrap();
+    assert_eq!((host.finished(true), host.order(COMMAND, 1)), (Err(Refusal::OtherFrame), Err(Refusal::H3Busy)));
+    assert_eq!((host.got(&[]), host.got(&[0xB1; 300])), (Ok(Step::Next), Ok(Step::Unknown)));
+}
+
+#[test]
+fn packets_stand_alone() {
+    let write = Packet::PagePlusWrite { page: 0, code: 0x21, data: Data::Word(0x34CD) };
+    let bytes = write.bytes(0x58).unwrap();
+    assert_eq!(&*bytes, [0xB0, 0x05, 0x04, 0x00, 0x21, 0xCD, 0x34, 0x5A]);
+    assert_eq!((Packet::read_write(0x58, &bytes), pec(&bytes[..7])), (Ok(write), 0x5A));
+    for packet in [
+        Packet::SendByte { code: 0x03 },
+        Packet::WriteByte { code: 0x01, byte: 0x80 },
+        Packet::WriteWord { code: 0x21, word: 0x1234 },
+        Packet::PagePlusWrite { page: 1, code: 0x03, data: Data::Empty },
+        Packet::PagePlusWrite { page: 1, code: 0x01, data: Data::Byte(0x40) },
+    ] {
+        assert_eq!(Packet::read_write(0x58, &packet.bytes(0x58).unwrap()), Ok(packet));
+    }
+    for packet in
+        [Packet::Read { code: 0x88 }, Packet::PagePlusRead { page: 1, code: 0x20 }, Packet::Coefficients { code: 0x21, side: 0 }]
+    {
+        assert_eq!(Packet::read_request(0x58, &packet.bytes(0x58).unwrap()), Ok(packet));
+    }
+    assert_eq!(Packet::WriteByte { code: 0x21, byte: 1 }.bytes(0x58), Err(Refusal::NoPacket));
+    assert_eq!(write.read_answer(0x58, &[0xB1]), Err(Refusal::NoPacket));
+    assert_eq!(Format::Direct { m: 0, b: 0, r: 0 }.microvolts(1), Err(Refusal::H7FormatUnknown));
+    assert_eq!(Format::Direct { m: 1, b: 0, r: 3 }.nearest_word(3_300_000), Ok(0x0CE4));
+    assert_eq!(Part::new(0x58, &[Output { mode: 0x25, ..Output::default() }], (1, 0, 3)).err(), Some(Refusal::NoConverter));
+}
+
+/// A bus that meets a fate for each transaction: 0 good, 1 not heard, 2 heard and the acknowledgement or answer lost, 3 a
+/// bit of the answer is another.
+struct Faulty {
+    part: Part,
+    fates: u64,
+}
+
+impl Bus for Faulty {
+    type Error = NoAnswer;
+
+    fn transaction(&mut self, address: u8, operations: &mut [Operation<'_>]) -> Result<(), NoAnswer> {
+        let fate = self.fates % 4;
+        self.fates /= 4;
+        if fate == 1 {
+            return Err(NoAnswer);
+        }
+        self.part.transaction(address, operations)?;
+        match (fate, operations.get_mut(1)) {
+            (2, _) => Err(NoAnswer),
+            (3, Some(Operation::Read(answer))) => {
+                answer[0] ^= 4;
+                Ok(())
+            }
+            _ => Ok(()),
+        }
+    }
+}
+
+#[test]
+fn no_confirmed_word_is_wrong_under_every_fault() {
+    let mut ends = [0; 3];
+    for fates in 0..4096 {
+        let mut host = Host::new(0x58, 2, 3).unwrap();
+        let mut bus = Faulty { part: part(), fates };
+        let end = host.carry_out(Job::Order(COMMAND, 0x3400), &mut bus).unwrap();
+        let held = bus.part.word(COMMAND).unwrap();
+        match end {
+            Step::Done => assert_eq!(held, 0x3400),
+            Step::Differs(word) => assert_eq!((word, held), (0x34CD, 0x34CD)),
+            Step::Unknown => assert!(host.possible(COMMAND).unwrap().allows(held)),
+            other => panic!("{other:?}"),
+        }
+        ends[match end {
+            Step::Done => 0,
+            Step::Differs(_) => 1,
+            _ => 2,
+        }] += 1;
+        assert!(host.standing(COMMAND).unwrap().map_or(true, |word| word == held));
+    }
+    assert!(ends.iter().all(|count| *count > 0), "{ends:?}");
+}
