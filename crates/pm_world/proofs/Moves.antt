@@ -43,12 +43,12 @@ use Rattle.pm_world.proofs.Standings.{same-cells}
 use Rattle.pm_world.proofs.Undisturbed.{now-are}
 
 -- the cells have the words in the store, which stay there
-record CameBack (old new : Held) : Type 0 where
+pub record CameBack (old new : Held) : Type 0 where
   words : new.words ≡ old.store
   store : new.store ≡ old.store
 
 -- what an event makes of a converter: it restarted, or a job took, or none
-abbrev Went : Config → ℕ → List Event → Event → Held → Held → Type 0
+abbrev pub Went : Config → ℕ → List Event → Event → Held → Held → Type 0
 Went config passes before event old new =
     ((event ≡ RestartDevice) × CameBack old new) ⊎ TookJob old new (taken_at config passes before event)
 
@@ -84,7 +84,7 @@ went-beside laws config passes before event lived free is =
     inr (stayed _ _ (ap (λ (s : State). s.device) (beside-next (now config passes before) event is)))
 
 -- of each event
-went : Below → (config : Config) (passes : ℕ) (before : List Event) (event : Event) → IsLived config passes (event ∷ before) →
+pub went : Below → (config : Config) (passes : ℕ) (before : List Event) (event : Event) → IsLived config passes (event ∷ before) →
     Went config passes before event (now config passes before).device (now config passes (event ∷ before)).device
 went laws config passes before event lived =
     subst (λ (s : State). Went config passes before event (now config passes before).device s.device)

@@ -11,6 +11,7 @@ use Rattle.pm_table.specs.declared.cell.Cell.TheVariants.{Out, Protect}
 use Rattle.pm_table.specs.Cell.{IsCell, same_cell}
 use Rattle.pm_frame.specs.declared.message.Message.{Message}
 use Rattle.pm_frame.specs.Layout.{is_read_message}
+use Rattle.pm_model.specs.declared.pending_job.PendingJob.{PendingJob}
 use Rattle.pm_model.specs.declared.pending_job.PendingJob.TheVariants as pending
 use Rattle.pm_model.specs.OrderMachine.{words_taken}
 use Rattle.pm_model.specs.Settings.{Words, AreWords, word_at, with_word}
@@ -36,7 +37,7 @@ use Rattle.pm_world.specs.declared.event.Event.TheVariants.{Deliver, Finish, Exc
 use Rattle.pm_world.specs.Confirmed.{restarts_converter}
 use Rattle.pm_world.specs.Ended.{begins_other, DiffersNeverTook}
 use Rattle.pm_world.specs.Life.{life, now, state_of}
-use Rattle.pm_world.specs.Retelling.{pending_of}
+use Rattle.pm_world.specs.Retelling.{open_pending, pending_of, taken_at}
 use Rattle.pm_world.specs.Setup.{setup_of}
 use Rattle.pm_world.specs.State.{State, asked, share_of, exchanged, exchange_cause, event_cause, hearing_cause, return_cause, next, rule}
 use Rattle.pm_world.proofs.Causes.{or-none, rule-none, not-false}
@@ -44,8 +45,9 @@ use Rattle.pm_world.proofs.HeldWords.{Knows, knows, reads-true}
 use Rattle.pm_world.proofs.JobSpans.{IsOrOver, TellsFrame, any-parts, beside-tells, by-acceptance, by-frame, by-silence, open-end, or-parts}
 use Rattle.pm_world.proofs.KeptFormats.{none-other, open-is}
 use Rattle.pm_world.proofs.Lives.{IsLived, earlier, newest, lived-before, now-next}
-use Rattle.pm_world.proofs.OpenOrders.{stage_pending}
-use Rattle.pm_world.proofs.OrderEvents.{Takes, delivered-takes, event-stays, exchanged-stays}
+use Rattle.pm_world.proofs.OpenOrders.{open_pending-is, stage_pending}
+use Rattle.pm_world.proofs.Moves.{went}
+use Rattle.pm_world.proofs.OrderEvents.{TookJob, exchanged-stays, taken-open}
 use Rattle.pm_world.proofs.Sending.{told-nothing}
 
 -- the job that may take is that of the stage
@@ -58,64 +60,67 @@ pending-job (Some (Asks (Mode output) tries)) = refl
 pending-job (Some (Asks (Coefficients output) tries)) = refl
 pending-job (Some (Sends command tries)) = refl
 
--- an event that begins no other job, and doesn't restart the converter, leaves the words, or lets the open job take
-beside-takes : Below → (config : Config) (passes : ℕ) (before : List Event) (event : Event) → IsLived config passes before →
-    event_cause (now config passes before) event ≡ None → begins_other event ≡ false → restarts_converter event ≡ false →
-    Takes (now config passes before) (next (now config passes before) event).device
-unfolding next
-beside-takes laws config passes before (Deliver arrival) lived free alone steady =
-    delivered-takes laws (now config passes before) arrival (sending_in (now config passes before).host) (knows laws config passes before lived).addr
-    refl (knows laws config passes before lived).fits free
-beside-takes laws config passes before (Finish acked) lived free alone steady = inl (record { words = refl; store = refl })
-beside-takes laws config passes before (Exchange arrival back) lived free alone steady =
-    inl (exchanged-stays laws (now config passes before) arrival back (sending_in (now config passes before).host)
-    (knows laws config passes before lived).fits free)
-beside-takes laws config passes before (Reading output code word) lived free alone steady =
-    inl (event-stays laws (now config passes before).device (device.Reading output code.0 word) refl)
-beside-takes laws config passes before RestartDevice lived free alone steady = cc
-beside-takes laws config passes before event lived free alone steady = cc
-
--- in a life
+-- an event that doesn't restart the converter lets the open job take, or none
 event-takes : Below → (config : Config) (passes : ℕ) (before : List Event) (event : Event) → IsLived config passes (event ∷ before) →
-    begins_other event ≡ false → restarts_converter event ≡ false →
-    Takes (now config passes before) (now config passes (event ∷ before)).device
-event-takes laws config passes before event lived alone steady =
-    subst (λ (s : State). Takes (now config passes before) s.device) (sym (now-next laws config passes before event lived))
-    (beside-takes laws config passes before event (earlier lived) (newest lived) alone steady)
+    restarts_converter event ≡ false →
+    TookJob (now config passes before).device (now config passes (event ∷ before)).device (taken_at config passes before event)
+event-takes laws config passes before event lived steady = elim (went laws config passes before event lived) [
+  | inl (is, back) ↦ (let bad : true ≡ false = sym (ap restarts_converter is) ∙ steady in cc)
+  | inr took ↦ took
+]
+
+-- the job that takes is that of the stage
+taken-pends : (config : Config) (passes : ℕ) (before : List Event) (event : Event) (job : PendingJob) →
+    taken_at config passes before event ≡ Some job → stage_pending (now config passes before).host.stage ≡ Some job
+unfolding taken_at
+taken-pends config passes before (Deliver arrival) job is =
+    sym (open_pending-is config passes before)
+    ∙ taken-open config.addr (now config passes before).device.words arrival (open_pending config passes before) job is
+taken-pends config passes before event job is = cc
 
 -- where no job is open, the words stay
 idle-moves : Below → (config : Config) (passes : ℕ) (before : List Event) (event : Event) (cell : Cell) →
-    IsLived config passes (event ∷ before) → begins_other event ≡ false → restarts_converter event ≡ false →
+    IsLived config passes (event ∷ before) → restarts_converter event ≡ false →
     job_in (now config passes before).host ≡ None →
     word_at (now config passes (event ∷ before)).device.words cell ≡ word_at (now config passes before).device.words cell
-idle-moves laws config passes before event cell lived alone steady over =
-    elim (event-takes laws config passes before event lived alone steady) [
-      | inl same ↦ ap (λ (w : Words). word_at w cell) same.words
-      | inr took ↦
-          let nothing = pending-job (now config passes before).host.stage ∙ ap (option_and_then pending_of) over in
-          absurd (none-some' _ nothing took.some)
-    ] where
-      none-some' : {X : Type 0} (o : Option X) → o ≡ None → IsSome o → ⊥
-      none-some' o is some = cc
+idle-moves laws config passes before event cell lived steady over = go (taken_at config passes before event) refl where
+  go : (job : Option PendingJob) → taken_at config passes before event ≡ job →
+      word_at (now config passes (event ∷ before)).device.words cell ≡ word_at (now config passes before).device.words cell
+  go None is =
+      let held = (now config passes before).device in
+      ap (λ w. word_at w cell)
+      ((event-takes laws config passes before event lived steady).words ∙ ap (words_taken held.words held.store) is)
+  go (Some job) is =
+      let nothing = pending-job (now config passes before).host.stage ∙ ap (option_and_then pending_of) over in
+      absurd (none-other _ nothing (taken-pends config passes before event job is))
 
 -- where an order is, its cell's word stays, or is the ordered one then
 order-moves : Below → (config : Config) (passes : ℕ) (before : List Event) (event : Event) (cell : Cell) (word : ℕ) →
-    IsLived config passes (event ∷ before) → begins_other event ≡ false → restarts_converter event ≡ false →
+    IsLived config passes (event ∷ before) → restarts_converter event ≡ false →
     job_in (now config passes before).host ≡ Some (host.Order cell word) →
     (word_at (now config passes (event ∷ before)).device.words cell ≡ word_at (now config passes before).device.words cell)
     ⊎ (word_at (now config passes (event ∷ before)).device.words cell ≡ word)
-order-moves laws config passes before event cell word lived alone steady is =
-    let s = now config passes before in
-    let pends : stage_pending s.host.stage ≡ Some (pending.Order cell word) =
-    pending-job s.host.stage ∙ ap (option_and_then pending_of) is in
-    let known = knows laws config passes before (earlier lived) in
-    let there = (known.pending (pending.Order cell word) pends).there in
-    elim (event-takes laws config passes before event lived alone steady) [
-      | inl same ↦ inl (ap (λ (w : Words). word_at w cell) same.words)
-      | inr took ↦ inr (ap (λ (w : Words). word_at w cell) (took.words ∙ ap (words_taken s.device.words s.device.store) pends)
-          ∙ (laws.settings_are_a_map.read s.device.words cell cell word known.are there there
-          ∙ ap (λ b. cond b word (word_at s.device.words cell)) ((laws.cells_are_told_apart cell cell).1 refl)))
-    ]
+order-moves laws config passes before event cell word lived steady is = go (taken_at config passes before event) refl where
+  s : State
+  s = now config passes before
+
+  pends : stage_pending (now config passes before).host.stage ≡ Some (pending.Order cell word)
+  pends = pending-job (now config passes before).host.stage ∙ ap (option_and_then pending_of) is
+
+  go : (job : Option PendingJob) → taken_at config passes before event ≡ job →
+      (word_at (now config passes (event ∷ before)).device.words cell ≡ word_at (now config passes before).device.words cell)
+      ⊎ (word_at (now config passes (event ∷ before)).device.words cell ≡ word)
+  go None none =
+      inl (ap (λ w. word_at w cell)
+      ((event-takes laws config passes before event lived steady).words ∙ ap (words_taken s.device.words s.device.store) none))
+  go (Some job) took =
+      let known = knows laws config passes before (earlier lived) in
+      let there = (known.pending (pending.Order cell word) pends).there in
+      let same = took ∙ (sym (taken-pends config passes before event job took) ∙ pends) in
+      inr (ap (λ w. word_at w cell)
+      ((event-takes laws config passes before event lived steady).words ∙ ap (words_taken s.device.words s.device.store) same)
+      ∙ (laws.settings_are_a_map.read s.device.words cell cell word known.are there there
+      ∙ ap (λ b. cond b word (word_at s.device.words cell)) ((laws.cells_are_told_apart cell cell).1 refl)))
 
 -- a write is no read
 writes-cell : (cell : Cell) (word : ℕ) → is_read_message (cell_write cell word) ≡ false
@@ -195,7 +200,7 @@ goes-silent laws config passes before event cell word lived alone steady told (i
       ap job_in same.0 ∙ over,
       λ read ended.
           let was = differs read (sym same.1 ∙ ended) in
-          (was.0, idle-moves laws config passes before event cell lived alone steady over ∙ was.1),
+          (was.0, idle-moves laws config passes before event cell lived steady over ∙ was.1),
     )
 
 -- the end of an order that differs
@@ -214,7 +219,7 @@ frame-read : Below → (config : Config) (passes : ℕ) (before : List Event) (e
 unfolding next
 frame-read laws config passes before (Exchange arrival back) cell word read entry lived alone is told good =
     let same = exchanged-stays laws (now config passes before) arrival back (sending_in (now config passes before).host)
-    (knows laws config passes before (earlier lived)).fits (newest lived) in
+    (knows laws config passes before (earlier lived)).sends.fits (newest lived) in
     ap (λ (s : State). word_at s.device.words cell) (now-next laws config passes before (Exchange arrival back) lived)
     ∙ (ap (λ (w : Words). word_at w cell) same.words
     ∙ exchange-read laws config passes before arrival back cell word read entry lived is told good)
@@ -282,9 +287,9 @@ moves-once : Below → (config : Config) (passes : ℕ) (before : List Event) (e
     (word_at (now config passes (event ∷ before)).device.words cell ≡ word_at (now config passes before).device.words cell)
     ⊎ (word_at (now config passes (event ∷ before)).device.words cell ≡ word)
 moves-once laws config passes before event cell word lived alone steady (inl is) =
-    order-moves laws config passes before event cell word lived alone steady is
+    order-moves laws config passes before event cell word lived steady is
 moves-once laws config passes before event cell word lived alone steady (inr (over, differs)) =
-    inl (idle-moves laws config passes before event cell lived alone steady over)
+    inl (idle-moves laws config passes before event cell lived steady over)
 
 -- so where it has another at the end, it had that throughout
 had-before : Below → (config : Config) (passes : ℕ) (later before : List Event) (cell : Cell) (word read : ℕ) →

@@ -51,7 +51,7 @@ unfolding now state_of device_now
 own-answered laws config passes events request lived sends answered =
     let held = (now config passes events).device in
     let reads = answered-reads config request answered in
-    let asked = is_request config.addr request reads ((knows laws config passes events lived).fits request sends) in
+    let asked = is_request config.addr request reads ((knows laws config passes events lived).sends.fits request sends) in
     let found = laws.reads_are_answered.answered held request (frame_of config.addr request) asked answered in
     subst (λ bytes. IsAnswer config.addr request (payload_for held request) bytes)
     (sym (ap (λ ending. answer_in (reply_of held (frame_of config.addr request) ending)) (whole-restart request reads) ∙ ap answer_in found.1))
