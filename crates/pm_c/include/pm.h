@@ -44,7 +44,7 @@ extern "C" {
 #define PM_HOST_VERSION 4
 #define PM_HOST_SIZE 2056
 #define PM_DESK_SIZE 122
-#define PM_STACK 1280
+#define PM_STACK 2048
 #define PM_DESK_STACK 4096
 
 /* What a call answers: 0, or why it is refused. A refused call changes nothing, but for two: pm_host_sending
