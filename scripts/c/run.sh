@@ -179,6 +179,16 @@ for object in "$folder"/objects/*; do bound "$object"; done
 host=${PMBHOST-$PWD/crates/pmbhost/out/pmbhost}
 bus_script
 [ -n "$llvm" ] || echo "LLVM's archive: give --llvm FILE to compare it too"
+if [ -n "$llvm" ] && command -v gcc > /dev/null; then
+    # A host alone links no converter, where the archive is linked by functions.
+    : > "$folder/wanted"; : > "$folder/out"
+    if gcc -O2 -Icrates/pm_c/include -Wl,--gc-sections examples/c/order.c "$llvm" -o "$folder/program" > "$folder/log" 2>&1; then
+        nm "$folder/program" | grep ' pm_desk_' > "$folder/out"
+        told "a host alone, LLVM" 0
+    else
+        told "a host alone, LLVM" build
+    fi
+fi
 printf 'first' > "$folder/faults.wanted"
 printf 'first' > "$folder/same.wanted"
 wraps="-Wl,--wrap=open,--wrap=ioctl,--wrap=close"
