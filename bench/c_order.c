@@ -73,6 +73,9 @@ int main(int count, char **arguments) {
     pm_host host;
     pm_sending frame;
     pm_words words;
+    pm_band band;
+    static pm_known known;
+    pm_name name;
     long done = 0;
     memcpy(both, request, 5);
     for (int i = 0; i < 2; i++) {
@@ -110,6 +113,14 @@ int main(int count, char **arguments) {
     pm_host_learn(&host, 0);
     DEEPEST("got, a learn", pm_host_got(&host, (const uint8_t[]){0xB1, 0x01, 0x14, 0x4E}, 4));
     DEEPEST("order_micro", pm_host_order_micro(&host, 0, PM_VOUT_COMMAND, 3300000));
+    pm_host_narrow(&host, 0, 0, 16000000);
+    DEEPEST("order, limited", (pm_host_restart(&host), pm_host_order(&host, 0, PM_VOUT_COMMAND, 0x34CD)));
+    pm_host_restart(&host), pm_host_learn(&host, 0), pm_host_got(&host, (const uint8_t[]){0xB1, 0x01, 0x14, 0x4E}, 4);
+    DEEPEST("order, on", pm_host_order(&host, 0, PM_OPERATION, 0x80));
+    DEEPEST("narrow", pm_host_narrow(&host, 0, 1, 15000000));
+    DEEPEST("band", pm_host_band(&host, 0, &band));
+    DEEPEST("known", pm_host_known(&host, &known));
+    DEEPEST("name", pm_refusal_name(PM_H6_TOO_UNCERTAIN, &name));
     DEEPEST("possible", pm_host_possible(&host, 0, PM_VOUT_COMMAND, &words));
     DEEPEST("restart", pm_host_restart(&host));
     return 0;

@@ -49,7 +49,8 @@ FROM = re.compile(r"^impl(?:<T: Drop>)? From<(AllocError|AllocFailed<T>)> for (\
 # The files of the programs' helps, which tell refusals by their letters and names.
 HELPS = ("crates/pm_tool/src/commandline/helps.rt", "crates/pm_session/src/options.rt", "crates/pm_part_lines/src/options.rt")
 # A file of numbers that are no codes.
-NUMBERS = ("crates/pm_frame/src/packet_error_code.rt", "crates/pm_lines/src/hex_digit.rt")
+NUMBERS = ("crates/pm_frame/src/packet_error_code.rt", "crates/pm_lines/src/hex_digit.rt", "crates/pm_c/src/numbers.rt",
+           "crates/pm_c/src/names.rt", "crates/pm_c/specs/Numbers.antt")
 
 
 def sources(crates, folders):

@@ -228,6 +228,26 @@ for each in gcc clang g++ clang++; do
         esac
     done
 done
+# installed NAME WORDS ..: the order over what scripts/install.sh installs, found by pkg-config
+installed() {
+    local name=$1; shift
+    cp examples/c/order.expected "$folder/wanted"; : > "$folder/out"
+    if ! gcc -O2 -Wall -Wextra -Werror examples/c/order.c "$@" -o "$folder/program" > "$folder/log" 2>&1; then
+        told "$name" build; return
+    fi
+    LD_LIBRARY_PATH=$folder/prefix/lib "$folder/program" > "$folder/out" 2> "$folder/log"
+    told "$name" $?
+}
+
+if command -v pkg-config > /dev/null && command -v gcc > /dev/null; then
+    scripts/install.sh "$folder/prefix" --library --archive "$archive" > "$folder/log" 2>&1 || told "installed" install
+    export PKG_CONFIG_PATH=$folder/prefix/lib/pkgconfig
+    installed "installed order, shared" $(pkg-config --cflags --libs pm_host)
+    installed "installed order, static" $(pkg-config --cflags pm_host) "$folder/prefix/lib/libpm_c.a"
+else
+    echo "pkg-config: not on this machine"
+fi
+
 # packaged NAME WORDS ..: a package's own tests, which say how it ended by their status
 packaged() {
     local name=$1; shift

@@ -262,8 +262,8 @@ static void exchange(pm_host *host) {
 /* Limits of an output, near those that an order is drawn from; the names of numbers. */
 static void limit(pm_host *host) {
     uint8_t output = draw_output();
-    int64_t least = draw_microvolts(), most = least + draw_microvolts();
-    heard(28, pm_host_narrow(host, output, draw(4) ? -least : least, most), 255);
+    int64_t least = draw_microvolts(), most = (int64_t)((uint64_t)least + (uint64_t)draw_microvolts());
+    heard(28, pm_host_narrow(host, output, draw(4) ? (int64_t)(0 - (uint64_t)least) : least, most), 255);
 }
 
 static void names(void) {

@@ -42,7 +42,7 @@ extern "C" {
  * scripts/c/targets.sh tries, a call takes at most 1,040. */
 #define PM_HOST_VERSION 4
 #define PM_HOST_SIZE 2056
-#define PM_STACK 1280
+#define PM_STACK 2048
 
 /* What a call answers: 0, or why it is refused. A refused call changes nothing, but for one: pm_host_sending
  * then writes PM_NOTHING. pm_pec, pm_host_restart_seen and pm_host_within answer something else: each says what, and

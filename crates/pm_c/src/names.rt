@@ -46,6 +46,7 @@ pub extern "C" fn pm_end_name(kind: u16, name: &mut NameImage) -> u8
 }
 
 // The words of how a job stands.
+#[inline(never)]
 fn words_of_end(kind: u16) -> Option<&'static str>
     ensures words { option_map (λ words. words.now) result ≡ end_words kind }
     ensures short { IfSome result (λ words. length words.now ≤ 31) }
@@ -76,6 +77,7 @@ fn refusal_words(number: u8) -> Option<&'static str>
 }
 
 // The words of a refusal of limits, of their host or of a number.
+#[inline(never)]
 fn words_of_limit(number: u8) -> Option<&'static str>
     ensures words { option_map (λ words. words.now) result ≡ limit_words number }
     ensures short { IfSome result (λ words. length words.now ≤ 31) }
@@ -105,6 +107,7 @@ fn words_of_limit(number: u8) -> Option<&'static str>
 }
 
 // The words of what is wrong with a frame, wherever that is.
+#[inline(never)]
 fn words_of_frame(number: u8) -> Option<&'static str>
     ensures words { option_map (λ words. words.now) result ≡ frame_words number }
     ensures short { IfSome result (λ words. length words.now ≤ 31) }
@@ -124,6 +127,7 @@ fn words_of_frame(number: u8) -> Option<&'static str>
 }
 
 // The words of why a converter refuses a frame.
+#[inline(never)]
 fn words_of_device(number: u8) -> Option<&'static str>
     ensures words { option_map (λ words. words.now) result ≡ device_words number }
     ensures short { IfSome result (λ words. length words.now ≤ 31) }
@@ -158,6 +162,7 @@ fn words_of_config(number: u8) -> Option<&'static str>
 }
 
 // The words of what only a caller in C can ask wrongly.
+#[inline(never)]
 fn words_of_own(number: u8) -> Option<&'static str>
     ensures words { option_map (λ words. words.now) result ≡ own_words number }
     ensures short { IfSome result (λ words. length words.now ≤ 31) }

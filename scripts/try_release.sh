@@ -1,0 +1,52 @@
+#!/usr/bin/env bash
+# Tries what scripts/release.sh made in a clean root: a folder with Debian's packages alone, and no toolchain.
+#
+#   scripts/try_release.sh RELEASE ROOT
+#
+# RELEASE is the folder of the release. ROOT is a Debian 12 that holds no work, which is made by hand, as root:
+#   debootstrap --variant=minbase --include=gcc,libc6-dev,pkg-config,python3,python3-venv bookworm ROOT
+# The .deb is installed there, and the tarball unpacked; C programs are compiled by pkg-config over both and run; the
+# Python package is installed without a network, and its tests run; README's examples run where the release has the
+# programs. Last the .deb is removed, which leaves nothing. The last line says how many passed and failed.
+set -u
+case " $* " in *" --help "* | *" -h "*) sed -n '2,/^[^#]/s/^# \{0,1\}//p' "$0"; exit 0 ;; esac
+[ $# = 2 ] || { echo "try_release.sh: give RELEASE ROOT; --help says more" >&2; exit 2; }
+cd "$(dirname "$0")/.."
+release=$1 root=$2
+[ -x "$root/usr/bin/dpkg" ] || { echo "try_release.sh: $root is no Debian root: --help says how one is made" >&2; exit 2; }
+[ "$(id -u)" = 0 ] || { echo "try_release.sh: be root, since it goes into the root by chroot" >&2; exit 2; }
+passed=0 failed=0 work=/tmp/pm-host-trial
+rm -rf "${root:?}$work"
+mkdir -p "$root$work"
+cp -r examples scripts python docs README.md "$root$work/"
+cp "$release"/*x86_64.tar.gz "$release"/*amd64.deb "$root$work/"
+
+# step NAME COMMANDS: they run in the root, by a shell, with no network of their own
+step() {
+    if chroot "$root" /usr/bin/env -i PATH=/usr/sbin:/usr/bin:/sbin:/bin LC_ALL=C.UTF-8 sh -ec "cd $work; $2" > "$root$work/log" 2>&1; then
+        passed=$((passed + 1)); echo "$1: ok"
+    else
+        failed=$((failed + 1)); echo "$1: FAILED"; tail -5 "$root$work/log"
+    fi
+}
+
+step "no toolchain is there" '! command -v rt && ! command -v rattle'
+step ".deb" 'dpkg -i *.deb'
+step "C over the shared object" 'gcc -Wall -Werror examples/c/order.c $(pkg-config --cflags --libs pm_host) -o order && ./order | cmp - examples/c/order.expected'
+step "C over the archive" 'gcc examples/c/order.c -l:libpm_c.a -o order && ./order | cmp - examples/c/order.expected'
+step "both ends under faults" 'gcc examples/c/faults.c -l:libpm_c.a -o faults && ./faults 5000'
+step "Python package" 'python3 -m venv v && PMHOST_ARCHIVE=/usr/lib/libpm_c.a v/bin/pip install --no-index ./python'
+step "its tests" 'v/bin/python -B -m unittest discover -s python/tests -t python'
+step "its command line" 'v/bin/python -m pmhost --limit=0:3.135:3.465 desk 58 learn 0 + volts 0 3.3 | grep 3.300048'
+step "tarball" 'mkdir t && tar -C t --strip-components=1 -xf *.tar.gz && gcc examples/c/order.c -It/include t/lib/libpm_c.a -o order && ./order | cmp - examples/c/order.expected'
+if [ -x "$root/usr/bin/pmb" ]; then
+    step "README's example" 'pmb replay < examples/answer-lost.scenario | cmp - examples/answer-lost.report'
+    step "manual pages and completion" 'test -f /usr/share/man/man1/pmb.1.gz && test -f /usr/share/bash-completion/completions/pmb'
+    step "rails over pmbhost" 'PMBHOST=/usr/bin/pmbhost python3 -B scripts/try_rails.py 1 20'
+else
+    echo "the release has no programs: README's examples aren't tried"
+fi
+step "removed" 'dpkg -r pm-host && ! test -e /usr/lib/libpm_c.a && ! test -e /usr/include/pm.h'
+rm -rf "${root:?}$work"
+echo "$passed passed, $failed failed"
+[ "$failed" = 0 ]
