@@ -155,11 +155,15 @@ def table_codes():
     return set(HEX.findall(text)) - OTHERS
 
 
+# A line that gives a fault its number for C, which may be the number of a code too.
+FAULT_NUMBER = re.compile(r"Fault::\w+(?:\((?:_|\.\.)\))? => 0x|^\w+_fault_number .* = 0x")
+
+
 def codes(path, lines, known):
     if path in NUMBERS:
         return
     for number, line in enumerate(lines, 1):
-        if known & set(HEX.findall(line)):
+        if known & set(HEX.findall(line)) and not FAULT_NUMBER.search(line):
             yield path, number, "code", line.strip()
 
 

@@ -6,7 +6,7 @@ import re
 
 from crate_copy import ERROR, read, write
 
-PLACE = re.compile(r"^(?:\./)?(?:src/|specs/(?!Lemmas))\S+:\d+:\d+: error\b")
+PLACE = re.compile(r"^(?:\./)?(?:src/|specs/(?!\w*Lemmas))\S+:\d+:\d+: error\b")
 DEFINED = re.compile(r"^(?:abbrev |unfoldable )?pub (?:record |data )?(?!use\b|mod\b)(\w+)", re.MULTILINE)
 ROOT = re.compile(r"^(?:pub )?(?:mod|use) ", re.MULTILINE)
 PROBE = """//! A function whose contract names every definition.
@@ -36,7 +36,7 @@ def definitions(home):
             path = os.path.join(top, name)
             module = os.path.relpath(path, home).removesuffix(".antt").replace(os.sep, ".")
             found = DEFINED.search(read(path))
-            if found and name.endswith(".antt") and not module.startswith("specs.Lemmas"):
+            if found and name.endswith(".antt") and not re.match(r"specs\.\w*Lemmas", module):
                 yield module, found[1]
 
 
