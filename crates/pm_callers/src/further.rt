@@ -156,11 +156,13 @@ pub fn a_band_after_a_step(
 {
     // Hands its law to the prover.
     bands_are_held();
-    let found = run_and_step(c, passes, events, more)?;
-    if let Some(world) = &found {
-        words_are_short(world.device(), output);
+    match run_and_step(c, passes, events, more)? {
+        Some(world) => {
+            words_are_short(world.device(), output);
+            Ok(Some(world))
+        }
+        None => Ok(None),
     }
-    Ok(found)
 }
 
 /// A cell of the configuration's outputs is one of both ends after a run, and after each step: what the

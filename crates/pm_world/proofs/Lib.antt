@@ -21,7 +21,10 @@ mod LeftWords
 mod LimitedLives
 mod Lives
 mod NeverTook
+mod OpenMarks
 mod OpenOrders
+mod OpenRuns
+mod OpenSteps
 mod OrderEvents
 mod OwnRequests
 mod OwnWords

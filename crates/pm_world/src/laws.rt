@@ -3,7 +3,7 @@
 
 ghost use Rattle.pm_world.specs.Below.{Below};
 ghost use Rattle.pm_world.specs.Honest.{IsSpelled};
-ghost use Rattle.pm_world.specs.Laws.{BetrayedDamageIsLegal, BetrayedDamageIsTaken, ConfirmedSettingsAreHeld, DifferingOrdersNeverTook, FramesAreFew, HonestOrdersGoThrough, LearnedFormatsAreTrue, LegalLivesAreFollowed, ListsSayEnough, LivesAreFollowed, LivesAreOrders, OwnRequestsAreAnswered, PossibleWordsAreExact, PossibleWordsAreHeld};
+ghost use Rattle.pm_world.specs.Laws.{BetrayedDamageIsLegal, BetrayedDamageIsTaken, ConfirmedSettingsAreHeld, DifferingOrdersNeverTook, FramesAreFew, HonestOrdersGoThrough, LearnedFormatsAreTrue, LegalLivesAreFollowed, ListsSayEnough, LivesAreFollowed, LivesAreOrders, OpenListsAreFollowed, OwnRequestsAreAnswered, PossibleWordsAreExact, PossibleWordsAreHeld};
 ghost use Rattle.pm_world.specs.LimitLaws.{BandsAreExact, BandsAreHeld, LivesStayLimited};
 ghost use Rattle.std.specs.Prelude.{◌<◌, ◌^◌};
 
@@ -214,6 +214,14 @@ pub fn lists_say_enough()
 /// has the DIRECT format. So the damage of which [`betrayed_damage_is_taken`] speaks has something to damage.
 pub fn own_requests_are_answered()
     ensures { OwnRequestsAreAnswered }
+{
+    lower_laws();
+}
+
+/// Whether what the host was told since its start leaves WRITE_PROTECT open, as [`possible_words_are_exact`] asks, goes
+/// by one event after another (`none`, `more`, `test`): so [`run_open`](crate::run_open) decides it while they happen.
+pub fn open_lists_are_followed()
+    ensures { OpenListsAreFollowed }
 {
     lower_laws();
 }
