@@ -1,12 +1,11 @@
 -- Marks that leave WRITE_PROTECT open, and what is listed for it.
 use Rattle.std.proofs.Common.{◌≡◌, ℕ, Bool, true, false, cond, not, ◌&&◌, ◌||◌, eqb, List, [], ◌∷◌, ◌++◌, reverse, Option, Some, None}
-use Rattle.std.proofs.Common.{refl, sym, ◌∙◌, ap, option_map}
+use Rattle.std.proofs.Common.{refl, ◌∙◌, ap, option_map}
 use Rattle.std.specs.List.{list_any, filter}
 use Rattle.std.specs.Option.{option_map_or}
 use Rattle.std.proofs.lemmas.Bool.{false≢true}
 use Rattle.std.proofs.lemmas.List.{reverse-append}
 use Rattle.std.proofs.lemmas.List.Folds.{list_any-append}
-use Rattle.pm_table.specs.declared.cell.Cell.{Cell}
 use Rattle.pm_table.specs.declared.cell.Cell.TheVariants.{Out, Protect}
 use Rattle.pm_host.specs.Marks.{Mark, Put, Good, Restored, Restart}
 use Rattle.pm_host.specs.Possible.{is_possible, once, possible_from, possible_of, words_since}

@@ -1,5 +1,5 @@
 -- A run that decides whether WRITE_PROTECT is left open, as far as it has come.
-use Rattle.std.proofs.Common.{arith, ◌≡◌, ℕ, ◌+◌, ◌<◌, Bool, List, [], ◌∷◌, ◌++◌, length, reverse, take, get_or, Ok, refl, sym, ◌∙◌, ap, subst}
+use Rattle.std.proofs.Common.{◌≡◌, ℕ, ◌+◌, ◌<◌, Bool, List, [], ◌∷◌, length, reverse, take, get_or, sym, ◌∙◌, ap, subst}
 use Rattle.std.proofs.lemmas.List.{reverse-append, take_more}
 use Rattle.pm_table.specs.declared.cell.Cell.TheVariants.{Protect}
 use Rattle.pm_device.specs.declared.config.Config.{Config}

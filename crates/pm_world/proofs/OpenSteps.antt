@@ -9,7 +9,6 @@ use Rattle.std.proofs.lemmas.Option.{same_Some}
 use Rattle.pm_table.specs.declared.cell.Cell.{Cell}
 use Rattle.pm_table.specs.declared.cell.Cell.TheVariants.{Out, Protect}
 use Rattle.pm_device.specs.declared.config.Config.{Config}
-use Rattle.pm_host.specs.declared.command.Command.{Command}
 use Rattle.pm_host.specs.declared.command.Command.TheVariants.{ClearFaults, StoreUserAll, RestoreUserAll}
 use Rattle.pm_host.specs.declared.fault.HostFault.{HostFault}
 use Rattle.pm_host.specs.declared.job_end.JobEnd.{JobEnd}
@@ -26,7 +25,7 @@ use Rattle.pm_world.specs.Below.{Below}
 use Rattle.pm_world.specs.declared.event.Event.{Event}
 use Rattle.pm_world.specs.declared.event.Event.TheVariants.{Order, OrderMicro, Check, Learn, Clear, Store, Restore, RestartHost}
 use Rattle.pm_world.specs.Life.{life, now, state_of}
-use Rattle.pm_world.specs.OpenLists.{are_open, closes, is_other, lists_other, stays_open}
+use Rattle.pm_world.specs.OpenLists.{are_open, closes, lists_other, stays_open}
 use Rattle.pm_world.specs.Possible.{restarts_host}
 use Rattle.pm_world.specs.Setup.{setup_of}
 use Rattle.pm_world.specs.State.{State, Share, asked, event_cause, refused, share_of}

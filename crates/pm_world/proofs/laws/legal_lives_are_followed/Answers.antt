@@ -1,4 +1,4 @@
-use Rattle.std.proofs.Common.{◌≡◌, ℕ, ◌∷◌, List, subst}
+use Rattle.std.proofs.Common.{ℕ, List, subst}
 use Rattle.pm_device.specs.declared.config.Config.{Config}
 use Rattle.pm_device.specs.Start.{IsSound}
 use Rattle.pm_host.specs.Refusals.{IsSetup}

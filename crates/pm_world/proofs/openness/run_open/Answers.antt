@@ -1,4 +1,4 @@
-use Rattle.std.proofs.Common.{rules, arith}
+use Rattle.std.proofs.Common.{arith}
 use Rattle.pm_world.proofs.OpenRuns.{runs-more}
 use Rattle.pm_world.proofs.openness.run_open.Goals as goal
 
