@@ -14,7 +14,7 @@ ghost use Rattle.pm_world.specs.Uncertainty.{AreLegal, AreOfBytes, AreOpen, AreP
 
 use crate::further::run_and_step;
 use pm_device::Config;
-use pm_world::{Event, SetupFault, World, lists_say_enough, possible_words_are_exact};
+use pm_world::{Event, SetupFault, World, lists_say_enough, possible_words_are_exact, run_open};
 
 /// Let the converter not restart in these events, and WRITE_PROTECT be ordered and read as 00h alone. Then words that
 /// are all possible are left together by a life that is named, which tells the host just the same.
@@ -72,4 +72,26 @@ pub fn words_that_a_life_leaves(
     // Hands its law to the prover.
     possible_words_are_exact();
     run_and_step(c, passes, events, more)
+}
+
+/// Of events that a run takes, and that leave WRITE_PROTECT open as it says, nothing else is asked but that the
+/// converter doesn't restart.
+pub fn words_of_an_open_list(
+    c: Config,
+    passes: u8,
+    events: &[Event],
+) -> Result<Option<World>, SetupFault>
+    ensures { IfOk result (λ found. IfSome found (λ world. (chosen : Choice) →
+        list_any restarts_converter (reverse events.now) ≡ false → ArePossible c world.host chosen →
+        let entries = since_restart (life c passes (reverse events.now)).entries in
+        let told = marks (setup_of c passes) entries in
+        Leaves c passes entries chosen (witness_start c (due_before chosen told)) (witness_events (setup_of c passes) chosen entries))) }
+{
+    // These hand their laws to the prover.
+    lists_say_enough();
+    possible_words_are_exact();
+    match run_open(c, passes, events)? {
+        (world, None, true) => Ok(Some(world)),
+        _ => Ok(None),
+    }
 }

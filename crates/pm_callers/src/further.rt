@@ -10,7 +10,7 @@ ghost use Rattle.pm_model.specs.Settings.{word_at};
 ghost use Rattle.pm_device.specs.Held.{value_for};
 ghost use Rattle.pm_limits.specs.declared.band.Band.{Band};
 ghost use Rattle.pm_limits.specs.Band.{InBand, band_at};
-ghost use Rattle.pm_world.specs.Bands.{BandStands};
+ghost use Rattle.pm_world.specs.Bands.{AreShort, BandStands};
 ghost use Rattle.pm_world.specs.Confirmed.{ConfirmedIsHeld};
 ghost use Rattle.pm_device.specs.Start.{IsSound};
 ghost use Rattle.pm_host.specs.Refusals.{IsSetup};
@@ -157,17 +157,37 @@ pub fn a_band_after_a_step(
     output: u8,
 ) -> Result<Option<World>, SetupFault>
     requires { output < c.count }
-    ensures { IfOk result (λ found. IfSome found (λ world. (band : Band) →
-        BandStands c passes (more.now ∷ reverse events.now) world.host output → band_at world.host output ≡ Some band →
+    ensures { IfOk result (λ found. OnSome found ((band : Band) →
+        BandStands c passes (more.now ∷ reverse events.now) (now c passes (more.now ∷ reverse events.now)).host output →
+        band_at (now c passes (more.now ∷ reverse events.now)).host output ≡ Some band →
         InBand band (commands c passes (more.now ∷ reverse events.now) output))) }
 {
     // Hands its law to the prover.
     bands_are_held();
-    let found = run_and_step(c, passes, events, more)?;
-    if let Some(world) = &found {
-        words_are_short(world.device(), output);
+    short_after_a_step(c, passes, events, more, output)
+}
+
+// Its words have 16 bits.
+fn short_after_a_step(
+    c: Config,
+    passes: u8,
+    events: &[Event],
+    more: &Event,
+    output: u8,
+) -> Result<Option<World>, SetupFault>
+    requires { output < c.count }
+    ensures all { IfOk result (λ found. OnSome found (AreTaken c passes (more.now ∷ reverse events.now))) }
+    ensures sound { OnOk result (IsSound c × IsSetup (setup_of c passes) × IsSpelled c) }
+    ensures short { IfOk result (λ found. OnSome found
+        (AreShort (now c passes (more.now ∷ reverse events.now)).device.words output)) }
+{
+    match run_and_step(c, passes, events, more)? {
+        Some(world) => {
+            words_are_short(world.device(), output);
+            Ok(Some(world))
+        }
+        None => Ok(None),
     }
-    Ok(found)
 }
 
 /// A cell of the configuration's outputs is one of both ends after a run, and after each step: what the

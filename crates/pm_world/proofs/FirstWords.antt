@@ -1,10 +1,9 @@
 -- The world of the retelling can be made, and its start words have two bytes where the chosen words do.
-use Rattle.std.proofs.Common.{rules, arith, lit<, ◌≡◌, inl, inr, ℕ, zero, suc, ◌+◌, ◌-◌, ◌*◌, ◌^◌, ◌<◌, ◌≤◌, Bool, true, false, cond, List, [], ◌∷◌, ◌++◌, length}
-use Rattle.std.proofs.Common.{get_or, take, drop, Option, Some, None, refl, sym, ◌∙◌, ap, ap₂, subst, option_map}
+use Rattle.std.proofs.Common.{rules, arith, lit<, ◌≡◌, ℕ, zero, suc, ◌+◌, ◌-◌, ◌^◌, ◌<◌, Bool, true, false, cond, List, [], ◌∷◌, ◌++◌}
+use Rattle.std.proofs.Common.{get_or, take, drop, Some, None, sym, ◌∙◌, ap, ap₂, subst, option_map}
 use Rattle.std.specs.Prelude.{slice_range, is_none}
 use Rattle.std.specs.Option.{option_or}
-use Rattle.std.proofs.lemmas.List.{get_or-take, get_or-drop}
-use Rattle.pm_table.specs.declared.reg.Reg.{Reg}
+use Rattle.std.proofs.lemmas.List.{get_or-drop}
 use Rattle.pm_table.specs.declared.cell.Cell.{Cell}
 use Rattle.pm_table.specs.declared.cell.Cell.TheVariants.{Out}
 use Rattle.pm_table.specs.Cell.{same_cell}
@@ -12,8 +11,7 @@ use Rattle.pm_frame.specs.Fault.{answer_fault}
 use Rattle.pm_frame.specs.Layout.{AreBytes}
 use Rattle.pm_frame.specs.View.{answer_payload}
 use Rattle.pm_device.specs.declared.config.Config.{Config}
-use Rattle.pm_device.specs.Start.{IsSound, config_fault}
-use Rattle.pm_host.specs.declared.fault.HostFault.{HostFault}
+use Rattle.pm_device.specs.Start.{IsSound}
 use Rattle.pm_host.specs.Answers.{good_payload, good_word, word_in}
 use Rattle.pm_host.specs.Marks.{Mark, Put, Good, Restored, Restart, marks, puts, goods}
 use Rattle.pm_host.specs.Messages.{cell_read}

@@ -1,7 +1,7 @@
 -- What the host is told while no other job begins, and how the last job stands.
-use Rattle.std.proofs.Common.{◌≡◌, ◌≢◌, ◌⊎◌, inl, inr, ℕ, Bool, true, false, cond, not, ◌||◌, List, [], ◌∷◌, ◌++◌, Option, Some, None}
+use Rattle.std.proofs.Common.{◌≡◌, ◌⊎◌, inl, inr, ℕ, Bool, true, false, cond, not, ◌||◌, List, [], ◌∷◌, ◌++◌, Option, Some, None}
 use Rattle.std.proofs.Common.{is_none, is_some, IsSome, option_map, refl, sym, ◌∙◌, ap, subst}
-use Rattle.std.specs.Prelude.{option_to_list, IsSomeAnd}
+use Rattle.std.specs.Prelude.{option_to_list}
 use Rattle.std.specs.List.{list_any}
 use Rattle.std.specs.Option.{option_map_or}
 use Rattle.std.proofs.lemmas.Bool.{false≢true}
@@ -25,10 +25,9 @@ use Rattle.pm_world.specs.Ended.{begins_other}
 use Rattle.pm_world.specs.Life.{life, now, state_of}
 use Rattle.pm_world.specs.Possible.{restarts_host}
 use Rattle.pm_world.specs.Setup.{setup_of}
-use Rattle.pm_world.specs.State.{State, asked, share_of, share_beside, exchanged, delivered, next, shared, counted, tells}
-use Rattle.pm_world.proofs.Causes.{asked-next, asked-share}
-use Rattle.pm_world.proofs.Lives.{IsLived, earlier, newest, entries-more, life-told, now-next}
-use Rattle.pm_world.proofs.Sending.{told-nothing}
+use Rattle.pm_world.specs.State.{State, asked, share_of, share_beside, exchanged, delivered, tells}
+use Rattle.pm_world.proofs.Causes.{asked-next}
+use Rattle.pm_world.proofs.Lives.{IsLived, earlier, entries-more, life-told, now-next}
 
 -- of two tests that both say no
 pub or-parts : (a b : Bool) → (a || b) ≡ false → (a ≡ false) × (b ≡ false)

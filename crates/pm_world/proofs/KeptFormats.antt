@@ -1,6 +1,6 @@
 -- A format stays until a learn of its output leaves another, or the host restarts.
-use Rattle.std.proofs.Common.{◌≡◌, ◌≢◌, ◌⊎◌, inl, inr, ℕ, Bool, true, false, ◌||◌, List, [], ◌∷◌, ◌++◌, Option, Some, None}
-use Rattle.std.proofs.Common.{IsSome, is_some, refl, sym, ◌∙◌, ap, subst, get_or}
+use Rattle.std.proofs.Common.{◌≡◌, ◌≢◌, ◌⊎◌, inl, inr, ℕ, false, List, [], ◌∷◌, ◌++◌, Option, Some, None}
+use Rattle.std.proofs.Common.{IsSome, refl, sym, ◌∙◌, ap, subst, get_or}
 use Rattle.std.specs.Prelude.{IsSomeAnd}
 use Rattle.std.specs.List.{list_any}
 use Rattle.std.proofs.lemmas.Bool.{cases_eq}
@@ -14,11 +14,10 @@ use Rattle.pm_host.specs.Summary.{Summary, step_by, format_at}
 use Rattle.pm_host.specs.Transcript as host
 use Rattle.pm_world.specs.Below.{Below}
 use Rattle.pm_world.specs.declared.event.Event.{Event}
-use Rattle.pm_world.specs.declared.event.Event.TheVariants.{RestartHost}
 use Rattle.pm_world.specs.Ended.{begins_other}
 use Rattle.pm_world.specs.Life.{now}
 use Rattle.pm_world.specs.Possible.{restarts_host}
-use Rattle.pm_world.specs.State.{State, asked, share_of}
+use Rattle.pm_world.specs.State.{asked, share_of}
 use Rattle.pm_world.proofs.JobSpans.{IsOrOver, TellsFrame, beside-frame, beside-tells, by-acceptance, by-frame, by-silence, or-parts, span-job}
 use Rattle.pm_world.proofs.Lives.{IsLived, earlier, lived-before}
 

@@ -26,7 +26,10 @@ mod LimitedLives
 mod Lives
 mod Moves
 mod NeverTook
+mod OpenMarks
 mod OpenOrders
+mod OpenRuns
+mod OpenSteps
 mod OrderEvents
 mod OwnRequests
 mod OwnWords

@@ -8,13 +8,12 @@ use Rattle.std.proofs.lemmas.Bool.{false≢true}
 use Rattle.std.proofs.lemmas.Option.{same_Some}
 use Rattle.pm_table.specs.declared.cell.Cell.{Cell}
 use Rattle.pm_table.specs.declared.cell.Cell.TheVariants.{Out, Protect}
-use Rattle.pm_table.specs.Cell.{IsCell, same_cell}
 use Rattle.pm_frame.specs.declared.message.Message.{Message}
 use Rattle.pm_frame.specs.Layout.{is_read_message}
 use Rattle.pm_model.specs.declared.pending_job.PendingJob.{PendingJob}
 use Rattle.pm_model.specs.declared.pending_job.PendingJob.TheVariants as pending
 use Rattle.pm_model.specs.OrderMachine.{words_taken}
-use Rattle.pm_model.specs.Settings.{Words, AreWords, word_at, with_word}
+use Rattle.pm_model.specs.Settings.{Words, word_at}
 use Rattle.pm_device.specs.declared.config.Config.{Config}
 use Rattle.pm_device.specs.Effect as device
 use Rattle.pm_host.specs.declared.job_end.JobEnd.{JobEnd}
@@ -39,9 +38,9 @@ use Rattle.pm_world.specs.Ended.{begins_other, DiffersNeverTook}
 use Rattle.pm_world.specs.Life.{life, now, state_of}
 use Rattle.pm_world.specs.Retelling.{open_pending, pending_of, taken_at}
 use Rattle.pm_world.specs.Setup.{setup_of}
-use Rattle.pm_world.specs.State.{State, asked, share_of, exchanged, exchange_cause, event_cause, hearing_cause, return_cause, next, rule}
+use Rattle.pm_world.specs.State.{State, share_of, exchanged, exchange_cause, event_cause, next, rule}
 use Rattle.pm_world.proofs.Causes.{or-none, rule-none, not-false}
-use Rattle.pm_world.proofs.HeldWords.{Knows, knows, reads-true}
+use Rattle.pm_world.proofs.HeldWords.{knows, reads-true}
 use Rattle.pm_world.proofs.JobSpans.{IsOrOver, TellsFrame, any-parts, beside-tells, by-acceptance, by-frame, by-silence, open-end, or-parts}
 use Rattle.pm_world.proofs.KeptFormats.{none-other, open-is}
 use Rattle.pm_world.proofs.Lives.{IsLived, earlier, newest, lived-before, now-next}

@@ -1,5 +1,5 @@
 -- A host's own request that arrives whole is answered, by an answer to it.
-use Rattle.std.proofs.Common.{rules, ◌≡◌, ℕ, ◌<◌, Bool, true, false, cond, List, Option, Some, None, refl, sym, ◌∙◌, ap, subst}
+use Rattle.std.proofs.Common.{rules, ◌≡◌, ℕ, ◌<◌, true, List, Some, refl, sym, ◌∙◌, ap, subst}
 use Rattle.std.proofs.lemmas.Bool.{lt-ltb}
 use Rattle.pm_table.specs.declared.cell.Cell.{Cell}
 use Rattle.pm_table.specs.declared.cell.Cell.TheVariants.{Out, Protect}
@@ -8,9 +8,7 @@ use Rattle.pm_frame.specs.declared.message.Message.{Message}
 use Rattle.pm_frame.specs.declared.message.Message.TheVariants.{ReadCommand, PagePlusRead, ReadCoefficients}
 use Rattle.pm_frame.specs.Layout.{IsAnswer, is_read_message}
 use Rattle.pm_device.specs.declared.config.Config.{Config}
-use Rattle.pm_device.specs.declared.ending.Ending.{Ending}
 use Rattle.pm_device.specs.declared.ending.Ending.TheVariants.{Restart}
-use Rattle.pm_device.specs.Held.{Held}
 use Rattle.pm_device.specs.History.{now as device_now}
 use Rattle.pm_device.specs.Reply.{payload_for, reply_of}
 use Rattle.pm_device.specs.Verdict.{is_answered}

@@ -1,5 +1,5 @@
 -- The events of a run, as far as it has come, and how many of them were taken.
-use Rattle.std.proofs.Common.{arith, ◌≡◌, ◌≤◌, ℕ, List, length, reverse, take, Option, Some, None, refl, ◌∙◌, ap, subst, sym}
+use Rattle.std.proofs.Common.{arith, ◌≡◌, ◌≤◌, ℕ, List, length, reverse, take, Option, Some, None, refl, ◌∙◌, ap}
 use Rattle.std.proofs.lemmas.List.{length-reverse, length-take}
 use Rattle.pm_device.specs.declared.config.Config.{Config}
 use Rattle.pm_world.specs.declared.event.Event.{Event}

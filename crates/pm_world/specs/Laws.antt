@@ -2,6 +2,7 @@
 use Rattle.std.specs.Prelude.{◌≡◌, ◌↔◌, ◌<◌, ◌≤◌, ◌+◌, ◌*◌, ℕ, Bool, true, false, List, [], ◌∷◌, Some, length}
 use Rattle.std.specs.List.{list_any}
 use Rattle.pm_table.specs.declared.cell.Cell.{Cell}
+use Rattle.pm_table.specs.declared.cell.Cell.TheVariants.{Protect}
 use Rattle.pm_table.specs.Cell.{IsCell}
 use Rattle.pm_frame.specs.declared.message.Message.{Message}
 use Rattle.pm_frame.specs.Damage.{DifferWithinEight}
@@ -16,11 +17,11 @@ use Rattle.pm_device.specs.Held.{Held, value_for}
 use Rattle.pm_device.specs.Reply.{payload_for, reply_of}
 use Rattle.pm_device.specs.Start.{IsSound, start_word}
 use Rattle.pm_device.specs.Verdict.{is_answered}
-use Rattle.pm_host.specs.Marks.{marks}
+use Rattle.pm_host.specs.Marks.{Mark, marks}
 use Rattle.pm_host.specs.Messages.{cell_read}
 use Rattle.pm_host.specs.Now.{AreTold}
 use Rattle.pm_host.specs.Refusals.{IsSetup}
-use Rattle.pm_host.specs.Summary.{sending_in}
+use Rattle.pm_host.specs.Summary.{possible_at, sending_in}
 use Rattle.pm_host.specs.Transcript.{Order}
 use Rattle.pm_world.specs.declared.arrival.Arrival.{Arrival}
 use Rattle.pm_world.specs.declared.arrival.Arrival.TheVariants as arrival
@@ -33,6 +34,7 @@ use Rattle.pm_world.specs.Ended.{DiffersNeverTook}
 use Rattle.pm_world.specs.Honest.{AreFewFrames, FormatsAgree, IsSpelled, MicrosAreNearest, OrdersGoThrough, honest, sent_by}
 use Rattle.pm_world.specs.Legal.{answer_in, frame_of, is_legal_hearing, is_legal_return}
 use Rattle.pm_world.specs.Life.{AreTaken, AreTakenFrom, after_all, life, now}
+use Rattle.pm_world.specs.OpenLists.{are_open, stays_open}
 use Rattle.pm_world.specs.Possible.{PossibleIsHeld, SeenIsTrue, restarted_since_host}
 use Rattle.pm_world.specs.Retelling.{CommandsOwn, IsOrderRun, IsOwnWord}
 use Rattle.pm_world.specs.Setup.{setup_of, start}
@@ -287,3 +289,16 @@ pub record OwnRequestsAreAnswered : Type 0 where
       sending_in (now config passes events).host ≡ Some (cell_read cell) →
       IsAnswer config.addr (cell_read cell) (payload_for (now config passes events).device (cell_read cell))
       (answer_to (now config passes events).device config.addr (cell_read cell) arrival.Whole)
+
+-- Whether what the host was told since its start leaves WRITE_PROTECT open goes by one event after another: at first
+-- it does (`none`), and after one more by the event and by what is possible for WRITE_PROTECT then (`more`). It is the
+-- test of the fact that is asked where the possible words are exact (`test`).
+pub record OpenListsAreFollowed : Type 0 where
+  pub none : (config : Config) (passes : ℕ) →
+      are_open (marks (setup_of config passes) (since_restart (life config passes []).entries)) ≡ true
+  pub more : (config : Config) (passes : ℕ) (events : List Event) (event : Event) →
+      IsSound config → IsSetup (setup_of config passes) → AreTaken config passes (event ∷ events) →
+      are_open (marks (setup_of config passes) (since_restart (life config passes (event ∷ events)).entries))
+      ≡ stays_open (are_open (marks (setup_of config passes) (since_restart (life config passes events).entries)))
+      event (possible_at (now config passes (event ∷ events)).host Protect)
+  pub test : (found : List Mark) → (are_open found ≡ true) ↔ AreOpen found

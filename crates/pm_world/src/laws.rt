@@ -3,7 +3,7 @@
 
 ghost use Rattle.pm_world.specs.Below.{Below};
 ghost use Rattle.pm_world.specs.Honest.{IsSpelled};
-ghost use Rattle.pm_world.specs.Laws.{BetrayedDamageIsLegal, BetrayedDamageIsTaken, ConfirmedSettingsAreHeld, DifferingOrdersNeverTook, FramesAreFew, HonestOrdersGoThrough, LearnedFormatsAreTrue, LegalLivesAreFollowed, ListsSayEnough, LivesAreFollowed, LivesAreOrders, OwnRequestsAreAnswered, PossibleWordsAreExact, PossibleWordsAreHeld};
+ghost use Rattle.pm_world.specs.Laws.{BetrayedDamageIsLegal, BetrayedDamageIsTaken, ConfirmedSettingsAreHeld, DifferingOrdersNeverTook, FramesAreFew, HonestOrdersGoThrough, LearnedFormatsAreTrue, LegalLivesAreFollowed, ListsSayEnough, LivesAreFollowed, LivesAreOrders, OpenListsAreFollowed, OwnRequestsAreAnswered, PossibleWordsAreExact, PossibleWordsAreHeld};
 ghost use Rattle.pm_world.specs.LimitLaws.{BandsAreExact, BandsAreHeld, LivesStayLimited};
 ghost use Rattle.pm_world.specs.GoodBus.{GoodFramesEndJobs};
 ghost use Rattle.pm_world.specs.Moves.{SettingsMoveByTheOpenJob};
@@ -245,6 +245,14 @@ pub fn own_requests_are_answered()
 /// (`legal`), and so of those that a world took (`taken`).
 pub fn good_frames_end_jobs()
     ensures { GoodFramesEndJobs }
+{
+    lower_laws();
+}
+
+/// Whether what the host was told since its start leaves WRITE_PROTECT open, as [`possible_words_are_exact`] asks, goes
+/// by one event after another (`none`, `more`, `test`): so [`run_open`](crate::run_open) decides it while they happen.
+pub fn open_lists_are_followed()
+    ensures { OpenListsAreFollowed }
 {
     lower_laws();
 }

@@ -32,6 +32,7 @@ mod cause;
 mod event;
 mod laws;
 mod legal;
+mod openness;
 mod short;
 mod stop;
 mod world;
@@ -44,13 +45,15 @@ pub use laws::{
     bands_are_exact, bands_are_held, betrayed_damage_is_legal, betrayed_damage_is_taken,
     confirmed_settings_are_held, differing_orders_never_took, frames_are_few, good_frames_end_jobs,
     honest_orders_go_through, learned_formats_are_true, legal_lives_are_followed, lists_say_enough,
-    lives_are_followed, lives_are_orders, lives_stay_limited, own_requests_are_answered,
-    possible_words_are_exact, possible_words_are_held, settings_move_by_the_open_job, spell,
+    lives_are_followed, lives_are_orders, lives_stay_limited, open_lists_are_followed,
+    own_requests_are_answered, possible_words_are_exact, possible_words_are_held,
+    settings_move_by_the_open_job, spell,
 };
 pub use legal::{
     answer_in, back_bytes, heard_bytes, heard_ending, is_heard_whole, is_legal_hearing,
     is_legal_return,
 };
+pub use openness::run_open;
 pub use pm_setup::SetupFault;
 pub use short::words_are_short;
 pub use stop::Stop;

@@ -11,7 +11,7 @@ returns-then-count-answer-clause-asked c =
       bytes_are = c.heard_bytes-bytes.ensures;
       ending_is = c.heard_ending-ending.ensures;
       legal = sym c.is_legal_hearing.ensures ∙ c.if-not-is_legal_hearing.false;
-      given_is = c.answer_in-given.ensures ∙ ap answer_in c.hear-reply.ensures.reply;
+      given_is = c.answer_in-given.ensures.value ∙ ap answer_in c.hear-reply.ensures.reply;
       after = c.hear-reply.ensures.after;
     } in
     lost-back c.args.request.now c.heard_bytes-bytes.result.now c.answer_in-given.result.now c.heard_ending-ending.result
@@ -25,7 +25,7 @@ returns-clause-asked c =
       bytes_are = c.heard_bytes-bytes.ensures;
       ending_is = c.heard_ending-ending.ensures;
       legal = sym c.is_legal_hearing.ensures ∙ c.if-not-is_legal_hearing.false;
-      given_is = c.answer_in-given.ensures ∙ ap answer_in c.hear-reply.ensures.reply;
+      given_is = c.answer_in-given.ensures.value ∙ ap answer_in c.hear-reply.ensures.reply;
       after = c.hear-reply.ensures.after;
     } in
     let back = came-back c.args.request.now c.heard_bytes-bytes.result.now c.answer_in-given.result.now c.back_bytes-came.result.now
