@@ -16,6 +16,7 @@ mod GoodLearns
 mod GoodPasses
 mod GoodReads
 mod HeldWords
+mod HonestOrders
 mod Learned
 mod LearnedLives
 mod LeftWords
