@@ -17,6 +17,7 @@ mod GoodLearns
 mod GoodPasses
 mod GoodReads
 mod HeldWords
+mod HonestOrders
 mod JobSpans
 mod KeptFormats
 mod Learned

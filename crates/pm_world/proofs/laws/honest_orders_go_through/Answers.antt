@@ -2,7 +2,7 @@ use Rattle.std.proofs.Common.{subst}
 use Rattle.pm_world.specs.Honest.{honest}
 use Rattle.pm_world.proofs.Lives.{IsLived, lived-before, lived-by}
 use Rattle.pm_world.proofs.TakenWhole.{taken-whole}
-use Rattle.pm_world.proofs.Undisturbed.{went-through}
+use Rattle.pm_world.proofs.HonestOrders.{went-through}
 use Rattle.pm_world.proofs.laws.honest_orders_go_through.Goals as goal
 
 pub returns : goal.returns

@@ -11,7 +11,7 @@ use Rattle.pm_world.proofs.NeverTook.{differs-never}
 use Rattle.pm_world.proofs.OwnWords.{life-commands, life-own, life-stored}
 use Rattle.pm_world.proofs.Retellings.{life-run}
 use Rattle.pm_world.proofs.Seen.{possible-held, seen-true}
-use Rattle.pm_world.proofs.Undisturbed.{went-through}
+use Rattle.pm_world.proofs.HonestOrders.{went-through}
 use Rattle.pm_world.proofs.laws.legal_lives_are_followed.Goals as goal
 
 pub returns : goal.returns
