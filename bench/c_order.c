@@ -82,6 +82,10 @@ int main(int count, char **arguments) {
         memcpy(both + 5, answers[i], 4);
         answers[i][4] = pm_pec(both, 9);
     }
+    if (pm_host_size() > sizeof host) {
+        fprintf(stderr, "the archive's host doesn't fit that of this pm.h\n");
+        return 1;
+    }
     pm_host_new(&host, 0x58, 8, 3);
     if (count > 1) {
         for (long i = 0, all = atol(arguments[1]); i < all; i++)

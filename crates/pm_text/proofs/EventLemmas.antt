@@ -1,8 +1,7 @@
 -- The events of a scenario, one after another.
-use Rattle.std.proofs.Common.{◌≡◌, ◌∙◌, ◌+◌, ◌<◌, ℕ, Bool, true, false, List, [], ◌∷◌, ◌++◌, length, take, Option, Some, None, Result, Ok, Err}
+use Rattle.std.proofs.Common.{◌≡◌, ◌∙◌, ◌+◌, ◌<◌, ℕ, true, false, List, [], ◌∷◌, ◌++◌, length, take, Some, None, Result, Ok, Err}
 use Rattle.std.proofs.Common.{refl, sym, ap, arith, get_or, subst, append_assoc, append-nil, length-append}
-use Rattle.std.specs.Prelude.{IsOk, IsSomeAnd, nat_le, reverse, slice_get}
-use Rattle.std.specs.Option.{option_or}
+use Rattle.std.specs.Prelude.{IsOk, IsSomeAnd, reverse, slice_get}
 use mathlib.Core.List.{reverse-cons}
 use Rattle.std.proofs.Math.Seq.{get_or-append_seam, take-append_seam}
 use Rattle.std.proofs.lemmas.Bool.Decides.{nat_tests}
@@ -10,15 +9,13 @@ use Rattle.std.proofs.lemmas.List.{length-reverse, reverse-reverse}
 use Rattle.std.proofs.lemmas.Option.{slice_get-get_or}
 use Rattle.pm_lines.specs.Lines.{Numbered}
 use Rattle.pm_world.specs.declared.cause.Cause.{Cause}
-use Rattle.pm_world.specs.declared.cause.Cause.TheVariants.{Full}
 use Rattle.pm_world.specs.declared.event.Event.{Event}
-use Rattle.pm_world.specs.declared.stop.Stop.{Stop}
-use Rattle.pm_world.specs.Life.{AreTakenFrom, StopsFrom, after_all, taken_events}
-use Rattle.pm_world.specs.State.{IsTaken, State, cause_of, event_cause, event_limit, next, rule}
+use Rattle.pm_world.specs.Life.{AreTakenFrom, after_all}
+use Rattle.pm_world.specs.State.{IsTaken, State, cause_of, event_limit, next}
 use Rattle.pm_text.specs.EventLines.{event_line}
 use Rattle.pm_text.specs.Readers.{line_as}
-use Rattle.pm_text.specs.Replay.{HasLived, Lives, taken_by}
-use Rattle.pm_text.specs.ScenarioText.{Judges, event_before, events_in}
+use Rattle.pm_text.specs.Replay.{Lives}
+use Rattle.pm_text.specs.ScenarioText.{event_before, events_in}
 use Rattle.pm_text.specs.declared.form.Form.{Form}
 use Rattle.pm_text.specs.declared.scenario.fault.ScenarioFault.{ScenarioFault}
 

@@ -1,6 +1,6 @@
-use Rattle.std.proofs.Common.{◌≡◌, ◌∙◌, List, ℕ, Ok, Err, ⊎_elim, ap, inl, inr, refl, string_bytes, sym}
+use Rattle.std.proofs.Common.{◌∙◌, Ok, Err, ap, refl, sym}
 use Rattle.std.proofs.lemmas.Result.{err_from_is_err_and}
-use Rattle.pm_lines.specs.Engine.{Run, over}
+use Rattle.pm_lines.specs.Engine.{over}
 use Rattle.pm_lines.specs.Lemmas.Engines.{as_handed, cut_short, unmade, unread, written}
 use Rattle.pm_text.specs.Replay.{replaying}
 use Rattle.pm_text.proofs.replays.replay.Goals as goal

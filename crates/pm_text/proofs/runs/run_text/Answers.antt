@@ -1,4 +1,4 @@
-use Rattle.std.proofs.Common.{◌∙◌, ap, rules, sym}
+use Rattle.std.proofs.Common.{◌∙◌, ap, sym}
 use Rattle.std.proofs.lemmas.Result.{err_from_is_err_and}
 use Rattle.pm_text.specs.ScenarioText.{header}
 use Rattle.pm_text.proofs.ReplayLemmas.{header-refused, lines-refused, run-lived, setup-refused}
