@@ -1,6 +1,6 @@
 """The arguments of scripts/bus.py. Where a word isn't what it should be, one line says which one and what to give."""
 import re
-from dataclasses import dataclass
+from dataclasses import dataclass, field
 from decimal import Decimal
 
 from plain.converter import PROTECT, REGISTERS
@@ -12,9 +12,11 @@ DEVICE_SETTING = name_of(PROTECT[1])
 JOBS = {
     "order": ("output", "setting", "word"), "volts": ("output", "setting", "microvolts"),
     "check": ("output", "setting"), "learn": ("output",), "clear": ("output",), "store": (), "restore": (),
-    "state": ("output", "setting"), "seen": (), "probe": (),
+    "state": ("output", "setting"), "seen": (), "band": ("output",), "limits": ("output",), "probe": (),
 }
 EXAMPLES = {"output": "0", "setting": "VOUT_COMMAND", "word": "34CD", "microvolts": "3300000"}
+LIMIT_EXAMPLE = "--limit=0:3200000:3465000"
+MOST_LIMIT = 10**15
 USAGE_EXAMPLE = "1 58 learn 0 + volts 0 VOUT_COMMAND 3300000"
 MOST_MICROVOLTS = 2**63 - 1
 
@@ -32,6 +34,7 @@ class Call:
     passes: int = 3
     trace: str = None
     is_forced: bool = False
+    limits: dict = field(default_factory=dict)
     jobs: tuple = ()
 
 
@@ -48,6 +51,9 @@ def read(words):
     rest = list(words[2:])
     while rest and rest[0].startswith("-"):
         take_option(call, rest.pop(0))
+    for output, word in call.limits.items():
+        if output >= call.outputs:
+            raise Refused(f"{word}: there is no output {output}, with --outputs={call.outputs}")
     call.jobs = tuple(jobs_of(rest, call.outputs))
     return call
 
@@ -94,8 +100,25 @@ def take_option(call, word):
         call.outputs = number_of(word, value, 8)
     elif name == "--passes":
         call.passes = number_of(word, value, 15)
+    elif name == "--limit":
+        take_limit(call, word, value)
     else:
-        raise Refused(f"{shown(word)}: there are --outputs=N, --passes=N, --trace=FILE and --force")
+        raise Refused(f"{shown(word)}: there are --outputs=N, --passes=N, --limit=O:LEAST:MOST, --trace=FILE and --force")
+
+
+def take_limit(call, word, value):
+    """The limits of an output, in whole microvolts, go into the call."""
+    found = re.fullmatch("([0-9]{1,3}):(-?[0-9]{1,19}):(-?[0-9]{1,19})", value)
+    if not found:
+        raise Refused(f"{shown(word)}: give an output, the least and the most in whole microvolts, as {LIMIT_EXAMPLE}")
+    output, least, most = (int(part) for part in found.groups())
+    if max(abs(least), abs(most)) > MOST_LIMIT:
+        raise Refused(f"{word}: a limit is at most {MOST_LIMIT} microvolts")
+    if most < least:
+        raise Refused(f"{word}: the least is above the most")
+    if output in call.limits:
+        raise Refused(f"{word}: output {output} has limits already")
+    call.limits[output] = word
 
 
 def number_of(word, value, most):

@@ -28,8 +28,10 @@ class Session:
     """A host for the device at an address, which is two hexadecimal digits. A signal to the script's group of
     processes, as Ctrl-C sends one, doesn't reach it: it ends at the end of its input."""
 
-    def __init__(self, address, outputs, passes, seconds=10):
-        words = [needed(), f"--address={address}", f"--outputs={outputs}", f"--passes={passes}"]
+    def __init__(self, address, outputs, passes, limits=(), seconds=10):
+        """`limits` are texts `O:LEAST:MOST`."""
+        words = [needed(), f"--address={address}", f"--outputs={outputs}", f"--passes={passes}",
+                 *(f"--limit={limit}" for limit in limits)]
         self.seconds, self.kept = seconds, b""
         try:
             self.process = subprocess.Popen(words, stdin=subprocess.PIPE, stdout=subprocess.PIPE,

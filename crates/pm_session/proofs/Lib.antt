@@ -2,5 +2,6 @@ mod FailureLemmas
 mod GotLemmas
 pub mod JobLemmas
 pub mod Joins
+pub mod LimitTexts
 mod SendLemmas
 mod TalkLemmas
