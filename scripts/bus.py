@@ -10,8 +10,8 @@
     scripts/bus.py 1 58 apply rails.toml
 
 BUS is the number of /dev/i2c-BUS, ADDRESS two hexadecimal digits. A JOB is what is said to pmbhost:
-`order O NAME HEX`, `volts O NAME MICROVOLTS`, `check O NAME`, `learn O`, `clear O`, `store`, `restore`; `state O NAME`
-and `seen` tell what is known. One host carries all of them out. For each job a line says what became of it: the job, a
+`order O NAME HEX`, `volts O NAME MICROVOLTS`, `check O NAME`, `learn O`, `clear O`, `store`, `restore`; `state O NAME`,
+`seen`, `band O` and `limits O` tell what is known. One host carries all of them out. For each job a line says what became of it: the job, a
 colon, a blank and the last answer of pmbhost, as `learn 0: ended learned`. After the first that doesn't end as `done`
 or `learned` no further one is begun, and only questions are answered. `probe` stands alone and needs no pmbhost: it
 reads whether the part has PEC and PAGE_PLUS, how many outputs, and their formats.
@@ -23,6 +23,8 @@ setting is confirmed as wanted and no restart of the part was seen.
 
     --outputs=N     how many outputs the device has, 8 where it isn't given
     --passes=N      how often a job is tried at most, 3 where it isn't given
+    --limit=O:LEAST:MOST
+                    the limits of an output's voltage in microvolts, once an output: pmbhost refuses orders beyond them
     --trace=FILE    appends what went over the wire to FILE, for `pmb decode < FILE`
     --dry-run       of apply: checks, and says what would be ordered
     --json          of apply and verify: one object in the place of the table
@@ -55,8 +57,8 @@ from probe import probe  # noqa: E402
 from program import answer_help  # noqa: E402
 from session import NoAnswer, Session  # noqa: E402
 
-ENDED_WELL = ("ended done", "ended learned", "state ", "seen ")
-QUESTIONS = ("state", "seen")
+ENDED_WELL = ("ended done", "ended learned", "state ", "seen ", "band ", "limits ")
+QUESTIONS = ("state", "seen", "band", "limits")
 SEND = re.compile(r"send ((?:[0-9A-F]{2} ?)+?)(?: read (\d+))?")
 BAD_CALL, INTERRUPTED = 2, 130
 
@@ -172,7 +174,8 @@ def carry_out(call, kernel):
         if call.jobs == (["probe"],):
             run = Run(call, bus, None)
             return run.probe()
-        host = Session(f"{call.address:02X}", call.outputs, call.passes)
+        limits = [word.partition("=")[2] for word in call.limits.values()]
+        host = Session(f"{call.address:02X}", call.outputs, call.passes, limits)
         run = Run(call, bus, host)
         return run.rails() if call.rails else run.jobs()
     except Interrupted:

@@ -1,6 +1,6 @@
 """The arguments of scripts/bus.py. Where a word isn't what it should be, one line says which one and what to give."""
 import re
-from dataclasses import dataclass
+from dataclasses import dataclass, field
 from decimal import Decimal
 
 import rails
@@ -15,9 +15,11 @@ DEVICE_SETTING = name_of(PROTECT[1])
 JOBS = {
     "order": ("output", "setting", "word"), "volts": ("output", "setting", "microvolts"),
     "check": ("output", "setting"), "learn": ("output",), "clear": ("output",), "store": (), "restore": (),
-    "state": ("output", "setting"), "seen": (), "probe": (),
+    "state": ("output", "setting"), "seen": (), "band": ("output",), "limits": ("output",), "probe": (),
 }
 EXAMPLES = {"output": "0", "setting": "VOUT_COMMAND", "word": "34CD", "microvolts": "3300000"}
+LIMIT_EXAMPLE = "--limit=0:3200000:3465000"
+MOST_LIMIT = 10**15
 USAGE_EXAMPLE = "1 58 learn 0 + volts 0 VOUT_COMMAND 3300000"
 MOST_MICROVOLTS = 2**63 - 1
 
@@ -38,6 +40,7 @@ class Call:
     is_dry: bool = False
     is_json: bool = False
     rails: object = None
+    limits: dict = field(default_factory=dict)
     jobs: tuple = ()
 
 
@@ -55,10 +58,15 @@ def read(words):
     while rest and rest[0].startswith("-"):
         take_option(call, rest.pop(0))
     if rest[:1] and rest[0] in RAILS:
+        if call.limits:
+            raise Refused(f"{next(iter(call.limits.values()))}: the file of rails has the limits")
         take_rails(call, rest)
         return call
     if call.is_dry or call.is_json:
         raise Refused("--dry-run and --json are of `apply` and `verify`")
+    for output, word in call.limits.items():
+        if output >= call.outputs:
+            raise Refused(f"{word}: there is no output {output}, with --outputs={call.outputs}")
     call.jobs = tuple(jobs_of(rest, call.outputs))
     return call
 
@@ -120,8 +128,25 @@ def take_option(call, word):
         call.outputs = number_of(word, value, 8)
     elif name == "--passes":
         call.passes = number_of(word, value, 15)
+    elif name == "--limit":
+        take_limit(call, word, value)
     else:
-        raise Refused(f"{shown(word)}: there are --outputs=N, --passes=N, --trace=FILE and --force")
+        raise Refused(f"{shown(word)}: there are --outputs=N, --passes=N, --limit=O:LEAST:MOST, --trace=FILE and --force")
+
+
+def take_limit(call, word, value):
+    """The limits of an output, in whole microvolts, go into the call."""
+    found = re.fullmatch("([0-9]{1,3}):(-?[0-9]{1,19}):(-?[0-9]{1,19})", value)
+    if not found:
+        raise Refused(f"{shown(word)}: give an output, the least and the most in whole microvolts, as {LIMIT_EXAMPLE}")
+    output, least, most = (int(part) for part in found.groups())
+    if max(abs(least), abs(most)) > MOST_LIMIT:
+        raise Refused(f"{word}: a limit is at most {MOST_LIMIT} microvolts")
+    if most < least:
+        raise Refused(f"{word}: the least is above the most")
+    if output in call.limits:
+        raise Refused(f"{word}: output {output} has limits already")
+    call.limits[output] = word
 
 
 def number_of(word, value, most):

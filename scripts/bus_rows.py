@@ -54,6 +54,15 @@ WHOLE_JOBS = [
     Row("order - WRITE_PROTECT 40 + state - WRITE_PROTECT",
         "order - WRITE_PROTECT 40: ended done\nstate - WRITE_PROTECT: state confirmed 40 possible 40\n"),
     Row("clear 0 + seen", "clear 0: ended done\nseen: seen no\n"),
+    # limits refuse before anything is sent, and a band is told
+    Row(f"--limit=0:3200000:3465000 {LEARN} + {VOLTS} + limits 0 + band 0",
+        f"{LEARN}: ended learned\n{VOLTS}: ended done\nlimits 0: limits 3200000 3465000\nband 0: band 0 15999756\n", held="34CD"),
+    Row(f"--limit=0:3200000:3465000 {LEARN} + volts 0 VOUT_COMMAND 12000000 + {ORDER}",
+        f"{LEARN}: ended learned\nvolts 0 VOUT_COMMAND 12000000: refused L4 AboveLimit\n",
+        "bus.py: volts 0 VOUT_COMMAND 12000000: the value of the word that would be sent is above the limits: order less: the "
+        "nearest word may lie above what was asked, and `pmb number` shows its value\n", 1),
+    Row(f"--limit=0:3200000:3465000 {ORDER}", f"{ORDER}: refused L2 FormatUnknown\n",
+        f"bus.py: {ORDER}: the output has limits, and its format isn't known: learn the output first\n", 1),
     Row("order 1 VOUT_COMMAND 34CD + check 0 VOUT_COMMAND",
         "order 1 VOUT_COMMAND 34CD: ended done\ncheck 0 VOUT_COMMAND: ended done\n"),
     # a stored word comes back by a restart; a restore leaves nothing known

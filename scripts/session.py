@@ -99,8 +99,10 @@ class Coprocess:
 class Session(Coprocess):
     """A host for the device at an address, which is two hexadecimal digits."""
 
-    def __init__(self, address, outputs, passes, seconds=10):
-        words = [HOST.needed(), f"--address={address}", f"--outputs={outputs}", f"--passes={passes}"]
+    def __init__(self, address, outputs, passes, limits=(), seconds=10):
+        """`limits` are texts `O:LEAST:MOST`."""
+        words = [HOST.needed(), f"--address={address}", f"--outputs={outputs}", f"--passes={passes}",
+                 *(f"--limit={limit}" for limit in limits)]
         super().__init__(words, "the host", seconds)
 
 

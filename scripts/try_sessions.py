@@ -1,6 +1,6 @@
 #!/usr/bin/env python3
 """Tries `pmbhost` as a coprocess: an order, a lost answer, a false acknowledgement, a restart of either end, a restore,
-and LINES lines of random sessions against the plain host of scripts/plain. Each answer must come before the next line is
+limits, and LINES lines of random sessions, of which most have limits, against the plain host of scripts/plain. Each answer must come before the next line is
 said, and in 10 seconds. How the program ends is tried too: its status and what it says, for faulty options and failed
 streams. What is wrong is printed, and the status is then 1.
 
@@ -25,6 +25,7 @@ WRITE, REQUEST = "send B0 05 04 00 21 CD 34 5A", "send B0 06 02 00 21 read 4"
 NEW, OLD = "got B1 02 CD 34 B9", "got B1 02 00 10 41"
 ORDER = ("order 0 VOUT_COMMAND 34CD", WRITE)
 STORE, RESTORE = "send B0 15 24", "send B0 16 2D"
+LEARN, FORMAT = ("learn 0", "send B0 06 02 00 20 read 3"), ("got B1 01 14 4E", "ended learned")
 # Told stories, as lines and their answers.
 STORIES = {
     "an order": [ORDER, ("finished ack", REQUEST), (NEW, "ended done")],
@@ -45,6 +46,13 @@ STORIES = {
         ("finished ack", "ended done"), ("state 0 VOUT_COMMAND", "state confirmed 34CD possible 34CD"), ("restore", RESTORE),
         ("state 0 VOUT_COMMAND", "state unknown possible any"), ("finished nack", RESTORE), ("finished nack", "ended unknown"),
         ("seen", "seen no")],
+    "limits": [
+        ("limits 0", "limits none"), ("narrow 0 3200000 3465000", "narrowed"), ("limits 0", "limits 3200000 3465000"),
+        ("band 0", "band unknown"), ("order 0 VOUT_COMMAND 34CD", "refused L2 FormatUnknown"), LEARN, FORMAT,
+        ("band 0", "band 0 15999756"), ("order 0 VOUT_COMMAND 1000", "refused L3 BelowLimit"),
+        ("volts 0 VOUT_COMMAND 12000000", "refused L4 AboveLimit"), ("order 0 OPERATION 80", "refused L5 NotKnownWithin"),
+        ("narrow 0 3200000 3465001", "refused L6 LimitsWidened"), ("narrow 0 3465000 3200000", "refused L1 LimitsInverted"),
+        ORDER, ("finished ack", REQUEST), (NEW, "ended done")],
 }
 # How many words may be possible of a cell before an order is refused.
 MOST_WORDS = 16
@@ -62,13 +70,22 @@ ENDS = [
     (["--address=58", "--outputs=9", "--passes=2"], b"seen\n", 1, b"", "pmbhost: H1 OutputCount\n"),
     (["--address=58", "--outputs=8", "--passes=0"], b"seen\n", 1, b"", "pmbhost: H2 Passes\n"),
     (["--address=58", "--outputs=8", "--passes=16"], b"seen\n", 1, b"", "pmbhost: H2 Passes\n"),
+    (["--address=58", "--outputs=2", "--passes=2", "--limit=1:3200000:3465000", "--limit=0:-5:5"], b"limits 0\nlimits 1", 0,
+     b"limits -5 5\nlimits 3200000 3465000\n", ""),
+    (["--address=58", "--outputs=2", "--passes=2", "--limit=0:3465000:3200000"], b"seen\n", 2, b"", "pmbhost: L1 LimitsInverted\n"),
+    (["--address=58", "--outputs=2", "--passes=2", "--limit=2:1:2"], b"seen\n", 2, b"", "pmbhost: H4 UnknownOutput\n"),
+    (["--address=58", "--outputs=2", "--passes=2", f"--limit=0:1:{10**15 + 1}"], b"seen\n", 2, b"", "pmbhost: N5 TooLarge\n"),
+    (["--address=58", "--outputs=2", "--passes=2", "--limit=0:1:2", "--limit=0:1:2"], b"seen\n", 2, b"", "pmbhost: bad limit\n"),
+    (["--address=58", "--outputs=2", "--passes=2", "--limit=0:1"], b"seen\n", 2, b"", "pmbhost: bad limit\n"),
+    (["--address=58", "--outputs=9", "--passes=2", "--limit=x"], b"seen\n", 1, b"", "pmbhost: H1 OutputCount\n"),
 ]
 NAMES = [name_of(code) for code in (0x01, 0x21, 0x24, 0x25, 0x26, 0x2B)]
 OPERATIONS = ["80", "94", "A4", "00", "B0", "8f"]
 NOISE = ["", "#", "# order 0 VOUT_COMMAND 34CD", "hello", "order", "order 0", "order 0 VOUT_COMMAND", "order 0 VOUT_COMMAND 34C",
          "order 0 VOUT_COMMAND 34CD 1", "order - VOUT_COMMAND 34CD", "order 256 OPERATION 80", "finished", "finished yes",
          "finish ack", "got B", "got GG", "got B1 " + "00" * 16, "state", "state 0", "state 0 VOUT_MODE", "seen yes",
-         "restart host", "Sending", "volts - WRITE_PROTECT 1", "volts 0 VOUT_COMMAND +1", "check 0 READ_VOUT",
+         "restart host", "Sending", "band", "band 256", "band 0 0", "limits x", "limits", "narrow 0 1", "narrow 0 1 2 3", "narrow -1 1 2",
+         "narrow 0 +1 2", f"narrow 0 0 {2**63}", f"narrow 0 0 {10**15 + 1}", f"narrow 0 {-2**63} 0", "volts - WRITE_PROTECT 1", "volts 0 VOUT_COMMAND +1", "check 0 READ_VOUT",
          "deliver whole", "learn -1", "store 0", "restore all", "got " + "B1 " * 5, "x" * 256, "x" * 257, "seen" + " " * 252, "seen" + " " * 253]
 
 
@@ -134,6 +151,13 @@ def job_line(dice, outputs):
         f"volts {dice.randrange(outputs)} VOUT_COMMAND {dice.choice([3300000, 1000000, -1, 10**16, dice.randrange(20000000)])}"])
 
 
+def limits_line(dice, outputs):
+    """Limits about the voltages that are ordered, which narrow them, widen them or are inverted."""
+    least = dice.choice([0, 900000, 900001, 1000000, 3200000, dice.randrange(-10**6, 4 * 10**6)])
+    most = dice.choice([3465000, 3300048, 3300049, 7000000, 16 * 10**6, dice.randrange(-10**6, 2 * 10**7)])
+    return f"narrow {dice.randrange(outputs + (dice.random() < 0.05))} {least} {most}"
+
+
 def told_line(dice, plain, device):
     """What became of the frame that is being sent: heard whole or not, acknowledged or not, answered well or not."""
     frame, reads = plain.host.sending_frame(), plain.host.sending_reads()
@@ -161,9 +185,13 @@ def any_line(dice, plain, device, outputs):
         return dice.choice(NOISE)
     if chance < 0.16:
         return dice.choice(["sending", "seen", f"state {cell_words(dice, outputs)[0]}", f"state {cell_words(dice, outputs)[0]}"])
-    if chance < 0.17:
+    if chance < 0.165:
         return "restart"
-    if chance < 0.22:
+    if chance < 0.185:
+        return dice.choice([f"limits {dice.randrange(outputs)}", limits_line(dice, outputs)])
+    if chance < 0.205:
+        return f"band {dice.randrange(outputs + (dice.random() < 0.05))}"
+    if chance < 0.25:
         return dice.choice(["finished ack", "got", job_line(dice, outputs)])
     return job_line(dice, outputs) if plain.host.sending() is None else told_line(dice, plain, device)
 
@@ -181,7 +209,12 @@ def random_faults(dice, wanted):
     while said < wanted:
         outputs, passes = dice.randint(1, 8), dice.randint(1, 4)
         setup = setup_of(dice, outputs)
-        device, plain, host = Converter(setup), PlainSession(0x58, outputs, passes), session.Session("58", outputs, passes)
+        limits = [f"{output}:{dice.choice([0, 900000, 1000000])}:{dice.choice([3465000, 7000000, 16 * 10**6])}"
+                  for output in range(outputs) if dice.random() < 0.5]
+        device, plain = Converter(setup), PlainSession(0x58, outputs, passes)
+        host = session.Session("58", outputs, passes, limits)
+        for limit in limits:
+            plain.answer(b"narrow " + limit.replace(":", " ").encode())
         for _ in range(min(200, wanted - said)):
             if dice.random() < 0.01:
                 device.restart()

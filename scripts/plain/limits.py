@@ -9,6 +9,8 @@ from .numbers import nearest, value_of
 # Where OPERATION may be any byte: one for each register that a byte selects.
 EACH_SELECTION = (0x80, 0xA8, 0x94)
 VOLTAGES = (COMMAND, MAX, HIGH, LOW, MIN)
+# How far from 0 a limit may be, in microvolts.
+MOST_LIMIT = 10**15
 
 
 def selected(byte):
@@ -43,6 +45,18 @@ def band(host, output, byte=None):
         reach = farthest(end[selected(it)] for it in bytes_)
         ends.append(min(max(reach, end[MIN]), end[MAX]))
     return tuple(ends)
+
+
+def narrow_refusal(limits, outputs, output, least, most):
+    """Why an output can't be given these limits: None where it can."""
+    if output >= outputs:
+        return "H4 UnknownOutput"
+    if max(abs(least), abs(most)) > MOST_LIMIT:
+        return "N5 TooLarge"
+    if most < least:
+        return "L1 LimitsInverted"
+    own = limits[output]
+    return "L6 LimitsWidened" if own and (least < own[0] or own[1] < most) else None
 
 
 def outside(limits, found):

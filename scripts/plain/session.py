@@ -1,7 +1,9 @@
-"""The answers of a host that is spoken to in lines, by the plain host."""
+"""The answers of a host that is spoken to in lines, by the plain host and its limits."""
 import re
+from math import ceil, floor
 
 from .host import ANY, Host
+from .limits import band, narrow_refusal, refusal
 from .lines import TextFault, words_of
 from .packets import answer_shape, length_of
 from .scenario import Words, read_event
@@ -22,6 +24,7 @@ def in_hex(frame):
 class PlainSession:
     def __init__(self, address, outputs, passes):
         self.host = Host(address, outputs, passes)
+        self.limits = [None] * outputs
 
     def answer(self, line):
         """The answer to a line, of bytes without the line feed."""
@@ -49,6 +52,13 @@ class PlainSession:
             cell = words.cell(2)
             words.end()
             return self.state(cell)
+        of_output = {b"band": self.band, b"limits": self.limits_of, b"narrow": self.narrow}
+        if first in of_output:
+            words = Words(b" ".join(rest))
+            numbers = [words.number(0, 255)]
+            numbers += [words.number(-2**63, 2**63 - 1) for _ in range(2 if first == b"narrow" else 0)]
+            words.end()
+            return of_output[first](*numbers)
         plain = {b"sending": self.sending, b"restart": self.restart, b"seen": self.seen}
         if rest or first not in plain:
             raise Refused("X1 Syntax")
@@ -64,7 +74,7 @@ class PlainSession:
 
     def begun(self, kind, what):
         call = {"volts": self.host.order_micro}.get(kind) or getattr(self.host, kind)
-        fault = call(*what)
+        fault = refusal(self.host, self.limits, (kind, *what)) or call(*what)
         if fault:
             raise Refused(fault)
         return self.sending()
@@ -90,6 +100,27 @@ class PlainSession:
 
     def seen(self):
         return "seen yes" if self.host.restart_seen() else "seen no"
+
+    def needs(self, output):
+        if output >= self.host.outputs:
+            raise Refused("H4 UnknownOutput")
+
+    def band(self, output):
+        self.needs(output)
+        found = band(self.host, output)
+        return "band unknown" if found is None else f"band {floor(found[0] * 10**6)} {ceil(found[1] * 10**6)}"
+
+    def limits_of(self, output):
+        self.needs(output)
+        own = self.limits[output]
+        return "limits none" if own is None else f"limits {own[0]} {own[1]}"
+
+    def narrow(self, output, least, most):
+        fault = narrow_refusal(self.limits, self.host.outputs, output, least, most)
+        if fault:
+            raise Refused(fault)
+        self.limits[output] = (least, most)
+        return "narrowed"
 
     def state(self, cell):
         if cell[0] is not None and cell[0] >= self.host.outputs:

@@ -1,4 +1,4 @@
-ghost use Rattle.std.specs.Prelude.{◌≡◌, IfSome};
+ghost use Rattle.std.specs.Prelude.{◌≡◌, IfSome, None, replicate};
 ghost use Rattle.pm_host.specs.Summary.{start};
 ghost use Rattle.pm_device.specs.History.{start_of};
 ghost use Rattle.pm_world.specs.Setup.{setup_of};
@@ -67,7 +67,8 @@ impl<'a> Bus for SimulatedBus<'a> {
 /// A driver of a new host and a new converter of this configuration, over a simulated bus with this plan. `None` where
 /// the configuration, or the number of passes, is refused.
 pub fn driver_over<'a>(c: Config, passes: u8, plan: &'a [Fault]) -> Option<Driver<SimulatedBus<'a>>>
-    ensures host { IfSome result (λ driver. driver.host ≡ start (setup_of c passes)) }
+    ensures guard { IfSome result (λ driver. driver.guard
+        ≡ record { host = start (setup_of c passes); limits = replicate 8 None }) }
     ensures device { IfSome result (λ driver. driver.bus.device ≡ start_of c) }
 {
     // These calls hand their laws to the prover.

@@ -1,23 +1,29 @@
 -- A job that begins, a host that restarts, and what a driver begins with.
-use Rattle.std.proofs.Common.{◌≡◌, ℕ, true, List, [], ◌∷◌, ◌++◌, Option, Some, None, Ok, refl, sym, ◌∙◌, ap, subst}
+use Rattle.std.proofs.Common.{◌≡◌, ◌<◌, ◌&&◌, ◌||◌, ℕ, Bool, true, false, cond, List, [], ◌∷◌, ◌++◌, Option, Some, None, Ok, refl, sym, ◌∙◌, ap, subst}
 use Rattle.std.specs.Option.{option_or}
-use Rattle.std.specs.Prelude.{IsSomeAnd, option_map, option_and_then}
+use Rattle.std.specs.Prelude.{IsSomeAnd}
 use Rattle.std.proofs.lemmas.Option.{same_Some}
 use Rattle.pm_table.specs.declared.cell.Cell.{Cell}
 use Rattle.pm_table.specs.Cell.{output_of}
 use Rattle.pm_table.specs.RuleLemmas.{or-none}
 use Rattle.pm_device.specs.declared.config.Config.{Config}
-use Rattle.pm_model.specs.Commanded.{commanded}
+use Rattle.pm_num.specs.Ratio.{Ratio, is_above}
+use Rattle.pm_table.specs.declared.reg.Reg.TheVariants.{VoutMax, VoutMin}
+use Rattle.pm_table.specs.Cell.{is_voltage}
+use Rattle.pm_limits.specs.Lemmas.Selected.{each-selected}
+use Rattle.pm_model.specs.Commanded.{commanded, limited, selected_register}
 use Rattle.pm_model.specs.Settings.{word_at}
 use Rattle.pm_device.specs.Held.{Held, value_for}
+use Rattle.pm_device.specs.History.{start_of}
+use Rattle.pm_device.specs.Start.{IsSound}
 use Rattle.pm_host.specs.declared.command.Command.TheVariants.{ClearFaults, StoreUserAll, RestoreUserAll}
 use Rattle.pm_host.specs.declared.job.Job.{Job}
 use Rattle.pm_host.specs.declared.job.Job.TheVariants as job
 use Rattle.pm_host.specs.declared.job_end.JobEnd.{JobEnd}
 use Rattle.pm_host.specs.Frames.{frames_left}
-use Rattle.pm_host.specs.Jobs.{Begins, accepted_job, begin_fault}
+use Rattle.pm_host.specs.Jobs.{accepted_job, begin_fault}
 use Rattle.pm_host.specs.Now.{now as host_now}
-use Rattle.pm_host.specs.Refusals.{is_busy, job_fault, micro_word, order_fault, range_fault, voltage_fault}
+use Rattle.pm_host.specs.Refusals.{IsSetup, is_busy, job_fault}
 use Rattle.pm_host.specs.Summary.{Summary, format_at, next as host_next, start as host_start}
 use Rattle.pm_host.specs.Transcript as host
 use Rattle.pm_world.specs.declared.event.Event.{Event}
@@ -29,7 +35,8 @@ use Rattle.pm_world.specs.Setup.{setup_of, start}
 use Rattle.pm_world.specs.State.{State, refused, tells}
 use Rattle.pm_world.specs.Uncertainty.{job_event}
 use Rattle.pm_driver.specs.Acts.{Act, Began, Call, Called, Read, Renewed, Wrote, asked_in, told_all}
-use Rattle.pm_driver.specs.Driven.{HasLife, IsTrueOf, MayBegin, Runs}
+use Rattle.pm_limits.specs.Bounds.{Bounds, IsWithin}
+use Rattle.pm_driver.specs.Driven.{HasLife, HasLifeWithin, IsTrueOf, MayBegin}
 use Rattle.pm_driver.specs.Ends.{EndSays}
 use Rattle.pm_driver.specs.Laws.{EndsAreTrue, LeadsCompose, NewConvertersMayBegin}
 use Rattle.pm_driver.specs.Lives.{Driven, Goes, IsLife, Leads}
@@ -77,6 +84,7 @@ jobs-lead laws gives held summary bus job free = record {
   may = (free, tt);
   host = refl;
   newest = tt;
+  orders = refl;
   lives = λ config passes before life. job-goes laws job free life;
 }
 
@@ -90,19 +98,20 @@ renewals-lead laws gives held summary bus = record {
   may = (tt, tt);
   host = refl;
   newest = tt;
+  orders = refl;
   lives = λ config passes before life.
       let one = grown laws RestartHost (tells host.Restarted) life refl tt refl in
       record { is_life = one.is_life; told = one.told; ended = tt };
 }
 
 -- the host of a life was made for it
-life-setup : {config : Config} {passes : ℕ} {events : List Event} {summary : Summary} {held : Held} →
+pub life-setup : {config : Config} {passes : ℕ} {events : List Event} {summary : Summary} {held : Held} →
     IsLife config passes events summary held → summary.setup ≡ setup_of config passes
 unfolding now state_of host_now
 life-setup is = ap (λ (s : Summary). s.setup) (sym is.host_is)
 
 -- a restarted host is new
-renewed-new : (summary : Summary) → host_next summary host.Restarted ≡ host_start summary.setup
+pub renewed-new : (summary : Summary) → host_next summary host.Restarted ≡ host_start summary.setup
 unfolding host_next
 renewed-new summary = refl
 
@@ -122,27 +131,60 @@ begins-lived laws summary held may =
     }
 
 -- a converter as it was made has a life of no event
-pub new-begins : LegalLivesAreFollowed → NewConvertersMayBegin
+pub new-lived : LegalLivesAreFollowed → (config : Config) (passes : ℕ) → IsSound config → IsSetup (setup_of config passes) →
+    IsLife config passes [] (host_start (setup_of config passes)) (start_of config)
 unfolding start
-new-begins laws config passes sound spelled made =
+new-lived laws config passes sound made =
     let none = laws.none config passes made in
     record {
-      was = host_start (setup_of config passes);
-      has = record {
-        config = config;
-        passes = passes;
-        events = [];
-        spelled = spelled;
-        life = record {
-          sound = sound;
-          made = made;
-          legal = tt;
-          host_is = ap (λ (s : State). s.host) none;
-          held_is = ap (λ (s : State). s.device) none;
-        };
-      };
-      made = refl;
+      sound = sound;
+      made = made;
+      legal = tt;
+      host_is = ap (λ (s : State). s.host) none;
+      held_is = ap (λ (s : State). s.device) none;
     }
+
+pub new-begins : LegalLivesAreFollowed → NewConvertersMayBegin
+new-begins laws config passes sound spelled made = record {
+  was = host_start (setup_of config passes);
+  has = record {
+    config = config;
+    passes = passes;
+    events = [];
+    spelled = spelled;
+    life = new-lived laws config passes sound made;
+  };
+  made = refl;
+}
+
+-- a voltage's register
+selected-voltage : (byte : ℕ) → is_voltage (selected_register byte) ≡ true
+selected-voltage byte = each-selected (λ r. is_voltage r ≡ true) refl refl refl byte
+
+-- a value that is cut is one of the three
+one-of : (P : Ratio → Type 0) (s l g : Ratio) → P s → P l → P g → P (limited s l g)
+one-of P s l g ps pl pg = go (is_above s g) (is_above l s) (is_above l g) where
+  go : (over under crossed : Bool) → P (cond (over || under && crossed) g (cond under l s))
+  go true under crossed = pg
+  go false true true = pg
+  go false true false = pl
+  go false false crossed = ps
+
+-- an output whose words lie within limits commands a voltage within them
+limited-of : LegalLivesAreFollowed → (output : ℕ) (bounds : Bounds) (summary : Summary) (held : Held) →
+    (lived : HasLifeWithin output bounds summary held) → output < lived.has.config.count →
+    IsWithin bounds (commanded (value_for held.config output) held.words output)
+limited-of laws output bounds summary held lived there =
+    let has = lived.has in
+    let is = has.life in
+    let own = laws.commanded has.config has.passes has.events output is.sound is.made is.legal there in
+    let value = value_for has.config output in
+    subst (λ (d : Held). IsWithin bounds (commanded (value_for d.config output) d.words output)) is.held_is
+    (subst (λ (v : Ratio). IsWithin bounds v) (sym own.cut)
+    (one-of (λ v. IsWithin bounds v) (value own.selected) (value own.least) (value own.most)
+    (lived.within (selected_register own.operation) own.selected (selected-voltage own.operation) own.own_selected)
+    (lived.within VoutMin own.least refl own.own_least)
+    (lived.within VoutMax own.most refl own.own_most)))
 
 -- what is true of a host and a converter to which a life led
 pub true-of : LegalLivesAreFollowed → (summary : Summary) (held : Held) → HasLife summary held → IsTrueOf summary held
@@ -159,6 +201,7 @@ true-of laws summary held has =
       commanded = λ output there. subst (λ (d : Held). CommandsOwn has.config has.passes has.events output
           (commanded (value_for d.config output) d.words output)) is.held_is
           (laws.commanded has.config has.passes has.events output is.sound is.made is.legal there);
+      limited = λ output bounds lived there. limited-of laws output bounds summary held lived there;
     }
 
 -- where a driver leads there is a life
@@ -199,25 +242,14 @@ leads-say law gives held job end old new has leads =
     (law has.config has.passes events job end is.sound has.spelled is.made is.legal
     (tells-append leads.events has.events leads.newest) last goes.ended))
 
--- an order in microvolts that isn't refused is one of a word that isn't
-micro-order : (s : Summary) (cell : Cell) (word : Option ℕ) (begun : host.Job) → option_map (λ w. host.Order cell w) word ≡ Some begun →
-    option_and_then (λ w. order_fault s cell w) word ≡ None → job_fault s begun ≡ None
-micro-order s cell None begun is h = cc
-micro-order s cell (Some word) begun is h = subst (λ j. job_fault s j ≡ None) (same_Some (host.Order cell word) begun is) h
-
--- a job that is accepted isn't refused
-begun-free : (s : Summary) (asked : Job) (begun : host.Job) → accepted_job s asked ≡ Some begun → begin_fault s asked ≡ None →
-    job_fault s begun ≡ None
-begun-free s (job.OrderMicro cell x) begun is h =
-    let past_voltage = (or-none (voltage_fault s cell) _ h).1 in
-    let past_range = (or-none (option_and_then (λ shape. range_fault shape x) (format_at s (output_of cell))) _ past_voltage).1 in
-    micro-order s cell (micro_word s cell x) begun is (or-none (option_and_then (λ w. order_fault s cell w)
-    (micro_word s cell x)) None past_range).0
-begun-free s asked begun is h = subst (λ o. option_and_then (job_fault s) o ≡ None) is h
+-- a host began a job that it didn't refuse
+pub record IsBegun (old : Summary) (asked : Job) (middle : Summary) : Type 0 where
+  pub free : (begun : host.Job) → accepted_job old asked ≡ Some begun → job_fault old begun ≡ None
+  pub ok : IsSomeAnd (accepted_job old asked) (λ begun. middle ≡ host_next old (host.Accepted begun))
 
 -- where a driver leads that carries a job out which its host began
-job-leads : {B : Type 0} (gives : B → Call → B → Type 0) (held : B → Held) → JobsLead gives held → LeadsCompose gives held →
-    (asked : Job) (end : JobEnd) (old new : Driven B) (middle : Summary) → Begins {X = Unit {0}} old.host asked (Ok tt) middle →
+pub job-leads : {B : Type 0} (gives : B → Call → B → Type 0) (held : B → Held) → JobsLead gives held → LeadsCompose gives held →
+    (asked : Job) (end : JobEnd) (old new : Driven B) (middle : Summary) → IsBegun old.host asked middle →
     Leads gives held [] (Some end) (record { host = middle; bus = old.bus }) new →
     IsSomeAnd (accepted_job old.host asked) (λ begun. Leads gives held (Began begun ∷ []) (Some end) old new)
 job-leads gives held jobs compose asked end old new middle begins leads = go (accepted_job old.host asked) refl begins.ok where
@@ -226,7 +258,7 @@ job-leads gives held jobs compose asked end old new middle begins leads = go (ac
       IsSomeAnd o (λ begun. Leads gives held (Began begun ∷ []) (Some end) old new)
   go None is ok = absurd ok
   go (Some begun) is ok =
-      let first = jobs old.host old.bus begun (begun-free old.host asked begun is (sym begins.fault)) in
+      let first = jobs old.host old.bus begun (begins.free begun is) in
       let second = subst (λ h. Leads gives held [] (Some end) (record { host = h; bus = old.bus }) new) ok leads in
       compose (Began begun ∷ []) [] None (Some end) old (record { host = host_next old.host (host.Accepted begun); bus = old.bus }) new
       first second
@@ -234,7 +266,7 @@ job-leads gives held jobs compose asked end old new middle begins leads = go (ac
 -- so there is a life
 pub job-lived : {B : Type 0} (gives : B → Call → B → Type 0) (held : B → Held) → JobsLead gives held → LeadsCompose gives held →
     (asked : Job) (end : JobEnd) (old new : Driven B) (middle : Summary) → HasLife old.host (held old.bus) →
-    Begins {X = Unit {0}} old.host asked (Ok tt) middle →
+    IsBegun old.host asked middle →
     Leads gives held [] (Some end) (record { host = middle; bus = old.bus }) new → HasLife new.host (held new.bus)
 job-lived gives held jobs compose asked end old new middle has begins leads =
     go (accepted_job old.host asked) (job-leads gives held jobs compose asked end old new middle begins leads) where
@@ -243,33 +275,11 @@ job-lived gives held jobs compose asked end old new middle has begins leads =
       go None is = absurd is
       go (Some begun) is = leads-lived gives held (Began begun ∷ []) (Some end) old new has is
 
--- what a driver does for a job that its host began
-pub runs-so : EndsAreTrue → {B : Type 0} (gives : B → Call → B → Type 0) (held : B → Held) → JobsLead gives held →
-    LeadsCompose gives held →
-    (asked : Job) (end : JobEnd) (old new : Driven B) (middle : Summary) → HasLife old.host (held old.bus) →
-    Begins {X = Unit {0}} old.host asked (Ok tt) middle →
-    Leads gives held [] (Some end) (record { host = middle; bus = old.bus }) new → frames_left new.host ≡ 0 →
-    new.host.setup ≡ middle.setup →
-    Runs gives held asked old (Ok end) new
-runs-so law gives held jobs compose asked end old new middle has begins leads over kept =
-    let led = job-leads gives held jobs compose asked end old new middle begins leads in
-    record {
-      fault = begins.fault;
-      leads = led;
-      says = go (accepted_job old.host asked) led;
-      over = over;
-      err = tt;
-      kept = kept ∙ begins.kept;
-    } where
-      go : (o : Option host.Job) → IsSomeAnd o (λ begun. Leads gives held (Began begun ∷ []) (Some end) old new) →
-          IsSomeAnd o (λ begun. EndSays begun new.host (held new.bus) end)
-      go None is = absurd is
-      go (Some begun) is = leads-say law gives held begun end old new has is
-
 -- a job that began is open
-pub begun-busy : (s after : Summary) (asked : Job) → Begins {X = Unit {0}} s asked (Ok tt) after → is_busy after ≡ true
+pub begun-busy : (s after : Summary) (asked : Job) → IsSomeAnd (accepted_job s asked) (λ begun. after ≡ host_next s (host.Accepted begun)) →
+    is_busy after ≡ true
 unfolding host_next
-begun-busy s after asked begins = go (accepted_job s asked) begins.ok where
+begun-busy s after asked begins = go (accepted_job s asked) begins where
   busy : (begun : host.Job) → is_busy (host_next s (host.Accepted begun)) ≡ true
   busy (host.Order cell word) = refl
   busy (host.Check cell) = refl

@@ -5,9 +5,12 @@ use Rattle.pm_host.specs.declared.job_end.JobEnd.{JobEnd}
 use Rattle.pm_host.specs.Summary.{Summary, next as host_next}
 use Rattle.pm_world.specs.declared.event.Event.{Event}
 use Rattle.pm_world.specs.declared.event.Event.TheVariants.{Exchange, Finish}
+use Rattle.pm_world.specs.Job.{asked_by}
+use Rattle.pm_world.specs.Uncertainty.{job_event}
+use Rattle.pm_host.specs.declared.job.Job.{Job as Asked}
 use Rattle.pm_driver.specs.Acts.{Act, AreCalls, AreDone, Began, Call, Called, MayDo, Renewed, asked_in, host_by, told_by}
 use Rattle.pm_driver.specs.Laws.{LeadsCompose}
-use Rattle.pm_driver.specs.Lives.{Driven, EndsTold, Leads, newest_tells}
+use Rattle.pm_driver.specs.Lives.{Driven, EndsTold, Leads, jobs_asked, jobs_begun, newest_tells, with_job}
 use Rattle.pm_driver.proofs.Grown.{goes-on, stays}
 
 -- the host after acts and more of them
@@ -49,6 +52,24 @@ newest-append : (end : Option JobEnd) (second first : List Event) → EndsTold e
 newest-append None second first is = tt
 newest-append (Some end) second first is = tells-append second first is
 
+-- the jobs of events, and of acts, one after the other
+with-append : (one : Option Asked) (second first : List Asked) → with_job one (second ++ first) ≡ with_job one second ++ first
+with-append None second first = refl
+with-append (Some job) second first = refl
+
+jobs-append : (second first : List Event) → jobs_asked (second ++ first) ≡ jobs_asked second ++ jobs_asked first
+jobs-append [] first = refl
+jobs-append (event ∷ second) first =
+    ap (with_job (asked_by event)) (jobs-append second first) ∙ with-append (asked_by event) (jobs_asked second) (jobs_asked first)
+
+begun-append : (second first : List Act) → jobs_begun (second ++ first) ≡ jobs_begun second ++ jobs_begun first
+begun-append [] first = refl
+begun-append (Called call ∷ second) first = begun-append second first
+begun-append (Began job ∷ second) first =
+    ap (with_job (asked_by (job_event job))) (begun-append second first)
+    ∙ with-append (asked_by (job_event job)) (jobs_begun second) (jobs_begun first)
+begun-append (Renewed ∷ second) first = begun-append second first
+
 -- calls compose
 pub leads-compose : {B : Type 0} (gives : B → Call → B → Type 0) (held : B → Held) → LeadsCompose gives held
 leads-compose gives held first second middle end a b c one two = record {
@@ -59,6 +80,8 @@ leads-compose gives held first second middle end a b c one two = record {
   may = done-append a.host two.acts one.acts one.may (subst (λ h. AreDone h two.acts) (sym one.host) two.may);
   host = host-append a.host two.acts one.acts ∙ (ap (λ h. host_by h two.acts) one.host ∙ two.host);
   newest = newest-append end two.events one.events two.newest;
+  orders = jobs-append two.events one.events
+      ∙ (ap₂ (λ x y. x ++ y) two.orders one.orders ∙ sym (begun-append two.acts one.acts));
   lives = λ config passes before life.
       let here = one.lives config passes before life in
       goes-on here (two.lives config passes (one.events ++ before) here.is_life);
@@ -74,5 +97,6 @@ leads-nothing gives held d = record {
   may = tt;
   host = refl;
   newest = tt;
+  orders = refl;
   lives = λ config passes before life. stays life;
 }

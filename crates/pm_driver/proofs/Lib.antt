@@ -5,3 +5,4 @@ mod Grown
 mod OpenJobs
 mod ReadBack
 mod SentFrames
+mod WithinLimits

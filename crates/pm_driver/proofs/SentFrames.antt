@@ -24,12 +24,13 @@ use Rattle.pm_world.specs.declared.event.Event.{Event}
 use Rattle.pm_world.specs.declared.event.Event.TheVariants.{Deliver, Exchange, Finish, Reading, RestartDevice}
 use Rattle.pm_world.specs.Laws.{LegalLivesAreFollowed}
 use Rattle.pm_world.specs.Legal.{frame_of, heard_bytes, ending_of, is_legal_hearing, is_legal_return, is_heard_whole, answer_in, back_bytes}
+use Rattle.pm_world.specs.Job.{asked_by}
 use Rattle.pm_world.specs.Life.{now}
 use Rattle.pm_world.specs.State.{State, Share, delivered, delivery_cause, end_by, event_cause, exchange_cause, exchanged, finish_cause}
 use Rattle.pm_world.specs.State.{hears, rule, share_of, tells}
 use Rattle.pm_driver.specs.Acts.{Call, Called, MayDo, Read, Wrote, told_of}
-use Rattle.pm_driver.specs.Bus.{answer_of, held_by, is_beside, may_hear}
-use Rattle.pm_driver.specs.Lives.{EndsSo, EndsTold, Goes, IsLife, Leads, newest_tells}
+use Rattle.pm_driver.specs.Bus.{AreAll, answer_of, held_by, is_beside, may_hear}
+use Rattle.pm_driver.specs.Lives.{EndsSo, EndsTold, Goes, IsLife, Leads, jobs_asked, newest_tells, with_job}
 use Rattle.pm_driver.specs.Steps.{FramesLead, IsCalled, StaysOpen}
 use Rattle.pm_driver.proofs.Grown.{beside-one, goes-on, grown, heard-one, of-life, quiet}
 use Rattle.pm_driver.proofs.OpenJobs.{stays-open}
@@ -197,10 +198,29 @@ answered laws {config = config} {passes = passes} {before = before} {host = host
       ended = ends-so (end_by (step_of host (Got came))) _ one.ended;
     }
 
+-- what the converter hears, and what happens beside the bus, asks for no job
+hears-none : (frame : List ℕ) (event : Event) → may_hear frame event ≡ true → asked_by event ≡ None
+hears-none frame RestartDevice is = refl
+hears-none frame (Reading output code word) is = refl
+hears-none frame (Deliver arrival) is = refl
+hears-none frame event is = cc
+
+beside-none : (event : Event) → is_beside event ≡ true → asked_by event ≡ None
+beside-none RestartDevice is = refl
+beside-none (Reading output code word) is = refl
+beside-none event is = cc
+
+none-asked : (may : Event → Bool) → ((event : Event) → may event ≡ true → asked_by event ≡ None) → (events : List Event) →
+    AreAll may events → jobs_asked events ≡ []
+none-asked may none [] all = refl
+none-asked may none (event ∷ events) all =
+    ap (λ o. with_job o (jobs_asked events)) (none event all.0) ∙ none-asked may none events all.1
+
 -- the events of a call of the frame that the host was sending
 pub record CallEvents (call : Call) (host : Summary) (old new : Held) : Type 0 where
   pub events : List Event
   pub newest : newest_tells events ≡ true
+  pub orders : jobs_asked events ≡ []
   pub goes : (config : Config) (passes : ℕ) (before : List Event) → IsLife config passes before host old →
       Goes config passes before events (Called call ∷ []) (end_by (step_of host (told_of call))) (host_next host (told_of call)) new
 
@@ -213,6 +233,7 @@ call-events laws (Wrote frame acked) host old new may is =
     record {
       events = Finish acked ∷ is.events;
       newest = refl;
+      orders = none-asked (may_hear frame) (hears-none frame) is.events is.may;
       goes = λ config passes before life.
           let heard = subst (λ d. Goes config passes before is.events [] None host d) is.after
           (quiet frame (may_hear frame) (hear-one laws frame sends) is.events is.may life) in
@@ -223,6 +244,7 @@ call-events laws (Read request needed came) host old new may is =
     record {
       events = Exchange is.arrival is.back ∷ is.before;
       newest = refl;
+      orders = none-asked is_beside beside-none is.before is.beside_before;
       goes = λ config passes before life.
           let beside = quiet request is_beside (beside-one laws request) is.before is.beside_before life in
           goes-on beside (answered laws request needed came is.arrival is.back sends beside.is_life
@@ -241,6 +263,7 @@ frames-lead laws gives held call host old new may is so =
       may = (may, tt);
       host = refl;
       newest = ends-told (end_by (step_of host (told_of call))) e.events e.newest;
+      orders = e.orders;
       lives = e.goes;
     }
 

@@ -1,6 +1,6 @@
 -- What holds of a driver between two calls, what each call of it does, and what is true of it with no event in
 -- sight: this project's own choice.
-use Rattle.std.specs.Prelude.{◌≡◌, ◌<◌, ℕ, List, [], ◌∷◌, Some, IsSomeAnd, Result, IfOk, OnOk, OnErr}
+use Rattle.std.specs.Prelude.{◌≡◌, ◌<◌, ℕ, false, List, [], ◌∷◌, Option, Some, None, IsSomeAnd, Result, IfOk, OnOk, OnErr}
 use Rattle.std.specs.Result.{result_err}
 use Rattle.pm_table.specs.declared.cell.Cell.{Cell}
 use Rattle.pm_table.specs.Cell.{IsCell}
@@ -8,22 +8,34 @@ use Rattle.pm_model.specs.Commanded.{commanded}
 use Rattle.pm_model.specs.Settings.{word_at}
 use Rattle.pm_device.specs.declared.config.Config.{Config}
 use Rattle.pm_device.specs.Held.{Held, value_for}
-use Rattle.pm_host.specs.declared.fault.HostFault.{HostFault}
 use Rattle.pm_host.specs.declared.job.Job.{Job}
 use Rattle.pm_host.specs.declared.job_end.JobEnd.{JobEnd}
 use Rattle.pm_host.specs.Frames.{frames_left}
-use Rattle.pm_host.specs.Jobs.{accepted_job, begin_fault}
+use Rattle.pm_host.specs.Jobs.{accepted_job}
 use Rattle.pm_host.specs.Summary.{Summary, start}
+use Rattle.pm_limits.specs.declared.fault.LimitFault.{LimitFault}
+use Rattle.pm_limits.specs.Bounds.{Bounds, IsWithin, is_wider}
+use Rattle.pm_limits.specs.Guard.{Guarded, guard_fault, limits_at}
 use Rattle.pm_world.specs.declared.event.Event.{Event}
 use Rattle.pm_world.specs.Confirmed.{ConfirmedIsHeld}
 use Rattle.pm_world.specs.Honest.{FormatsAgree, IsSpelled}
 use Rattle.pm_world.specs.Life.{now}
+use Rattle.pm_world.specs.Limited.{OwnWithin}
 use Rattle.pm_world.specs.Possible.{PossibleIsHeld, SeenIsTrue}
 use Rattle.pm_world.specs.Retelling.{CommandsOwn, IsOwnWord}
 use Rattle.pm_world.specs.Setup.{setup_of}
 use Rattle.pm_driver.specs.Acts.{Began, Call}
 use Rattle.pm_driver.specs.Ends.{EndSays}
 use Rattle.pm_driver.specs.Lives.{Driven, IsLife, Leads}
+
+-- a driver: its host with its limits, and its bus
+pub record Driving (B : Type 0) : Type 0 where
+  pub guard : Guarded
+  pub bus : B
+
+-- the same without the limits
+abbrev pub driven : {B : Type 0} → Driving B → Driven B
+driven d = record { host = d.guard.host; bus = d.bus }
 
 -- some life led to this host and this converter
 pub record HasLife (host : Summary) (held : Held) : Type 0 where
@@ -33,6 +45,17 @@ pub record HasLife (host : Summary) (held : Held) : Type 0 where
   pub spelled : IsSpelled config
   pub life : IsLife config passes events host held
 
+-- The same, and in that life each start word of an output's voltages, and each that was ordered for one, has a value
+-- within these limits.
+pub record HasLifeWithin (output : ℕ) (bounds : Bounds) (host : Summary) (held : Held) : Type 0 where
+  pub has : HasLife host held
+  pub within : OwnWithin has.config has.passes has.events output bounds
+
+-- an output's limits let through nothing that these don't
+abbrev pub AreAsNarrow : Option Bounds → Bounds → Type 0
+AreAsNarrow None bounds = ⊥
+AreAsNarrow (Some own) bounds = is_wider (Some bounds) own ≡ false
+
 -- A driver may begin: some life led to the converter, with whatever host, and the host is as new, made for this
 -- converter's address and outputs, and for as many passes as that life's host.
 pub record MayBegin (host : Summary) (held : Held) : Type 0 where
@@ -40,23 +63,29 @@ pub record MayBegin (host : Summary) (held : Held) : Type 0 where
   pub has : HasLife was held
   pub made : host ≡ start (setup_of has.config has.passes)
 
--- What a call does that asks for a job. It is refused exactly where the host refuses the job, and then nothing
--- changes. Otherwise the job is carried out: the driver leads to where it ended, no frame is left, and what the end
--- is worth holds.
-pub record Runs {B : Type 0} (gives : B → Call → B → Type 0) (held : B → Held) (job : Job) (old : Driven B) (result : Result JobEnd HostFault) (new : Driven B) : Type 0 where
-  pub fault : result_err result ≡ begin_fault old.host job
-  pub leads : IfOk result (λ end. IsSomeAnd (accepted_job old.host job)
-      (λ begun. Leads gives held (Began begun ∷ []) (Some end) old new))
-  pub says : IfOk result (λ end. IsSomeAnd (accepted_job old.host job)
-      (λ begun. EndSays begun new.host (held new.bus) end))
-  pub over : OnOk result (frames_left new.host ≡ 0)
+-- What a call does that asks for a job. It is refused exactly where the host or its limits refuse the job, and then
+-- nothing changes. Otherwise the job is carried out: the driver leads to where it ended, no frame is left, and what
+-- the end is worth holds. Where all words of an output were within limits that its own are as narrow as, they still
+-- are (`within`).
+pub record Runs {B : Type 0} (gives : B → Call → B → Type 0) (held : B → Held) (job : Job) (old : Driving B) (result : Result JobEnd LimitFault) (new : Driving B) : Type 0 where
+  pub fault : result_err result ≡ guard_fault old.guard job
+  pub leads : IfOk result (λ end. IsSomeAnd (accepted_job old.guard.host job)
+      (λ begun. Leads gives held (Began begun ∷ []) (Some end) (driven old) (driven new)))
+  pub says : IfOk result (λ end. IsSomeAnd (accepted_job old.guard.host job)
+      (λ begun. EndSays begun new.guard.host (held new.bus) end))
+  pub over : OnOk result (frames_left new.guard.host ≡ 0)
   pub err : OnErr result (new ≡ old)
-  pub kept : new.host.setup ≡ old.host.setup
+  pub limits : new.guard.limits ≡ old.guard.limits
+  pub kept : new.guard.host.setup ≡ old.guard.host.setup
+  pub within : (output : ℕ) (bounds : Bounds) → AreAsNarrow (limits_at old.guard output) bounds →
+      HasLifeWithin output bounds old.guard.host (held old.bus) →
+      HasLifeWithin output bounds new.guard.host (held new.bus)
 
 -- What holds of a host and a converter to which a life led: the laws of lives, each of this one. What the host
 -- calls confirmed and possible is true of the converter (`confirmed`, `possible`), it saw no restart that didn't
 -- happen (`seen`), each cell has a word of its own (`own`), each output commands the value of one of its own
--- words (`commanded`), and the formats that the host learned are the converter's (`formats`).
+-- words (`commanded`), and the formats that the host learned are the converter's (`formats`). An output whose words all
+-- lie within limits commands a voltage within them (`limited`).
 pub record IsTrueOf (host : Summary) (held : Held) : Type 0 where
   pub has : HasLife host held
   pub confirmed : ConfirmedIsHeld has.config has.passes has.events (now has.config has.passes has.events)
@@ -68,3 +97,6 @@ pub record IsTrueOf (host : Summary) (held : Held) : Type 0 where
   pub commanded : (output : ℕ) → output < has.config.count →
       CommandsOwn has.config has.passes has.events output
       (commanded (value_for held.config output) held.words output)
+  pub limited : (output : ℕ) (bounds : Bounds) (lived : HasLifeWithin output bounds host held) →
+      output < lived.has.config.count →
+      IsWithin bounds (commanded (value_for held.config output) held.words output)

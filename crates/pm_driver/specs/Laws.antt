@@ -1,5 +1,6 @@
 -- The laws of a driver, over the definitions alone.
 use Rattle.std.specs.Prelude.{◌≡◌, ℕ, true, List, ◌++◌, Option, Some}
+use Rattle.pm_limits.specs.Bounds.{Bounds}
 use Rattle.pm_device.specs.declared.config.Config.{Config}
 use Rattle.pm_device.specs.Held.{Held}
 use Rattle.pm_device.specs.Start.{IsSound}
@@ -11,10 +12,11 @@ use Rattle.pm_host.specs.Transcript.{Job, last_job}
 use Rattle.pm_world.specs.declared.event.Event.{Event}
 use Rattle.pm_world.specs.Honest.{IsSpelled}
 use Rattle.pm_world.specs.Life.{life, now}
+use Rattle.pm_world.specs.Limited.{StartsWithin}
 use Rattle.pm_world.specs.Setup.{setup_of}
 use Rattle.pm_world.specs.Uncertainty.{AreLegal}
 use Rattle.pm_driver.specs.Acts.{Act, Call}
-use Rattle.pm_driver.specs.Driven.{MayBegin}
+use Rattle.pm_driver.specs.Driven.{HasLifeWithin, MayBegin}
 use Rattle.pm_driver.specs.Ends.{EndSays}
 use Rattle.pm_driver.specs.Lives.{Driven, Leads, newest_tells}
 
@@ -36,3 +38,9 @@ abbrev pub NewConvertersMayBegin : Type 0
 NewConvertersMayBegin = (config : Config) (passes : ℕ) →
     IsSound config → IsSpelled config → IsSetup (setup_of config passes) →
     MayBegin (start (setup_of config passes)) (history.start_of config)
+
+-- Where the start words of an output's voltages lie within limits, all words of a converter as it was made do.
+abbrev pub NewConvertersAreWithin : Type 0
+NewConvertersAreWithin = (config : Config) (passes output : ℕ) (bounds : Bounds) →
+    IsSound config → IsSpelled config → IsSetup (setup_of config passes) → StartsWithin config output bounds →
+    HasLifeWithin output bounds (start (setup_of config passes)) (history.start_of config)

@@ -1,18 +1,20 @@
 -- What a driver's acts come to, over every life that may have led to where they began: this project's own choice.
 -- Lists are newest first.
-use Rattle.std.specs.Prelude.{◌≡◌, ℕ, Bool, true, false, List, ◌∷◌, ◌++◌, Option, Some, None}
+use Rattle.std.specs.Prelude.{◌≡◌, ℕ, Bool, true, false, List, [], ◌∷◌, ◌++◌, Option, Some, None}
 use Rattle.pm_device.specs.declared.config.Config.{Config}
 use Rattle.pm_device.specs.Held.{Held}
 use Rattle.pm_device.specs.Start.{IsSound}
+use Rattle.pm_host.specs.declared.job.Job.{Job}
 use Rattle.pm_host.specs.declared.job_end.JobEnd.{JobEnd}
 use Rattle.pm_host.specs.Refusals.{IsSetup}
 use Rattle.pm_host.specs.Summary.{Summary}
 use Rattle.pm_world.specs.declared.event.Event.{Event}
 use Rattle.pm_world.specs.declared.event.Event.TheVariants.{Finish, Exchange}
+use Rattle.pm_world.specs.Job.{asked_by}
 use Rattle.pm_world.specs.Life.{life, now}
 use Rattle.pm_world.specs.Setup.{setup_of}
-use Rattle.pm_world.specs.Uncertainty.{AreLegal}
-use Rattle.pm_driver.specs.Acts.{Act, Call, AreCalls, AreDone, asked_in, host_by, told_all}
+use Rattle.pm_world.specs.Uncertainty.{AreLegal, job_event}
+use Rattle.pm_driver.specs.Acts.{Act, Began, Call, AreCalls, AreDone, asked_in, host_by, told_all}
 
 -- a driver: what its host holds, and its bus
 pub record Driven (B : Type 0) : Type 0 where
@@ -51,11 +53,25 @@ pub record Goes (config : Config) (passes : ℕ) (before events : List Event) (a
       ≡ told_all acts ++ (life config passes before).entries
   pub ended : EndsSo end (now config passes (events ++ before)).end
 
+-- the jobs that events ask for, and those that acts begin, as an event asks for them
+abbrev pub with_job : Option Job → List Job → List Job
+with_job None jobs = jobs
+with_job (Some job) jobs = job ∷ jobs
+
+abbrev pub jobs_asked : List Event → List Job
+jobs_asked [] = []
+jobs_asked (event ∷ before) = with_job (asked_by event) (jobs_asked before)
+
+abbrev pub jobs_begun : List Act → List Job
+jobs_begun [] = []
+jobs_begun (Began job ∷ acts) = with_job (asked_by (job_event job)) (jobs_begun acts)
+jobs_begun (act ∷ acts) = jobs_begun acts
+
 -- A driver leads from one host and bus to another, asked for just these jobs and restarts of its host. There are
 -- acts, with these jobs and restarts among them, whose calls lead from the one bus to the other, each of the frame
 -- that the host was sending, and what each answered is what the host was told. And there are further events by
 -- which every life that led to the old host and its converter leads to the new ones. A life's events that tell a
--- host something are those of the acts; the others are deliveries, restarts of the converter and readings.
+-- host something are those of the acts, and so are the jobs that they ask for (`orders`); the others are deliveries, restarts of the converter and readings.
 pub record Leads {B : Type 0} (gives : B → Call → B → Type 0) (held : B → Held) (asked : List Act) (end : Option JobEnd) (old new : Driven B) : Type 0 where
   pub acts : List Act
   pub events : List Event
@@ -64,6 +80,7 @@ pub record Leads {B : Type 0} (gives : B → Call → B → Type 0) (held : B �
   pub may : AreDone old.host acts
   pub host : host_by old.host acts ≡ new.host
   pub newest : EndsTold end events
+  pub orders : jobs_asked events ≡ jobs_begun acts
   pub lives : (config : Config) (passes : ℕ) (before : List Event) →
       IsLife config passes before old.host (held old.bus) →
       Goes config passes before events acts end new.host (held new.bus)

@@ -1,64 +1,87 @@
-ghost use Rattle.std.specs.Prelude.{◌≡◌, List, [], ◌∷◌, None};
+ghost use Rattle.std.specs.Prelude.{◌≡◌, ℕ, List, [], ◌∷◌, None, OnOk, OnErr, replicate};
+ghost use Rattle.std.specs.Result.{result_err};
 ghost use Rattle.pm_host.specs.declared.job.Job.TheVariants as asked;
 ghost use Rattle.pm_host.specs.declared.command.Command.TheVariants as command;
 ghost use Rattle.pm_host.specs.Frames.{frames_left};
+ghost use Rattle.pm_host.specs.Summary.{Summary};
+ghost use Rattle.pm_limits.specs.Bounds.{Bounds};
+ghost use Rattle.pm_limits.specs.Guard.{narrow_fault, narrowed};
 ghost use Rattle.pm_driver.specs.Acts.{Renewed};
-ghost use Rattle.pm_driver.specs.Driven.{HasLife, IsTrueOf, MayBegin, Runs};
+ghost use Rattle.pm_driver.specs.Driven.{HasLifeWithin, IsTrueOf, MayBegin, Runs, driven};
 ghost use Rattle.pm_driver.specs.Lives.{Leads};
 
 use crate::bus::Bus;
 use crate::frames::carry_out;
 use crate::laws::{ends_are_true, jobs_lead, leads_compose, renewals_lead};
-use pm_host::{Command, Host, HostFault, Job, JobEnd};
+use pm_host::{Command, Host, Job, JobEnd};
+use pm_limits::{Guard, LimitFault};
 use pm_table::Cell;
 use pm_world::legal_lives_are_followed;
 use std::marker::Model;
 
-/// A host and the bus of its converter. Each call that asks for a job carries it out, and answers how it ended, or
-/// why the host refuses it.
+/// A host with its limits, and the bus of its converter. Each call that asks for a job carries it out, and answers how
+/// it ended, or why the host or its limits refuse it.
 #[derive(Drop)]
 pub struct Driver<B: Bus> {
-    host: Host,
+    guard: Guard,
     bus: B,
 }
 
 impl<B: Bus> Model for Driver<B> {
-    ghost use Rattle.pm_driver.specs.Lives.{Driven};
+    ghost use Rattle.pm_driver.specs.Driven.{Driving};
 
-    ghost Value = { Driven B };
+    ghost Value = { Driving B };
 
     ghost use Rattle.pm_driver.specs.Driven.{HasLife};
 
-    ghost view = { λ d. record { host = d.host; bus = d.bus } };
+    ghost view = { λ d. record { guard = d.guard; bus = d.bus } };
 
-    ghost invariant = { λ d. HasLife d.host (B.held d.bus) };
+    ghost invariant = { λ d. HasLife d.guard.host (B.held d.bus) };
 }
 
 impl<B: Bus> Driver<B> {
-    /// A driver of a new host, made for the address, the outputs and the passes of a life that led to the converter:
-    /// one as it was made ([`new_converters_may_begin`](crate::new_converters_may_begin)), or one that runs, with
-    /// whatever host it had.
+    /// A driver of a new host without limits, which is otherwise as [`guarded`](Driver::guarded).
     pub fn new(host: Host, bus: B) -> Driver<B>
         requires { MayBegin host (B.held bus) }
-        ensures host { result.host ≡ host }
+        ensures guard { result.guard ≡ record { host = host; limits = replicate 8 None } }
         ensures bus { result.bus ≡ bus }
+        ensures within { (was : Summary) (output : ℕ) (bounds : Bounds) → was.setup ≡ host.setup →
+            HasLifeWithin output bounds was (B.held bus) → HasLifeWithin output bounds host (B.held bus) }
+    {
+        Driver::guarded(Guard::over(host), bus)
+    }
+
+    /// A driver of a new host with its limits, made for the address, the outputs and the passes of a life that led to
+    /// the converter: one as it was made ([`new_converters_may_begin`](crate::new_converters_may_begin)), or one that
+    /// runs, with whatever host it had.
+    ///
+    /// Where all words of that life lie within an output's limits (of a new converter:
+    /// [`new_converters_are_within`](crate::new_converters_are_within)), they do here (`within`) and after each
+    /// call, and the output commands a voltage within them: [`laws`](Driver::laws), `limited`.
+    pub fn guarded(guard: Guard, bus: B) -> Driver<B>
+        requires { MayBegin guard.host (B.held bus) }
+        ensures guard { result.guard ≡ guard }
+        ensures bus { result.bus ≡ bus }
+        ensures within { (was : Summary) (output : ℕ) (bounds : Bounds) → was.setup ≡ guard.host.setup →
+            HasLifeWithin output bounds was (B.held bus) → HasLifeWithin output bounds guard.host (B.held bus) }
     {
         // Hands its law to the prover.
         legal_lives_are_followed();
-        Driver { host, bus }
+        Driver { guard, bus }
     }
 
-    /// Carries a job out. How it ended, or why the host refuses it, which changes nothing: the refusals are those of
-    /// [`Host::begin`], in its order.
-    pub fn run(&mut self, job: Job) -> Result<JobEnd, HostFault>
+    /// Carries a job out. How it ended, or why the host or its limits refuse it, which changes nothing: the refusals are
+    /// those of [`Guard::begin`], in its order.
+    pub fn run(&mut self, job: Job) -> Result<JobEnd, LimitFault>
         ensures { Runs B.gives B.held job self.old result self.new }
     {
         // These calls hand their laws to the prover.
         ends_are_true();
         jobs_lead::<B>();
         leads_compose::<B>();
-        self.host.begin(job)?;
-        match carry_out(&mut self.host, &mut self.bus) {
+        legal_lives_are_followed();
+        self.guard.begin(job)?;
+        match carry_out(&mut self.guard, &mut self.bus) {
             Some(end) => Ok(end),
             None => unreachable!(),
         }
@@ -66,14 +89,14 @@ impl<B: Bus> Driver<B> {
 
     /// Writes a word to a cell and reads it back, as [`Job::Order`] says. `Done`: the host calls the word confirmed,
     /// and the converter held it when it answered. `Differs`: the same of the word that was read.
-    pub fn order(&mut self, cell: Cell, word: u16) -> Result<JobEnd, HostFault>
+    pub fn order(&mut self, cell: Cell, word: u16) -> Result<JobEnd, LimitFault>
         ensures { Runs B.gives B.held (asked.Order cell word) self.old result self.new }
     {
         self.run(Job::Order(cell, word))
     }
 
     /// The same of a number of microvolts, as [`Job::OrderMicro`] says.
-    pub fn order_micro(&mut self, cell: Cell, microvolts: i64) -> Result<JobEnd, HostFault>
+    pub fn order_micro(&mut self, cell: Cell, microvolts: i64) -> Result<JobEnd, LimitFault>
         ensures { Runs B.gives B.held (asked.OrderMicro cell microvolts) self.old result self.new }
     {
         self.run(Job::OrderMicro(cell, microvolts))
@@ -81,56 +104,77 @@ impl<B: Bus> Driver<B> {
 
     /// Reads a cell, as [`Job::Check`] says. `Done`: the host calls a word confirmed, and the converter held it when
     /// it answered.
-    pub fn check(&mut self, cell: Cell) -> Result<JobEnd, HostFault>
+    pub fn check(&mut self, cell: Cell) -> Result<JobEnd, LimitFault>
         ensures { Runs B.gives B.held (asked.Check cell) self.old result self.new }
     {
         self.run(Job::Check(cell))
     }
 
     /// Reads the format of an output's voltages, as [`Job::Learn`] says. `Learned`: the host holds the converter's.
-    pub fn learn(&mut self, output: u8) -> Result<JobEnd, HostFault>
+    pub fn learn(&mut self, output: u8) -> Result<JobEnd, LimitFault>
         ensures { Runs B.gives B.held (asked.Learn output) self.old result self.new }
     {
         self.run(Job::Learn(output))
     }
 
     /// Clears an output's latched faults, as [`Command::ClearFaults`] says.
-    pub fn clear(&mut self, output: u8) -> Result<JobEnd, HostFault>
+    pub fn clear(&mut self, output: u8) -> Result<JobEnd, LimitFault>
         ensures { Runs B.gives B.held (asked.Send (command.ClearFaults output)) self.old result self.new }
     {
         self.run(Job::Send(Command::ClearFaults { output }))
     }
 
     /// Has the outputs' settings stored, as [`Command::StoreUserAll`] says.
-    pub fn store(&mut self) -> Result<JobEnd, HostFault>
+    pub fn store(&mut self) -> Result<JobEnd, LimitFault>
         ensures { Runs B.gives B.held (asked.Send command.StoreUserAll) self.old result self.new }
     {
         self.run(Job::Send(Command::StoreUserAll))
     }
 
     /// Has the outputs' stored settings back, as [`Command::RestoreUserAll`] says.
-    pub fn restore(&mut self) -> Result<JobEnd, HostFault>
+    pub fn restore(&mut self) -> Result<JobEnd, LimitFault>
         ensures { Runs B.gives B.held (asked.Send command.RestoreUserAll) self.old result self.new }
     {
         self.run(Job::Send(Command::RestoreUserAll))
     }
 
-    /// Restarts the host, as after a reset of the firmware: nothing is known of the converter then.
+    /// Restarts the host, as after a reset of the firmware: nothing is known of the converter then. The limits stay.
     pub fn restart(&mut self)
-        ensures leads { Leads B.gives B.held (Renewed ∷ []) None self.old self.new }
-        ensures over { frames_left self.new.host ≡ 0 }
-        ensures kept { self.new.host.setup ≡ self.old.host.setup }
+        ensures leads { Leads B.gives B.held (Renewed ∷ []) None (driven self.old) (driven self.new) }
+        ensures over { frames_left self.new.guard.host ≡ 0 }
+        ensures limits { self.new.guard.limits ≡ self.old.guard.limits }
+        ensures kept { self.new.guard.host.setup ≡ self.old.guard.host.setup }
+        ensures within { (output : ℕ) (bounds : Bounds) →
+            HasLifeWithin output bounds self.old.guard.host (B.held self.old.bus) →
+            HasLifeWithin output bounds self.new.guard.host (B.held self.new.bus) }
     {
-        // Hands its law to the prover.
+        // These calls hand their laws to the prover.
         renewals_lead::<B>();
-        self.host.restart();
+        legal_lives_are_followed();
+        self.guard.restart();
+    }
+
+    /// Gives an output narrower limits, as [`Guard::narrow`].
+    pub fn narrow(&mut self, output: u8, least: i64, most: i64) -> Result<(), LimitFault>
+        ensures fault { result_err result ≡ narrow_fault self.old.guard output least most }
+        ensures ok { OnOk result (self.new ≡ record self.old { guard = narrowed self.old.guard output least most }) }
+        ensures err { OnErr result (self.new ≡ self.old) }
+    {
+        self.guard.narrow(output, least, most)
     }
 
     /// The host, for what it says of the cells.
     pub fn host(&self) -> &Host
-        ensures { result.now ≡ self.now.host }
+        ensures { result.now ≡ self.now.guard.host }
     {
-        &self.host
+        self.guard.host()
+    }
+
+    /// The host with its limits, for these and for the bands of its outputs.
+    pub fn guard(&self) -> &Guard
+        ensures { result.now ≡ self.now.guard }
+    {
+        &self.guard
     }
 
     /// The bus.
@@ -142,10 +186,10 @@ impl<B: Bus> Driver<B> {
 
     /// Says what is true of the host and the converter, which some life led to. Does nothing.
     pub fn laws(&self)
-        ensures { IsTrueOf self.now.host (B.held self.now.bus) }
+        ensures { IsTrueOf self.now.guard.host (B.held self.now.bus) }
     {
         legal_lives_are_followed();
         // Opens the driver to the prover.
-        let _ = &self.host;
+        let _ = &self.guard;
     }
 }

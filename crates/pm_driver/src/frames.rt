@@ -9,23 +9,25 @@ ghost use Rattle.pm_driver.specs.Steps.{end_in, StaysOpen};
 
 use crate::bus::Bus;
 use crate::laws::{frames_lead, leads_compose};
-use pm_host::{Host, JobEnd, Step, Told, Turn};
+use pm_host::{JobEnd, Step, Told, Turn};
+use pm_limits::Guard;
 
-/// Carries the host's open job out. How it ended; `None` exactly where no job was open (`some`).
+/// Carries the open job of a host with its limits out. How it ended; `None` exactly where no job was open (`some`).
 ///
 /// Each frame is sent by one call of the bus, and what that answered is what the host is told (`leads`). No frame
-/// is left then (`over`), and the host stays that of its converter (`kept`).
-pub fn carry_out<B: Bus>(host: &mut Host, bus: &mut B) -> Option<JobEnd>
+/// is left then (`over`), the limits stay, and the host stays that of its converter (`kept`).
+pub fn carry_out<B: Bus>(guard: &mut Guard, bus: &mut B) -> Option<JobEnd>
     ensures leads { Leads B.gives B.held [] result
-        (record { host = host.old; bus = bus.old }) (record { host = host.new; bus = bus.new }) }
-    ensures some { is_some result ≡ is_busy host.old }
-    ensures over { frames_left host.new ≡ 0 }
-    ensures kept { host.new.setup ≡ host.old.setup }
+        (record { host = guard.old.host; bus = bus.old }) (record { host = guard.new.host; bus = bus.new }) }
+    ensures some { is_some result ≡ is_busy guard.old.host }
+    ensures over { frames_left guard.new.host ≡ 0 }
+    ensures limits { guard.new.limits ≡ guard.old.limits }
+    ensures kept { guard.new.host.setup ≡ guard.old.host.setup }
 {
     // Hands its law to the prover.
     leads_compose::<B>();
     'frames: loop {
-        match send(host, bus) {
+        match send(guard, bus) {
             None => return None,
             Some(Step::Next) => {}
             Some(Step::Ended(end)) => return Some(end),
@@ -34,31 +36,32 @@ pub fn carry_out<B: Bus>(host: &mut Host, bus: &mut B) -> Option<JobEnd>
 }
 
 // Sends one frame, and tells the host what came of it; `None` where no job is open.
-fn send<B: Bus>(host: &mut Host, bus: &mut B) -> Option<Step>
+fn send<B: Bus>(guard: &mut Guard, bus: &mut B) -> Option<Step>
     ensures leads { Leads B.gives B.held [] (end_in result)
-        (record { host = host.old; bus = bus.old }) (record { host = host.new; bus = bus.new }) }
-    ensures some { is_some result ≡ is_busy host.old }
-    ensures open { StaysOpen result host.new }
-    ensures left { MatchOption result (frames_left host.new ≡ 0)
-        (λ step. frames_left host.new < frames_left host.old) }
-    ensures over { MatchOption result (frames_left host.new ≡ 0)
-        (λ step. OnEnded step (frames_left host.new ≡ 0)) }
-    ensures kept { host.new.setup ≡ host.old.setup }
+        (record { host = guard.old.host; bus = bus.old }) (record { host = guard.new.host; bus = bus.new }) }
+    ensures some { is_some result ≡ is_busy guard.old.host }
+    ensures open { StaysOpen result guard.new.host }
+    ensures left { MatchOption result (frames_left guard.new.host ≡ 0)
+        (λ step. frames_left guard.new.host < frames_left guard.old.host) }
+    ensures over { MatchOption result (frames_left guard.new.host ≡ 0)
+        (λ step. OnEnded step (frames_left guard.new.host ≡ 0)) }
+    ensures limits { guard.new.limits ≡ guard.old.limits }
+    ensures kept { guard.new.host.setup ≡ guard.old.host.setup }
 {
     // Hands its law to the prover.
     frames_lead::<B>();
     let mut answer = [0; 8];
-    let step = match host.turn() {
+    let step = match guard.turn() {
         Turn::Idle => return None,
         Turn::Write(packet) => {
             let acked = bus.write(packet.as_slice());
-            host.told(Told::Finished { acked })
+            guard.told(Told::Finished { acked })
         }
         Turn::Request { frame, bytes } => {
             // A buffer that keeps the last answer is how a read that never happened gets believed.
             let room = &mut answer[..bytes];
             let count = bus.read(frame.as_slice(), room);
-            host.told(Told::Got(&room[..count]))
+            guard.told(Told::Got(&room[..count]))
         }
     };
     Some(step)

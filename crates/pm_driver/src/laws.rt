@@ -1,6 +1,6 @@
 //! The laws of a driver: each is the contract of a function that does nothing when it runs.
 
-ghost use Rattle.pm_driver.specs.Laws.{EndsAreTrue, LeadsCompose, NewConvertersMayBegin};
+ghost use Rattle.pm_driver.specs.Laws.{EndsAreTrue, LeadsCompose, NewConvertersAreWithin, NewConvertersMayBegin};
 ghost use Rattle.pm_driver.specs.Steps.{FramesLead, JobsLead, RenewalsLead};
 
 use crate::bus::Bus;
@@ -27,6 +27,13 @@ pub fn ends_are_true()
 /// A new host may begin beside a converter as it was made.
 pub fn new_converters_may_begin()
     ensures { NewConvertersMayBegin }
+{
+    legal_lives_are_followed();
+}
+
+/// Where the start words of an output's voltages lie within limits, all words of a converter as it was made do.
+pub fn new_converters_are_within()
+    ensures { NewConvertersAreWithin }
 {
     legal_lives_are_followed();
 }

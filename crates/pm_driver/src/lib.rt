@@ -14,7 +14,7 @@
 //! An order, over a bus of the caller's:
 //!
 //! ```
-//! fn ordered<B: Bus>(driver: &mut Driver<B>) -> Result<JobEnd, HostFault> {
+//! fn ordered<B: Bus>(driver: &mut Driver<B>) -> Result<JobEnd, LimitFault> {
 //!     driver.order(Cell::Out(0, Reg::VoutCommand), 0x34CD) // Done: the converter held 34CDh when it was read
 //! }
 //! ```
@@ -28,4 +28,6 @@ mod laws;
 pub use bus::Bus;
 pub use driver::Driver;
 pub use frames::carry_out;
-pub use laws::{ends_are_true, leads_compose, new_converters_may_begin};
+pub use laws::{
+    ends_are_true, leads_compose, new_converters_are_within, new_converters_may_begin,
+};

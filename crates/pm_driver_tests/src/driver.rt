@@ -6,7 +6,12 @@ use pm_device::Converter;
 use pm_device_tests::{BASE, FIRST};
 use pm_driver::{Bus, carry_out};
 use pm_host::{Host, HostFault, JobEnd, Standing};
+use pm_limits::{Guard, LimitFault};
+use pm_table::{Cell, Reg};
 use pm_world::{Arrival, Back};
+
+// OPERATION of the first output.
+static SWITCH: Cell = Cell::Out(0, Reg::Operation);
 
 // No fault.
 fn whole() -> Fault {
@@ -62,7 +67,7 @@ fn held(device: &Converter) -> u16 {
 }
 
 // How an order of 34CDh ends, with two passes, what the host says of the cell, and the word that the converter holds.
-fn ordered(plan: &[Fault]) -> Option<(Result<JobEnd, HostFault>, Standing, u16)> {
+fn ordered(plan: &[Fault]) -> Option<(Result<JobEnd, LimitFault>, Standing, u16)> {
     let mut driver = driver_over(BASE, 2, plan)?;
     let end = driver.order(FIRST, 0x34CD);
     Some((end, said(driver.host()), held(&driver.bus().device)))
@@ -70,15 +75,15 @@ fn ordered(plan: &[Fault]) -> Option<(Result<JobEnd, HostFault>, Standing, u16)>
 
 // How an order of 34CDh ends over a bus, with this many passes; none where it is refused.
 fn carried_out<B: Bus>(bus: &mut B, passes: u8) -> Option<(Option<JobEnd>, Standing)> {
-    let mut host = match Host::new(BASE.addr, BASE.count, passes) {
-        Ok(host) => host,
+    let mut guard = match Host::new(BASE.addr, BASE.count, passes) {
+        Ok(host) => Guard::over(host),
         Err(_) => return None,
     };
-    if host.order(FIRST, 0x34CD).is_err() {
+    if guard.order(FIRST, 0x34CD).is_err() {
         return None;
     }
-    let end = carry_out(&mut host, bus);
-    Some((end, said(&host)))
+    let end = carry_out(&mut guard, bus);
+    Some((end, said(guard.host())))
 }
 
 #[test]
@@ -114,7 +119,7 @@ fn each_job_has_its_end(rt: HostRuntime) {
             equal(
                 &rt,
                 &driver.order_micro(FIRST, 3_300_000),
-                &Err(HostFault::FormatUnknown),
+                &Err(LimitFault::Host(HostFault::FormatUnknown)),
                 &2,
             );
             equal(&rt, &driver.learn(0), &Ok(JobEnd::Learned), &3);
@@ -128,15 +133,69 @@ fn each_job_has_its_end(rt: HostRuntime) {
             equal(&rt, &driver.store(), &Ok(JobEnd::Done), &5);
             equal(&rt, &driver.restore(), &Ok(JobEnd::Done), &6);
             equal(&rt, &said(driver.host()), &Standing::Unknown, &6);
-            equal(&rt, &driver.clear(2), &Err(HostFault::UnknownOutput), &7);
+            equal(&rt, &driver.clear(2), &Err(LimitFault::Host(HostFault::UnknownOutput)), &7);
             equal(&rt, &driver.clear(1), &Ok(JobEnd::Done), &8);
             driver.restart();
             equal(
                 &rt,
                 &driver.order_micro(FIRST, 3_300_000),
-                &Err(HostFault::FormatUnknown),
+                &Err(LimitFault::Host(HostFault::FormatUnknown)),
                 &9,
             );
+        }
+        None => panic!(rt; "refused"),
+    }
+}
+
+// Limits refuse before a frame is sent, and narrower ones more; turning off is let through.
+#[test]
+fn limits_refuse_before_a_frame_is_sent(rt: HostRuntime) {
+    match driver_over(BASE, 2, &[whole(), whole(), whole(), whole(), whole()]) {
+        Some(mut driver) => {
+            equal(&rt, &driver.narrow(0, 900_000, 3_465_000), &Ok(()), &1);
+            equal(
+                &rt,
+                &driver.order(FIRST, 0x34CD),
+                &Err(LimitFault::FormatUnknown),
+                &2,
+            );
+            equal(&rt, &driver.learn(0), &Ok(JobEnd::Learned), &3);
+            equal(
+                &rt,
+                &driver.order_micro(FIRST, 12_000_000),
+                &Err(LimitFault::AboveLimit),
+                &4,
+            );
+            equal(
+                &rt,
+                &driver.order(FIRST, 0x0800),
+                &Err(LimitFault::BelowLimit),
+                &5,
+            );
+            equal(
+                &rt,
+                &driver.order(SWITCH, 0x80),
+                &Err(LimitFault::NotKnownWithin),
+                &6,
+            );
+            equal(&rt, &driver.bus().plan.len(), &4, &7);
+            equal(&rt, &driver.order(FIRST, 0x34CD), &Ok(JobEnd::Done), &8);
+            equal(&rt, &held(&driver.bus().device), &0x34CD, &8);
+            equal(
+                &rt,
+                &driver.narrow(0, 900_000, 3_500_000),
+                &Err(LimitFault::LimitsWidened),
+                &9,
+            );
+            equal(&rt, &driver.narrow(0, 900_000, 3_000_000), &Ok(()), &10);
+            equal(
+                &rt,
+                &driver.order(FIRST, 0x34CD),
+                &Err(LimitFault::AboveLimit),
+                &11,
+            );
+            equal(&rt, &driver.order(SWITCH, 0x00), &Ok(JobEnd::Done), &12);
+            equal(&rt, &driver.guard().limits(1).is_some(), &false, &13);
         }
         None => panic!(rt; "refused"),
     }
@@ -176,14 +235,17 @@ fn buses_of_other_kinds_carry_a_job_out(rt: HostRuntime) {
 
 #[test]
 fn an_idle_host_sends_nothing(rt: HostRuntime) {
-    match (Converter::new(BASE), Host::new(BASE.addr, BASE.count, 2)) {
-        (Ok(device), Ok(mut host)) => {
+    match (
+        Converter::new(BASE),
+        Guard::new(BASE.addr, BASE.count, 2, [None; 8]),
+    ) {
+        (Ok(device), Ok(mut guard)) => {
             let plan = [whole()];
             let mut bus = SimulatedBus {
                 device,
                 plan: &plan,
             };
-            equal(&rt, &carry_out(&mut host, &mut bus), &None, &1);
+            equal(&rt, &carry_out(&mut guard, &mut bus), &None, &1);
             equal(&rt, &bus.plan.len(), &1, &2);
         }
         _ => panic!(rt; "refused"),

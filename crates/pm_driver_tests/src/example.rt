@@ -5,10 +5,11 @@ use pm_buses::{Fault, driver_over};
 use pm_device::Config;
 use pm_device_tests::BASE;
 use pm_driver::{Bus, Driver};
-use pm_host::{HostFault, JobEnd};
+use pm_host::JobEnd;
+use pm_limits::LimitFault;
 use pm_table::{Cell, Reg};
 
-fn ordered<B: Bus>(driver: &mut Driver<B>) -> Result<JobEnd, HostFault> {
+fn ordered<B: Bus>(driver: &mut Driver<B>) -> Result<JobEnd, LimitFault> {
     driver.order(Cell::Out(0, Reg::VoutCommand), 0x34CD) // Done: the converter held 34CDh when it was read
 }
 

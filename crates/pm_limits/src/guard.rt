@@ -1,6 +1,6 @@
 mod calls;
 
-ghost use Rattle.std.specs.Prelude.{◌≡◌, ◌<◌, Some, IfOk, OnOk, OnErr, slice_set};
+ghost use Rattle.std.specs.Prelude.{◌≡◌, ◌<◌, Some, None, IfOk, OnOk, OnErr, replicate, slice_set};
 ghost use Rattle.std.specs.Result.{result_err};
 ghost use Rattle.pm_table.specs.Address.{IsAddress};
 ghost use Rattle.pm_host.specs.Refusals.{IsSetup, setup_fault};
@@ -64,6 +64,17 @@ impl Guard {
         match Host::new(addr, outputs, passes) {
             Ok(host) => Ok(Guard { host, limits }),
             Err(fault) => Err(fault),
+        }
+    }
+
+    /// A host as a guard without limits, which does what the host does. Limits that it is given later are as those
+    /// that are narrowed: what was ordered before stays possible.
+    pub fn over(host: Host) -> Guard
+        ensures { result ≡ record { host = host; limits = replicate 8 None } }
+    {
+        Guard {
+            host,
+            limits: [None; OUTPUTS],
         }
     }
 

@@ -1,4 +1,5 @@
 mod GotLemmas
 pub mod JobLemmas
 pub mod Joins
+pub mod LimitTexts
 mod SendLemmas

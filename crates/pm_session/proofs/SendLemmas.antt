@@ -4,14 +4,12 @@ use Rattle.std.specs.Option.{option_map_or}
 use Rattle.pm_frame.specs.declared.message.Message.{Message}
 use Rattle.pm_frame.specs.Fault.{whole_answer}
 use Rattle.pm_frame.specs.Layout.{IsWrite, IsRequest}
-use Rattle.pm_world.specs.Legal.{frame_of}
 use Rattle.pm_session.specs.Session.{send_of}
 use Rattle.pm_session.specs.declared.reply.Reply.TheVariants.{Write, Request, Idle}
 
 -- of a write
 pub write_sent : (addr : ℕ) (message : Option Message) (bytes : List ℕ) → IsSomeAnd message (λ m. IsWrite addr m bytes)
     → Write (record { items = bytes }) ≡ option_map_or (send_of addr) message Idle
-unfolding frame_of
 write_sent addr None bytes is = absurd is
 write_sent addr (Some m) bytes is = let spelled = is.spelled in rw is.writes (ap (λ (b : List ℕ). Write (record { items = b })) spelled)
 
@@ -19,7 +17,6 @@ write_sent addr (Some m) bytes is = let spelled = is.spelled in rw is.writes (ap
 pub request_sent : (addr count : ℕ) (message : Option Message) (bytes : List ℕ) → IsSomeAnd message (λ m. IsRequest addr m bytes)
     → IsSomeAnd message (λ m. count ≡ whole_answer m)
     → Request (record { items = bytes }) (count - 1) ≡ option_map_or (send_of addr) message Idle
-unfolding frame_of
 request_sent addr count None bytes is counted = absurd is
 request_sent addr count (Some m) bytes is counted =
     rw (counted, is.reads) (ap (λ (b : List ℕ). Request (record { items = b }) (whole_answer m - 1)) is.spelled)

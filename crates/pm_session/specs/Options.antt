@@ -71,13 +71,13 @@ limited_once g (Some limits) = if is_some (limits_at g limits.output) then Err L
     else limited_by g limits (narrow_fault g limits.output limits.least limits.most)
 
 -- the first bad one counts
-abbrev pub limited_on : List (List ℕ) → (List (List ℕ) → Guarded → Result Guarded StartFault) → Result Guarded StartFault → Result Guarded StartFault
-limited_on texts more (Ok g) = more texts g
-limited_on texts more (Err fault) = Err fault
+abbrev pub limited_more : List ℕ → Result Guarded StartFault → Result Guarded StartFault
+limited_more text (Ok g) = limited_once g (limits_of text)
+limited_more text (Err fault) = Err fault
 
-abbrev pub limited : List (List ℕ) → Guarded → Result Guarded StartFault
-limited [] g = Ok g
-limited (text ∷ texts) g = limited_on texts limited (limited_once g (limits_of text))
+abbrev pub limited : List (List ℕ) → Result Guarded StartFault → Result Guarded StartFault
+limited [] made = made
+limited (text ∷ texts) made = limited texts (limited_more text made)
 
 -- ---- what the options make, from the first that is bad on
 
@@ -93,7 +93,7 @@ start_by None outputs passes limits = Err Address
 start_by (Some addr) None passes limits = Err Outputs
 start_by (Some addr) (Some outputs) None limits = Err Passes
 start_by (Some addr) (Some outputs) (Some passes) limits =
-    limited_on limits limited (started addr outputs passes (setup_fault outputs passes))
+    limited limits (started addr outputs passes (setup_fault outputs passes))
 
 unfoldable pub start_of : Options → Result Guarded StartFault
 start_of options = start_by (address_of options.address.now) (small_of options.outputs.now)

@@ -114,9 +114,10 @@ impl<'a> Options<'a> {
 }
 
 // The host with the limits that these texts write, each of an output that has none yet.
+#[tactic(auto, using(crate::proofs::LimitTexts::fault_stays))]
 fn with_limits(mut guard: Guard, texts: &[&str]) -> Result<Guard, StartFault>
-    ensures { MatchResult result (λ limits. limited (map (λ text. text.now) texts.now) guard.entry ≡ Ok limits)
-        (λ fault. limited (map (λ text. text.now) texts.now) guard.entry ≡ Err fault) }
+    ensures { MatchResult result (λ limits. limited (map (λ text. text.now) texts.now) (Ok guard) ≡ Ok limits)
+        (λ fault. limited (map (λ text. text.now) texts.now) (Ok guard) ≡ Err fault) }
 {
     for text in texts {
         if let Err(fault) = limit_once(&mut guard, text) {

@@ -2,7 +2,7 @@
 ghost use Rattle.std.specs.Prelude.{◌≡◌, ◌+◌, ◌*◌, ◌≤◌, ◌++◌, codes, length};
 ghost use Rattle.std.specs.Fmt.{signed_decimal};
 ghost use Rattle.arrayvec.specs.ArrayVec.{array_vec_len};
-ghost use Rattle.pm_text.specs.Report.{cell_text, end_text, floor_micros, possible_text, spaced_words, standing_text};
+ghost use Rattle.pm_text.specs.Report.{cell_text, end_text, possible_text, spaced_words, standing_text};
 ghost use Rattle.pm_session.specs.ReplyText.{band_text, ceil_micros, limits_text, refusal_words, reply_text as spec_reply_text, reply_words, spaced_bytes, spaced_pair};
 ghost use Rattle.pm_lines.specs.Numbers.{hex_byte, hex_word};
 
@@ -14,6 +14,7 @@ use pm_lines::hex_digits;
 use pm_num::Frac;
 use pm_table::Cell;
 use pm_talk::AnswerText;
+use pm_text::microvolts;
 
 /// The line of an answer, with its line feed: at most 110 bytes.
 pub type ReplyText = AnswerText;
@@ -89,7 +90,7 @@ fn push_band(text: &mut ReplyText, band: Option<Band>)
     ensures room { array_vec_len text.new ≤ array_vec_len text.old + 82 }
 {
     match band {
-        Some(band) => push_pair(text, floor_of(&band.least), ceil_of(&band.greatest)),
+        Some(band) => push_pair(text, microvolts(band.least), microvolts_up(band.greatest)),
         None => push(text, b" unknown"),
     }
 }
@@ -110,19 +111,13 @@ fn push_limits(text: &mut ReplyText, limits: Option<Limits>)
     }
 }
 
-// The whole microvolts of a voltage, of which none is above it.
-fn floor_of(value: &Frac) -> i128
-    ensures { result ≡ floor_micros value.now }
-{
-    value.floor_micro()
-}
-
-// The same of which none is below it.
-fn ceil_of(value: &Frac) -> i128
-    ensures { result ≡ ceil_micros value.now }
+// The whole microvolts of a voltage, of which it has no more.
+#[tactic(auto, unfolding(crate::specs::ReplyText::ceil_micros))]
+fn microvolts_up(value: Frac) -> i128
+    ensures { result ≡ ceil_micros value }
 {
     match Frac::new(-value.num(), value.den()) {
-        Some(below) => -floor_of(&below),
+        Some(below) => -microvolts(below),
         None => unreachable!(),
     }
 }

@@ -30,6 +30,7 @@ pub fn answer_line(guard: &mut Guard, line: &[u8]) -> Reply
 }
 
 // Answers what a line asks.
+#[tactic(auto, using(crate::proofs::JobLemmas::with_host_is))]
 fn answer(guard: &mut Guard, ask: Ask) -> Reply
     ensures reply { result ≡ (answers guard.old ask).reply }
     ensures after { guard.new ≡ (answers guard.old ask).after }
@@ -68,6 +69,7 @@ fn begin(guard: &mut Guard, job: Job) -> Reply
 }
 
 // The write that was sent is over.
+#[tactic(auto, using(crate::proofs::JobLemmas::with_host_is))]
 fn finished(guard: &mut Guard, acked: bool) -> Reply
     ensures reply { result ≡ (answers guard.old (ask.Finished acked)).reply }
     ensures after { guard.new ≡ (answers guard.old (ask.Finished acked)).after }
@@ -83,6 +85,7 @@ fn finished(guard: &mut Guard, acked: bool) -> Reply
 }
 
 // These bytes came back for the request.
+#[tactic(auto, using(crate::proofs::JobLemmas::with_host_is))]
 fn got(guard: &mut Guard, bytes: &[u8]) -> Reply
     ensures reply { result ≡ (tells guard.old (Got bytes.now)).reply }
     ensures after { guard.new ≡ (tells guard.old (Got bytes.now)).after }

@@ -194,12 +194,12 @@ A proved PMBus host that is spoken to in lines, for scripts that drive a bus
 Usage: pmbhost [OPTIONS]
 
 Options:
-      --address <HH>  The device's address, two hexadecimal digits from 08 to 77
-      --outputs <N>   How many outputs the device has, 1 to 8
-      --passes <N>    How many passes or tries a job has at most, 1 to 15
+      --address <HH>          The device's address, two hexadecimal digits from 08 to 77
+      --outputs <N>           How many outputs the device has, 1 to 8
+      --passes <N>            How many passes or tries a job has at most, 1 to 15
       --limit <O:LEAST:MOST>  The limits of an output's voltage in microvolts, once an output at most
-  -h, --help          Print help
-  -V, --version       Print version
+  -h, --help                  Print help
+  -V, --version               Print version
 
 Each line of standard input gets one line at once. A line says:
   order 0 VOUT_COMMAND 34CD      write a word and read it back; order - WRITE_PROTECT 40

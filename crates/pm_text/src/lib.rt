@@ -42,6 +42,7 @@ pub use pm_trace::{
 pub use ran::Ran;
 pub use replay_end::ReplayEnd;
 pub use replays::replay;
+pub use report::outputs::microvolts;
 pub use report::render_report;
 pub use scenario::cells::cell as read_cell;
 pub use scenario::event_line::finish as read_finish;

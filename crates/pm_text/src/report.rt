@@ -4,7 +4,7 @@ ghost use Rattle.pm_world.specs.FaultWords.{cause_text};
 ghost use Rattle.pm_text.specs.Kinds.{form_of};
 ghost use Rattle.pm_text.specs.Report.{cml_line, first_line, job_line, job_text, report_text, seen_line, world_lines};
 
-mod outputs;
+pub(crate) mod outputs;
 mod settings;
 
 use crate::form::Form;

@@ -45,7 +45,7 @@ use Rattle.pm_world.specs.declared.event.Event.TheVariants.{Deliver, Exchange, F
 use Rattle.pm_world.specs.Honest.{IsSpelled}
 use Rattle.pm_world.specs.Job.{asked_by}
 use Rattle.pm_world.specs.Life.{now}
-use Rattle.pm_world.specs.Limited.{AreGuarded, MaxAtMost, MinAtLeast, OwnWithin, StartsWithin, StaysLimited, commands}
+use Rattle.pm_world.specs.Limited.{AreGuarded, MaxAtMost, MinAtLeast, OrdersWithin, OwnWithin, StartsWithin, StaysLimited, commands}
 use Rattle.pm_world.specs.Retelling.{CommandsOwn, IsOwnWord, accepts, open_pending, pending_of, taken_at, takes, told, told_beside}
 use Rattle.pm_world.specs.State.{asked}
 use Rattle.pm_world.proofs.LearnedLives.{formats-agree}
@@ -224,6 +224,41 @@ told-asked config passes before event cell word is = go (asked (now config passe
   go (Some job) h = ap (λ (j : host.Job). Some j) (accepts-order cell word job h)
   go None h = absurd (not-beside config passes before cell word event h)
 
+-- one more event, which orders no word beyond the limits
+one-more : (config : Config) (passes : ℕ) (event : Event) (before : List Event) (output : ℕ) (bounds : Bounds) →
+    OwnWithin config passes before output bounds →
+    ((register : Reg) (word : ℕ) → is_voltage register ≡ true →
+    asked (now config passes before) event ≡ Some (host.Order (Out output register) word) →
+    IsWithin bounds (value_for config output word)) →
+    OwnWithin config passes (event ∷ before) output bounds
+one-more config passes event before output bounds own newest register word voltage (inl start) = own register word voltage (inl start)
+one-more config passes event before output bounds own newest register word voltage (inr was) = go was.later was.is where
+  go : (later : List Event) → event ∷ before ≡ later ++ was.event ∷ was.before → IsWithin bounds (value_for config output word)
+  go [] is =
+      let same : was.event ≡ event = cc in
+      let rest : was.before ≡ before = cc in
+      newest register word voltage (told-asked config passes before event (Out output register) word
+      (subst (λ e. told config passes before e ≡ Accept (pending.Order (Out output register) word) ∷ []) same
+      (subst (λ b. told config passes b was.event ≡ Accept (pending.Order (Out output register) word) ∷ []) rest was.orders)))
+  go (newer ∷ later) is =
+      let rest : before ≡ later ++ was.event ∷ was.before = cc in
+      own register word voltage (inr (record {
+        later = later;
+        event = was.event;
+        before = was.before;
+        is = rest;
+        orders = was.orders;
+      }))
+
+-- so of several
+stays-kept : (config : Config) (passes : ℕ) (output : ℕ) (bounds : Bounds) (later before : List Event) →
+    OwnWithin config passes before output bounds → OrdersWithin config passes later before output bounds →
+    OwnWithin config passes (later ++ before) output bounds
+stays-kept config passes output bounds [] before own all = own
+stays-kept config passes output bounds (event ∷ later) before own all =
+    one-more config passes event (later ++ before) output bounds
+    (stays-kept config passes output bounds later before own all.1) all.0
+
 -- and was let through
 guarded-at : (config : Config) (passes : ℕ) (limits : List (Option Bounds)) (later : List Event) (event : Event) (before : List Event) →
     AreGuarded config passes limits (later ++ event ∷ before) →
@@ -274,4 +309,6 @@ stays laws config passes events lived spelled = record {
   most = stays-below laws lived;
   least = stays-above laws lived;
   guarded = stays-guarded laws lived spelled;
+  kept = λ output bounds later before is own all. subst (λ es. OwnWithin config passes es output bounds) (sym is)
+      (stays-kept config passes output bounds later before own all);
 }

@@ -33,6 +33,7 @@ use Rattle.pm_world.specs.Damage.{AreOthers, IsBetrayedDamage}
 use Rattle.pm_world.specs.Ended.{DiffersNeverTook}
 use Rattle.pm_world.specs.Honest.{AreFewFrames, FormatsAgree, IsSpelled, MicrosAreNearest, OrdersGoThrough, honest, sent_by}
 use Rattle.pm_world.specs.Legal.{answer_in, frame_of, is_legal_hearing, is_legal_return}
+use Rattle.pm_world.specs.Limited.{StaysLimited}
 use Rattle.pm_world.specs.Life.{AreTaken, AreTakenFrom, after_all, life, now}
 use Rattle.pm_world.specs.OpenLists.{are_open, stays_open}
 use Rattle.pm_world.specs.Possible.{PossibleIsHeld, SeenIsTrue, restarted_since_host}
@@ -193,6 +194,9 @@ pub record LegalLivesAreFollowed : Type 0 where
   pub nearest : (config : Config) (passes : ℕ) (events : List Event) →
       IsSound config → IsSpelled config → IsSetup (setup_of config passes) →
       AreLegal config passes events → MicrosAreNearest config passes events
+  pub limited : (config : Config) (passes : ℕ) (events : List Event) →
+      IsSound config → IsSpelled config → IsSetup (setup_of config passes) →
+      AreLegal config passes events → StaysLimited config passes events
   pub confirmed : (config : Config) (passes : ℕ) (events : List Event) →
       IsSound config → IsSetup (setup_of config passes) → AreLegal config passes events →
       ConfirmedIsHeld config passes events (now config passes events)

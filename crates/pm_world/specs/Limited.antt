@@ -9,12 +9,14 @@ use Rattle.pm_model.specs.Commanded.{commanded}
 use Rattle.pm_device.specs.declared.config.Config.{Config}
 use Rattle.pm_device.specs.Held.{value_for}
 use Rattle.pm_device.specs.Start.{start_word}
+use Rattle.pm_host.specs.Transcript as host
 use Rattle.pm_limits.specs.Bounds.{Bounds, IsWithin}
 use Rattle.pm_limits.specs.Guard.{guard_fault}
 use Rattle.pm_world.specs.declared.event.Event.{Event}
 use Rattle.pm_world.specs.Job.{asked_by}
 use Rattle.pm_world.specs.Life.{now}
 use Rattle.pm_world.specs.Retelling.{IsOwnWord}
+use Rattle.pm_world.specs.State.{asked}
 
 -- the voltage that an output commands after some events
 abbrev pub commands : Config → ℕ → List Event → ℕ → Ratio
@@ -30,6 +32,16 @@ OwnWithin config passes events output bounds = (register : Reg) (word : ℕ) →
 abbrev pub StartsWithin : Config → ℕ → Bounds → Type 0
 StartsWithin config output bounds = (register : Reg) → is_voltage register ≡ true →
     IsWithin bounds (value_for config output (start_word config (Out output register)))
+
+-- each order of an output's voltages that the later of these events ask for, as the host takes it, is of a word
+-- within these limits
+abbrev pub OrdersWithin : Config → ℕ → List Event → List Event → ℕ → Bounds → Type 0
+OrdersWithin config passes [] before output bounds = Unit {0}
+OrdersWithin config passes (event ∷ later) before output bounds =
+    ((register : Reg) (word : ℕ) → is_voltage register ≡ true →
+    asked (now config passes (later ++ before)) event ≡ Some (host.Order (Out output register) word) →
+    IsWithin bounds (value_for config output word))
+    × OrdersWithin config passes later before output bounds
 
 -- each word of VOUT_MAX has a value of at most this
 abbrev pub MaxAtMost : Config → ℕ → List Event → ℕ → Ratio → Type 0
@@ -57,6 +69,7 @@ AreGuarded config passes limits (event ∷ before) =
 -- whose own words are all within limits commands a voltage within them (`limited`); it commands no more than the
 -- most of all words of its VOUT_MAX, whatever else was ordered (`most`), and no less than the least of VOUT_MIN's
 -- (`least`). Where each job went through a guard and the start words are within its limits, so are all (`guarded`).
+-- Words that are all within stay so while no other is ordered (`kept`).
 pub record StaysLimited (config : Config) (passes : ℕ) (events : List Event) : Type 0 where
   pub limited : (output : ℕ) (bounds : Bounds) (later before : List Event) → output < config.count →
       events ≡ later ++ before → OwnWithin config passes events output bounds →
@@ -70,3 +83,6 @@ pub record StaysLimited (config : Config) (passes : ℕ) (events : List Event) :
   pub guarded : (output : ℕ) (bounds : Bounds) (limits : List (Option Bounds)) → output < config.count →
       slice_index_or limits output None ≡ Some bounds → AreGuarded config passes limits events →
       StartsWithin config output bounds → OwnWithin config passes events output bounds
+  pub kept : (output : ℕ) (bounds : Bounds) (later before : List Event) → events ≡ later ++ before →
+      OwnWithin config passes before output bounds → OrdersWithin config passes later before output bounds →
+      OwnWithin config passes events output bounds

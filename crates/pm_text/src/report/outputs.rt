@@ -92,8 +92,8 @@ fn push_voltage(text: &mut String, value: Frac) -> Result<(), AllocError>
     text.push_str(" uV")
 }
 
-// The whole microvolts of a voltage.
-fn microvolts(value: Frac) -> i128
+/// The whole microvolts of a voltage: the most of which it has no fewer.
+pub fn microvolts(value: Frac) -> i128
     ensures { result ≡ floor_micros value }
 {
     value.floor_micro()

@@ -4,8 +4,9 @@ use Rattle.pm_driver.proofs.frames.carry_out.Goals as goal
 
 pub frames-init : goal.frames-init
 frames-init g c = record {
-  leads = leads-nothing g.B.Bus.gives g.B.Bus.held (record { host = c.args.host.now; bus = c.args.bus.now });
+  leads = leads-nothing g.B.Bus.gives g.B.Bus.held (record { host = c.args.guard.now.host; bus = c.args.bus.now });
   some = refl;
+  limits = refl;
   kept = refl;
 }
 
@@ -19,6 +20,7 @@ frames-preserved g c = record {
       (rw c.in-Some-Next.field-0-is at c.in-Some-Next.ensures).leads;
   some = (let open_now = (rw c.in-Some-Next.field-0-is at c.in-Some-Next.ensures).open in
       open_now ∙ (c.in-Some-Next.ensures.some ∙ c.frames.invariant.some));
+  limits = c.in-Some-Next.ensures.limits ∙ c.frames.invariant.limits;
   kept = c.in-Some-Next.ensures.kept ∙ c.frames.invariant.kept;
 }
 

@@ -6,10 +6,11 @@ use Rattle.pm_driver.proofs.frames.carry_out.Given as goal
 
 abbrev pub invariant-frames : goal.invariant-frames
 invariant-frames g l = record {
-  leads : Leads g.B.Bus.gives g.B.Bus.held [] None (record { host = l.fn.host; bus = l.fn.bus }) (record { host = l.host; bus = l.bus });
-  some : is_busy l.host ≡ is_busy l.fn.host;
-  kept : l.host.setup ≡ l.fn.host.setup;
+  leads : Leads g.B.Bus.gives g.B.Bus.held [] None (record { host = l.fn.guard.host; bus = l.fn.bus }) (record { host = l.guard.host; bus = l.bus });
+  some : is_busy l.guard.host ≡ is_busy l.fn.guard.host;
+  limits : l.guard.limits ≡ l.fn.guard.limits;
+  kept : l.guard.host.setup ≡ l.fn.guard.host.setup;
 }
 
 abbrev pub decreases-frames : goal.decreases-frames
-decreases-frames g l = frames_left l.host
+decreases-frames g l = frames_left l.guard.host

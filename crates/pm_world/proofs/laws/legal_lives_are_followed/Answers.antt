@@ -6,6 +6,7 @@ use Rattle.pm_world.proofs.Exact.{witness-leaves}
 use Rattle.pm_world.proofs.HeldWords.{confirmed-held}
 use Rattle.pm_world.proofs.LearnedLives.{formats-agree, micros-nearest}
 use Rattle.pm_world.proofs.LeftWords.{left-possible}
+use Rattle.pm_world.proofs.LimitedLives.{stays}
 use Rattle.pm_world.proofs.Lives.{IsLived, life-told, lived-before, lived-legal, now-next, now-nil}
 use Rattle.pm_world.proofs.NeverTook.{differs-never}
 use Rattle.pm_world.proofs.OwnWords.{life-commands, life-own, life-stored}
@@ -42,6 +43,7 @@ returns c =
           formats-agree laws config passes events (lived-legal sound made legal) spelled;
       nearest = λ config passes events sound spelled made legal.
           micros-nearest laws config passes events (lived-legal sound made legal) spelled;
+      limited = λ config passes events sound spelled made legal. stays laws config passes events (lived-legal sound made legal) spelled;
       confirmed = λ config passes events sound made legal. confirmed-held laws config passes events (lived-legal sound made legal);
       possible = λ config passes events sound made legal. possible-held laws config passes events (lived-legal sound made legal);
       seen = λ config passes events sound made legal. seen-true laws config passes events (lived-legal sound made legal);

@@ -1,7 +1,7 @@
 -- Spares the search: it finds some of these too, in 8 seconds.
 use Rattle.std.proofs.Common.{◌≡◌, ◌∙◌, ap, codes, refl, subst, true, sym, unwrap_or, [], List}
 use Rattle.clap.specs.Walk.{texts}
-use Rattle.clap.specs.Words.{App, HasKind, HasMatchesOf, Row, Text, app_of, fault_of, first_of, is_simple_and_free}
+use Rattle.clap.specs.Words.{App, HasKind, HasMatchesOf, Row, Text, all_of, app_of, fault_of, first_of, is_simple_and_free}
 use Rattle.clap.specs.Words.{kind_of, takes}
 use Rattle.clap.specs.declared.error.kind.ErrorKind.TheVariants.{OutOfMemory}
 use Rattle.clap.proofs.FaultLemmas.{failed_up}
@@ -23,6 +23,7 @@ returns-clause-texts c =
       address = text_at (codes "address") c.text_of.ensures found;
       outputs = text_at (codes "outputs") c.text_of-2.ensures found;
       passes = text_at (codes "passes") c.text_of-3.ensures found;
+      limits = c.in_ok-all_texts_of.ensures ∙ ap (λ (r : List Row). unwrap_or (all_of (codes "limit") r) []) found;
     }
 
 pub returns-in_err-matches-clause-kinds : goal.returns-in_err-matches-clause-kinds

@@ -1,0 +1,335 @@
+-- The words of an output stay within limits while a driver orders no other, and what a call of it does.
+use Rattle.std.proofs.Common.{◌≡◌, ◌<◌, ◌||◌, ℕ, ℤ, Bool, true, false, List, [], ◌∷◌, ◌++◌, Option, Some, None, Ok, Err, inl, inr, refl, sym, ◌∙◌, ap, subst, arith, int_lt}
+use Rattle.std.specs.Prelude.{IsSomeAnd, OnOk, OnErr, Result, option_map, option_and_then}
+use Rattle.std.proofs.lemmas.Bool.Decides.{nat_tests}
+use Rattle.std.proofs.lemmas.Int.{ints}
+use Rattle.std.specs.Option.{option_or}
+use Rattle.pm_num.specs.AnyFormat.{Shape, shape_value}
+use Rattle.pm_num.specs.Ratio.{Ratio, AtMost, micros}
+use Rattle.pm_table.specs.declared.cell.Cell.{Cell}
+use Rattle.pm_table.specs.declared.cell.Cell.TheVariants.{Out}
+use Rattle.pm_table.specs.declared.reg.Reg.{Reg}
+use Rattle.pm_table.specs.Cell.{is_voltage, output_of}
+use Rattle.pm_device.specs.declared.config.Config.{Config}
+use Rattle.pm_device.specs.Held.{Held, shape_for, value_for}
+use Rattle.pm_host.specs.declared.command.Command.TheVariants.{ClearFaults, StoreUserAll, RestoreUserAll}
+use Rattle.pm_host.specs.declared.fault.HostFault.{HostFault}
+use Rattle.pm_host.specs.declared.job.Job.{Job}
+use Rattle.pm_host.specs.declared.job.Job.TheVariants as job
+use Rattle.pm_host.specs.declared.job_end.JobEnd.{JobEnd}
+use Rattle.pm_host.specs.Frames.{frames_left}
+use Rattle.pm_host.specs.Jobs.{accepted_job}
+use Rattle.pm_host.specs.Refusals.{cell_fault, job_fault, micro_word, order_fault}
+use Rattle.pm_host.specs.Summary.{Summary, format_at, next as host_next, start as host_start}
+use Rattle.pm_host.specs.Transcript as host
+use Rattle.pm_limits.specs.declared.fault.LimitFault.{LimitFault}
+use Rattle.pm_limits.specs.Bounds.{Bounds, IsWithin, is_wider}
+use Rattle.pm_limits.specs.Guard.{Guarded, LetsBegin, guard_fault, guarded_order, judged, limits_at, of_host, word_fault}
+use Rattle.pm_limits.specs.Lemmas.Guarded.{guarded-voltage}
+use Rattle.pm_limits.specs.Lemmas.Order.{through}
+use Rattle.pm_world.specs.declared.event.Event.{Event}
+use Rattle.pm_world.specs.declared.event.Event.TheVariants.{RestartHost}
+use Rattle.pm_world.specs.Job.{asked_by}
+use Rattle.pm_world.specs.Laws.{LegalLivesAreFollowed}
+use Rattle.pm_world.specs.Life.{now}
+use Rattle.pm_world.specs.Limited.{OrdersWithin, OwnWithin, StartsWithin}
+use Rattle.pm_world.specs.Setup.{setup_of}
+use Rattle.pm_world.specs.State.{asked, tells}
+use Rattle.pm_world.specs.Uncertainty.{job_event}
+use Rattle.pm_driver.specs.Acts.{Act, Began, Call, Called, Renewed, asked_in}
+use Rattle.pm_driver.specs.Driven.{AreAsNarrow, Driving, HasLife, HasLifeWithin, MayBegin, Runs, driven}
+use Rattle.pm_driver.specs.Ends.{EndSays}
+use Rattle.pm_driver.specs.Laws.{EndsAreTrue, LeadsCompose, NewConvertersAreWithin}
+use Rattle.pm_driver.specs.Lives.{Driven, IsLife, Leads, jobs_asked, jobs_begun, with_job}
+use Rattle.pm_driver.specs.Steps.{JobsLead}
+use Rattle.pm_driver.proofs.BegunJobs.{IsBegun, job-leads, leads-say, new-lived, renewed-new}
+use Rattle.pm_driver.proofs.Grown.{grown}
+
+-- ---- a job that a guard lets begin
+
+-- of two faults, none
+first-none : {A : Type 0} (one other : Option A) → option_or one other ≡ None → one ≡ None
+first-none None other h = refl
+first-none (Some x) other h = cc
+
+later-none : {A : Type 0} (one other : Option A) → option_or one other ≡ None → other ≡ None
+later-none None other h = h
+later-none (Some x) other h = cc
+
+host-none : (fault : Option HostFault) → of_host fault ≡ None → fault ≡ None
+host-none None h = refl
+host-none (Some f) h = cc
+
+order-free : (limits : Option Bounds) (s : Summary) (cell : Cell) (word : ℕ) → guarded_order limits s cell word ≡ None →
+    order_fault s cell word ≡ None
+order-free limits s cell word free =
+    host-none (order_fault s cell word) (first-none (of_host (order_fault s cell word)) None
+    (later-none (judged limits s cell word) _ (later-none (of_host (cell_fault s cell)) _ free)))
+
+-- a job that is let begin isn't refused by the host
+guard-free : (g : Guarded) (asked : Job) (begun : host.Job) → guard_fault g asked ≡ None → accepted_job g.host asked ≡ Some begun →
+    job_fault g.host begun ≡ None
+guard-free g (job.Order cell word) begun free is =
+    let same : host.Order cell word ≡ begun = cc in
+    subst (λ j. job_fault g.host j ≡ None) same (order-free (limits_at g (output_of cell)) g.host cell word free)
+guard-free g (job.OrderMicro cell x) begun free is =
+    let third = later-none (word_fault g.host cell x) _ (later-none (of_host (cell_fault g.host cell)) _ free) in
+    go (micro_word g.host cell x) (first-none (option_and_then (λ n. guarded_order (limits_at g (output_of cell)) g.host cell n) (micro_word g.host cell x)) None third) is
+  where
+    go : (found : Option ℕ) → option_and_then (λ n. guarded_order (limits_at g (output_of cell)) g.host cell n) found ≡ None →
+        option_map (λ n. host.Order cell n) found ≡ Some begun → job_fault g.host begun ≡ None
+    go None none is' = cc
+    go (Some w) none is' =
+        let same : host.Order cell w ≡ begun = cc in
+        subst (λ j. job_fault g.host j ≡ None) same (order-free (limits_at g (output_of cell)) g.host cell w none)
+guard-free g (job.Check cell) begun free is =
+    let same : host.Check cell ≡ begun = cc in
+    subst (λ j. job_fault g.host j ≡ None) same (host-none (job_fault g.host (host.Check cell)) free)
+guard-free g (job.Learn output) begun free is =
+    let same : host.Learn output ≡ begun = cc in
+    subst (λ j. job_fault g.host j ≡ None) same (host-none (job_fault g.host (host.Learn output)) free)
+guard-free g (job.Send command) begun free is =
+    let same : host.Send command ≡ begun = cc in
+    subst (λ j. job_fault g.host j ≡ None) same (host-none (job_fault g.host (host.Send command)) free)
+
+pub guard-begun : (g middle : Guarded) (asked : Job) → LetsBegin g asked (Ok tt) middle → IsBegun g.host asked middle.host
+guard-begun g middle asked begins = record {
+  free = λ begun is. guard-free g asked begun (sym begins.fault) is;
+  ok = begins.ok;
+}
+
+-- ---- words within limits
+
+-- limits that are as narrow
+narrower : (own bounds : Bounds) (value : Ratio) → is_wider (Some bounds) own ≡ false → IsWithin own value → IsWithin bounds value
+narrower own bounds value narrow within =
+    go (int_lt own.least bounds.least) (int_lt bounds.most own.most) refl refl narrow
+  where
+    go : (low high : Bool) → int_lt own.least bounds.least ≡ low → int_lt bounds.most own.most ≡ high → (low || high) ≡ false →
+        IsWithin bounds value
+    go true high l h none = cc
+    go false true l h none = cc
+    go false false l h none = record {
+      from_least = through (micros bounds.least) (micros own.least) value (omega arith) (grind (arith, ints, nat_tests)) within.from_least;
+      to_greatest = through value (micros own.most) (micros bounds.most) (omega arith) within.to_greatest (grind (arith, ints, nat_tests));
+    }
+
+all-narrower : (limits : Option Bounds) (bounds : Bounds) (shape : Option Shape) (word : ℕ) → AreAsNarrow limits bounds →
+    ((own : Bounds) → limits ≡ Some own → IsSomeAnd shape (λ s. IsWithin own (shape_value s word))) →
+    IsSomeAnd shape (λ s. IsWithin bounds (shape_value s word))
+all-narrower None bounds shape word narrow within = absurd narrow
+all-narrower (Some own) bounds None word narrow within = absurd (within own refl)
+all-narrower (Some own) bounds (Some shape) word narrow within = narrower own bounds (shape_value shape word) narrow (within own refl)
+
+in-format : (known : Option Shape) (own : Shape) (word : ℕ) (bounds : Bounds) →
+    ((shape : Shape) → known ≡ Some shape → shape ≡ own) →
+    IsSomeAnd known (λ shape. IsWithin bounds (shape_value shape word)) → IsWithin bounds (shape_value own word)
+in-format None own word bounds agree within = absurd within
+in-format (Some shape) own word bounds agree within =
+    subst (λ (s : Shape). IsWithin bounds (shape_value s word)) (agree shape refl) within
+
+-- whatever host takes the job as an order of a voltage of the output, the word has a value within these limits
+abbrev JobWithin : Config → ℕ → Bounds → Job → Type 0
+JobWithin config output bounds asked = (s : Summary) (register : Reg) (word : ℕ) → is_voltage register ≡ true →
+    accepted_job s asked ≡ Some (host.Order (Out output register) word) → IsWithin bounds (value_for config output word)
+
+abbrev JobsWithin : Config → ℕ → Bounds → List Job → Type 0
+JobsWithin config output bounds [] = Unit {0}
+JobsWithin config output bounds (asked ∷ jobs) = JobWithin config output bounds asked × JobsWithin config output bounds jobs
+
+orders-within : (config : Config) (passes output : ℕ) (bounds : Bounds) (before events : List Event) →
+    JobsWithin config output bounds (jobs_asked events) → OrdersWithin config passes events before output bounds
+orders-within config passes output bounds before [] all = tt
+orders-within config passes output bounds before (event ∷ events) all = go (asked_by event) refl all where
+  go : (o : Option Job) → asked_by event ≡ o → JobsWithin config output bounds (with_job o (jobs_asked events)) →
+      OrdersWithin config passes (event ∷ events) before output bounds
+  go None e all' = (
+    λ register word voltage is.
+        let none : None ≡ Some (host.Order (Out output register) word) =
+        ap (option_and_then (accepted_job (now config passes (events ++ before)).host)) (sym e) ∙ is in cc,
+    orders-within config passes output bounds before events all',
+  )
+  go (Some job) e all' = (
+    λ register word voltage is. all'.0 (now config passes (events ++ before)).host register word voltage
+        (ap (option_and_then (accepted_job (now config passes (events ++ before)).host)) (sym e) ∙ is),
+    orders-within config passes output bounds before events all'.1,
+  )
+
+-- the words stay within where a driver leads
+led-within : LegalLivesAreFollowed → {B : Type 0} (gives : B → Call → B → Type 0) (held : B → Held) (acts : List Act)
+    (end : Option JobEnd) (old new : Driven B) (output : ℕ) (bounds : Bounds) (lived : HasLifeWithin output bounds old.host (held old.bus)) →
+    (leads : Leads gives held acts end old new) → JobsWithin lived.has.config output bounds (jobs_asked leads.events) →
+    HasLifeWithin output bounds new.host (held new.bus)
+led-within laws gives held acts end old new output bounds lived leads all =
+    let has = lived.has in
+    let life = (leads.lives has.config has.passes has.events has.life).is_life in
+    record {
+      has = record {
+        config = has.config;
+        passes = has.passes;
+        events = leads.events ++ has.events;
+        spelled = has.spelled;
+        life = life;
+      };
+      within = (laws.limited has.config has.passes (leads.events ++ has.events) life.sound has.spelled life.made life.legal).kept
+          output bounds leads.events has.events refl lived.within
+          (orders-within has.config has.passes output bounds has.events leads.events all);
+    }
+
+-- acts begin the jobs that they were asked for
+asked-begun : (acts : List Act) → jobs_begun acts ≡ jobs_begun (asked_in acts)
+asked-begun [] = refl
+asked-begun (Called call ∷ acts) = asked-begun acts
+asked-begun (Began job ∷ acts) = ap (with_job (asked_by (job_event job))) (asked-begun acts)
+asked-begun (Renewed ∷ acts) = asked-begun acts
+
+-- of a job that began the word is within
+begun-within : (config : Config) (output : ℕ) (bounds : Bounds) (begun : host.Job) →
+    ((register : Reg) (word : ℕ) → is_voltage register ≡ true → begun ≡ host.Order (Out output register) word →
+    IsWithin bounds (value_for config output word)) →
+    JobsWithin config output bounds (jobs_begun (Began begun ∷ []))
+begun-within config output bounds (host.Order cell word) within = (
+  λ s register other voltage is. within register other voltage (let same : host.Order cell word ≡ host.Order (Out output register) other = cc in same),
+  tt,
+)
+begun-within config output bounds (host.Check cell) within = (λ s register other voltage is. cc, tt)
+begun-within config output bounds (host.Learn o) within = (λ s register other voltage is. cc, tt)
+begun-within config output bounds (host.Send (ClearFaults o)) within = (λ s register other voltage is. cc, tt)
+begun-within config output bounds (host.Send StoreUserAll) within = (λ s register other voltage is. cc, tt)
+begun-within config output bounds (host.Send RestoreUserAll) within = (λ s register other voltage is. cc, tt)
+
+-- so they stay within where it carries out a job that its guard let begin
+job-within : LegalLivesAreFollowed → {B : Type 0} (gives : B → Call → B → Type 0) (held : B → Held) (g : Guarded) (asked : Job)
+    (begun : host.Job) (end : JobEnd) (bus : B) (new : Driven B) → guard_fault g asked ≡ None →
+    accepted_job g.host asked ≡ Some begun →
+    (leads : Leads gives held (Began begun ∷ []) (Some end) (record { host = g.host; bus = bus }) new) →
+    (output : ℕ) (bounds : Bounds) → AreAsNarrow (limits_at g output) bounds → HasLifeWithin output bounds g.host (held bus) →
+    HasLifeWithin output bounds new.host (held new.bus)
+job-within laws gives held g asked begun end bus new free is leads output bounds narrow lived =
+    let has = lived.has in
+    let life = has.life in
+    let agree = laws.agree has.config has.passes has.events life.sound has.spelled life.made life.legal in
+    let jobs = ap jobs_begun leads.asks in
+    let all = begun-within has.config output bounds begun (λ register word voltage same.
+    in-format (format_at g.host output) (shape_for has.config output) word bounds
+    (λ shape known. agree.held output shape (ap (λ (h : Summary). format_at h output) life.host_is ∙ known))
+    (all-narrower (limits_at g output) bounds (format_at g.host output) word narrow
+    (λ own own_is. guarded-voltage g asked output register word own free (is ∙ ap (λ j. Some j) same) voltage own_is))) in
+    led-within laws gives held (Began begun ∷ []) (Some end) (record { host = g.host; bus = bus }) new output bounds lived leads
+    (subst (JobsWithin has.config output bounds) (sym (leads.orders ∙ (asked-begun leads.acts ∙ jobs))) all)
+
+-- ---- what a call does
+
+-- a job that is carried out
+pub runs-so : LegalLivesAreFollowed → EndsAreTrue → {B : Type 0} (gives : B → Call → B → Type 0) (held : B → Held) →
+    JobsLead gives held → LeadsCompose gives held → (asked : Job) (end : JobEnd) (old new : Driving B) (middle : Guarded) →
+    HasLife old.guard.host (held old.bus) → LetsBegin old.guard asked (Ok tt) middle →
+    Leads gives held [] (Some end) (record { host = middle.host; bus = old.bus }) (driven new) → frames_left new.guard.host ≡ 0 →
+    new.guard.limits ≡ middle.limits → new.guard.host.setup ≡ middle.host.setup →
+    Runs gives held asked old (Ok end) new
+runs-so laws law gives held jobs compose asked end old new middle has begins leads over limits kept =
+    let led = job-leads gives held jobs compose asked end (driven old) (driven new) middle.host
+    (guard-begun old.guard middle asked begins) leads in
+    record {
+      fault = begins.fault;
+      leads = led;
+      says = says (accepted_job old.guard.host asked) led;
+      over = over;
+      err = tt;
+      limits = limits ∙ begins.limits;
+      kept = kept ∙ begins.kept;
+      within = λ output bounds narrow lived. stays (accepted_job old.guard.host asked) refl led output bounds narrow lived;
+    } where
+      says : (o : Option host.Job) →
+          IsSomeAnd o (λ begun. Leads gives held (Began begun ∷ []) (Some end) (driven old) (driven new)) →
+          IsSomeAnd o (λ begun. EndSays begun new.guard.host (held new.bus) end)
+      says None is = absurd is
+      says (Some begun) is = leads-say law gives held begun end (driven old) (driven new) has is
+
+      stays : (o : Option host.Job) → accepted_job old.guard.host asked ≡ o →
+          IsSomeAnd o (λ begun. Leads gives held (Began begun ∷ []) (Some end) (driven old) (driven new)) →
+          (output : ℕ) (bounds : Bounds) → AreAsNarrow (limits_at old.guard output) bounds →
+          HasLifeWithin output bounds old.guard.host (held old.bus) → HasLifeWithin output bounds new.guard.host (held new.bus)
+      stays None e is output bounds narrow lived = absurd is
+      stays (Some begun) e is output bounds narrow lived =
+          job-within laws gives held old.guard asked begun end old.bus (driven new) (sym begins.fault) e is output bounds narrow lived
+
+-- a job that is refused
+pub refused-so : {B : Type 0} (gives : B → Call → B → Type 0) (held : B → Held) (asked : Job) (fault : LimitFault) (g after : Guarded)
+    (bus : B) → LetsBegin g asked (Err fault) after →
+    Runs gives held asked (record { guard = g; bus = bus }) (Err fault) (record { guard = after; bus = bus })
+refused-so gives held asked fault g after bus begins = record {
+  fault = begins.fault;
+  leads = tt;
+  says = tt;
+  over = tt;
+  err = ap (λ (x : Guarded). record { guard = x; bus = bus }) begins.err;
+  limits = begins.limits;
+  kept = begins.kept;
+  within = λ output bounds narrow lived. subst (λ (x : Guarded). HasLifeWithin output bounds x.host (held bus)) (sym begins.err) lived;
+}
+
+-- a restart
+pub restart-within : LegalLivesAreFollowed → {B : Type 0} (gives : B → Call → B → Type 0) (held : B → Held) (old new : Driven B) →
+    Leads gives held (Renewed ∷ []) None old new → (output : ℕ) (bounds : Bounds) →
+    HasLifeWithin output bounds old.host (held old.bus) → HasLifeWithin output bounds new.host (held new.bus)
+restart-within laws gives held old new leads output bounds lived =
+    led-within laws gives held (Renewed ∷ []) None old new output bounds lived leads
+    (subst (JobsWithin lived.has.config output bounds)
+    (sym (leads.orders ∙ (asked-begun leads.acts ∙ ap jobs_begun leads.asks))) tt)
+
+-- limits that are narrowed leave the host
+pub host-kept : (result : Result (Unit {0}) LimitFault) (old new narrow : Guarded) → narrow.host ≡ old.host →
+    OnOk result (new ≡ narrow) → OnErr result (new ≡ old) → new.host ≡ old.host
+host-kept (Ok done) old new narrow same ok err = ap (λ (g : Guarded). g.host) ok ∙ same
+host-kept (Err fault) old new narrow same ok err = ap (λ (g : Guarded). g.host) err
+
+-- ---- the beginning
+
+-- a new host beside a converter whose words are within
+pub begins-within : LegalLivesAreFollowed → (was summary : Summary) (held : Held) → MayBegin summary held → was.setup ≡ summary.setup →
+    (output : ℕ) (bounds : Bounds) → HasLifeWithin output bounds was held → HasLifeWithin output bounds summary held
+begins-within laws was summary held may same output bounds lived =
+    let has = lived.has in
+    let one = grown laws RestartHost (tells host.Restarted) has.life refl tt refl in
+    let made : summary ≡ host_start summary.setup = may.made
+    ∙ ap host_start (ap (λ (s : Summary). s.setup) (sym may.made)) in
+    let new_is : host_next was host.Restarted ≡ summary = renewed-new was ∙ (ap host_start same ∙ sym made) in
+    let life = subst (λ (h : Summary). IsLife has.config has.passes (RestartHost ∷ has.events) h held) new_is one.is_life in
+    record {
+      has = record {
+        config = has.config;
+        passes = has.passes;
+        events = RestartHost ∷ has.events;
+        spelled = has.spelled;
+        life = life;
+      };
+      within = (laws.limited has.config has.passes (RestartHost ∷ has.events) life.sound has.spelled life.made life.legal).kept
+          output bounds (RestartHost ∷ []) has.events refl lived.within
+          (orders-within has.config has.passes output bounds has.events (RestartHost ∷ []) tt);
+    }
+
+-- no event orders a word
+none-ordered : (later : List Event) (event : Event) (before : List Event) → [] ≡ later ++ event ∷ before → ⊥
+none-ordered [] event before is = cc
+none-ordered (newer ∷ later) event before is = cc
+
+starts-own : (config : Config) (passes output : ℕ) (bounds : Bounds) → StartsWithin config output bounds →
+    OwnWithin config passes [] output bounds
+starts-own config passes output bounds starts register word voltage (inl start) =
+    subst (λ (w : ℕ). IsWithin bounds (value_for config output w)) (sym start) (starts register voltage)
+starts-own config passes output bounds starts register word voltage (inr was) =
+    absurd (none-ordered was.later was.event was.before was.is)
+
+-- a converter as it was made
+pub new-within : LegalLivesAreFollowed → NewConvertersAreWithin
+new-within laws config passes output bounds sound spelled made starts = record {
+  has = record {
+    config = config;
+    passes = passes;
+    events = [];
+    spelled = spelled;
+    life = new-lived laws config passes sound made;
+  };
+  within = starts-own config passes output bounds starts;
+}
