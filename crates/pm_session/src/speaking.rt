@@ -4,7 +4,7 @@ use pm_host::Host;
 use pm_talk::{AnswerText, Speaker};
 
 /// A host that is spoken to in lines.
-#[derive(Debug, Drop)]
+#[derive(Drop)]
 pub struct Session {
     /// The host.
     pub host: Host,
