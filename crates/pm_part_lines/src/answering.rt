@@ -60,11 +60,7 @@ fn output_at(converter: &Converter, output: u8) -> Reply
     ensures { result ≡ (answers converter.now (ask.Output output)).reply }
 {
     if output < converter.count() {
-        Reply::Output(
-            output,
-            converter.is_on(output),
-            converter.commanded(output),
-        )
+        Reply::Output(output, converter.is_on(output), converter.commanded(output))
     } else {
         Reply::Refused(Refusal::UnknownOutput)
     }
