@@ -43,6 +43,7 @@ fn answer(converter: &mut Converter, ask: Ask) -> Reply
 }
 
 // A READ code answers this word from now on: H4 where its output isn't there.
+#[tactic(auto, unfolding(pm_device::specs::History::next, pm_device::specs::History::after))]
 fn reading(converter: &mut Converter, measured: Measured) -> Reply
     ensures reply { result ≡ (answers converter.old (ask.Reading measured)).reply }
     ensures after { converter.new ≡ (answers converter.old (ask.Reading measured)).after }
@@ -59,11 +60,7 @@ fn output_at(converter: &Converter, output: u8) -> Reply
     ensures { result ≡ (answers converter.now (ask.Output output)).reply }
 {
     if output < converter.count() {
-        Reply::Output(
-            output,
-            converter.is_on(output),
-            converter.commanded(output),
-        )
+        Reply::Output(output, converter.is_on(output), converter.commanded(output))
     } else {
         Reply::Refused(Refusal::UnknownOutput)
     }

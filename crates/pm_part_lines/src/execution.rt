@@ -40,7 +40,7 @@ pub fn program<S: Setups, P: Port, E: Write>(
       errors' = errors.new;
     } in MatchResult arguments
         (λ given. RunEnds P.goes run (S.has setups.now) (exit_status result)
-            (Ok (map string_bytes (into_iter_items given))))
+        (Ok (map string_bytes (into_iter_items given))))
         (λ error. RunEnds P.goes run (S.has setups.now) (exit_status result) (Err (error_kind error))) }
     ensures status { exit_status result ≤ 2 }
 {
@@ -64,7 +64,7 @@ fn run_given<S: Setups, P: Port, E: Write>(
       errors' = errors.new;
     } in MatchResult arguments
         (λ given. RunEnds P.goes run (S.has setups.now) result
-            (Ok (map string_bytes (into_iter_items given))))
+        (Ok (map string_bytes (into_iter_items given))))
         (λ error. RunEnds P.goes run (S.has setups.now) result (Err (error_kind error))) }
 {
     let given = match arguments {

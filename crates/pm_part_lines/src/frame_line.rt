@@ -38,14 +38,16 @@ fn bytes_in(text: &[u8]) -> Option<HeardBytes>
         (λ bytes. bytes_of (words_of text.now) ≡ Some bytes.items) }
 {
     let mut bytes = HeardBytes::new();
-    let behind = take_pairs(text, &mut bytes);
-    if behind.is_empty() { Some(bytes) } else { None }
+    match take_pairs(text, &mut bytes) {
+        [] => Some(bytes),
+        _ => None,
+    }
 }
 
 // Appends the bytes that the pairs of digits at the beginning write, and gives what follows them.
 fn take_pairs<'a>(text: &'a [u8], bytes: &mut HeardBytes) -> &'a [u8]
     requires none { bytes.old.items ≡ [] }
-    requires short { length text.entry.now ≤ 256 }
+    requires short { length text.now ≤ 256 }
     ensures all { bytes.new.items ≡ paired_bytes text.entry.now }
     ensures behind { result.now ≡ behind_pairs text.entry.now }
 {

@@ -109,7 +109,9 @@ fn top_command<'a>(alloc: Global) -> Command<'a>
     ensures { app_of result ≡ with_version (new_app (codes "pmbpart")) }
 {
     Command::new(alloc, "pmbpart")
-        .about("A proved model of a PMBus power converter that is spoken to in lines, for firmware and scripts")
+        .about(
+            "A proved model of a PMBus power converter that is spoken to in lines, for firmware and scripts",
+        )
         .after_help(LINES)
         .version(VERSION)
 }

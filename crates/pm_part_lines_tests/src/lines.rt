@@ -55,7 +55,10 @@ static PROTECTION: [(&[u8], &str); 11] = [
 
 // A latch stays when it is read, until it is cleared.
 static LATCHES: [(&[u8], &str); 6] = [
-    (b"B0 05 04 00 21 CD 34 5B", "refused K1 Frame F5 WrongPec 7\n"),
+    (
+        b"B0 05 04 00 21 CD 34 5B",
+        "refused K1 Frame F5 WrongPec 7\n",
+    ),
     (b"status 0", "status 02 0002 00 cml 20\n"),
     (b"B0 7E /", "answer B1 20 69\n"),
     (b"status 1", "status 02 0002 00 cml 20\n"),

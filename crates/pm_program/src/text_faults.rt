@@ -22,7 +22,12 @@ pub fn say_fault<E: Write>(errors: &mut Sink<E>, program: &'static str, fault: &
 
 // Says a refusal as the one line `PROGRAM: WORDS`, with ` line N` after the words where the refusal has
 // a line.
-fn say_line<E: Write>(errors: &mut Sink<E>, program: &'static str, words: &'static str, line: Option<u64>)
+fn say_line<E: Write>(
+    errors: &mut Sink<E>,
+    program: &'static str,
+    words: &'static str,
+    line: Option<u64>,
+)
     requires { IsFalse errors.old.failed }
     ensures { Says E.contents errors.old errors.new (program_line program.now (words.now ++ line_words line)) }
 {
@@ -30,7 +35,8 @@ fn say_line<E: Write>(errors: &mut Sink<E>, program: &'static str, words: &'stat
     let _ = match line {
         None => errors.put_all(&[program.as_bytes(), b": ", words.as_bytes(), b"\n"]),
         Some(line) => errors.put_all(&[
-            program.as_bytes(), b": ",
+            program.as_bytes(),
+            b": ",
             words.as_bytes(),
             b" line ",
             digits.format(line).as_bytes(),
@@ -59,7 +65,14 @@ fn say_host<E: Write>(errors: &mut Sink<E>, program: &'static str, fault: HostFa
 {
     let setup = TextFault::Setup(SetupFault::Host(fault)).words();
     let words = fault.words();
-    let _ = errors.put_all(&[program.as_bytes(), b": ", setup.as_bytes(), b" ", words.as_bytes(), b"\n"]);
+    let _ = errors.put_all(&[
+        program.as_bytes(),
+        b": ",
+        setup.as_bytes(),
+        b" ",
+        words.as_bytes(),
+        b"\n",
+    ]);
 }
 
 // Says why the converter's configuration is none: the words, and then the output and the detail,
@@ -75,7 +88,8 @@ fn say_config<E: Write>(errors: &mut Sink<E>, program: &'static str, fault: Conf
     let (space, detail) = spaced(fault.detail());
     let _ = match fault.output() {
         None => errors.put_all(&[
-            program.as_bytes(), b": ",
+            program.as_bytes(),
+            b": ",
             setup.as_bytes(),
             b" ",
             words.as_bytes(),
@@ -84,7 +98,8 @@ fn say_config<E: Write>(errors: &mut Sink<E>, program: &'static str, fault: Conf
             b"\n",
         ]),
         Some(output) => errors.put_all(&[
-            program.as_bytes(), b": ",
+            program.as_bytes(),
+            b": ",
             setup.as_bytes(),
             b" ",
             words.as_bytes(),

@@ -4,7 +4,7 @@ use pm_limits::Guard;
 use pm_talk::{AnswerText, Speaker};
 
 /// A host, with its limits, that is spoken to in lines.
-#[derive(Debug, Drop)]
+#[derive(Drop)]
 pub struct Session {
     /// The host and its limits.
     pub guard: Guard,

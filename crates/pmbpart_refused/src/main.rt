@@ -14,5 +14,11 @@ fn main(rt: HostRuntime) -> ExitCode {
     };
     let mut errors = Sink::new(rt.stderr().lock());
     let setups = SetupFiles { rt: &rt };
-    program(rt.alloc(), env::args(&rt), &setups, &mut streams, &mut errors)
+    program(
+        rt.alloc(),
+        env::args(&rt),
+        &setups,
+        &mut streams,
+        &mut errors,
+    )
 }

@@ -1,7 +1,7 @@
 -- Spares the search: it finds some of these too, in 8 seconds.
-use Rattle.std.proofs.Common.{◌≡◌, ◌∙◌, ap, codes, refl, subst, true, sym, unwrap_or, [], List}
+use Rattle.std.proofs.Common.{◌≡◌, ◌∙◌, ap, codes, refl, subst, true, sym, [], List}
 use Rattle.clap.specs.Walk.{texts}
-use Rattle.clap.specs.Words.{App, HasKind, HasMatchesOf, Row, Text, app_of, fault_of, first_of, is_simple_and_free}
+use Rattle.clap.specs.Words.{App, HasKind, HasMatchesOf, Row, app_of, fault_of, first_of, is_simple_and_free}
 use Rattle.clap.specs.Words.{kind_of, takes}
 use Rattle.clap.specs.declared.error.kind.ErrorKind.TheVariants.{OutOfMemory}
 use Rattle.clap.proofs.FaultLemmas.{failed_up}
@@ -9,21 +9,12 @@ use Rattle.clap.proofs.TakesLemmas.{passed_up}
 use Rattle.pm_part_lines.specs.Execution.{pmbpart}
 use Rattle.pm_part_lines.proofs.options.Options.read.Goals as goal
 
--- the text of an option of the command's, by what the parser found
-text_at : (name : Text) {text : Text} {found rows : List Row} → text ≡ unwrap_or (first_of name found) [] → found ≡ rows
-    → text ≡ unwrap_or (first_of name rows) []
-text_at name is same = is ∙ ap (λ (r : List Row). unwrap_or (first_of name r) []) same
-
 pub returns-clause-texts : goal.returns-clause-texts
 returns-clause-texts c =
     let app : app_of c.in_ok-part_command.field-0 ≡ pmbpart = c.in_ok-part_command.ensures in
     let has : HasMatchesOf pmbpart (texts c.args.words.now) c.in_ok-matches.matches = subst (λ (a : App).
     HasMatchesOf a (texts c.args.words.now) c.in_ok-matches.matches) app c.in_ok-matches.ensures.matches in
-    let found = (has refl).0 in record {
-      address = text_at (codes "address") c.text_of.ensures found;
-      outputs = text_at (codes "outputs") c.text_of-2.ensures found;
-      passes = text_at (codes "passes") c.text_of-3.ensures found;
-    }
+    c.given_text.ensures ∙ ap (λ (rows : List Row). first_of (codes "setup") rows) (has refl).0
 
 pub returns-in_err-matches-clause-kinds : goal.returns-in_err-matches-clause-kinds
 returns-in_err-matches-clause-kinds c =
