@@ -10,13 +10,12 @@ use Rattle.pm_table.specs.Protection.{is_allowed}
 use Rattle.pm_model.specs.declared.pending_job.PendingJob.{PendingJob}
 use Rattle.pm_model.specs.declared.pending_job.PendingJob.TheVariants.{Order, Store, Restore}
 use Rattle.pm_model.specs.OrderMachine.{IsAccepted, words_taken, store_taken}
-use Rattle.pm_model.specs.Settings.{AreWords, Words, with_outputs, with_word, word_at}
+use Rattle.pm_model.specs.Settings.{AreWords, Words, with_outputs, word_at}
 use Rattle.pm_device.specs.declared.config.Config.{Config}
 use Rattle.pm_device.specs.Effect as device
 use Rattle.pm_device.specs.Effect.{Kept}
 use Rattle.pm_device.specs.Held.{Held}
 use Rattle.pm_device.specs.History.{start_of}
-use Rattle.pm_device.specs.Start.{start_word, start_words}
 use Rattle.pm_host.specs.Refusals.{IsSetup}
 use Rattle.pm_host.specs.Summary.{sending_in}
 use Rattle.pm_host.specs.Transcript as host
