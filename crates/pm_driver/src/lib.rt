@@ -28,6 +28,4 @@ mod laws;
 pub use bus::Bus;
 pub use driver::Driver;
 pub use frames::carry_out;
-pub use laws::{
-    ends_are_true, leads_compose, new_converters_are_within, new_converters_may_begin,
-};
+pub use laws::{ends_are_true, leads_compose, new_converters_are_within, new_converters_may_begin};

@@ -35,9 +35,7 @@ pub fn band_of(host: &Host, output: u8) -> Option<Band>
     ensures { result ≡ band_at host.now output }
 {
     match host.format(output) {
-        Some(format) => {
-            Some(band_in(&format, host, output, operations(host, output)))
-        }
+        Some(format) => { Some(band_in(&format, host, output, operations(host, output))) }
         None => None,
     }
 }

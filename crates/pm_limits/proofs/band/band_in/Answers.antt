@@ -20,12 +20,12 @@ returns c =
     let bytes = c.args.bytes.now in
     let ends = c.of-ends.result in
     let at : (side : Side) → limited (selected_value side value ends (farthest_of side (selected_value side value ends) bytes))
-        (value (word_on side ends.min)) (value (word_on side ends.max)) ≡ end_with side shape known bytes
+    (value (word_on side ends.min)) (value (word_on side ends.max)) ≡ end_with side shape known bytes
     = λ side.
-        let far = fun_ext (λ (byte : ℕ). ap value (c.of-ends.ensures.selected side byte)) in
-        ap (λ (v : ℕ → Ratio). limited (v (farthest_of side v bytes)) (value (word_on side ends.min)) (value (word_on side ends.max))) far
-        ∙ ap (λ (w : ℕ). limited (reach side shape known (farthest_of side (reach side shape known) bytes)) (value w) (value (word_on side ends.max))) (c.of-ends.ensures.least side)
-        ∙ ap (λ (w : ℕ). limited (reach side shape known (farthest_of side (reach side shape known) bytes)) (value (word_end side shape known VoutMin)) (value w)) (c.of-ends.ensures.greatest side)
+    let far = fun_ext (λ (byte : ℕ). ap value (c.of-ends.ensures.selected side byte)) in
+    ap (λ (v : ℕ → Ratio). limited (v (farthest_of side v bytes)) (value (word_on side ends.min)) (value (word_on side ends.max))) far
+    ∙ ap (λ (w : ℕ). limited (reach side shape known (farthest_of side (reach side shape known) bytes)) (value w) (value (word_on side ends.max))) (c.of-ends.ensures.least side)
+    ∙ ap (λ (w : ℕ). limited (reach side shape known (farthest_of side (reach side shape known) bytes)) (value (word_end side shape known VoutMin)) (value w)) (c.of-ends.ensures.greatest side)
     in
     ap₂ (λ least greatest. record { least = least; greatest = greatest })
     (c.reached.ensures ∙ at Lowest) (c.reached-2.ensures ∙ at Highest)
