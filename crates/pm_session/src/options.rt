@@ -11,12 +11,12 @@ mod limit_text;
 mod start_fault;
 
 use clap::{Command, Error};
+pub use limit_text::OutputLimits;
 use limit_text::read_limits;
 use pm_limits::Guard;
 use pm_lines::{read_byte, read_u8};
 use pm_program::{VERSION, all_texts_of, text_of, with_option, with_repeated};
 use pm_table::address_ok;
-pub use limit_text::OutputLimits;
 pub use start_fault::StartFault;
 use std::alloc::{AllocError, Global};
 

@@ -102,11 +102,7 @@ fn push_limits(text: &mut ReplyText, limits: Option<Limits>)
     ensures room { array_vec_len text.new ≤ array_vec_len text.old + 82 }
 {
     match limits {
-        Some(limits) => push_pair(
-            text,
-            i128::from(limits.least()),
-            i128::from(limits.most()),
-        ),
+        Some(limits) => push_pair(text, i128::from(limits.least()), i128::from(limits.most())),
         None => push(text, b" none"),
     }
 }
