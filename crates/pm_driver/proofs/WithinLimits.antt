@@ -140,20 +140,23 @@ JobsWithin config output bounds (asked ∷ jobs) = JobWithin config output bound
 orders-within : (config : Config) (passes output : ℕ) (bounds : Bounds) (before events : List Event) →
     JobsWithin config output bounds (jobs_asked events) → OrdersWithin config passes events before output bounds
 orders-within config passes output bounds before [] all = tt
-orders-within config passes output bounds before (event ∷ events) all = go (asked_by event) refl all where
-  go : (o : Option Job) → asked_by event ≡ o → JobsWithin config output bounds (with_job o (jobs_asked events)) →
-      OrdersWithin config passes (event ∷ events) before output bounds
-  go None e all' = (
-    λ register word voltage is.
-        let none : None ≡ Some (host.Order (Out output register) word) =
-        ap (option_and_then (accepted_job (now config passes (events ++ before)).host)) (sym e) ∙ is in cc,
-    orders-within config passes output bounds before events all',
-  )
-  go (Some job) e all' = (
-    λ register word voltage is. all'.0 (now config passes (events ++ before)).host register word voltage
-        (ap (option_and_then (accepted_job (now config passes (events ++ before)).host)) (sym e) ∙ is),
-    orders-within config passes output bounds before events all'.1,
-  )
+orders-within config passes output bounds before (event ∷ events) all =
+    go (asked_by event) refl all (λ rest. orders-within config passes output bounds before events rest)
+  where
+    go : (o : Option Job) → asked_by event ≡ o → JobsWithin config output bounds (with_job o (jobs_asked events)) →
+        (JobsWithin config output bounds (jobs_asked events) → OrdersWithin config passes events before output bounds) →
+        OrdersWithin config passes (event ∷ events) before output bounds
+    go None e all' more = (
+      λ register word voltage is.
+          let none : None ≡ Some (host.Order (Out output register) word) =
+          ap (option_and_then (accepted_job (now config passes (events ++ before)).host)) (sym e) ∙ is in cc,
+      more all',
+    )
+    go (Some job) e all' more = (
+      λ register word voltage is. all'.0 (now config passes (events ++ before)).host register word voltage
+          (ap (option_and_then (accepted_job (now config passes (events ++ before)).host)) (sym e) ∙ is),
+      more all'.1,
+    )
 
 -- the words stay within where a driver leads
 led-within : LegalLivesAreFollowed → {B : Type 0} (gives : B → Call → B → Type 0) (held : B → Held) (acts : List Act)

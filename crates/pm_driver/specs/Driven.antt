@@ -94,9 +94,9 @@ pub record IsTrueOf (host : Summary) (held : Held) : Type 0 where
   pub formats : FormatsAgree has.config has.passes has.events
   pub own : (cell : Cell) → IsCell has.config.count cell →
       IsOwnWord has.config has.passes has.events cell (word_at held.words cell)
-  pub commanded : (output : ℕ) → output < has.config.count →
-      CommandsOwn has.config has.passes has.events output
-      (commanded (value_for held.config output) held.words output)
   pub limited : (output : ℕ) (bounds : Bounds) (lived : HasLifeWithin output bounds host held) →
       output < lived.has.config.count →
       IsWithin bounds (commanded (value_for held.config output) held.words output)
+  pub commanded : (output : ℕ) → output < has.config.count →
+      CommandsOwn has.config has.passes has.events output
+      (commanded (value_for held.config output) held.words output)

@@ -133,7 +133,12 @@ fn each_job_has_its_end(rt: HostRuntime) {
             equal(&rt, &driver.store(), &Ok(JobEnd::Done), &5);
             equal(&rt, &driver.restore(), &Ok(JobEnd::Done), &6);
             equal(&rt, &said(driver.host()), &Standing::Unknown, &6);
-            equal(&rt, &driver.clear(2), &Err(LimitFault::Host(HostFault::UnknownOutput)), &7);
+            equal(
+                &rt,
+                &driver.clear(2),
+                &Err(LimitFault::Host(HostFault::UnknownOutput)),
+                &7,
+            );
             equal(&rt, &driver.clear(1), &Ok(JobEnd::Done), &8);
             driver.restart();
             equal(

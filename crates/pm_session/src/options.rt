@@ -5,7 +5,7 @@ ghost use Rattle.clap.specs.Walk.{texts};
 ghost use Rattle.clap.specs.Words.{FailsBy, app_of, fault_of, kind_of, matches_of, new_app, takes};
 ghost use Rattle.clap.specs.declared.error.kind.ErrorKind.TheVariants.{OutOfMemory};
 ghost use Rattle.pm_table.specs.Address.{IsAddress};
-ghost use Rattle.pm_session.specs.Options.{HasTexts, address_of, limited, limited_once, limits_of, pmbhost, start_of, with_version};
+ghost use Rattle.pm_session.specs.Options.{HasTexts, address_of, limited, limited_more, limited_once, limits_of, pmbhost, start_of, with_version};
 
 mod limit_text;
 mod start_fault;
@@ -92,7 +92,7 @@ impl<'a> Options<'a> {
     }
 
     /// The host with its limits that the options make, or the first fault of them.
-    #[tactic(auto, unfolding(crate::specs::Options::start_of))]
+    #[tactic(auto, using(crate::proofs::LimitTexts::fault_stays), unfolding(crate::specs::Options::start_of))]
     pub fn start(&self) -> Result<Guard, StartFault>
         ensures { MatchResult result (λ guard. start_of self.now ≡ Ok guard)
             (λ fault. start_of self.now ≡ Err fault) }
@@ -113,17 +113,23 @@ impl<'a> Options<'a> {
     }
 }
 
-// The host with the limits that these texts write, each of an output that has none yet.
-#[tactic(auto, using(crate::proofs::LimitTexts::fault_stays))]
-fn with_limits(mut guard: Guard, texts: &[&str]) -> Result<Guard, StartFault>
-    ensures { MatchResult result (λ limits. limited (map (λ text. text.now) texts.now) (Ok guard) ≡ Ok limits)
-        (λ fault. limited (map (λ text. text.now) texts.now) (Ok guard) ≡ Err fault) }
+// The host with the limits that these texts write, each of an output that has none yet; the first bad one counts.
+fn with_limits(guard: Guard, texts: &[&str]) -> Result<Guard, StartFault>
+    ensures { result ≡ limited (map (λ text. text.now) texts.now) (Ok guard) }
 {
+    let mut made = Ok(guard);
     for text in texts {
-        if let Err(fault) = limit_once(&mut guard, text) {
-            return Err(fault);
-        }
+        made = with_more(text, made);
     }
+    made
+}
+
+// The same of one text.
+fn with_more(text: &str, made: Result<Guard, StartFault>) -> Result<Guard, StartFault>
+    ensures { result ≡ limited_more text.now made }
+{
+    let mut guard = made?;
+    limit_once(&mut guard, text)?;
     Ok(guard)
 }
 

@@ -163,10 +163,7 @@ static LIMITS: [(&[u8], &str); 31] = [
     (b"limits 0", "limits 3250000 3400000\n"),
     (b"band 0", "band 0 15999756\n"),
     (b"order 0 VOUT_COMMAND 3333", "refused L3 BelowLimit\n"),
-    (
-        b"volts 0 VOUT_MAX 12000000",
-        "refused L4 AboveLimit\n",
-    ),
+    (b"volts 0 VOUT_MAX 12000000", "refused L4 AboveLimit\n"),
     (b"order 0 OPERATION 80", "refused L5 NotKnownWithin\n"),
     (b"order 0 OPERATION 00", "send B0 05 03 00 01 00 8B\n"),
     (b"order 0 VOUT_COMMAND 3333", "refused H3 Busy\n"),

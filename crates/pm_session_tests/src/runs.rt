@@ -157,8 +157,18 @@ static LIMITS: [([&str; 2], u8, &str, &str); 9] = [
         "",
         "pmbhost: bad limit\n",
     ),
-    (["--limit=0:1", "--limit=0:1:2"], 2, "", "pmbhost: bad limit\n"),
-    (["--limit=0:1:2:3", "--limit="], 2, "", "pmbhost: bad limit\n"),
+    (
+        ["--limit=0:1", "--limit=0:1:2"],
+        2,
+        "",
+        "pmbhost: bad limit\n",
+    ),
+    (
+        ["--limit=0:1:2:3", "--limit="],
+        2,
+        "",
+        "pmbhost: bad limit\n",
+    ),
     (
         ["--limit=1:1:2", "--limit=0:one:2"],
         2,

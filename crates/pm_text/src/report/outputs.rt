@@ -1,5 +1,6 @@
 //! The lines of outputs: what each commands, its settings, and its status.
-ghost use Rattle.std.specs.Prelude.{◌≡◌, ◌<◌, ◌++◌, OnOk, string_bytes};
+ghost use Rattle.std.specs.Prelude.{◌≡◌, ◌<◌, ◌++◌, ℤ, ◌≤ℤ◌, OnOk, string_bytes};
+ghost use Rattle.pm_num.specs.Ratio.{AtMost, micros};
 ghost use Rattle.pm_text.specs.Report.{all_outputs, commanded_line, floor_micros, on_text, output_head, output_lines, register_lines, status_line, voltage_text};
 
 use crate::form::Form;
@@ -94,7 +95,8 @@ fn push_voltage(text: &mut String, value: Frac) -> Result<(), AllocError>
 
 /// The whole microvolts of a voltage: the most of which it has no fewer.
 pub fn microvolts(value: Frac) -> i128
-    ensures { result ≡ floor_micros value }
+    ensures value { result ≡ floor_micros value }
+    ensures greatest { (k : ℤ) → AtMost (micros k) value → k ≤ℤ result }
 {
     value.floor_micro()
 }
