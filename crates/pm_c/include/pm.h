@@ -38,9 +38,9 @@ extern "C" {
 #define PM_VERSION 0x0100
 
 /* The version of a host's layout, sizes in bytes, and the stack that a call takes at most. On x86-64
- * bench/c_order.sh measured 2,096 bytes of pm_desk_hear and at most 393 of the calls of a host; the archive's
- * own bound, the stack-bytes in its section .comment, is 2,192. By the frames of LLVM, over all processors that
- * scripts/c/targets.sh tries, a call of a host takes at most 1,040, of a desk 3,080. */
+ * bench/c_order.sh measured 2,088 bytes of pm_desk_hear and at most 720 of the calls of a host, of LLVM's archive
+ * 2,576 and 1,040; the archive's own bound, the stack-bytes in its section .comment, is 2,152. By the frames of LLVM
+ * scripts/c/targets.sh finds those of other processors. */
 #define PM_HOST_VERSION 4
 #define PM_HOST_SIZE 2056
 #define PM_DESK_SIZE 122
