@@ -38,8 +38,8 @@ extern "C" {
 #define PM_VERSION 0x0100
 
 /* The version of a host's layout, its size in bytes, and the stack that a call takes at most. On x86-64
- * bench/c_order.sh measured at most 393 bytes of the calls of a host. By the frames of LLVM, over all processors that
- * scripts/c/targets.sh tries, a call takes at most 1,040. */
+ * bench/c_order.sh measured at most 720 bytes of the calls of a host, of LLVM's archive 1,040; the archive's own bound is
+ * the stack-bytes in its section .comment. By the frames of LLVM scripts/c/targets.sh finds those of other processors. */
 #define PM_HOST_VERSION 4
 #define PM_HOST_SIZE 2056
 #define PM_STACK 2048
