@@ -17,11 +17,11 @@ ghost use Rattle.pm_world.specs.Uncertainty.{AreOpen, since_restart};
 
 use crate::event::Event;
 use crate::laws::{lives_are_followed, open_lists_are_followed};
-use crate::setup_fault::SetupFault;
 use crate::stop::Stop;
 use crate::world::World;
 use pm_device::Config;
 use pm_host::Possible;
+use pm_setup::SetupFault;
 use pm_table::Cell;
 
 /// Makes a new world and lets the events happen, as [`World::run`] does, and says besides whether what the host was
