@@ -1,6 +1,5 @@
 -- What the bytes of usual packets say, how they are counted, and their text.
-use Rattle.std.proofs.Common.{◌≡◌, ◌∙◌, ℕ, ◌+◌, ◌*◌, ◌/◌, ◌%◌, ◌<◌, ◌≤◌, ◌^◌, eqb, leb, Bool, true, false, cond, not, ◌&&◌, List}
-use Rattle.std.proofs.Common.{[], ◌∷◌, ◌++◌, length, codes, get_or}
+use Rattle.std.proofs.Common.{◌≡◌, ◌∙◌, ℕ, ◌+◌, ◌*◌, ◌/◌, ◌%◌, ◌<◌, ◌≤◌, ◌^◌, eqb, leb, Bool, true, false, cond, not, ◌&&◌, List, [], ◌∷◌, ◌++◌, length, codes, get_or}
 use Rattle.std.proofs.Common.{Option, Some, None, refl, sym, ap, subst, arith, append_assoc, eq-eqb, lit<}
 use Rattle.std.specs.Prelude.{decimal, is_some, option_map, ◌==◌}
 use Rattle.std.specs.Option.{option_map_or}
@@ -8,17 +7,14 @@ use Rattle.std.specs.List.{list_all}
 use Rattle.std.proofs.lemmas.Bool.{and_parts}
 use Rattle.std.proofs.lemmas.Bool.Decides.{nat_tests}
 use Rattle.std.proofs.lemmas.Fmt.{decimal_digit, decimal_step}
-use Rattle.pm_frame.specs.Fault.{address_fault, answer_fault, block_request_fault, carried_count_fault, carried_fault}
-use Rattle.pm_frame.specs.Fault.{length_fault, opening_fault, pec_fault, request_fault, size_fault, write_fault}
+use Rattle.pm_frame.specs.Fault.{address_fault, answer_fault, block_request_fault, carried_count_fault, carried_fault, length_fault, opening_fault, pec_fault, request_fault, size_fault, write_fault}
 use Rattle.pm_frame.specs.Layout.{is_carried, read_address, sent, write_address}
 use Rattle.pm_frame.specs.Pec.{pec_of}
 use Rattle.pm_frame.specs.View.{message_in}
 use Rattle.pm_frame.specs.declared.message.Message.TheVariants.{PagePlusRead, PagePlusWrite}
 use Rattle.pm_frame.specs.declared.payload.Payload.TheVariants.{Word}
 use Rattle.pm_lines.specs.Numbers.{hex_byte, hex_number}
-use Rattle.pm_table.specs.Codes as command
-use Rattle.pm_table.specs.Commands.{Line, Row, attributes, attributes_of, is_known, is_read, is_written, line_among, line_of}
-use Rattle.pm_table.specs.Commands.{name_of, payload_length, rows}
+use Rattle.pm_table.specs.Commands.{Line, Row, attributes, attributes_of, is_known, is_read, is_written, line_among, line_of, name_of, payload_length, rows}
 use Rattle.pm_table.specs.declared.commands.Attributes.{Attributes}
 use Rattle.pm_trace.specs.Counts.{Counts, IsNewCode, has_code, one_counted, one_more}
 use Rattle.pm_trace.specs.Trace.{Accepted, Judged, parts_judged}
@@ -61,29 +57,29 @@ other_code code other n word is few = by (eqb code other) refl
     by false same = refl
 
 -- the codes that PAGE_PLUS doesn't carry have shorter payloads
-page_short : payload_length command.page < 2
+page_short : payload_length 0x00 < 2
 unfolding line_of
 page_short = lit< tt
 
-write_short : payload_length command.page_plus_write < 2
+write_short : payload_length 0x05 < 2
 unfolding line_of
 write_short = lit< tt
 
-read_short : payload_length command.page_plus_read < 2
+read_short : payload_length 0x06 < 2
 unfolding line_of
 read_short = lit< tt
 
-coefficients_short : payload_length command.coefficients < 2
+coefficients_short : payload_length 0x30 < 2
 unfolding line_of
 coefficients_short = lit< tt
 
 -- so it carries one that has a word
 word_carried : (code : ℕ) → payload_length code ≡ 2 → is_carried code ≡ true
 word_carried code word =
-    let page = other_code code command.page (payload_length command.page) word refl page_short in
-    let write = other_code code command.page_plus_write (payload_length command.page_plus_write) word refl write_short in
-    let read = other_code code command.page_plus_read (payload_length command.page_plus_read) word refl read_short in
-    let coefficients = other_code code command.coefficients (payload_length command.coefficients) word refl coefficients_short in
+    let page = other_code code 0x00 (payload_length 0x00) word refl page_short in
+    let write = other_code code 0x05 (payload_length 0x05) word refl write_short in
+    let read = other_code code 0x06 (payload_length 0x06) word refl read_short in
+    let coefficients = other_code code 0x30 (payload_length 0x30) word refl coefficients_short in
     rw (page, write, read, coefficients) refl
 
 -- it is in the table
@@ -140,9 +136,9 @@ module _ (first page code : ℕ) (has : HasWord first page code) where
 
   -- a PAGE_PLUS_WRITE of a word has no fault
   module _ (low high check : ℕ) (written : is_written code ≡ true)
-      (sum : check ≡ pec_of (first ∷ command.page_plus_write ∷ 4 ∷ page ∷ code ∷ low ∷ high ∷ [])) where
+      (sum : check ≡ pec_of (first ∷ 0x05 ∷ 0x04 ∷ page ∷ code ∷ low ∷ high ∷ [])) where
     abbrev write_bytes : List ℕ
-    write_bytes = first ∷ command.page_plus_write ∷ 4 ∷ page ∷ code ∷ low ∷ high ∷ check ∷ []
+    write_bytes = first ∷ 0x05 ∷ 0x04 ∷ page ∷ code ∷ low ∷ high ∷ check ∷ []
 
     write_opens : opening_fault (write_address (first / 2)) write_bytes ≡ None
     unfolding opening_fault address_fault
@@ -156,7 +152,7 @@ module _ (first page code : ℕ) (has : HasWord first page code) where
 
     write_sums : pec_fault [] write_bytes ≡ None
     unfolding pec_fault
-    write_sums = rw (eq-eqb check (pec_of (first ∷ command.page_plus_write ∷ 4 ∷ page ∷ code ∷ low ∷ high ∷ [])) sum) refl
+    write_sums = rw (eq-eqb check (pec_of (first ∷ 0x05 ∷ 0x04 ∷ page ∷ code ∷ low ∷ high ∷ [])) sum) refl
 
     write_sound : write_fault (first / 2) write_bytes ≡ None
     unfolding write_fault carried_fault
@@ -176,12 +172,12 @@ module _ (first page code : ℕ) (has : HasWord first page code) where
 
   -- nor has a PAGE_PLUS_READ of a word, and its answer
   module _ (again low high check : ℕ) (reads : is_read code ≡ true) (next : again ≡ first + 1)
-      (sum : check ≡ pec_of (first ∷ command.page_plus_read ∷ 2 ∷ page ∷ code ∷ again ∷ 2 ∷ low ∷ high ∷ [])) where
+      (sum : check ≡ pec_of (first ∷ 0x06 ∷ 0x02 ∷ page ∷ code ∷ again ∷ 0x02 ∷ low ∷ high ∷ [])) where
     abbrev request_bytes : List ℕ
-    request_bytes = first ∷ command.page_plus_read ∷ 2 ∷ page ∷ code ∷ []
+    request_bytes = first ∷ 0x06 ∷ 0x02 ∷ page ∷ code ∷ []
 
     abbrev answer_bytes : List ℕ
-    answer_bytes = again ∷ 2 ∷ low ∷ high ∷ check ∷ []
+    answer_bytes = again ∷ 0x02 ∷ low ∷ high ∷ check ∷ []
 
     request_opens : opening_fault (write_address (first / 2)) request_bytes ≡ None
     unfolding opening_fault address_fault
@@ -204,7 +200,7 @@ module _ (first page code : ℕ) (has : HasWord first page code) where
 
     -- the request's first byte is twice the address
     sent_is : sent (first / 2) (PagePlusRead page code) ≡ request_bytes
-    sent_is = let twice : first / 2 * 2 ≡ first = omega (arith, has.even) in ap (λ n. n ∷ command.page_plus_read ∷ 2 ∷ page ∷ code ∷ []) twice
+    sent_is = let twice : first / 2 * 2 ≡ first = omega (arith, has.even) in ap (λ n. n ∷ 0x06 ∷ 0x02 ∷ page ∷ code ∷ []) twice
 
     answer_opens : address_fault (read_address (first / 2)) answer_bytes ≡ None
     unfolding address_fault
@@ -220,7 +216,7 @@ module _ (first page code : ℕ) (has : HasWord first page code) where
     unfolding pec_fault
     answer_sums =
         let P : List ℕ → Type 0 = λ l. pec_fault l answer_bytes ≡ None in
-        subst P (sym sent_is) (rw (eq-eqb check (pec_of (first ∷ command.page_plus_read ∷ 2 ∷ page ∷ code ∷ again ∷ 2 ∷ low ∷ high ∷ [])) sum) refl)
+        subst P (sym sent_is) (rw (eq-eqb check (pec_of (first ∷ 0x06 ∷ 0x02 ∷ page ∷ code ∷ again ∷ 0x02 ∷ low ∷ high ∷ [])) sum) refl)
 
     answer_sound : answer_fault (first / 2) (PagePlusRead page code) answer_bytes ≡ None
     unfolding answer_fault
@@ -232,9 +228,9 @@ module _ (first page code : ℕ) (has : HasWord first page code) where
     read_judged_usual = rw (addressed, request_sound, request_says, answer_sound) refl
 
 -- the same of lists by their places
-pub usual_write_is : (write : List ℕ) → length write ≡ 8 → get_or write 1 0 ≡ command.page_plus_write → get_or write 2 0 ≡ 4
+pub usual_write_is : (write : List ℕ) → length write ≡ 8 → get_or write 1 0 ≡ 5 → get_or write 2 0 ≡ 4
     → HasWord (get_or write 0 0) (get_or write 3 0) (get_or write 4 0) → is_written (get_or write 4 0) ≡ true
-    → get_or write 7 0 ≡ pec_of (get_or write 0 0 ∷ get_or write 1 0 ∷ get_or write 2 0 ∷ get_or write 3 0 ∷ get_or write 4 0 ∷ get_or write 5 0 ∷ get_or write 6 0 ∷ [])
+    → get_or write 7 0 ≡ pec_of (get_or write 0 0 ∷ 5 ∷ 4 ∷ get_or write 3 0 ∷ get_or write 4 0 ∷ get_or write 5 0 ∷ get_or write 6 0 ∷ [])
     → parts_judged write None
     ≡ Accepted (get_or write 0 0 / 2) (PagePlusWrite (get_or write 3 0) (get_or write 4 0) (Word (get_or write 5 0 + 256 * get_or write 6 0))) None
 usual_write_is [] many second third has written sum = absurd (omega arith)
@@ -248,17 +244,15 @@ usual_write_is (a ∷ b ∷ c ∷ d ∷ e ∷ f ∷ g ∷ []) many second third 
 usual_write_is (a ∷ b ∷ c ∷ d ∷ e ∷ f ∷ g ∷ h ∷ []) many second third has written sum =
     let says : Judged = Accepted (a / 2) (PagePlusWrite d e (Word (f + 256 * g))) None in
     let P : ℕ → Type 0 = λ n. parts_judged (a ∷ n ∷ c ∷ d ∷ e ∷ f ∷ g ∷ h ∷ []) None ≡ says in
-    let Q : ℕ → Type 0 = λ n. parts_judged (a ∷ command.page_plus_write ∷ n ∷ d ∷ e ∷ f ∷ g ∷ h ∷ []) None ≡ says in
-    subst P (sym second) (subst Q (sym third) (write_judged_usual a d e has f g h written (sum
-    ∙ ap (λ n. pec_of (a ∷ n ∷ c ∷ d ∷ e ∷ f ∷ g ∷ [])) second
-    ∙ ap (λ n. pec_of (a ∷ command.page_plus_write ∷ n ∷ d ∷ e ∷ f ∷ g ∷ [])) third)))
+    let Q : ℕ → Type 0 = λ n. parts_judged (a ∷ 5 ∷ n ∷ d ∷ e ∷ f ∷ g ∷ h ∷ []) None ≡ says in
+    subst P (sym second) (subst Q (sym third) (write_judged_usual a d e has f g h written sum))
 usual_write_is (a ∷ b ∷ c ∷ d ∷ e ∷ f ∷ g ∷ h ∷ x ∷ rest) many second third has written sum = absurd (omega arith)
 
 -- the bytes of an answer
 answer_is : (first page code : ℕ) (read : List ℕ) → HasWord first page code → is_read code ≡ true → length read ≡ 5
     → get_or read 1 0 ≡ 2 → get_or read 0 0 ≡ first + 1
-    → get_or read 4 0 ≡ pec_of (first ∷ command.page_plus_read ∷ 2 ∷ page ∷ code ∷ get_or read 0 0 ∷ get_or read 1 0 ∷ get_or read 2 0 ∷ get_or read 3 0 ∷ [])
-    → parts_judged (first ∷ command.page_plus_read ∷ 2 ∷ page ∷ code ∷ []) (Some read)
+    → get_or read 4 0 ≡ pec_of (first ∷ 6 ∷ 2 ∷ page ∷ code ∷ get_or read 0 0 ∷ 2 ∷ get_or read 2 0 ∷ get_or read 3 0 ∷ [])
+    → parts_judged (first ∷ 6 ∷ 2 ∷ page ∷ code ∷ []) (Some read)
     ≡ Accepted (first / 2) (PagePlusRead page code) (Some (get_or read 2 0 ∷ get_or read 3 0 ∷ []))
 answer_is first page code [] has reads many second next sum = absurd (omega arith)
 answer_is first page code (a ∷ []) has reads many second next sum = absurd (omega arith)
@@ -266,17 +260,16 @@ answer_is first page code (a ∷ b ∷ []) has reads many second next sum = absu
 answer_is first page code (a ∷ b ∷ c ∷ []) has reads many second next sum = absurd (omega arith)
 answer_is first page code (a ∷ b ∷ c ∷ d ∷ []) has reads many second next sum = absurd (omega arith)
 answer_is first page code (a ∷ b ∷ c ∷ d ∷ e ∷ []) has reads many second next sum =
-    let P : ℕ → Type 0 = λ n. parts_judged (first ∷ command.page_plus_read ∷ 2 ∷ page ∷ code ∷ []) (Some (a ∷ n ∷ c ∷ d ∷ e ∷ []))
+    let P : ℕ → Type 0 = λ n. parts_judged (first ∷ 6 ∷ 2 ∷ page ∷ code ∷ []) (Some (a ∷ n ∷ c ∷ d ∷ e ∷ []))
     ≡ Accepted (first / 2) (PagePlusRead page code) (Some (c ∷ d ∷ [])) in
-    subst P (sym second) (read_judged_usual first page code has a c d e reads next (sum
-    ∙ ap (λ n. pec_of (first ∷ command.page_plus_read ∷ 2 ∷ page ∷ code ∷ a ∷ n ∷ c ∷ d ∷ [])) second))
+    subst P (sym second) (read_judged_usual first page code has a c d e reads next sum)
 answer_is first page code (a ∷ b ∷ c ∷ d ∷ e ∷ x ∷ rest) has reads many second next sum = absurd (omega arith)
 
-pub usual_read_is : (write read : List ℕ) → length write ≡ 5 → get_or write 1 0 ≡ command.page_plus_read → get_or write 2 0 ≡ 2
+pub usual_read_is : (write read : List ℕ) → length write ≡ 5 → get_or write 1 0 ≡ 6 → get_or write 2 0 ≡ 2
     → HasWord (get_or write 0 0) (get_or write 3 0) (get_or write 4 0) → is_read (get_or write 4 0) ≡ true → length read ≡ 5
     → get_or read 1 0 ≡ 2 → get_or read 0 0 ≡ get_or write 0 0 + 1
-    → get_or read 4 0 ≡ pec_of (get_or write 0 0 ∷ get_or write 1 0 ∷ get_or write 2 0 ∷ get_or write 3 0 ∷ get_or write 4 0 ∷ get_or read 0 0
-    ∷ get_or read 1 0 ∷ get_or read 2 0 ∷ get_or read 3 0 ∷ [])
+    → get_or read 4 0 ≡ pec_of (get_or write 0 0 ∷ 6 ∷ 2 ∷ get_or write 3 0 ∷ get_or write 4 0 ∷ get_or read 0 0 ∷ 2
+    ∷ get_or read 2 0 ∷ get_or read 3 0 ∷ [])
     → parts_judged write (Some read)
     ≡ Accepted (get_or write 0 0 / 2) (PagePlusRead (get_or write 3 0) (get_or write 4 0)) (Some (get_or read 2 0 ∷ get_or read 3 0 ∷ []))
 usual_read_is [] read many second third has reads most count next sum = absurd (omega arith)
@@ -287,11 +280,8 @@ usual_read_is (a ∷ b ∷ c ∷ d ∷ []) read many second third has reads most
 usual_read_is (a ∷ b ∷ c ∷ d ∷ e ∷ []) read many second third has reads most count next sum =
     let says : Judged = Accepted (a / 2) (PagePlusRead d e) (Some (get_or read 2 0 ∷ get_or read 3 0 ∷ [])) in
     let P : ℕ → Type 0 = λ n. parts_judged (a ∷ n ∷ c ∷ d ∷ e ∷ []) (Some read) ≡ says in
-    let Q : ℕ → Type 0 = λ n. parts_judged (a ∷ command.page_plus_read ∷ n ∷ d ∷ e ∷ []) (Some read) ≡ says in
-    subst P (sym second) (subst Q (sym third) (answer_is a d e read has reads most count next (sum
-    ∙ ap (λ n. pec_of (a ∷ n ∷ c ∷ d ∷ e ∷ get_or read 0 0 ∷ get_or read 1 0 ∷ get_or read 2 0 ∷ get_or read 3 0 ∷ [])) second
-    ∙ ap (λ n. pec_of (a ∷ command.page_plus_read ∷ n ∷ d ∷ e ∷ get_or read 0 0 ∷ get_or read 1 0 ∷ get_or read 2 0
-    ∷ get_or read 3 0 ∷ [])) third)))
+    let Q : ℕ → Type 0 = λ n. parts_judged (a ∷ 6 ∷ n ∷ d ∷ e ∷ []) (Some read) ≡ says in
+    subst P (sym second) (subst Q (sym third) (answer_is a d e read has reads most count next sum))
 usual_read_is (a ∷ b ∷ c ∷ d ∷ e ∷ x ∷ rest) read many second third has reads most count next sum = absurd (omega arith)
 
 -- ---- the text

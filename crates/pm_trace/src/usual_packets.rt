@@ -12,14 +12,11 @@ use pm_table::{Attributes, Code};
 pub(crate) fn usual_write(write: &[u8]) -> Option<Usual>
     ensures { IfSome result (λ usual. parts_judged write.now None ≡ usual_judged usual) }
 {
-    let [first, command, count, page, code, low, high, check] = write else {
+    let [first, 0x05, 0x04, page, code, low, high, check] = write else {
         return None;
     };
-    if *command != Code::PAGE_PLUS_WRITE.0 || *count != 4 {
-        return None;
-    }
     let attributes = word_attributes(*first, *page, *code)?;
-    let sum = pec(&[*first, *command, *count, *page, *code, *low, *high]);
+    let sum = pec(&[*first, 0x05, 0x04, *page, *code, *low, *high]);
     if !attributes.writes || sum != *check {
         return None;
     }
@@ -37,19 +34,14 @@ pub(crate) fn usual_write(write: &[u8]) -> Option<Usual>
 pub(crate) fn usual_read(write: &[u8], read: &[u8]) -> Option<Usual>
     ensures { IfSome result (λ usual. parts_judged write.now (Some read.now) ≡ usual_judged usual) }
 {
-    let [first, command, count, page, code] = write else {
+    let [first, 0x06, 0x02, page, code] = write else {
         return None;
     };
-    let [again, length, low, high, check] = read else {
+    let [again, 0x02, low, high, check] = read else {
         return None;
     };
-    if *command != Code::PAGE_PLUS_READ.0 || *count != 2 || *length != 2 {
-        return None;
-    }
     let attributes = word_attributes(*first, *page, *code)?;
-    let sum = pec(&[
-        *first, *command, *count, *page, *code, *again, *length, *low, *high,
-    ]);
+    let sum = pec(&[*first, 0x06, 0x02, *page, *code, *again, 0x02, *low, *high]);
     if !attributes.reads || *again != *first + 1 || sum != *check {
         return None;
     }

@@ -223,7 +223,7 @@ impl OpenLine {
         if self.kind.is_skipped() || self.is_bad || self.digit.is_some() {
             return None;
         }
-        if self.read.is_long() || self.write.is_long() {
+        if self.write.is_long() || self.read.is_long() {
             return None;
         }
         match self.slashes {
