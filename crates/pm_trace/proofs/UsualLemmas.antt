@@ -14,7 +14,7 @@ use Rattle.pm_frame.specs.View.{message_in}
 use Rattle.pm_frame.specs.declared.message.Message.TheVariants.{PagePlusRead, PagePlusWrite}
 use Rattle.pm_frame.specs.declared.payload.Payload.TheVariants.{Word}
 use Rattle.pm_lines.specs.Numbers.{hex_byte, hex_number}
-use Rattle.pm_table.specs.Commands.{Line, Row, attributes, attributes_of, is_known, is_read, is_written, line_among, line_of, name_of, payload_length, rows}
+use Rattle.pm_table.specs.Commands.{Line, Row, attributes, attributes_of, is_ever_written, is_known, is_read, is_written, line_among, line_of, name_of, payload_length, rows}
 use Rattle.pm_table.specs.declared.commands.Attributes.{Attributes}
 use Rattle.pm_trace.specs.Counts.{Counts, IsNewCode, has_code, one_counted, one_more}
 use Rattle.pm_trace.specs.Trace.{Accepted, Judged, parts_judged}
@@ -92,15 +92,15 @@ word_known code word = by (line_of code) word
 
 -- what the table says of a code, in parts
 attributes_are : (code : ℕ) (found : Attributes) → attributes_of code ≡ Some found
-    → (payload_length code ≡ found.length) × (is_written code ≡ found.writes) × (is_read code ≡ found.reads)
+    → (payload_length code ≡ found.length) × (is_written code ≡ is_ever_written found.protection) × (is_read code ≡ found.reads)
 attributes_are code found is = by (line_of code) is
   where
-    by : (line : Option Line) → option_map (λ l. attributes l.length l.paged l.reads l.writes) line ≡ Some found
-        → (option_map_or (λ l. l.length) line 0 ≡ found.length) × (option_map_or (λ l. l.writes) line false ≡ found.writes)
+    by : (line : Option Line) → option_map (λ l. attributes l.length l.scope l.reads l.protection) line ≡ Some found
+        → (option_map_or (λ l. l.length) line 0 ≡ found.length) × (option_map_or (λ l. is_ever_written l.protection) line false ≡ is_ever_written found.protection)
         × (option_map_or (λ l. l.reads) line false ≡ found.reads)
     by (Some line) is =
-        let same : attributes line.length line.paged line.reads line.writes ≡ found = cc in
-        (ap (λ a. a.length) same, ap (λ a. a.writes) same, ap (λ a. a.reads) same)
+        let same : attributes line.length line.scope line.reads line.protection ≡ found = cc in
+        (ap (λ a. a.length) same, ap (λ a. is_ever_written a.protection) same, ap (λ a. a.reads) same)
     by None is = absurd (cc)
 
 pub word_length : (code : ℕ) (found : Attributes) → attributes_of code ≡ Some found → payload_length code ≡ found.length
@@ -111,8 +111,9 @@ not_false : (b : Bool) → not b ≡ false → b ≡ true
 not_false true is = refl
 not_false false is = absurd (cc)
 
-pub written_is : (code : ℕ) (found : Attributes) → attributes_of code ≡ Some found → not found.writes ≡ false → is_written code ≡ true
-written_is code found is goes = (attributes_are code found is).1 ∙ not_false found.writes goes
+pub written_is : (code : ℕ) (found : Attributes) (written : Bool) → attributes_of code ≡ Some found →
+    written ≡ is_ever_written found.protection → not written ≡ false → is_written code ≡ true
+written_is code found written is so goes = (attributes_are code found is).1 ∙ (sym so ∙ not_false written goes)
 
 pub read_is : (code : ℕ) (found : Attributes) → attributes_of code ≡ Some found → not found.reads ≡ false → is_read code ≡ true
 read_is code found is goes = (attributes_are code found is).2 ∙ not_false found.reads goes

@@ -17,7 +17,8 @@ pub(crate) fn usual_write(write: &[u8]) -> Option<Usual>
     };
     let attributes = word_attributes(*first, *page, *code)?;
     let sum = pec(&[*first, 0x05, 0x04, *page, *code, *low, *high]);
-    if !attributes.writes || sum != *check {
+    let written = attributes.protection.is_ever_written();
+    if !written || sum != *check {
         return None;
     }
     Some(Usual {
