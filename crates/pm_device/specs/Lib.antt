@@ -6,5 +6,6 @@ pub mod Effect
 pub mod Status
 pub mod Reply
 pub mod History
+pub mod Image
 pub mod FaultWords
 pub mod Laws

@@ -1,5 +1,6 @@
 ghost use Rattle.std.specs.Prelude.{◌≡◌};
 ghost use Rattle.pm_device.specs.Held.{no_faults};
+ghost use Rattle.pm_device.specs.Image.{latches_held};
 ghost use Rattle.pm_device.specs.Status.{cml_byte};
 ghost use Rattle.pm_device.specs.History.{faults_by};
 ghost use Rattle.pm_device.specs.Effect.{Heard};
@@ -7,6 +8,7 @@ ghost use Rattle.pm_device.specs.declared.act.Act.TheVariants as act;
 ghost use Rattle.pm_device.specs.declared.verdict.Verdict.TheVariants as verdict;
 
 use crate::fault::DeviceFault;
+use crate::image::{LatchesImage, flag};
 use crate::status_bits::StatusCml;
 use bitflags::Flags;
 use pm_frame::FrameFault;
@@ -44,6 +46,30 @@ impl CmlLatches {
             data: false,
             pec: false,
             other_communication: false,
+        }
+    }
+
+    /// The bits that an image has.
+    pub(crate) fn read(image: &LatchesImage) -> CmlLatches
+        ensures { result ≡ latches_held image.now }
+    {
+        CmlLatches {
+            command: image.command == 1,
+            data: image.unsupported == 1,
+            pec: image.pec == 1,
+            other_communication: image.communication == 1,
+        }
+    }
+
+    /// Their image.
+    pub(crate) fn image(&self) -> LatchesImage
+        ensures { latches_held result ≡ self.now }
+    {
+        LatchesImage {
+            command: flag(self.command),
+            unsupported: flag(self.data),
+            pec: flag(self.pec),
+            communication: flag(self.other_communication),
         }
     }
 

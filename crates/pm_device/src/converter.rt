@@ -25,6 +25,7 @@ use std::marker::Model;
 
 mod cut;
 mod effect;
+mod image;
 mod replies;
 mod status;
 

@@ -50,6 +50,7 @@ mod ending;
 mod fault;
 mod formats;
 mod heard;
+mod image;
 mod laws;
 mod output_start;
 mod readings;
@@ -63,6 +64,7 @@ pub use converter::Converter;
 pub use ending::Ending;
 pub use fault::DeviceFault;
 pub use heard::Heard;
+pub use image::{ConfigImage, Image, LatchesImage, OutputImage, ReadingsImage};
 pub use laws::{
     device_codes_ignore_pages, latches_stay, pasts_are_followed, reads_are_answered,
     refusals_set_one_bit, registers_say_what_calls_say, replies_follow_endings,

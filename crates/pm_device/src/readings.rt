@@ -1,6 +1,8 @@
 ghost use Rattle.std.specs.Prelude.{◌≡◌, ◌<◌, ◌≤◌, if◌then◌else◌};
 ghost use Rattle.pm_device.specs.Held.{no_readings, is_reading, reading_at, with_reading};
+ghost use Rattle.pm_device.specs.Image.{readings_held};
 
+use crate::image::ReadingsImage;
 use pm_table::Code;
 use std::marker::Model;
 
@@ -40,6 +42,30 @@ impl Readings {
             iout: [0; 8],
             vin: 0,
             temperature: 0,
+        }
+    }
+
+    /// The readings that an image has.
+    pub(crate) fn read(image: &ReadingsImage) -> Readings
+        ensures { result ≡ readings_held image.now }
+    {
+        Readings {
+            vout: image.vout,
+            iout: image.iout,
+            vin: image.vin,
+            temperature: image.temperature,
+        }
+    }
+
+    /// Their image.
+    pub(crate) fn image(&self) -> ReadingsImage
+        ensures { readings_held result ≡ self.now }
+    {
+        ReadingsImage {
+            vin: self.vin,
+            temperature: self.temperature,
+            vout: self.vout,
+            iout: self.iout,
         }
     }
 

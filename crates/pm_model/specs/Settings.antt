@@ -1,11 +1,11 @@
 -- The settings of a converter as a map from its cells to words. Which cells there are is this
 -- project's own choice.
-use Rattle.std.specs.Prelude.{◌≡◌, ℕ, ◌≤◌, true, List, length, map, slice_index, slice_set}
-use Rattle.std.specs.List.{range_with_len}
+use Rattle.std.specs.Prelude.{◌≡◌, ℕ, ◌≤◌, ◌==◌, Bool, true, not, ◌||◌, ◌&&◌, nat_le, if◌then◌else◌, List, length, map, slice_index, slice_set, Option, Some, None}
+use Rattle.std.specs.List.{list_all, range_with_len}
 use Rattle.pm_table.specs.declared.reg.Reg.{Reg}
 use Rattle.pm_table.specs.declared.cell.Cell.{Cell}
 use Rattle.pm_table.specs.declared.cell.Cell.TheVariants.{Out, Protect}
-use Rattle.pm_table.specs.Cell.{cell_accepts, cell_in, place_of, places}
+use Rattle.pm_table.specs.Cell.{cell_accepts, cell_in, is_cell, place_of, places}
 pub use Rattle.pm_table.specs.Cell.{IsCell, same_cell}
 
 -- the words of the cells of eight outputs and of the device, each at the place of its cell
@@ -57,3 +57,18 @@ pub record AreSettings (settings : Settings) : Type 0 where
   pub few : settings.count ≤ 8
   pub words : AreWords settings.words
   pub accepted : AreAccepted settings
+
+-- the word at a place is one that its cell accepts, where a converter with this many outputs has the cell
+abbrev pub is_accepted_at : ℕ → Words → ℕ → Bool
+is_accepted_at count words place =
+    not (is_cell count (cell_in place)) || cell_accepts (cell_in place) (slice_index words place)
+
+-- so is the word at each place
+unfoldable pub are_accepted : ℕ → Words → Bool
+are_accepted count words = list_all (is_accepted_at count words) (range_with_len 0 places)
+
+-- the settings that these words are, where a converter with this many outputs may have them
+abbrev pub settings_in : ℕ → Words → Option Settings
+settings_in count words =
+    if nat_le 1 count && nat_le count 8 && are_accepted count words
+    then Some (record { count = count; words = words }) else None

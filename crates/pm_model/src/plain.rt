@@ -1,14 +1,14 @@
-ghost use Rattle.std.specs.Prelude.{◌≡◌, ◌↔◌, ◌≤◌, ◌<◌, ◌/◌, ◌%◌, ℕ, [], true, false, IsTrue, slice_index, slice_index_or};
+ghost use Rattle.std.specs.Prelude.{◌≡◌, ◌↔◌, ◌≤◌, ◌<◌, ◌/◌, ◌%◌, ℕ, [], true, false, Some, IsTrue, slice_index, slice_index_or};
 ghost use Rattle.pm_num.specs.AnyFormat.{any_value};
-ghost use Rattle.pm_table.specs.Cell.{cell_accepts, protect_place, register_accepts, register_count, register_number, IsCell};
+ghost use Rattle.pm_table.specs.Cell.{cell_accepts, protect_place, register_accepts, register_count, register_number, places, IsCell};
 ghost use Rattle.pm_table.specs.declared.reg.Reg.{Reg as Register};
-ghost use Rattle.pm_model.specs.Settings.{word_at, with_outputs as spec_with_outputs, with_word, AreSettings, AreWords};
+ghost use Rattle.pm_model.specs.Settings.{are_accepted as spec_are_accepted, is_accepted_at as spec_is_accepted_at, settings_in, word_at, with_outputs as spec_with_outputs, with_word, AreSettings, AreWords};
 ghost use Rattle.pm_model.specs.Commanded.{commanded, greatest_value, least_value, is_above as spec_is_above, is_outside as spec_is_outside, is_cut, scale_at, selected, selected_register as spec_selected_register};
 
 use crate::formats::Formats;
 use crate::laws::{commands_are_limited, settings_are_a_map};
 use pm_num::{AnyFormat, Frac, NumFormat};
-use pm_table::{Cell, Reg, cells_are_told_apart};
+use pm_table::{Cell, Reg, cells_are_told_apart, cells_have_places};
 use std::marker::Model;
 
 /// The settings of a converter with one to eight outputs: a word for each cell that there is.
@@ -46,6 +46,25 @@ fn in_places(words: [[u16; Reg::COUNT]; 8], protect: u16) -> [u16; Cell::PLACES]
     all
 }
 
+// Whether the word at each place is one that its cell accepts, of the cells that there are.
+#[tactic(auto, unfolding(crate::specs::Settings::are_accepted))]
+fn are_accepted(count: u8, words: &[u16; Cell::PLACES]) -> bool
+    ensures { result ≡ spec_are_accepted count words.now }
+{
+    (0..Cell::PLACES).all(|place| is_accepted_at(count, words, place))
+}
+
+// Whether the word at a place is one that its cell accepts, where there is the cell.
+fn is_accepted_at(count: u8, words: &[u16; Cell::PLACES], place: usize) -> bool
+    requires { place < places }
+    ensures { result ≡ spec_is_accepted_at count words.now place }
+{
+    match Cell::at_place(place) {
+        Some(cell) => !cell.is_there(count) || cell.accepts(words[place]),
+        None => unreachable!(),
+    }
+}
+
 impl Plain {
     /// The settings with these words: for each output its registers in the order of `Reg`, and
     /// WRITE_PROTECT. Asks a count of 1 to 8 and that each cell accepts its word. What stands for
@@ -69,6 +88,31 @@ impl Plain {
             count,
             words: in_places(words, protect),
         }
+    }
+
+    /// The settings with these words, each at the place of its cell. None where a converter can't have them: of a
+    /// count that isn't 1 to 8, and where a cell that there is doesn't accept its word.
+    #[tactic(auto, using(crate::proofs::Accepted::accepted_settings))]
+    pub fn of(count: u8, words: [u16; Cell::PLACES]) -> Option<Plain>
+        ensures { result ≡ settings_in count words }
+    {
+        // Hands its law to the prover.
+        cells_have_places();
+        if count < 1 || 8 < count || !are_accepted(count, &words) {
+            return None;
+        }
+        Some(Plain { count, words })
+    }
+
+    /// The words, each at the place of its cell: [`Plain::of`] makes these settings of them and of their count.
+    #[tactic(auto, using(crate::proofs::Accepted::settings_again))]
+    pub fn words(&self) -> [u16; Cell::PLACES]
+        ensures words { result ≡ self.now.words }
+        ensures back { settings_in self.now.count result ≡ Some self.now }
+    {
+        // Hands its law to the prover.
+        cells_have_places();
+        self.words
     }
 
     /// The same settings: a copy, which can't fail.

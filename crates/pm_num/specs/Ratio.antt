@@ -1,4 +1,6 @@
-use Rattle.std.specs.Prelude.{◌≡◌, ℕ, ◌^◌, Bool, ℤ, pos, neg_ℤ, ◌*ℤ◌, ◌<ℤ◌, ◌≤ℤ◌, int_lt}
+use Rattle.std.specs.Prelude.{◌≡◌, ℕ, ◌^◌, Bool, ◌||◌, if◌then◌else◌, ℤ, pos, neg_ℤ, ◌*ℤ◌, ◌<ℤ◌, ◌≤ℤ◌, int_lt, Option, Some, None}
+use Rattle.pm_num.specs.declared.fault.NumFault.{NumFault}
+use Rattle.pm_num.specs.declared.fault.NumFault.TheVariants.{TooLarge}
 
 -- A fraction as a pair of whole numbers, as it stands and not reduced.
 pub record Ratio : Type 0 where
@@ -35,3 +37,16 @@ pub record InBounds (num den : ℤ) : Type 0 where
 -- k millionths.
 abbrev pub micros : ℤ → Ratio
 micros k = record { num = k; den = 10 ^ 6 }
+
+-- This many whole millionths are the most that aren't above the value.
+pub record IsMicroFloor (value : Ratio) (x : ℤ) : Type 0 where
+  pub reached : AtMost (micros x) value
+  pub greatest : (k : ℤ) → AtMost (micros k) value → k ≤ℤ x
+
+-- The value is beyond 10^15 millionths in size.
+abbrev pub is_far : Ratio → Bool
+is_far value = is_above value (micros (pos (10 ^ 15))) || is_above (micros (neg_ℤ (pos (10 ^ 15)))) value
+
+-- N5 where it is that far.
+abbrev pub far_fault : Ratio → Option NumFault
+far_fault value = if is_far value then Some TooLarge else None

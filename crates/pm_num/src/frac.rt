@@ -3,7 +3,8 @@
 ghost use Rattle.std.specs.Prelude.{◌≡◌, ◌^◌, ◌≤◌, ◌↔◌, ℤ, pos, ◌*ℤ◌, ◌≤ℤ◌, IsTrue, IfOk, IfErr, IsOk, unsigned_abs};
 ghost use Rattle.std.specs.Option.{SomeIff};
 ghost use Rattle.std.specs.Ordering.{int_cmp};
-ghost use Rattle.pm_num.specs.Ratio.{AtMost, LessThan, SameValue, InBounds, micros};
+ghost use Rattle.std.specs.Result.{result_err};
+ghost use Rattle.pm_num.specs.Ratio.{AtMost, LessThan, SameValue, InBounds, IsMicroFloor, far_fault, is_far, micros};
 ghost use Rattle.std.specs.declared.cmp.Ordering.TheVariants.{Less, Equal, Greater};
 ghost use Rattle.pm_num.specs.declared.fault.NumFault.TheVariants.{TooLarge};
 
@@ -17,6 +18,9 @@ const LIMIT: i128 = 1 << 55;
 
 // Millionths in one.
 const MILLION: i128 = 1_000_000;
+
+// The greatest number of whole millionths that a value is told as, in size.
+const FAR: i128 = 1_000_000_000_000_000;
 
 // The greatest number of millionths that [`micro`] takes, in size.
 const MICRO_LIMIT: i64 = 1_000_000_000_000_000;
@@ -115,6 +119,28 @@ impl Frac {
         ensures greatest { (k : ℤ) → AtMost (micros k) self.now → k ≤ℤ result }
     {
         floor(self.num() * MILLION, self.den())
+    }
+
+    /// The whole microvolts of a value in volts, rounded down. N5 [`NumFault::TooLarge`] exactly where the value
+    /// is beyond 10^15 microvolts in size.
+    pub fn floor_microvolts(&self) -> Result<i64, NumFault>
+        ensures fault { result_err result ≡ far_fault self.now }
+        ensures floor { IfOk result (λ microvolts. IsMicroFloor self.now microvolts) }
+    {
+        if self.is_far() {
+            return Err(NumFault::TooLarge);
+        }
+        let microvolts = self.floor_micro();
+        Ok(microvolts as i64)
+    }
+
+    // Whether the value is beyond 10^15 millionths in size, by cross products.
+    fn is_far(&self) -> bool
+        ensures far { result ≡ is_far self.now }
+        ensures bounds { InBounds self.now.num (pos self.now.den) }
+    {
+        let microvolts = self.num() * MILLION;
+        FAR * self.den() < microvolts || microvolts < -FAR * self.den()
     }
 }
 

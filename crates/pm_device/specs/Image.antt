@@ -1,0 +1,82 @@
+-- The image of a converter: plain numbers in a caller's memory, and what they mean. This project's own choice.
+use Rattle.std.specs.Prelude.{ℕ, Bool, ◌&&◌, ◌==◌, nat_lt, is_none, is_some, if◌then◌else◌, List, map, slice_index, Option, Some, None}
+use Rattle.pm_table.specs.declared.cell.Cell.TheVariants.{Protect}
+use Rattle.pm_table.specs.Cell.{register_number}
+use Rattle.pm_model.specs.Settings.{settings_in, word_at}
+use Rattle.pm_device.specs.declared.config.Config.{Config}
+use Rattle.pm_device.specs.declared.output_start.OutputStart.{OutputStart}
+use Rattle.pm_device.specs.declared.image.Image.{Image}
+use Rattle.pm_device.specs.declared.image.ConfigImage.{ConfigImage}
+use Rattle.pm_device.specs.declared.image.LatchesImage.{LatchesImage}
+use Rattle.pm_device.specs.declared.image.OutputImage.{OutputImage}
+use Rattle.pm_device.specs.declared.image.ReadingsImage.{ReadingsImage}
+use Rattle.pm_device.specs.Held.{CmlFaults, Held, Measured}
+use Rattle.pm_device.specs.Start.{config_fault, start_of}
+
+-- a flag is set where it is 1
+abbrev pub is_set : ℕ → Bool
+is_set flag = flag == 1
+
+-- how an output starts
+abbrev pub start_held : OutputImage → OutputStart
+start_held output = start_of output.mode (λ register. slice_index output.words (register_number register))
+
+-- what a converter is made from
+abbrev pub config_held : ConfigImage → Config
+config_held image = record {
+  addr = image.address;
+  count = image.outputs;
+  starts = map start_held image.starts;
+  protect = image.protect;
+  coefficients = record { m = image.m; b = image.b; r = image.r };
+}
+
+abbrev pub readings_held : ReadingsImage → Measured
+readings_held image = record {
+  vout = image.vout;
+  iout = image.iout;
+  vin = image.vin;
+  temperature = image.temperature;
+}
+
+abbrev pub latches_held : LatchesImage → CmlFaults
+latches_held image = record {
+  command = is_set image.command;
+  «data» = is_set image.unsupported;
+  pec = is_set image.pec;
+  other_communication = is_set image.communication;
+}
+
+-- what a converter of these numbers holds
+abbrev pub held : Image → Held
+held image = record {
+  config = config_held image.config;
+  words = image.words;
+  store = image.store;
+  page = image.page;
+  readings = readings_held image.readings;
+  cut = map is_set image.cut;
+  faults = latches_held image.latches;
+}
+
+-- the bytes 'CT' and the number of this layout, which an image of another layout lacks
+abbrev pub image_mark : ℕ
+image_mark = 0x5443
+
+abbrev pub image_version : ℕ
+image_version = 1
+
+-- the image has this layout
+abbrev pub is_current : Image → Bool
+is_current image = image.mark == image_mark && image.version == image_version
+
+-- a converter may hold this: its configuration isn't refused, its cells and those of its store are settings of as
+-- many outputs, the store has WRITE_PROTECT's start word, and PAGE names an output that is there
+abbrev pub may_hold : Held → Bool
+may_hold h = is_none (config_fault h.config)
+    && ((is_some (settings_in h.config.count h.words) && is_some (settings_in h.config.count h.store))
+    && (word_at h.store Protect == h.config.protect && nat_lt h.page h.config.count))
+
+-- the converter whose image it is
+unfoldable pub device_of : Image → Option Held
+device_of image = if is_current image && may_hold (held image) then Some (held image) else None
