@@ -9,8 +9,8 @@
  *     0 the pointer to bytes may be any that isn't null;
  *   - what a call writes overlaps nothing else that it is given;
  *   - counts are in elements, uint64_t on every processor, and tell the truth;
- *   - one call at a time works on a host or a desk, and each call has PM_STACK bytes of stack, one of a
- *     desk PM_DESK_STACK.
+ *   - one call at a time works on a host or a desk, and each call has PM_STACK bytes of stack, pm_refusal_name
+ *     PM_NAME_STACK, one of a desk PM_DESK_STACK.
  *
  * The library takes no memory, keeps nothing between calls, calls nothing and never blocks.
  *
@@ -39,12 +39,13 @@ extern "C" {
 
 /* The version of a host's layout, sizes in bytes, and the stack that a call takes at most. On x86-64
  * bench/c_order.sh measured 2,088 bytes of pm_desk_hear and at most 720 of the calls of a host, of LLVM's archive
- * 2,576 and 1,040; the archive's own bound, the stack-bytes in its section .comment, is 2,152. By the frames of LLVM
+ * 2,576 and 1,040, and there pm_refusal_name takes 3,208; the archive's own bound, the stack-bytes in its section .comment, is 2,152. By the frames of LLVM
  * scripts/c/targets.sh finds those of other processors. */
 #define PM_HOST_VERSION 4
 #define PM_HOST_SIZE 2056
 #define PM_DESK_SIZE 122
 #define PM_STACK 2048
+#define PM_NAME_STACK 4096
 #define PM_DESK_STACK 4096
 
 /* What a call answers: 0, or why it is refused. A refused call changes nothing, but for two: pm_host_sending
