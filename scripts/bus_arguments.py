@@ -58,8 +58,6 @@ def read(words):
     while rest and rest[0].startswith("-"):
         take_option(call, rest.pop(0))
     if rest[:1] and rest[0] in RAILS:
-        if call.limits:
-            raise Refused(f"{next(iter(call.limits.values()))}: the file of rails has the limits")
         take_rails(call, rest)
         return call
     if call.is_dry or call.is_json:
@@ -81,7 +79,10 @@ def take_rails(call, words):
         call.rails = rails.read(words[1])
     except rails.BadRails as bad:
         raise Refused(bad) from bad
+    if call.limits:
+        raise Refused(f"{next(iter(call.limits.values()))}: the limits stand in the file of {words[0]}")
     call.outputs, call.jobs = call.rails.outputs, (words,)
+    call.limits = {it.output: f"--limit={it.output}:{it.limits[0]}:{it.limits[1]}" for it in call.rails.rails}
 
 
 def bus_of(word):

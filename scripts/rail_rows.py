@@ -128,6 +128,7 @@ RUNS = [
         mishaps="ok ok ok ok restart"),
     Row("apply FILE more", 2, "", "apply: give one file, as apply rails.toml", writes=False),
     Row("--dry-run verify FILE", 2, "", "verify: it orders nothing, with --dry-run or without", writes=False),
+    Row("--limit=0:0:1 apply FILE", 2, "", "--limit=0:0:1: the limits stand in the file of apply", writes=False),
     Row("--json learn 0", 2, "", "--dry-run and --json are of `apply` and `verify`", writes=False),
     Row("apply no-such.toml", 2, "", "no-such.toml: No such file or directory", writes=False),
 ]

@@ -33,8 +33,11 @@ REGISTERS = {"volts": COMMAND, "margin_high": HIGH, "margin_low": LOW, "max": MA
 class Plain:
     """The plain host in the place of a session with pmbhost."""
 
-    def __init__(self, address, outputs, passes):
+    def __init__(self, address, outputs, passes, limits=()):
         self.host = PlainSession(int(address, 16), outputs, passes)
+        for each in limits:
+            output, least, most = each.split(":")
+            assert self.ask(f"narrow {output} {least} {most}") == "narrowed", each
 
     def ask(self, line):
         return self.host.answer(line.encode())

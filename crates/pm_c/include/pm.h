@@ -10,7 +10,8 @@
  *     0 the pointer to bytes may be any that isn't null;
  *   - what a call writes overlaps nothing else that it is given;
  *   - counts are in elements, uint64_t on every processor, and tell the truth;
- *   - one call at a time works on a host, and each call has PM_STACK bytes of stack.
+ *   - one call at a time works on a host, and each call has PM_STACK bytes of stack, pm_refusal_name
+ *     PM_NAME_STACK.
  *
  * The library takes no memory, keeps nothing between calls, calls nothing and never blocks.
  *
@@ -38,11 +39,13 @@ extern "C" {
 #define PM_VERSION 0x0100
 
 /* The version of a host's layout, its size in bytes, and the stack that a call takes at most. On x86-64
- * bench/c_order.sh measured at most 720 bytes of the calls of a host, of LLVM's archive 1,040; the archive's own bound is
- * the stack-bytes in its section .comment. By the frames of LLVM scripts/c/targets.sh finds those of other processors. */
+ * bench/c_order.sh measured at most 720 bytes of the calls of a host, of LLVM's archive 1,040, and there pm_refusal_name
+ * takes 3,208; the archive's own bound is the stack-bytes in its section .comment. By the frames of LLVM
+ * scripts/c/targets.sh finds those of other processors. */
 #define PM_HOST_VERSION 4
 #define PM_HOST_SIZE 2056
 #define PM_STACK 2048
+#define PM_NAME_STACK 4096
 
 /* What a call answers: 0, or why it is refused. A refused call changes nothing, but for one: pm_host_sending
  * then writes PM_NOTHING. pm_pec, pm_host_restart_seen and pm_host_within answer something else: each says what, and

@@ -112,8 +112,8 @@ not_false true is = refl
 not_false false is = absurd (cc)
 
 pub written_is : (code : ℕ) (found : Attributes) (written : Bool) → attributes_of code ≡ Some found →
-    written ≡ is_ever_written found.protection → not written ≡ false → is_written code ≡ true
-written_is code found written is so goes = (attributes_are code found is).1 ∙ (sym so ∙ not_false written goes)
+    written ≡ is_ever_written found.protection → written ≡ true → is_written code ≡ true
+written_is code found written is so goes = (attributes_are code found is).1 ∙ (sym so ∙ goes)
 
 pub read_is : (code : ℕ) (found : Attributes) → attributes_of code ≡ Some found → not found.reads ≡ false → is_read code ≡ true
 read_is code found is goes = (attributes_are code found is).2 ∙ not_false found.reads goes
