@@ -13,7 +13,7 @@ memory_ends kind memory (inr (inr wants)) = wants
 
 pub returns-in-Ok-read : goal.returns-in-Ok-read
 returns-in-Ok-read g c =
-    rw c.in-Ok.is (inl (c.in-Ok-read.ensures.kinds, c.in-Ok-read.options, c.in-Ok-read.ensures.texts, c.serve.ensures))
+    rw c.in-Ok.is (inl (c.in-Ok-read.ensures.kinds, c.in-Ok-read.options, c.in-Ok-read.ensures.texts, c.serve_host.ensures))
 
 pub returns-in-Err-read : goal.returns-in-Err-read
 returns-in-Err-read g c =
