@@ -17,9 +17,9 @@ static LIMITS: [(LimitFault, &str); 7] = [
 
 #[test]
 fn each_refusal_shows_its_words(rt: HostRuntime) -> Result<(), AllocError> {
-    for (fault, words) in &LIMITS {
+    for (row, (fault, words)) in LIMITS.iter().enumerate() {
         let shown = format!(in rt.alloc(); "{fault}")?;
-        equal(&rt, &shown.as_str(), words, words);
+        equal(&rt, &shown.as_str(), words, &row);
     }
     Ok(())
 }
