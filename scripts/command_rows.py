@@ -2,7 +2,7 @@
 from dataclasses import dataclass
 
 ORDER, CHECK = "order 0 VOUT_COMMAND 34CD", "check 0 VOUT_COMMAND"
-NO_JOB = "no job; there are order, volts, check, learn, clear, store, restore, state, seen, probe"
+NO_JOB = "no job; there are order, volts, check, learn, clear, store, restore, state, seen, band, limits, probe"
 # Command lines whose words aren't what they should be, the first without a word, and below each what is said of it.
 BAD_CALLS = """
     give a bus, an address and jobs, as 1 58 learn 0 + volts 0 VOUT_COMMAND 3300000; --help tells more
@@ -47,7 +47,7 @@ seven 58 seen
 7 58 --passes=0 seen
     --passes=0: give a number from 1 to 15, as --passes=2
 7 58 hello
-    hello: no job; there are order, volts, check, learn, clear, store, restore, state, seen, probe
+    hello: no job; there are order, volts, check, learn, clear, store, restore, state, seen, band, limits, probe
 7 58 seen +
     +: a job stands before it and behind it, as learn 0 + clear 0
 7 58 probe + seen
