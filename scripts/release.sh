@@ -70,7 +70,7 @@ debian() {
     printf '%s (%s) unstable; urgency=medium\n\n  * Commit %s.\n\n -- %s  %s\n' "$name" "$version" "$commit" \
         "$maintainer" "$(date -R -d "@$SOURCE_DATE_EPOCH")" | gzip -9n > "$doc/changelog.gz"
     cp "$root/docs/firmware.md" "$doc/firmware.md"
-    find "$tree/usr/lib" -name 'libpm_*.so.*.*' -exec "${STRIP-strip}" --strip-unneeded {} + 2> /dev/null || true
+    find "$tree/usr" \( -name 'libpm_*.so.*.*' -o -path '*/bin/*' \) -type f -exec "${STRIP-strip}" --strip-unneeded {} + 2> /dev/null || true
     cat > "$tree/DEBIAN/control" << END
 Package: $name
 Version: $version
