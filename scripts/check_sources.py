@@ -48,9 +48,13 @@ HIDES_ONE = re.compile(
 FROM = re.compile(r"^impl(?:<T: Drop>)? From<(AllocError|AllocFailed<T>)> for (\w+) \{$")
 # The files of the programs' helps, which tell refusals by their letters and names.
 HELPS = ("crates/pm_tool/src/commandline/helps.rt", "crates/pm_session/src/options.rt", "crates/pm_part_lines/src/options.rt")
-# A file of numbers that are no codes.
+# A file of numbers that are no codes; and where usual packets are compared by their bytes, which names make slower.
 NUMBERS = ("crates/pm_frame/src/packet_error_code.rt", "crates/pm_lines/src/hex_digit.rt", "crates/pm_c/src/numbers.rt",
-           "crates/pm_c/src/names.rt", "crates/pm_c/specs/Numbers.antt")
+           "crates/pm_c/src/names.rt", "crates/pm_c/specs/Numbers.antt", "crates/pm_trace/src/usual_packets.rt",
+           "crates/pm_trace/proofs/UsualLemmas.antt")
+# Where each register stands for itself: a field of its own, or a call whose promise is about it.
+EACH_REGISTER = ("crates/pm_limits/src/ends.rt", "crates/pm_world/src/short.rt",
+                 "crates/pm_world/proofs/short/words_are_short/Answers.antt")
 
 
 def sources(crates, folders):
@@ -174,7 +178,7 @@ FIELD = re.compile(r"=>? (self|start)\.\w+,?$|^\s*\w+ = word \w+;$")
 def registers(path, lines):
     """Four registers near one another, where no line imports them, or has the field of a start for one."""
     seen, told = [], -NEAR
-    for number, line in enumerate(lines, 1):
+    for number, line in enumerate(lines if path not in EACH_REGISTER else (), 1):
         is_field = path.startswith("crates/pm_device/") and FIELD.search(line)
         if is_field or line.lstrip().startswith(("use ", "ghost use ")):
             continue

@@ -206,6 +206,7 @@ for each in gcc clang g++ clang++; do
         compiler="$each $option $flags"
         name=$each; case $option in *sanitize*) name="$each, sanitized" ;; esac
         program "$name order" examples/c/order.expected "$compiler" examples/c/order.c $rest -- 
+        program "$name part" examples/c/part.expected "$compiler" examples/c/part.c $rest -- 
         # All programs of both ends write one line, whoever compiled them.
         if [ "$(cat "$folder/faults.wanted")" = first ]; then
             $compiler $headers examples/c/faults.c $rest "${archives[@]}" -o "$folder/program" > "$folder/log" 2>&1

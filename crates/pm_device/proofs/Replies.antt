@@ -67,7 +67,7 @@ written-act code output word written plain none = go (line_of code) refl written
   go (Some line) is w =
       let passes : has-act output word code line ≡ true = line-passes (has-act output word) rows code line refl is in
       let some = last (is_ever_written line.protection) (eqb code command.page_plus_write) (is_some (act_in code output word)) passes w
-          plain in
+      plain in
       let not_some : is_some (act_in code output word) ≡ false = ap (λ a. is_some a) none in
       cc
 

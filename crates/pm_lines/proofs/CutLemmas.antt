@@ -11,7 +11,7 @@ pub first_is : (p : ℕ → Bool) (xs : List ℕ) (found : Option ℕ) → IsFir
 first_is p xs None none =
     let end : position_or_len p xs ≡ length xs =
     position_or_len_is p xs (length xs) 0 (omega arith) (λ k below. false_from_ne_true _ (none k (omega arith) below))
-        (λ past. absurd (omega arith)) in
+    (λ past. absurd (omega arith)) in
     grind (arith, nat_tests)
 first_is p xs (Some at) first =
     let (before, passes) = first in

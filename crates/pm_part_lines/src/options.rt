@@ -11,8 +11,8 @@ use clap::{Command, Error};
 use pm_device::Converter;
 use pm_lines::TextFault;
 use pm_program::{VERSION, given_text, with_option};
-use pm_text::{base_converter, read_setup};
 use pm_setup::SetupFault;
+use pm_text::{base_converter, read_setup};
 use std::alloc::{AllocError, Global};
 
 /// What the help shows at its end.

@@ -3,7 +3,7 @@ ghost use Rattle.std.specs.Prelude.{◌≡◌, ◌+◌, ◌*◌, ◌≤◌, ◌+
 ghost use Rattle.std.specs.Fmt.{signed_decimal};
 ghost use Rattle.arrayvec.specs.ArrayVec.{array_vec_len};
 ghost use Rattle.pm_text.specs.Report.{cell_text, end_text, possible_text, spaced_words, standing_text};
-ghost use Rattle.pm_session.specs.ReplyText.{band_text, ceil_micros, limits_text, refusal_words, reply_text as spec_reply_text, reply_words, spaced_bytes, spaced_pair};
+ghost use Rattle.pm_session.specs.ReplyText.{band_text, ceil_micros, limits_text, refusal_words, reply_text as spec_reply_text, reply_words, seen_text, spaced_bytes, spaced_pair};
 ghost use Rattle.pm_lines.specs.Numbers.{hex_byte, hex_word};
 
 use crate::refusal::Refusal;
@@ -58,14 +58,7 @@ fn push_reply(text: &mut ReplyText, reply: &Reply)
         Reply::State(cell, standing, possible) => push_state(text, *cell, *standing, possible),
         Reply::Seen(seen) => {
             push(text, b"seen ");
-            push(
-                text,
-                if *seen {
-                    b"yes".as_slice()
-                } else {
-                    b"no".as_slice()
-                },
-            );
+            push_seen(text, *seen);
         }
         Reply::Band(band) => {
             push(text, b"band");
@@ -80,6 +73,19 @@ fn push_reply(text: &mut ReplyText, reply: &Reply)
             push(text, b"refused ");
             push(text, short_words(*refusal).as_bytes());
         }
+    }
+}
+
+// Appends whether a restart was seen.
+fn push_seen(text: &mut ReplyText, seen: bool)
+    requires { array_vec_len text.old + 3 ≤ 128 }
+    ensures words { text.new.items ≡ text.old.items ++ seen_text seen }
+    ensures room { array_vec_len text.new ≤ array_vec_len text.old + 3 }
+{
+    if seen {
+        push(text, b"yes");
+    } else {
+        push(text, b"no");
     }
 }
 

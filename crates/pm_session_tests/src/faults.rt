@@ -26,10 +26,7 @@ static REFUSALS: [(Refusal, &str); 7] = [
     (Refusal::TooLong, "X3 TooLong"),
     (Refusal::Untold(Untold::NothingSent), "S2 NothingSent"),
     (Refusal::Untold(Untold::WrongKind), "S3 WrongKind"),
-    (
-        Refusal::Guard(LimitFault::Host(HostFault::Busy)),
-        "H3 Busy",
-    ),
+    (Refusal::Guard(LimitFault::Host(HostFault::Busy)), "H3 Busy"),
     (Refusal::Guard(LimitFault::BelowLimit), "L3 BelowLimit"),
 ];
 
