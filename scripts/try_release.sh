@@ -33,6 +33,7 @@ step() {
 step "no toolchain is there" '! command -v rt && ! command -v rattle'
 step ".deb" 'dpkg -i *.deb'
 step "C over the shared object" 'gcc -Wall -Werror examples/c/order.c $(pkg-config --cflags --libs pm_host) -o order && ./order | cmp - examples/c/order.expected'
+step "C over the part's shared object" 'gcc -Wall -Werror examples/c/part.c $(pkg-config --cflags --libs pm_part) -o part && ./part | cmp - examples/c/part.expected'
 step "C over both shared objects" 'gcc -Wall -Werror examples/c/faults.c $(pkg-config --cflags --libs pm_host pm_part) -o faults && ./faults 5000'
 step "C over the archive" 'gcc examples/c/order.c -l:libpm_c.a -o order && ./order | cmp - examples/c/order.expected'
 step "both ends under faults" 'gcc examples/c/faults.c -l:libpm_c.a -l:libpm_part.a -o faults && ./faults 5000'

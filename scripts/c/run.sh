@@ -243,9 +243,12 @@ installed() {
 if command -v pkg-config > /dev/null && command -v gcc > /dev/null; then
     scripts/install.sh "$folder/prefix" --library --archives "$built" > "$folder/log" 2>&1 || told "installed" install
     export PKG_CONFIG_PATH=$folder/prefix/lib/pkgconfig
-    order="examples/c/order.expected examples/c/order.c" ends="$folder/faults.wanted examples/c/faults.c"
+    order="examples/c/order.expected examples/c/order.c" part="examples/c/part.expected examples/c/part.c"
+    ends="$folder/faults.wanted examples/c/faults.c"
     installed "order, shared" $order $(pkg-config --cflags --libs pm_host)
     installed "order, static" $order $(pkg-config --cflags pm_host) "$folder/prefix/lib/libpm_c.a"
+    installed "part, shared" $part $(pkg-config --cflags --libs pm_part)
+    installed "part, static" $part $(pkg-config --cflags pm_part) "$folder/prefix/lib/libpm_part.a"
     installed "both ends, shared" $ends $(pkg-config --cflags --libs pm_host pm_part)
     installed "both ends, static" $ends $(pkg-config --cflags pm_host pm_part) "$folder/prefix/lib/libpm_c.a" "$folder/prefix/lib/libpm_part.a"
 else
