@@ -1,6 +1,7 @@
 #!/usr/bin/env bash
 # How long an order takes over the static library of crates/pm_c beside plain code, the stack of its calls as
-# they ran and of the deepest call as the compiler finds it, how big the archive is and what it wants.
+# they ran and of the deepest call as the compiler finds it, how many instructions an order takes by valgrind's callgrind,
+# how big the archive is and what it wants.
 #
 #   bench/c_order.sh [--archive FILE]
 set -eu
@@ -9,7 +10,8 @@ cd "$(dirname "$0")/.."
 folder=$(mktemp -d)
 trap 'rm -rf "$folder"' EXIT
 if [ "${1-}" = --archive ]; then
-    archive=$2
+    archive=${2-}
+    [ -f "$archive" ] || { echo "c_order.sh: no archive at '$archive': give --archive FILE, a libpm_c.a" >&2; exit 2; }
 else
     (cd crates/pm_c && rt lib --backend rattle > "$folder/log" 2>&1) || { tail -20 "$folder/log"; exit 1; }
     grep -o 'frame-bytes=[0-9]* stack-bytes=[0-9]*' "$folder/log"
@@ -17,6 +19,13 @@ else
 fi
 gcc -O2 -Icrates/pm_c/include bench/c_order.c "$archive" -o "$folder/bench"
 "$folder/bench"
+# counted ORDERS: the instructions of a program that gives so many
+counted() { valgrind --tool=callgrind --callgrind-out-file=/dev/null "$folder/bench" "$1" 2>&1 | sed -n 's/.*Collected : //p'; }
+if command -v valgrind > /dev/null; then
+    echo "an order: $((($(counted 2500) - $(counted 500) + 1000) / 2000)) instructions"
+else
+    echo "valgrind: not on this machine, so an order's instructions aren't counted"
+fi
 size "$archive" | awk 'NR == 2 {print "archive: " $1 " bytes of text, " $2 + $3 " of data"}'
 echo "symbols that it wants: $(nm -u "$archive" | grep -c ' U ' || true)"
 gcc -O2 -Icrates/pm_c/include -Wl,--gc-sections examples/c/order.c "$archive" -o "$folder/order"

@@ -1,34 +1,48 @@
-//! Finds the archive of the library for the target that is built for: the one that PM_C_ARCHIVE names, or
-//! PM_C_ARCHIVE_<target> with `_` for `-`; for x86-64 Linux else the one that `rt lib` left in crates/pm_c/out.
+//! Finds the archives libpm_c.a and libpm_part.a for the target that is built for: in the folder that
+//! PM_ARCHIVES_<target> names, with `_` for `-`, or PM_ARCHIVES; for x86-64 Linux else those that `rt lib` left in
+//! crates/pm_c/out and crates/pm_part/out.
 
 use std::path::{Path, PathBuf};
-use std::{env, fs};
+use std::{env, fs, process};
+
+/// One line that says what to do, and no more.
+fn refuse(why: String) -> ! {
+    eprintln!("pm-host: {why}");
+    process::exit(1)
+}
 
 fn named(name: &str) -> Option<PathBuf> {
     println!("cargo:rerun-if-env-changed={name}");
     env::var_os(name).map(PathBuf::from)
 }
 
-fn archive(target: &str) -> PathBuf {
-    let own = format!("PM_C_ARCHIVE_{}", target.replace('-', "_"));
-    if let Some(path) = named(&own).or_else(|| named("PM_C_ARCHIVE")) {
-        return path;
+fn archive(target: &str, library: &str) -> PathBuf {
+    let own = format!("PM_ARCHIVES_{}", target.replace('-', "_"));
+    if let Some(folder) = named(&own).or_else(|| named("PM_ARCHIVES")) {
+        return folder.join(format!("lib{library}.a"));
     }
     if !(target.starts_with("x86_64") && target.contains("linux")) {
-        panic!("no archive for {target}: build it by scripts/c/targets.sh --out FOLDER, and give {own}=FOLDER/../libpm_c.a");
+        refuse(format!("no archives for {target}: build them by scripts/c/targets.sh --out FOLDER, and give {own}=FOLDER/NAME"));
     }
-    Path::new(&env::var_os("CARGO_MANIFEST_DIR").expect("cargo sets it")).join("../crates/pm_c/out/libpm_c.a")
+    let home = env::var_os("CARGO_MANIFEST_DIR").expect("cargo sets it");
+    Path::new(&home).join(format!("../crates/{library}/out/lib{library}.a"))
 }
 
 fn main() {
     let target = env::var("TARGET").expect("cargo sets it");
-    let from = archive(&target);
     let folder = PathBuf::from(env::var_os("OUT_DIR").expect("cargo sets it"));
-    if !from.is_file() {
-        panic!("no archive at {}: build it by (cd crates/pm_c && rt lib), or give PM_C_ARCHIVE", from.display());
-    }
-    println!("cargo:rerun-if-changed={}", from.display());
-    fs::copy(&from, folder.join("libpm_c.a")).expect("the archive can be copied");
     println!("cargo:rustc-link-search=native={}", folder.display());
-    println!("cargo:rustc-link-lib=static=pm_c");
+    for library in ["pm_c", "pm_part"] {
+        let from = archive(&target, library);
+        if !from.is_file() {
+            refuse(format!(
+                "no archive at {}: build it by (cd crates/{library} && rt lib), or give PM_ARCHIVES, a folder with \
+                 libpm_c.a and libpm_part.a",
+                from.display()
+            ));
+        }
+        println!("cargo:rerun-if-changed={}", from.display());
+        fs::copy(&from, folder.join(format!("lib{library}.a"))).expect("the archive can be copied");
+        println!("cargo:rustc-link-lib=static={library}");
+    }
 }

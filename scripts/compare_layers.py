@@ -1,5 +1,5 @@
 #!/usr/bin/env python3
-"""Compares what the C header, the Python package and the Rust package say of the library with the types of crates/:
+"""Compares what the C headers, the Python package and the Rust package say of the two libraries with the types of crates/:
 the names of the calls; each refusal's number, letter and name; the sizes and versions; and of each struct the names and
 the widths of its fields. By text alone: nothing is built or run.
 
@@ -25,10 +25,14 @@ STRUCTS = {
     "limits": ("LimitsImage", "pm_c/src/guard_image.rt"), "band": ("BandImage", "pm_c/src/limits.rt"),
     "format": ("FormatImage", "pm_host/src/format_image.rt"), "name": ("NameImage", "pm_c/src/name_image.rt"),
     "packet": ("Packet", "pm_c/src/packet.rt"), "payload": ("PayloadImage", "pm_c/src/answer.rt"),
-    "desk": ("Desk", "pm_c/src/desk.rt"), "reply": ("ReplyImage", "pm_c/src/reply_image.rt"),
+    "part_output": ("OutputImage", "pm_device/src/image.rt"), "part_config": ("ConfigImage", "pm_device/src/image.rt"),
+    "part_reply": ("ReplyImage", "pm_part/src/reply_image.rt"),
 }
-COUNTS = {"PM_CELLS": "49", "CELLS": "49", "Cell::PLACES": "49", "ROOM": "32"}
-FAULTS = {"HostFault": "pm_host", "NumFault": "pm_num", "LimitFault": "pm_limits", "FrameFault": "pm_frame", "DeviceFault": "pm_device"}
+COUNTS = {"PM_CELLS": "49", "CELLS": "49", "Cell::PLACES": "49", "ROOM": "32", "Reg::COUNT": "6"}
+FAULTS = {"HostFault": "pm_host/src/fault.rt", "NumFault": "pm_num/src/fault.rt", "LimitFault": "pm_limits/src/fault.rt",
+          "FrameFault": "pm_frame/src/fault.rt", "DeviceFault": "pm_device/src/fault.rt", "ConfigFault": "pm_device/src/config_fault.rt"}
+# The words of an output, which C and Python name and Rattle and Rust count.
+REGISTERS = ["operation", "command", "max", "high", "low", "min"]
 
 
 def read(*path):
@@ -40,8 +44,17 @@ def without_comments(text):
     return re.sub(r"/\*.*?\*/|//[^\n]*|(?m:^\s*#[^\[\n!][^\n]*)", "", text, flags=re.DOTALL)
 
 
-SOURCES = {name: read("crates/pm_c/src", name) for name in os.listdir(os.path.join(ROOT, "crates/pm_c/src")) if name.endswith(".rt")}
-HEADER = re.sub(r"/\*.*?\*/", "", read("crates/pm_c/include/pm.h"), flags=re.DOTALL)
+def sources(crate):
+    folder = os.path.join(ROOT, "crates", crate, "src")
+    return {name: read(folder, name) for name in os.listdir(folder) if name.endswith(".rt")}
+
+
+def header(*path):
+    return re.sub(r"/\*.*?\*/", "", read(*path), flags=re.DOTALL)
+
+
+CRATES = {"pm_c": sources("pm_c"), "pm_part": sources("pm_part")}
+HEADERS = {"pm_c": header("crates/pm_c/include/pm.h"), "pm_part": header("crates/pm_part/include/pm_part.h")}
 PYTHON = read("python/src/pmhost/_library.py")
 RUST = without_comments(read("rust/src/ffi.rs"))
 
@@ -49,35 +62,60 @@ RUST = without_comments(read("rust/src/ffi.rs"))
 # ---- Calls ----
 
 def calls():
-    types = {it for text in SOURCES.values() for it in re.findall(r'pub extern "C" fn (pm_\w+)\(', text)}
-    header = set(re.findall(r"^(?:uint\d+_t|pm_\w+) (pm_\w+)\(", HEADER, re.MULTILINE))
-    return types, {"pm.h": header, "python": set(re.findall(r'^    "(pm_\w+)": \(', PYTHON, re.MULTILINE)),
-                   "rust": set(re.findall(r"pub fn (pm_\w+)\(", RUST))}
+    both = set()
+    for crate, files in CRATES.items():
+        types = {it for text in files.values() for it in re.findall(r'pub extern "C" fn (pm_\w+)\(', text)}
+        yield f"calls of {crate}", types, {"its header": set(re.findall(r"^(?:uint\d+_t|pm_\w+) (pm_\w+)\(", HEADERS[crate], re.MULTILINE))}
+        both |= types
+    yield "calls", both, {"python": set(re.findall(r'^    "(pm_\w+)": \(', PYTHON, re.MULTILINE)),
+                          "rust": set(re.findall(r"pub fn (pm_\w+)\(", RUST))}
 
 
 # ---- Refusals ----
 
 def words_of_types():
     """The words of each variant of each type of faults."""
-    found = {}
-    for name, crate in FAULTS.items():
-        for variant, words in re.findall(rf'{name}::(\w+)(?:\(_\))? => "([A-Z]\d \w+)"', read("crates", crate, "src/fault.rt")):
-            found[name, variant] = words
-    return found
+    return {(name, variant): words for name, path in FAULTS.items() for variant, words in
+            re.findall(rf'{name}::(\w+)(?:\([^)]*\))? => "([A-Z]\d \w+)"', read("crates", path))}
+
+
+def numbers_of_types():
+    """The words of each number that a type of faults has."""
+    words = words_of_types()
+    return {int(number, 0): words[name, variant] for name, path in FAULTS.items() for variant, number in
+            re.findall(rf"{name}::(\w+)(?:\([^)]*\))? => (\d\w*),", read("crates", path)) if (name, variant) in words}
+
+
+def constants(crate):
+    """The numbers of a crate's own."""
+    return {name: int(number, 0) for name, number in re.findall(r"pub const (\w+): u8 = (\w+);", CRATES[crate]["numbers.rt"])}
+
+
+def named():
+    """The words of each number, as pm_refusal_name has them."""
+    words, text = words_of_types(), CRATES["pm_c"]["names.rt"]
+    found = {int(number, 0): words[name, variant] for number, name, variant in re.findall(
+        r"(0x\w+) => (?:LimitFault::Host\()?(?:HostFault::Num\()?(\w+Fault)::(\w+)", text) if (name, variant) in words}
+    return found | {int(number, 0): name for number, name in re.findall(r'(0xE\w) => Some\("(\w+)"\)', text)}
 
 
 def refusals():
-    """The words of each number, by the types; and by each layer."""
-    words, numbers = words_of_types(), SOURCES["numbers.rt"]
-    types = {int(number, 0): words[name, variant] for name, variant, number in
-             re.findall(r"(\w+Fault)::(\w+)(?:\(_\))? => (\w+),", numbers) if (name, variant) in words}
-    for name, number in re.findall(r"pub const (NO_\w+|OTHER_FRAME): u8 = (0xE\w);", numbers):
-        types[int(number, 0)] = camel(name)
-    header = {int(number, 0): spaced(name) for name, number in re.findall(r"\bPM_([HNLFK]\d_\w+) = (\w+)", HEADER)}
-    header |= {int(number, 0): camel(name) for name, number in re.findall(r"\bPM_(NO_\w+|OTHER_FRAME) = (0xE\w)", HEADER)}
-    rust = {int(number, 0): re.sub(r"^([HNLFK]\d)", r"\1 ", name) for name, number in
-            re.findall(r"^    (\w+) = (0x\w\w),", read("rust/src/refusal.rs"), re.MULTILINE)}
-    return types, {"pm.h": header, "rust": rust}
+    """Each number and its words, by the types, by what C is told, and by each layer."""
+    types, own, part, names = numbers_of_types(), constants("pm_c"), constants("pm_part"), named()
+    alone = {number: camel(name) for name, number in own.items() if number >= 0xE0}
+    yield "names", types | alone | {part["NO_PART"]: "NoConverter"}, {"pm_refusal_name": names}
+    yield "refusals", names, {"rust": {int(number, 0): re.sub(r"^([A-Z]\d)", r"\1 ", name) for name, number in re.findall(
+        r"^    (\w+) = (0x\w\w),", read("rust/src/refusal.rs"), re.MULTILINE)}}
+    text = HEADERS["pm_c"]
+    found = {int(number, 0): spaced(name) for name, number in re.findall(r"\bPM_([A-Z]\d_\w+) = (\w+)", text)}
+    found |= {int(number, 0): camel(name) for name, number in re.findall(r"\bPM_(NO_\w+|OTHER_FRAME) = (0xE\w)", text)}
+    yield "refusals of pm_c", {number: it for number, it in types.items() if it[0] in "HNLF"} | alone, {"its header": found}
+    found = {re.sub("^(PART|HEARD)_", "", name): int(number, 0) for name, number in re.findall(r"\bPM_(\w+) = (\w+)", HEADERS["pm_part"])}
+    faults = {number: spaced(name) for name, number in found.items() if re.match(r"[A-Z]\d_", name)}
+    yield "refusals of pm_part", {number: it for number, it in types.items() if it[0] in "VK"}, {"its header": faults}
+    wanted = part | {"OK": part["ACCEPTED"], "TOO_LARGE": next(number for number, it in types.items() if it == "N5 TooLarge")}
+    del wanted["ACCEPTED"]
+    yield "numbers of pm_part", wanted, {"its header": {name: number for name, number in found.items() if number not in faults}}
 
 
 def camel(name):
@@ -92,23 +130,24 @@ def spaced(name):
 def letters():
     """Python has what to do about each letter; names it takes from the library."""
     types = {words.split()[0] for words in words_of_types().values()}
-    return types, {"python": set(re.findall(r'^    "([A-Z]\d)": "', read("python/src/pmhost/errors.py"), re.MULTILINE))}
+    yield "letters", types, {"python": set(re.findall(r'^    "([A-Z]\d)": "', read("python/src/pmhost/errors.py"), re.MULTILINE))}
 
 
 # ---- Sizes ----
 
 def sizes():
-    """Version, layout, and the bytes of a host and of a desk: the types' by their tests, which are proved."""
-    host, desk = re.search(r"pm_host_size\(\), pm_desk_size\(\)\),\s*&\((\d+), (\d+)\)", SOURCES["tests.rt"]).groups()
-    types = [int(it, 0) for it in (re.search(r"const VERSION: u16 = (\w+);", SOURCES["host.rt"])[1], re.search(
-        r"VERSION: u16 = (\d+);", read("crates/pm_host/src/image.rt"))[1], host, desk, COUNTS["PM_CELLS"])]
-    names = ("VERSION", "HOST_VERSION", "HOST_SIZE", "DESK_SIZE", "CELLS")
-    layers = {
-        "pm.h": [re.search(rf"#define PM_{it} (\w+)", HEADER)[1] for it in names],
-        "python": [re.search(rf"^{it} = (\w+)", PYTHON, re.MULTILINE)[1] for it in names],
-        "rust": [re.search(rf"pub const {it}: \w+ = (\w+);", RUST)[1] for it in names],
-    }
-    return types, {layer: [int(it, 0) for it in found] for layer, found in layers.items()}
+    """Versions, layouts, and the bytes of a host and of a part: the types' by their tests, which are proved."""
+    size = {name: int(re.search(rf"{name}\(\), &(\d+)", CRATES[crate]["tests.rt"])[1])
+            for crate, name in (("pm_c", "pm_host_size"), ("pm_part", "pm_part_size"))}
+    layout = {crate: int(re.search(r"VERSION: u16 = (\d+);", read("crates", crate, "src/image.rt"))[1]) for crate in ("pm_host", "pm_device")}
+    host = {"VERSION": int(re.search(r"const VERSION: u16 = (\w+);", CRATES["pm_c"]["host.rt"])[1], 0), "HOST_VERSION": layout["pm_host"],
+            "HOST_SIZE": size["pm_host_size"], "CELLS": int(COUNTS["PM_CELLS"])}
+    part = {"PART_VERSION": layout["pm_device"], "PART_SIZE": size["pm_part_size"]}
+    for crate, types in ("pm_c", host), ("pm_part", part):
+        yield f"sizes of {crate}", types, {"its header": {it: int(re.search(rf"#define PM_{it} (\w+)", HEADERS[crate])[1], 0) for it in types}}
+    both = host | {"PART_SIZE": part["PART_SIZE"]}
+    yield "sizes", both, {"python": {it: int(re.search(rf"^{it} = (\w+)", PYTHON, re.MULTILINE)[1], 0) for it in both},
+                          "rust": {it: int(re.search(rf"pub const {it}: \w+ = (\w+);", RUST)[1], 0) for it in both}}
 
 
 # ---- Structs ----
@@ -118,15 +157,23 @@ def width(name):
     return WIDTHS.get(name, name)
 
 
+def counted(fields):
+    """The fields, with the words of an output under one name."""
+    place = next((at for at in range(len(fields)) if [it[0] for it in fields[at:at + 6]] == REGISTERS), None)
+    if place is None or {it[1:] for it in fields[place:place + 6]} != {("u16", "")}:
+        return fields
+    return [*fields[:place], ("words", "u16", "6"), *fields[place + 6:]]
+
+
 def fields_of_c(name):
-    body = re.search(rf"typedef struct \{{([^}}]*)\}} pm_{name};", HEADER)[1]
+    body = re.search(rf"typedef struct \{{([^}}]*)\}} pm_{name};", HEADERS["pm_part" if name.startswith("part_") else "pm_c"])[1]
     found = []
     for declared in filter(None, (it.strip() for it in body.split(";"))):
         kind, _, names = declared.partition(" ")
         for each in names.split(","):
             field, _, count = each.strip().rstrip("]").partition("[")
             found.append((field, width(kind.removeprefix("pm_")), COUNTS.get(count, count)))
-    return found
+    return counted(found)
 
 
 def fields_of_rust(text, name):
@@ -143,31 +190,30 @@ def fields_of_python(name):
     body = re.search(rf"class {name}\(c\.Structure\):\n    _fields_ = (.*?)\n\n", PYTHON, re.DOTALL)[1]
     found = [(field, width(kind), COUNTS.get(count, count)) for field, kind, count in
              re.findall(r'\("(\w+)", ([\w.]+)(?: \* (\w+))?\)', body)]
-    return found
+    for kind, names in re.findall(r"\(name, ([\w.]+)\) for name in \(([^)]*)\)", body):
+        found += [(name, width(kind), "") for name in re.findall(r'"(\w+)"', names)]
+    return counted(found)
 
 
 def kind_of(kind):
     """The kind of a field under one name in all layers."""
-    known = {"StandingImage": "standing", "WordsImage": "words", "CellImage": "cell", "KnownCell": "cell", "OutputImage": "output",
-             "OutputWords": "output"}
+    known = {"StandingImage": "standing", "WordsImage": "words", "CellImage": "cell", "KnownCell": "cell", "OutputImage": "part_output"}
     return known.get(kind, kind)
 
 
 def structs():
     for name, (own, path) in STRUCTS.items():
-        image = {"HostStep": "StepImage", "KnownCell": "CellImage", "KnownCells": "KnownImage", "Packet": "PacketImage",
-                 "Desk": "DeskImage"}.get(own, own)
+        image = {"HostStep": "StepImage", "KnownCell": "CellImage", "KnownCells": "KnownImage", "Packet": "PacketImage"}.get(own, own)
         text = without_comments(read("crates", path)).replace("OUTPUTS", "8")
         layers = {"pm.h": fields_of_c(name), "python": fields_of_python(image), "rust": fields_of_rust(RUST, image)}
         plain = {layer: [(field, kind_of(kind), count) for field, kind, count in found] for layer, found in layers.items()}
-        yield name, [(field, kind_of(kind), count) for field, kind, count in fields_of_rust(text, own)], plain
+        yield f"struct {name}", [(field, kind_of(kind), count) for field, kind, count in fields_of_rust(text, own)], plain
 
 
 def main():
     answer_help(__doc__)
     passed = failed = 0
-    whole = [("calls", *calls()), ("refusals", *refusals()), ("letters", *letters()), ("sizes", *sizes())]
-    for what, types, layers in [*whole, *((f"struct {name}", types, layers) for name, types, layers in structs())]:
+    for what, types, layers in [*calls(), *refusals(), *letters(), *sizes(), *structs()]:
         if not types:
             layers = {"crates": None}
         for layer, found in layers.items():

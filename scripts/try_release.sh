@@ -33,20 +33,23 @@ step() {
 step "no toolchain is there" '! command -v rt && ! command -v rattle'
 step ".deb" 'dpkg -i *.deb'
 step "C over the shared object" 'gcc -Wall -Werror examples/c/order.c $(pkg-config --cflags --libs pm_host) -o order && ./order | cmp - examples/c/order.expected'
+step "C over the part's shared object" 'gcc -Wall -Werror examples/c/part.c $(pkg-config --cflags --libs pm_part) -o part && ./part | cmp - examples/c/part.expected'
+step "C over both shared objects" 'gcc -Wall -Werror examples/c/faults.c $(pkg-config --cflags --libs pm_host pm_part) -o faults && ./faults 5000'
 step "C over the archive" 'gcc examples/c/order.c -l:libpm_c.a -o order && ./order | cmp - examples/c/order.expected'
-step "both ends under faults" 'gcc examples/c/faults.c -l:libpm_c.a -o faults && ./faults 5000'
-step "Python package" 'python3 -m venv v && PMHOST_ARCHIVE=/usr/lib/libpm_c.a v/bin/pip install --no-index ./python'
+step "both ends under faults" 'gcc examples/c/faults.c -l:libpm_c.a -l:libpm_part.a -o faults && ./faults 5000'
+step "Python package" 'python3 -m venv v && PMHOST_ARCHIVES=/usr/lib v/bin/pip install --no-index ./python'
 step "its tests" 'v/bin/python -B -m unittest discover -s python/tests -t python'
 step "its command line" 'v/bin/python -m pmhost --limit=0:3.135:3.465 desk 58 learn 0 + volts 0 3.3 | grep 3.300048'
-step "tarball" 'mkdir t && tar -C t --strip-components=1 -xf *.tar.gz && gcc examples/c/order.c -It/include t/lib/libpm_c.a -o order && ./order | cmp - examples/c/order.expected'
+step "tarball" 'mkdir t && tar -C t --strip-components=1 -xf *.tar.gz && gcc examples/c/order.c -It/include t/lib/libpm_c.a -o order && ./order | cmp - examples/c/order.expected && gcc examples/c/faults.c -It/include t/lib/libpm_c.a t/lib/libpm_part.a -o faults && ./faults 5000'
 if [ -x "$root/usr/bin/pmb" ]; then
     step "README's example" 'pmb replay < examples/answer-lost.scenario | cmp - examples/answer-lost.report'
-    step "manual pages and completion" 'test -f /usr/share/man/man1/pmb.1.gz && test -f /usr/share/bash-completion/completions/pmb'
+    step "manual pages and completions" 'for each in pmb pmbhost pmbpart; do test -x /usr/bin/$each && test -f /usr/share/man/man1/$each.1.gz && bash -c ". /usr/share/bash-completion/completions/$each"; done'
+    step "a part over pmbpart" 'printf "B0 15 24\nquit\n" | pmbpart | grep -qx taken'
     step "rails over pmbhost" 'PMBHOST=/usr/bin/pmbhost python3 -B scripts/try_rails.py 1 20'
 else
     echo "the release has no programs: README's examples aren't tried"
 fi
-step "removed" 'dpkg -r pm-host && ! test -e /usr/lib/libpm_c.a && ! test -e /usr/include/pm.h'
+step "removed" 'dpkg -r pm-host && for each in lib/libpm_c.a lib/libpm_part.a include/pm.h include/pm_part.h bin/pmbpart; do ! test -e /usr/$each || exit 1; done'
 rm -rf "${root:?}$work"
 echo "$passed passed, $failed failed"
 [ "$failed" = 0 ]

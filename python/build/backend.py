@@ -1,7 +1,8 @@
-"""Builds the package: the files of pmhost, and the shared object that the C compiler makes of the archive.
+"""Builds the package: the files of pmhost, and the shared object that the C compiler makes of the two archives.
 
-The archive is the one that the variable PMHOST_ARCHIVE names, or else the one that `rt lib` left in crates/pm_c/out. The
-compiler is `cc`, or what CC names. It has the calls of PEP 517 and no dependency.
+The archives libpm_c.a and libpm_part.a are those in the folder that the variable PMHOST_ARCHIVES names, or else those that
+`rt lib` left in crates/pm_c/out and crates/pm_part/out. The compiler is `cc`, or what CC names. It has the calls of PEP 517
+and no dependency.
 """
 import base64
 import hashlib
@@ -14,8 +15,8 @@ import tempfile
 import zipfile
 
 HOME = os.path.dirname(os.path.dirname(os.path.abspath(__file__)))
-ARCHIVE = os.path.join(os.path.dirname(HOME), "crates/pm_c/out/libpm_c.a")
-LIBRARY = "libpm_c.so"
+CRATES = ("pm_c", "pm_part")
+LIBRARY = "libpmhost.so"
 
 
 def setting(name):
@@ -33,22 +34,31 @@ def tag():
     return "py3-none-" + re.sub(r"[^0-9A-Za-z]", "_", sysconfig.get_platform())
 
 
+def archives():
+    """Where the archives are."""
+    given, found = os.environ.get("PMHOST_ARCHIVES"), []
+    for crate in CRATES:
+        path = os.path.join(given or os.path.join(os.path.dirname(HOME), "crates", crate, "out"), f"lib{crate}.a")
+        if not os.path.isfile(path):
+            raise SystemExit(f"pmhost: no archive at {path}: build it by (cd crates/{crate} && rt lib --backend rattle), "
+                             "or give PMHOST_ARCHIVES, a folder with libpm_c.a and libpm_part.a")
+        found.append(path)
+    return found
+
+
 def shared_object(folder):
-    """The archive as a library that Python loads."""
-    archive = os.environ.get("PMHOST_ARCHIVE", ARCHIVE)
-    if not os.path.isfile(archive):
-        raise SystemExit(f"pmhost: no archive at {archive}: build it by (cd crates/pm_c && rt lib --backend rattle), "
-                         "or give PMHOST_ARCHIVE")
+    """The archives as one library that Python loads."""
+    found = archives()
     path = os.path.join(folder, LIBRARY)
     compiler = shlex.split(os.environ.get("CC", "cc"))
-    words = [*compiler, "-shared", "-Wl,--whole-archive", archive, "-Wl,--no-whole-archive", "-Wl,-z,noexecstack",
+    words = [*compiler, "-shared", "-Wl,--whole-archive", *found, "-Wl,--no-whole-archive", "-Wl,-z,noexecstack",
              f"-Wl,-soname,{LIBRARY}", "-o", path]
     try:
         subprocess.run(words, check=True)
     except FileNotFoundError:
         raise SystemExit(f"pmhost: no C compiler '{compiler[0]}': install gcc, or give CC") from None
     except subprocess.CalledProcessError:
-        raise SystemExit(f"pmhost: the C compiler didn't take {archive}: is it for this machine?") from None
+        raise SystemExit(f"pmhost: the C compiler didn't take {' and '.join(found)}: are they for this machine?") from None
     return path
 
 

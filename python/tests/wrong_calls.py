@@ -3,7 +3,7 @@ from decimal import Decimal
 
 from pmhost import Format, HostRefused, LimitRefused, LINEAR11, MemoryRefused, NumberRefused, Output, Packet, Part, PartBus, Pmbus
 from pmhost import Host, pec, read_answer, read_request, read_write
-from pmhost import FrameRefused, Smbus2Bus
+from pmhost import FrameRefused, SetupRefused, Smbus2Bus
 
 REQUEST = Packet("PAGE_PLUS_READ", 0x21)
 
@@ -126,7 +126,19 @@ CALLS = [
     (lambda p: pec("B0"), TypeError, "bytes: bytes are wanted"),
     (lambda p: Part(0x58, [0x14]), TypeError, "a pmhost.Output is wanted"),
     (lambda p: Part(0x58, [Output(mode=0x1E0)]), ValueError, "mode of output 0: 480 isn't 0 to 255"),
-    (lambda p: Part(0x58, [Output(mode=0x25)]), MemoryRefused, "NoConverter"),
+    (lambda p: Part(0x58, [Output(mode=0x25)]), SetupRefused, "V4 BadMode: a VOUT_MODE that is neither ULINEAR16 nor DIRECT"),
+    (lambda p: Part(0x58, []), SetupRefused, "V1 OutputCount: a part has 1 to 8 outputs"),
+    (lambda p: Part(0x07), SetupRefused, "V3 Address: an address outside 08h to 77h"),
+    (lambda p: Part(0x158), ValueError, "address: 344 isn't 0 to 255"),
+    (lambda p: Part(0x58, coefficients=(1, 0)), TypeError, "coefficients: give m, b and R"),
+    (lambda p: p.bus.part.word(2, "VOUT_COMMAND"), ValueError, "output: 2 isn't 0 to 1"),
+    (lambda p: p.bus.part.stored(0, "WRITE_PROTECT"), MemoryRefused, "NoCell"),
+    (lambda p: p.bus.part.set_reading(0, "VOUT_COMMAND", 1), ValueError, "reading: 'VOUT_COMMAND' isn't one of READ_VOUT"),
+    (lambda p: p.bus.part.set_reading(0, "READ_VIN", 1), ValueError, "output: READ_VIN is the device's: give None"),
+    (lambda p: p.bus.part.set_reading(None, "READ_VOUT", 1), TypeError, "output: a whole number is wanted"),
+    (lambda p: p.bus.part.set_reading(0, "READ_VOUT", 65536), ValueError, "word: 65536 isn't 0 to 65535"),
+    (lambda p: p.bus.part.status_word(9), ValueError, "output: 9 isn't 0 to 1"),
+    (lambda p: p.bus.part.hear("B0"), TypeError, "frame: bytes are wanted"),
     (lambda p: PartBus(object()), TypeError, "part: a pmhost.Part is wanted"),
     (lambda p: Smbus2Bus(1), TypeError, "bus: an open smbus2.SMBus is wanted"),
 ]

@@ -1,10 +1,11 @@
-//! The calls of the library, as its header pm.h has them. scripts/compare_layers.py compares names, numbers and sizes.
+//! The calls of the two libraries, as their headers pm.h and pm_part.h have them. scripts/compare_layers.py compares names,
+//! numbers and sizes.
 
 pub const VERSION: u16 = 0x0100;
 pub const HOST_VERSION: u16 = 4;
 pub const HOST_SIZE: usize = 2056;
-pub const DESK_SIZE: usize = 122;
 pub const CELLS: usize = 49;
+pub const PART_SIZE: usize = 372;
 
 #[repr(C)]
 #[derive(Clone)]
@@ -116,7 +117,7 @@ pub struct OutputImage {
 
 #[repr(C)]
 #[derive(Clone, Copy, Default)]
-pub struct DeskImage {
+pub struct ConfigImage {
     pub address: u8,
     pub outputs: u8,
     pub r: i8,
@@ -124,7 +125,13 @@ pub struct DeskImage {
     pub m: i16,
     pub b: i16,
     pub protect: u16,
-    pub words: [OutputImage; 8],
+    pub starts: [OutputImage; 8],
+}
+
+#[repr(C)]
+#[derive(Clone)]
+pub struct PartImage {
+    pub memory: [u16; PART_SIZE / 2],
 }
 
 #[repr(C)]
@@ -135,7 +142,7 @@ pub struct ReplyImage {
     pub bytes: [u8; 16],
 }
 
-const _: () = assert!(size_of::<HostImage>() == HOST_SIZE && size_of::<DeskImage>() == DESK_SIZE);
+const _: () = assert!(size_of::<HostImage>() == HOST_SIZE && size_of::<PartImage>() == PART_SIZE);
 
 extern "C" {
     pub fn pm_version() -> u16;
@@ -177,8 +184,18 @@ extern "C" {
         count: u64,
         payload: &mut PayloadImage,
     ) -> u8;
-    pub fn pm_desk_size() -> u64;
-    pub fn pm_desk_hear(desk: &mut DeskImage, bytes: *const u8, count: u64, is_request: u8, reply: &mut ReplyImage) -> u8;
-    pub fn pm_desk_word(desk: &DeskImage, output: u8, code: u8, word: &mut u16) -> u8;
-    pub fn pm_desk_commanded(desk: &DeskImage, output: u8, microvolts: &mut i64) -> u8;
+    pub fn pm_part_size() -> u64;
+    pub fn pm_part_new(part: &mut PartImage, config: &ConfigImage) -> u8;
+    pub fn pm_part_hear(part: &mut PartImage, bytes: *const u8, count: u64, is_request: u8, reply: &mut ReplyImage) -> u8;
+    pub fn pm_part_restart(part: &mut PartImage) -> u8;
+    pub fn pm_part_set_reading(part: &mut PartImage, output: u8, code: u8, word: u16) -> u8;
+    pub fn pm_part_word(part: &PartImage, output: u8, code: u8, word: &mut u16) -> u8;
+    pub fn pm_part_stored(part: &PartImage, output: u8, code: u8, word: &mut u16) -> u8;
+    pub fn pm_part_page(part: &PartImage, page: &mut u8) -> u8;
+    pub fn pm_part_commanded(part: &PartImage, output: u8, microvolts: &mut i64) -> u8;
+    pub fn pm_part_is_on(part: &PartImage, output: u8, on: &mut u8) -> u8;
+    pub fn pm_part_status_byte(part: &PartImage, output: u8, status: &mut u8) -> u8;
+    pub fn pm_part_status_word(part: &PartImage, output: u8, status: &mut u16) -> u8;
+    pub fn pm_part_status_vout(part: &PartImage, output: u8, status: &mut u8) -> u8;
+    pub fn pm_part_status_cml(part: &PartImage, status: &mut u8) -> u8;
 }

@@ -36,7 +36,7 @@ pub enum Cell {
 
 impl Cell {
     /// The output, 0 of WRITE_PROTECT, and the command code.
-    fn numbers(self) -> (u8, u8) {
+    pub(crate) fn numbers(self) -> (u8, u8) {
         match self {
             Cell::Output(output, register) => (output, register.code()),
             Cell::WriteProtect => (0, 0x10),
@@ -237,8 +237,8 @@ impl Host {
     /// A host for the device at this address, 08h to 77h, with 1 to 8 outputs; a job has at most 1 to 15 passes. Nothing is
     /// known, and no output has limits. NoAddress, H1, H2; NoHost where the library is of another version.
     pub fn new(address: u8, outputs: u8, passes: u8) -> Result<Host, Refusal> {
-        let found = unsafe { (ffi::pm_version() >> 8, ffi::pm_host_version(), ffi::pm_host_size(), ffi::pm_desk_size()) };
-        let wanted = (ffi::VERSION >> 8, ffi::HOST_VERSION, ffi::HOST_SIZE as u64, ffi::DESK_SIZE as u64);
+        let found = unsafe { (ffi::pm_version() >> 8, ffi::pm_host_version(), ffi::pm_host_size()) };
+        let wanted = (ffi::VERSION >> 8, ffi::HOST_VERSION, ffi::HOST_SIZE as u64);
         if found != wanted {
             return Err(Refusal::NoHost);
         }

@@ -1,6 +1,6 @@
-//! A PMBus host that sets supply voltages: safe Rust over the library of crates/pm_c, without `std`, without memory taken,
-//! without dependencies. What the library's calls answer is proved; this crate is tested, and not proved. It builds with
-//! Rust 1.81 and later.
+//! A PMBus host that sets supply voltages: safe Rust over the libraries of crates/pm_c and crates/pm_part, without `std`,
+//! without memory taken, without dependencies. What the libraries' calls answer is proved; this crate is tested, and not
+//! proved. It builds with Rust 1.81 and later.
 //!
 //! A 3.3 V rail that takes 3.2 V to 3.465 V, set over a bus. `Part` is a model of a part; a board's bus takes its place:
 //!
@@ -32,7 +32,7 @@ pub use bus::{Bus, Operation};
 pub use host::{Band, Cell, Host, Job, Known, Limits, Possible, Register, Sending, Step, Within};
 pub use number::Format;
 pub use packet::{pec, Bytes, Data, Packet};
-pub use part::{Heard, NoAnswer, Output, Part};
+pub use part::{Heard, NoAnswer, Output, Part, Reading};
 pub use refusal::Refusal;
 
 /// The name of how a job stands, by the number that the library gives it.

@@ -106,9 +106,19 @@ refusals! {
     K6Nested = 0x46,
     /// K7: a code that isn't written, or isn't read.
     K7ReadOnly = 0x47,
+    /// V1: a part has 1 to 8 outputs.
+    V1OutputCount = 0x51,
+    /// V2: OPERATION or WRITE_PROTECT doesn't accept its start word.
+    V2BadStart = 0x52,
+    /// V3: an address outside 08h to 77h.
+    V3Address = 0x53,
+    /// V4: a VOUT_MODE that is neither ULINEAR16 nor DIRECT.
+    V4BadMode = 0x54,
+    /// V5: an output is DIRECT, and m is 0 or R outside -12 to 12.
+    V5BadCoefficients = 0x55,
     /// The memory holds no host.
     NoHost = 0xE0,
-    /// The command code is no cell's.
+    /// The command code is no cell's, or of no cell that is stored.
     NoCell = 0xE1,
     /// No frame of this kind is being sent.
     OtherFrame = 0xE2,
@@ -116,7 +126,7 @@ refusals! {
     NoAddress = 0xE3,
     /// No packet has these numbers.
     NoPacket = 0xE4,
-    /// The memory holds no converter.
+    /// The memory holds no part, or the library's are of another size.
     NoConverter = 0xE5,
     /// The output has no limits.
     NoLimits = 0xE6,

@@ -128,7 +128,74 @@ fn packets_stand_alone() {
     assert_eq!(write.read_answer(0x58, &[0xB1]), Err(Refusal::NoPacket));
     assert_eq!(Format::Direct { m: 0, b: 0, r: 0 }.microvolts(1), Err(Refusal::H7FormatUnknown));
     assert_eq!(Format::Direct { m: 1, b: 0, r: 3 }.nearest_word(3_300_000), Ok(0x0CE4));
-    assert_eq!(Part::new(0x58, &[Output { mode: 0x25, ..Output::default() }], (1, 0, 3)).err(), Some(Refusal::NoConverter));
+}
+
+// The first that applies of V1 to V5.
+#[test]
+fn what_no_part_starts_with_is_refused() {
+    let good = Output::default();
+    let bad = Output { mode: 0xFF, ..good };
+    let direct = Output { mode: 0x40, ..good };
+    for (made, wanted) in [
+        (Part::new(0x58, &[], (1, 0, 3)), Refusal::V1OutputCount),
+        (Part::new(0x78, &[bad; 9], (1, 0, 3)), Refusal::V1OutputCount),
+        (Part::new(0x78, &[Output { operation: 0xB0, ..bad }], (1, 0, 3)), Refusal::V2BadStart),
+        (Part::protected(0x58, &[good], (1, 0, 3), 0x05), Refusal::V2BadStart),
+        (Part::new(0x78, &[bad], (1, 0, 3)), Refusal::V3Address),
+        (Part::new(0x58, &[direct, bad], (0, 0, 0)), Refusal::V4BadMode),
+        (Part::new(0x58, &[direct], (0, 0, 0)), Refusal::V5BadCoefficients),
+    ] {
+        assert_eq!(made.err(), Some(wanted));
+    }
+    let part = Part::protected(0x58, &[good; 8], (1, 0, 3), 0x80).unwrap();
+    assert_eq!((part.address(), part.outputs(), part.word(Cell::WriteProtect)), (0x58, 8, Ok(0x80)));
+}
+
+// PAGE 1, and VOUT_COMMAND 34CDh by PAGE; the same by PAGE_PLUS for output 0; STORE_USER_ALL.
+const PAGE_1: [u8; 4] = [0xB0, 0x00, 0x01, 0xED];
+const PLAIN: [u8; 5] = [0xB0, 0x21, 0xCD, 0x34, 0x38];
+const CARRIED: [u8; 8] = [0xB0, 0x05, 0x04, 0x00, 0x21, 0xCD, 0x34, 0x5A];
+const STORE: [u8; 3] = [0xB0, 0x15, 0x24];
+
+#[test]
+fn a_part_has_a_page_and_a_store() {
+    let mut part = Part::new(0x58, &[Output::default(); 2], (1, 0, 3)).unwrap();
+    assert_eq!((part.hear(&PAGE_1, false), part.page()), (Ok(Heard::Taken), 1));
+    assert_eq!(part.hear(&PLAIN, false), Ok(Heard::Taken));
+    assert_eq!((part.register(0, Register::VoutCommand), part.register(1, Register::VoutCommand)), (Ok(0x1000), Ok(0x34CD)));
+    part.restart();
+    assert_eq!((part.page(), part.register(1, Register::VoutCommand)), (0, Ok(0x1000)));
+    part.hear(&CARRIED, false).unwrap();
+    assert_eq!((part.word(COMMAND), part.stored(COMMAND)), (Ok(0x34CD), Ok(0x1000)));
+    part.hear(&STORE, false).unwrap();
+    part.restart();
+    assert_eq!((part.word(COMMAND), part.commanded(0), part.is_on(0)), (Ok(0x34CD), Ok(3_300_048), Ok(true)));
+    assert_eq!(part.stored(Cell::WriteProtect), Err(Refusal::NoCell));
+    assert_eq!(part.stored(Cell::Output(2, Register::VoutMin)), Err(Refusal::H4UnknownOutput));
+}
+
+#[test]
+fn a_part_has_readings_and_status() {
+    let mut part = Part::new(0x58, &[Output::default(); 2], (1, 0, 3)).unwrap();
+    part.set_reading(Reading::Vin, 0xD300).unwrap();
+    part.set_reading(Reading::Temperature, 0x0019).unwrap();
+    part.set_reading(Reading::Vout(1), 0x34CD).unwrap();
+    assert_eq!(part.set_reading(Reading::Iout(2), 1), Err(Refusal::H4UnknownOutput));
+    let status = |part: &Part| (part.status_byte(1), part.status_word(1), part.status_vout(1), part.status_cml());
+    assert_eq!(status(&part), (Ok(0), Ok(0), Ok(0), 0));
+    assert_eq!(part.hear(&[0xB0, 0x05], false), Err(Refusal::K1Frame));
+    assert_eq!(status(&part), (Ok(2), Ok(2), Ok(0), 2));
+    assert_eq!((part.status_word(2), part.is_on(2)), (Err(Refusal::H4UnknownOutput), Err(Refusal::H4UnknownOutput)));
+    let other = part.clone();
+    part.restart();
+    assert_eq!((status(&part), status(&other)), ((Ok(0), Ok(0), Ok(0), 0), (Ok(2), Ok(2), Ok(0), 2)));
+    for (code, low, high) in [(0x88, 0x00, 0xD3), (0x8D, 0x19, 0x00)] {
+        let Ok(Heard::Answered(answer)) = part.hear(&[0xB0, code], true) else { panic!("no answer") };
+        assert_eq!(answer[..3], [0xB1, low, high]);
+    }
+    part.hear(&PAGE_1, false).unwrap();
+    let Ok(Heard::Answered(answer)) = part.hear(&[0xB0, 0x8B], true) else { panic!("no answer") };
+    assert_eq!((&answer[..3], answer[3]), (&[0xB1, 0xCD, 0x34][..], pec(&[0xB0, 0x8B, 0xB1, 0xCD, 0x34])));
 }
 
 /// A bus that meets a fate for each transaction: 0 good, 1 not heard, 2 heard and the acknowledgement or answer lost, 3 a

@@ -229,22 +229,28 @@ for each in gcc clang g++ clang++; do
         esac
     done
 done
-# installed NAME WORDS ..: the order over what scripts/install.sh installs, found by pkg-config
+# installed NAME WANTED SOURCE WORDS ..: a program over what scripts/install.sh installs, found by pkg-config
 installed() {
-    local name=$1; shift
-    cp examples/c/order.expected "$folder/wanted"; : > "$folder/out"
-    if ! gcc -O2 -Wall -Wextra -Werror examples/c/order.c "$@" -o "$folder/program" > "$folder/log" 2>&1; then
+    local name="installed $1" wanted=$2 source=$3; shift 3
+    cp "$wanted" "$folder/wanted"; : > "$folder/out"
+    if ! gcc -O2 -Wall -Wextra -Werror "$source" "$@" -o "$folder/program" > "$folder/log" 2>&1; then
         told "$name" build; return
     fi
-    LD_LIBRARY_PATH=$folder/prefix/lib "$folder/program" > "$folder/out" 2> "$folder/log"
+    LD_LIBRARY_PATH=$folder/prefix/lib "$folder/program" "$jobs" > "$folder/out" 2> "$folder/log"
     told "$name" $?
 }
 
 if command -v pkg-config > /dev/null && command -v gcc > /dev/null; then
-    scripts/install.sh "$folder/prefix" --library --archive "$archive" > "$folder/log" 2>&1 || told "installed" install
+    scripts/install.sh "$folder/prefix" --library --archives "$built" > "$folder/log" 2>&1 || told "installed" install
     export PKG_CONFIG_PATH=$folder/prefix/lib/pkgconfig
-    installed "installed order, shared" $(pkg-config --cflags --libs pm_host)
-    installed "installed order, static" $(pkg-config --cflags pm_host) "$folder/prefix/lib/libpm_c.a"
+    order="examples/c/order.expected examples/c/order.c" part="examples/c/part.expected examples/c/part.c"
+    ends="$folder/faults.wanted examples/c/faults.c"
+    installed "order, shared" $order $(pkg-config --cflags --libs pm_host)
+    installed "order, static" $order $(pkg-config --cflags pm_host) "$folder/prefix/lib/libpm_c.a"
+    installed "part, shared" $part $(pkg-config --cflags --libs pm_part)
+    installed "part, static" $part $(pkg-config --cflags pm_part) "$folder/prefix/lib/libpm_part.a"
+    installed "both ends, shared" $ends $(pkg-config --cflags --libs pm_host pm_part)
+    installed "both ends, static" $ends $(pkg-config --cflags pm_host pm_part) "$folder/prefix/lib/libpm_c.a" "$folder/prefix/lib/libpm_part.a"
 else
     echo "pkg-config: not on this machine"
 fi

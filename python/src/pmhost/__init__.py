@@ -1,4 +1,4 @@
-"""A PMBus host that sets supply voltages: Python over the library of crates/pm_c.
+"""A PMBus host that sets supply voltages: Python over the libraries of crates/pm_c and crates/pm_part.
 
     from pmhost import LinuxBus, Pmbus
     with LinuxBus(1, 0x58) as bus:
@@ -10,7 +10,7 @@ What the library's calls answer is proved (docs/firmware.md says of what); this 
 """
 from .buses import LinuxBus, Smbus2Bus
 from .errors import (Differs, FrameRefused, HostRefused, LimitRefused, MemoryRefused, NotDone, NumberRefused, PartRefused,
-                     PmhostError, Refused, Unknown)
+                     PmhostError, Refused, SetupRefused, Unknown)
 from .host import Band, Bus, Host, Known, Limits, Sending, Step
 from .packets import Packet, pec, read_answer, read_request, read_write
 from .part import Output, Part, PartBus
@@ -22,6 +22,6 @@ __version__ = "1.0.0"
 __all__ = [
     "Band", "Bus", "CODES", "Differs", "Format", "FrameRefused", "Host", "HostRefused", "Known", "LINEAR11", "LimitRefused",
     "Limits", "LinuxBus", "MemoryRefused", "NotDone", "NumberRefused", "Output", "Packet", "Part", "PartBus", "PartRefused",
-    "PmhostError", "Pmbus", "Refused", "Sending", "Smbus2Bus", "Step", "Unknown", "pec", "read_answer", "read_request",
-    "read_write",
+    "PmhostError", "Pmbus", "Refused", "Sending", "SetupRefused", "Smbus2Bus", "Step", "Unknown", "pec", "read_answer",
+    "read_request", "read_write",
 ]

@@ -1,14 +1,14 @@
-"""The calls of the library, as its header pm.h has them."""
+"""The calls of the two libraries, as their headers pm.h and pm_part.h have them; one shared object has both."""
 import ctypes as c
 import os
 
-PATH = os.environ.get("PMHOST_LIBRARY") or os.path.join(os.path.dirname(os.path.abspath(__file__)), "libpm_c.so")
+PATH = os.environ.get("PMHOST_LIBRARY") or os.path.join(os.path.dirname(os.path.abspath(__file__)), "libpmhost.so")
 
 VERSION = 0x0100
 HOST_VERSION = 4
 HOST_SIZE = 2056
-DESK_SIZE = 122
 CELLS = 49
+PART_SIZE = 372
 
 
 class HostImage(c.Structure):
@@ -70,9 +70,13 @@ class OutputImage(c.Structure):
         (name, c.c_uint16) for name in ("operation", "command", "max", "high", "low", "min")]
 
 
-class DeskImage(c.Structure):
+class ConfigImage(c.Structure):
     _fields_ = [("address", c.c_uint8), ("outputs", c.c_uint8), ("r", c.c_int8), ("unused", c.c_uint8),
-                ("m", c.c_int16), ("b", c.c_int16), ("protect", c.c_uint16), ("words", OutputImage * 8)]
+                ("m", c.c_int16), ("b", c.c_int16), ("protect", c.c_uint16), ("starts", OutputImage * 8)]
+
+
+class PartImage(c.Structure):
+    _fields_ = [("memory", c.c_uint16 * (PART_SIZE // 2))]
 
 
 class ReplyImage(c.Structure):
@@ -80,7 +84,7 @@ class ReplyImage(c.Structure):
 
 
 _u8, _u16, _u64, _i64, _at = c.c_uint8, c.c_uint16, c.c_uint64, c.c_int64, c.POINTER
-_host, _bytes = _at(HostImage), c.c_char_p
+_host, _part, _bytes = _at(HostImage), _at(PartImage), c.c_char_p
 
 # Each call: what it answers, and what it takes.
 CALLS = {
@@ -117,10 +121,20 @@ CALLS = {
     "pm_packet_read_write": (_u8, [_u8, _bytes, _u64, _at(PacketImage)]),
     "pm_packet_read_request": (_u8, [_u8, _bytes, _u64, _at(PacketImage)]),
     "pm_packet_read_answer": (_u8, [_u8, _at(PacketImage), _bytes, _u64, _at(PayloadImage)]),
-    "pm_desk_size": (_u64, []),
-    "pm_desk_hear": (_u8, [_at(DeskImage), _bytes, _u64, _u8, _at(ReplyImage)]),
-    "pm_desk_word": (_u8, [_at(DeskImage), _u8, _u8, _at(_u16)]),
-    "pm_desk_commanded": (_u8, [_at(DeskImage), _u8, _at(_i64)]),
+    "pm_part_size": (_u64, []),
+    "pm_part_new": (_u8, [_part, _at(ConfigImage)]),
+    "pm_part_hear": (_u8, [_part, _bytes, _u64, _u8, _at(ReplyImage)]),
+    "pm_part_restart": (_u8, [_part]),
+    "pm_part_set_reading": (_u8, [_part, _u8, _u8, _u16]),
+    "pm_part_word": (_u8, [_part, _u8, _u8, _at(_u16)]),
+    "pm_part_stored": (_u8, [_part, _u8, _u8, _at(_u16)]),
+    "pm_part_page": (_u8, [_part, _at(_u8)]),
+    "pm_part_commanded": (_u8, [_part, _u8, _at(_i64)]),
+    "pm_part_is_on": (_u8, [_part, _u8, _at(_u8)]),
+    "pm_part_status_byte": (_u8, [_part, _u8, _at(_u8)]),
+    "pm_part_status_word": (_u8, [_part, _u8, _at(_u16)]),
+    "pm_part_status_vout": (_u8, [_part, _u8, _at(_u8)]),
+    "pm_part_status_cml": (_u8, [_part, _at(_u8)]),
 }
 
 
@@ -129,8 +143,8 @@ def _load():
     for name, (answers, takes) in CALLS.items():
         call = getattr(loaded, name)
         call.restype, call.argtypes = answers, takes
-    found = loaded.pm_version() >> 8, loaded.pm_host_version(), loaded.pm_host_size(), loaded.pm_desk_size()
-    wanted = VERSION >> 8, HOST_VERSION, c.sizeof(HostImage), c.sizeof(DeskImage)
+    found = loaded.pm_version() >> 8, loaded.pm_host_version(), loaded.pm_host_size(), loaded.pm_part_size()
+    wanted = VERSION >> 8, HOST_VERSION, c.sizeof(HostImage), c.sizeof(PartImage)
     if found != wanted:
         raise ImportError(f"{PATH} is another library than this package is for: it says {found}, and not {wanted}")
     return loaded

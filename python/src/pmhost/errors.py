@@ -32,6 +32,11 @@ SAYINGS = {
     "F6": "a code that isn't in the command table",
     "F7": "a code that isn't written, or isn't read",
     "F8": "a code that PAGE_PLUS doesn't carry",
+    "V1": "a part has 1 to 8 outputs",
+    "V2": "OPERATION or WRITE_PROTECT doesn't start with this word",
+    "V3": "an address outside 08h to 77h",
+    "V4": "a VOUT_MODE that is neither ULINEAR16 nor DIRECT",
+    "V5": "an output is DIRECT, and m is 0 or R outside -12 to 12",
     "K1": "a faulty frame",
     "K2": "a code that the part doesn't support",
     "K3": "data that the code doesn't take",
@@ -73,15 +78,20 @@ class FrameRefused(Refused):
     """F1 to F8: bytes that are no packet."""
 
 
+class SetupRefused(Refused):
+    """V1 to V5: what no converter starts with."""
+
+
 class PartRefused(Refused):
     """K1 to K7: a frame that a converter refuses."""
 
 
 class MemoryRefused(Refused):
-    """What only a caller of the library can ask wrongly: no host, no cell, a frame of the other kind."""
+    """What only a caller of the library can ask wrongly: no host, no cell, a frame of the other kind, a word in the store of
+    WRITE_PROTECT, which has none."""
 
 
-FAMILIES = {"H": HostRefused, "N": NumberRefused, "L": LimitRefused, "F": FrameRefused, "K": PartRefused}
+FAMILIES = {"H": HostRefused, "N": NumberRefused, "L": LimitRefused, "F": FrameRefused, "K": PartRefused, "V": SetupRefused}
 
 
 class NotDone(PmhostError):

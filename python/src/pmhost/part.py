@@ -4,8 +4,9 @@ from __future__ import annotations
 import ctypes
 from dataclasses import dataclass
 from decimal import Decimal
+from typing import Callable
 
-from ._library import DeskImage, ReplyImage, library
+from ._library import ConfigImage, PartImage, ReplyImage, library
 from .errors import PartRefused, accepted, refusal
 from .values import code_of, frame_bytes, volts_of, whole
 
@@ -27,68 +28,126 @@ class Output:
     min: int = 0x0000
 
 
+# The readings, by their names in PMBus 1.3 Part II: those of an output, and those of the device.
+READINGS = {"READ_VOUT": 0x8B, "READ_IOUT": 0x8C, "READ_VIN": 0x88, "READ_TEMPERATURE_1": 0x8D}
+OF_THE_DEVICE = ("READ_VIN", "READ_TEMPERATURE_1")
+
+
 class Part:
-    """A model converter: it keeps the words of its registers, and no PAGE, readings or latched status."""
+    """A model converter, with PAGE, a user store, readings and latched status.
+
+    A SetupRefused, V1 to V5, where no converter starts so; the library says so, and of numbers that its fields can't hold
+    a ValueError."""
 
     def __init__(self, address: int, outputs: tuple[Output, ...] | list[Output] = (Output(),),
                  coefficients: tuple[int, int, int] = (1, 0, 3), protect: int = 0) -> None:
-        self._start = DeskImage()
-        self._start.address = whole(address, 0x08, 0x77, "address")
-        self._start.outputs = whole(len(outputs), 1, 8, "outputs")
+        config, self._image = ConfigImage(), PartImage()
+        config.address = self._address = whole(address, 0, 255, "address")
+        config.outputs = self._outputs = whole(len(outputs), 0, 255, "outputs")
         if not isinstance(coefficients, (tuple, list)) or len(coefficients) != 3:
             raise TypeError(f"coefficients: give m, b and R, and not {coefficients!r}")
-        self._start.m = whole(coefficients[0], -(2**15), 2**15 - 1, "m")
-        self._start.b = whole(coefficients[1], -(2**15), 2**15 - 1, "b")
-        self._start.r = whole(coefficients[2], -12, 12, "R")
-        self._start.protect = whole(protect, 0, 255, "protect")
-        for number, output in enumerate(outputs):
+        config.m = whole(coefficients[0], -(2**15), 2**15 - 1, "m")
+        config.b = whole(coefficients[1], -(2**15), 2**15 - 1, "b")
+        config.r = whole(coefficients[2], -(2**7), 2**7 - 1, "R")
+        config.protect = whole(protect, 0, 0xFFFF, "protect")
+        for number, output in enumerate(outputs[:8]):
             if not isinstance(output, Output):
                 raise TypeError(f"output {number}: a pmhost.Output is wanted, and not {output!r}")
-            self._put(number, output)
-        self._image = DeskImage.from_buffer_copy(self._start)
-        accepted(library.pm_desk_word(ctypes.byref(self._image), 0, 0x21, ctypes.byref(ctypes.c_uint16())))
-
-    def _put(self, number: int, output: Output) -> None:
-        place = self._start.words[number]
-        place.mode = whole(output.mode, 0, 255, f"mode of output {number}")
-        for name in REGISTERS:
-            setattr(place, name, whole(getattr(output, name), 0, 0xFFFF, f"{name} of output {number}"))
+            place = config.starts[number]
+            place.mode = whole(output.mode, 0, 255, f"mode of output {number}")
+            for name in REGISTERS:
+                setattr(place, name, whole(getattr(output, name), 0, 0xFFFF, f"{name} of output {number}"))
+        accepted(library.pm_part_new(ctypes.byref(self._image), ctypes.byref(config)))
 
     @property
     def outputs(self) -> int:
-        return self._image.outputs
+        return self._outputs
 
     @property
     def address(self) -> int:
-        return self._image.address
+        return self._address
+
+    def copy(self) -> Part:
+        """Another part, which holds the same."""
+        other = object.__new__(Part)
+        other._image = PartImage.from_buffer_copy(self._image)
+        other._address, other._outputs = self._address, self._outputs
+        return other
+
+    def _asked(self, call: Callable[..., int], kind: type, *words: int) -> int:
+        """What a call of the library writes into memory of one kind."""
+        found = kind()
+        accepted(call(ctypes.byref(self._image), *words, ctypes.byref(found)))
+        return found.value
 
     def _there(self, output: int) -> int:
         return whole(output, 0, self.outputs - 1, "output")
 
-    def restart(self) -> None:
-        """It starts again, with the words that it was made with."""
-        self._image = DeskImage.from_buffer_copy(self._start)
+    # ---- What changes it ----
 
     def hear(self, frame: bytes, is_request: bool = False) -> bytes:
         """It hears one frame, the address byte first, which a repeated start ends or else a stop: its answer with the read
-        address, or no bytes. A PartRefused where it refuses the frame."""
+        address, or no bytes. A PartRefused where it refuses the frame, which sets a bit of STATUS_CML and no more."""
         taken, reply = frame_bytes(frame, 2**16, "frame"), ReplyImage()
-        number = library.pm_desk_hear(ctypes.byref(self._image), taken, len(taken), bool(is_request), ctypes.byref(reply))
+        number = library.pm_part_hear(ctypes.byref(self._image), taken, len(taken), bool(is_request), ctypes.byref(reply))
         if number not in (SILENT, TAKEN, ANSWERED):
             raise refusal(number)
         return bytes(reply.bytes[: reply.length])
 
+    def restart(self) -> None:
+        """It restarts, as after a loss of its supply: the outputs' registers have their words in the store, WRITE_PROTECT
+        its start word, PAGE is 0, and no status is latched but what shows at once. The store and the readings stay."""
+        accepted(library.pm_part_restart(ctypes.byref(self._image)))
+
+    def set_reading(self, output: int | None, reading: str, word: int) -> None:
+        """Gives a reading another word: READ_VOUT or READ_IOUT of an output; READ_VIN or READ_TEMPERATURE_1 of the device,
+        whose output is None."""
+        if reading not in READINGS:
+            raise ValueError(f"reading: {reading!r} isn't one of {', '.join(READINGS)}")
+        if reading in OF_THE_DEVICE and output is not None:
+            raise ValueError(f"output: {reading} is the device's: give None")
+        place = 0 if reading in OF_THE_DEVICE else self._there(output)
+        accepted(library.pm_part_set_reading(ctypes.byref(self._image), place, READINGS[reading], whole(word, 0, 0xFFFF, "word")))
+
+    # ---- What it holds ----
+
     def word(self, output: int, register: str | int) -> int:
         """The word that a register holds."""
-        found, code = ctypes.c_uint16(), code_of(register)
-        accepted(library.pm_desk_word(ctypes.byref(self._image), self._there(output), code, ctypes.byref(found)))
-        return found.value
+        return self._asked(library.pm_part_word, ctypes.c_uint16, self._there(output), code_of(register))
+
+    def stored(self, output: int, register: str | int) -> int:
+        """The word that a register has in the user store; WRITE_PROTECT has none, and is refused as NoCell."""
+        return self._asked(library.pm_part_stored, ctypes.c_uint16, self._there(output), code_of(register))
+
+    @property
+    def page(self) -> int:
+        """PAGE: the output that plain packets reach."""
+        return self._asked(library.pm_part_page, ctypes.c_uint8)
 
     def volts(self, output: int) -> Decimal:
-        """The volts that an output commands, rounded down to microvolts."""
-        found = ctypes.c_int64()
-        accepted(library.pm_desk_commanded(ctypes.byref(self._image), self._there(output), ctypes.byref(found)))
-        return volts_of(found.value)
+        """The volts that an output commands, on or off, rounded down to microvolts."""
+        return volts_of(self._asked(library.pm_part_commanded, ctypes.c_int64, self._there(output)))
+
+    def is_on(self, output: int) -> bool:
+        """Whether OPERATION has an output on."""
+        return self._asked(library.pm_part_is_on, ctypes.c_uint8, self._there(output)) == 1
+
+    def status_byte(self, output: int) -> int:
+        """STATUS_BYTE of an output."""
+        return self._asked(library.pm_part_status_byte, ctypes.c_uint8, self._there(output))
+
+    def status_word(self, output: int) -> int:
+        """STATUS_WORD of an output."""
+        return self._asked(library.pm_part_status_word, ctypes.c_uint16, self._there(output))
+
+    def status_vout(self, output: int) -> int:
+        """STATUS_VOUT of an output."""
+        return self._asked(library.pm_part_status_vout, ctypes.c_uint8, self._there(output))
+
+    @property
+    def status_cml(self) -> int:
+        """STATUS_CML, the device's."""
+        return self._asked(library.pm_part_status_cml, ctypes.c_uint8)
 
 
 class PartBus:

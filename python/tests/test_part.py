@@ -1,0 +1,89 @@
+"""The model part: what it hears, holds, stores and latches; frames are those of crates/pm_part's tests."""
+import unittest
+from decimal import Decimal
+
+import pmhost
+from pmhost import Output, Part, PartRefused, SetupRefused
+
+from .fixtures import ADDRESS, RAILS
+
+PAGE_1 = bytes.fromhex("B00001ED")
+PLAIN = bytes.fromhex("B021CD3438")  # VOUT_COMMAND 34CDh, for the output that PAGE selects
+CARRIED = bytes.fromhex("B005040021CD345A")  # the same by PAGE_PLUS, for output 0
+STORE = bytes.fromhex("B01524")
+
+
+class Heard(unittest.TestCase):
+    def setUp(self):
+        self.part = Part(ADDRESS, (Output(), Output()))
+
+    def test_a_plain_word_goes_to_the_selected_output(self):
+        self.assertEqual(self.part.hear(PAGE_1), b"")
+        self.assertEqual(self.part.page, 1)
+        self.part.hear(PLAIN)
+        self.assertEqual((self.part.word(0, "VOUT_COMMAND"), self.part.word(1, "VOUT_COMMAND")), (0x1000, 0x34CD))
+        self.part.restart()
+        self.assertEqual((self.part.page, self.part.word(1, "VOUT_COMMAND")), (0, 0x1000))
+
+    def test_a_store_is_what_a_restart_brings_back(self):
+        self.part.hear(CARRIED)
+        self.assertEqual((self.part.word(0, "VOUT_COMMAND"), self.part.stored(0, "VOUT_COMMAND")), (0x34CD, 0x1000))
+        self.part.hear(STORE)
+        self.assertEqual(self.part.stored(0, "VOUT_COMMAND"), 0x34CD)
+        self.part.restart()
+        self.assertEqual((self.part.word(0, "VOUT_COMMAND"), self.part.volts(0)), (0x34CD, Decimal("3.300048")))
+        self.assertTrue(self.part.is_on(0))
+
+    def test_readings_are_answered_and_stay(self):
+        self.part.set_reading(1, "READ_VOUT", 0x34CD)
+        self.part.set_reading(None, "READ_VIN", 0xD300)
+        self.part.restart()
+        self.assertEqual(self.part.hear(bytes.fromhex("B088"), True)[:3], bytes.fromhex("B100D3"))
+        self.part.hear(PAGE_1)
+        answer = self.part.hear(bytes.fromhex("B08B"), True)
+        self.assertEqual((answer[:3], answer[3]), (bytes.fromhex("B1CD34"), pmhost.pec(bytes.fromhex("B08BB1CD34"))))
+
+    def test_status_is_latched_until_a_restart(self):
+        self.assertEqual(self.status(), (0, 0, 0, 0))
+        with self.assertRaises(PartRefused) as raised:
+            self.part.hear(bytes.fromhex("B005"))
+        self.assertEqual((raised.exception.letter, self.status()), ("K1", (2, 2, 0, 2)))
+        self.part.restart()
+        self.assertEqual(self.status(), (0, 0, 0, 0))
+
+    def status(self):
+        return self.part.status_byte(1), self.part.status_word(1), self.part.status_vout(1), self.part.status_cml
+
+    def test_a_copy_goes_its_own_way(self):
+        other = self.part.copy()
+        other.hear(CARRIED)
+        self.assertEqual((self.part.word(0, "VOUT_COMMAND"), other.word(0, "VOUT_COMMAND")), (0x1000, 0x34CD))
+        self.assertEqual((other.address, other.outputs), (ADDRESS, 2))
+
+    def test_a_frame_for_another_part_is_heard_in_silence(self):
+        self.assertEqual(self.part.hear(bytes.fromhex("B203")), b"")
+        self.assertEqual(self.status(), (0, 0, 0, 0))
+
+
+class Made(unittest.TestCase):
+    def test_what_no_part_starts_with_is_refused_by_its_first_fault(self):
+        bad = Output(mode=0xFF)
+        for letter, made in [
+            ("V1", lambda: Part(ADDRESS, ())),
+            ("V1", lambda: Part(0x78, [bad] * 9)),
+            ("V2", lambda: Part(0x78, (Output(operation=0xB0), bad))),
+            ("V2", lambda: Part(ADDRESS, protect=0x100)),
+            ("V3", lambda: Part(0x78, (bad,))),
+            ("V4", lambda: Part(ADDRESS, (bad, Output(mode=0x40)), (0, 0, 0))),
+            ("V5", lambda: Part(ADDRESS, (Output(mode=0x40),), (0, 0, 0))),
+            ("V5", lambda: Part(ADDRESS, (Output(mode=0x40),), (1, 0, 13))),
+        ]:
+            with self.subTest(letter=letter), self.assertRaises(SetupRefused) as raised:
+                made()
+            self.assertEqual(raised.exception.letter, letter)
+
+    def test_it_starts_with_its_words_in_the_store(self):
+        part = Part(ADDRESS, RAILS, protect=0x80)
+        for output, rail in enumerate(RAILS):
+            self.assertEqual((part.word(output, "VOUT_MAX"), part.stored(output, "VOUT_MAX")), (rail.max, rail.max))
+        self.assertEqual(part.word(1, "WRITE_PROTECT"), 0x80)
