@@ -60,7 +60,7 @@ WHOLE_JOBS = [
     Row(f"--limit=0:3200000:3465000 {LEARN} + volts 0 VOUT_COMMAND 12000000 + {ORDER}",
         f"{LEARN}: ended learned\nvolts 0 VOUT_COMMAND 12000000: refused L4 AboveLimit\n",
         "bus.py: volts 0 VOUT_COMMAND 12000000: the value of the word that would be sent is above the limits: order less: the "
-        "nearest word may lie above what was asked, and `pmb number` shows its value\n", 1),
+        "nearest word may lie above what was asked, and pmb number shows its value\n", 1),
     Row(f"--limit=0:3200000:3465000 {ORDER}", f"{ORDER}: refused L2 FormatUnknown\n",
         f"bus.py: {ORDER}: the output has limits, and its format isn't known: learn the output first\n", 1),
     Row("order 1 VOUT_COMMAND 34CD + check 0 VOUT_COMMAND",

@@ -35,7 +35,7 @@ seven 58 seen
 7 B0 seen
     address B0: give one from 08 to 77; B0 on the wire is 58
 7 58 --speed=3 seen
-    --speed=3: there are --outputs=N, --passes=N, --trace=FILE and --force
+    --speed=3: there are --outputs=N, --passes=N, --limit=O:LEAST:MOST, --trace=FILE and --force
 7 58 --force=no seen
     --force=no: give --force alone
 7 58 --trace seen

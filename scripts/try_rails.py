@@ -144,7 +144,7 @@ def main():
     answer_help(__doc__)
     seed, boards = [int(it) for it in sys.argv[1:3]] + [1, 300][len(sys.argv) - 1:]
     hosts = {"the plain host": Plain}
-    if shutil.which(session.PROGRAM):
+    if shutil.which(session.HOST.path):
         hosts["pmbhost"] = session.Session
     with tempfile.TemporaryDirectory() as folder:
         trial, draw = Trial(folder, hosts), random.Random(seed)

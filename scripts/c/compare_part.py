@@ -211,7 +211,7 @@ class Life:
             there = READINGS.get(code) is None or output < self.count
             before = bytes(self.memory)
             number = self.loaded.pm_part_set_reading(self.memory, output, code, word)
-            wanted = 0xE6 if code not in READINGS else 0 if there else 4
+            wanted = 0xE8 if code not in READINGS else 0 if there else 4
             self.same(f"set_reading {output} {code:02X}", number, wanted)
             if wanted:
                 self.same("what a refused reading leaves", bytes(self.memory), before)

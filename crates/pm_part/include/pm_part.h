@@ -42,10 +42,10 @@ enum {
     PM_V2_BAD_START = 0x52,     /* OPERATION or WRITE_PROTECT doesn't accept its start word */
     PM_V3_ADDRESS = 0x53,       /* an address outside 08h to 77h */
     PM_V4_BAD_MODE = 0x54,      /* a VOUT_MODE that is neither ULINEAR16 nor DIRECT */
-    PM_V5_COEFFICIENTS = 0x55,  /* some output is DIRECT, and m is 0 or r outside -12 to 12 */
+    PM_V5_BAD_COEFFICIENTS = 0x55, /* some output is DIRECT, and m is 0 or r outside -12 to 12 */
     PM_PART_NO_CELL = 0xE1,     /* the command code is no cell's, or of no cell that is stored */
     PM_NO_PART = 0xE5,          /* the memory holds no part */
-    PM_NO_READING = 0xE6        /* the command code is no reading's */
+    PM_NO_READING = 0xE8        /* the command code is no reading's */
 };
 
 /* What a part makes of a frame: silence, where it is for another device; a write that is taken; a read that is

@@ -1,6 +1,6 @@
 -- The numbers that calls answer, of which no two mean two things: 0 where nothing is refused; what a part makes of a
 -- frame, from 81h on; a refusal's own, which stands beside its words, 4 for an output that isn't there, and E0h
--- to E6h for what only a caller in C can ask wrongly. This project's own choice.
+-- to E8h for what only a caller in C can ask wrongly. This project's own choice.
 use Rattle.std.specs.Prelude.{ℕ, ◌||◌, nat_lt, if◌then◌else◌, Option, Some, None}
 use Rattle.pm_num.specs.declared.fault.NumFault.{NumFault}
 use Rattle.pm_num.specs.FaultWords.{num_fault_number}
@@ -33,7 +33,7 @@ no_part = 0xE5
 
 -- the command code is no reading's
 abbrev pub no_reading : ℕ
-no_reading = 0xE6
+no_reading = 0xE8
 
 -- a part is made
 abbrev pub made_number : Option ConfigFault → ℕ

@@ -103,7 +103,7 @@ pub extern "C" fn pm_part_restart(part: &mut Image) -> u8
 }
 
 /// Gives a reading another word: READ_VOUT (8Bh) and READ_IOUT (8Ch) of an output, READ_VIN (88h) and
-/// READ_TEMPERATURE_1 (8Dh) of the device, for which the output isn't looked at. E5h, E6h, 4 where the output isn't
+/// READ_TEMPERATURE_1 (8Dh) of the device, for which the output isn't looked at. E5h, E8h, 4 where the output isn't
 /// there.
 #[unsafe(no_mangle)]
 pub extern "C" fn pm_part_set_reading(part: &mut Image, output: u8, code: u8, word: u16) -> u8

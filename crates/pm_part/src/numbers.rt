@@ -22,4 +22,4 @@ pub const NO_CELL: u8 = 0xE1;
 pub const NO_PART: u8 = 0xE5;
 
 /// The command code is no reading's.
-pub const NO_READING: u8 = 0xE6;
+pub const NO_READING: u8 = 0xE8;

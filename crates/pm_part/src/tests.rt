@@ -101,7 +101,7 @@ fn readings_are_set(rt: HostRuntime) {
     equal(&rt, &set_reading(&mut part, 9, 0x88, 0xD300), &0, &3);
     equal(&rt, &part.readings.vin, &0xD300, &4);
     equal(&rt, &set_reading(&mut part, 2, 0x8C, 1), &4, &5);
-    equal(&rt, &set_reading(&mut part, 0, 0x21, 1), &0xE6, &6);
+    equal(&rt, &set_reading(&mut part, 0, 0x21, 1), &0xE8, &6);
     equal(&rt, &restart(&mut part), &0, &7);
     equal(&rt, &part.readings.vin, &0xD300, &8);
 }
