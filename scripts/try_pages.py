@@ -145,10 +145,11 @@ def name_faults(name, found):
 def source_words():
     """The words of the sources, of the scripts, and of the names of planted bugs."""
     words = set()
-    for form in "crates/*/src/**/*.rt", "crates/*/specs/**/*.antt", "crates/*/must-fail/*", "attacks/**/*", "scripts/**/*.py", "crates/*/include/*.h":
+    for form in ("crates/*/src/**/*.rt", "crates/*/specs/**/*.antt", "crates/*/must-fail/*", "attacks/**/*",
+                 "scripts/**/*.py", "crates/*/include/*.h", "python/**/*.py", "rust/**/*.rs"):
         for path in glob.glob(os.path.join(program.ROOT, form), recursive=True):
             words.add(os.path.basename(path).partition(".")[0])
-            if path.endswith((".rt", ".antt", ".py", ".h")):
+            if path.endswith((".rt", ".antt", ".py", ".h", ".rs")):
                 with open(path, encoding="utf-8") as file:
                     words.update(re.findall(r"\w+", file.read()))
     with open(os.path.join(program.ROOT, "crates.txt"), encoding="utf-8") as file:
