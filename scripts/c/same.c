@@ -361,7 +361,10 @@ static void parts(void) {
     case 10: heard(42, pm_part_status_vout(part, output, &small), 255); break;
     case 11: heard(43, pm_part_status_cml(part, &small), 255); break;
     case 12: heard(44, pm_part_restart(part), 255); break;
-    case 13: heard(45, pm_part_set_reading(part, output, (uint8_t)(draw(4) ? 0x88 + draw(6) : draw(256)), draw_word()), 255); break;
+    case 13:
+        code = (uint8_t)(draw(4) ? 0x88 + draw(6) : draw(256));
+        heard(45, pm_part_set_reading(part, output, code, draw_word()), 255);
+        break;
     default: heard(46, pm_part_word(part, output, code, &out.word), 255); break;
     }
     add(small);
@@ -397,8 +400,10 @@ static void step(void) {
         exchange(host);
     else if (kind < 70)
         ask(host);
+    else if (kind < 78 && draw(8))
+        numbers();
     else if (kind < 78)
-        (draw(8) ? numbers : names)();
+        names();
     else if (kind < 88)
         packets();
     else if (kind < 98)
