@@ -235,7 +235,7 @@ for each in $names; do
     [ -f "$folder/$each.said" ] && cat "$folder/$each.said"
     [ -n "$out" ] && [ -f "$folder/$each.measured" ] && leave "$each"
 done
-echo "the sums of $seeds seeds of x86-64: $(tail -1 "$folder/same.wanted")"
+echo "x86-64, the last of $seeds seeds: $(tail -1 "$folder/same.wanted")"
 table
 passed=$(cat "$folder"/*.said | grep -c ': ok$') failed=$(cat "$folder"/*.said | grep -c ': FAILED')
 echo "$passed passed, $failed failed"
