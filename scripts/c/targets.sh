@@ -166,7 +166,7 @@ within() {
     for each in PM_STACK PM_NAME_STACK PM_PART_STACK; do
         most+=("$(sed -n "s/^#define $each \([0-9]*\)$/\1/p" crates/pm_c/include/pm.h crates/pm_part/include/pm_part.h)")
     done
-    if [ "$host" -le "${most[0]}" ] 2> /dev/null && [ "$naming" -le "${most[1]}" ] 2> /dev/null && [ "$part" -le "${most[2]}" ] 2> /dev/null; then
+    if { [ "$host" -le "${most[0]}" ] && [ "$naming" -le "${most[1]}" ] && [ "$part" -le "${most[2]}" ]; } 2> /dev/null; then
         echo "$1 stack: ok"
     else
         echo "$1 stack: FAILED, $host of ${most[0]}, $naming of ${most[1]} and $part of ${most[2]}"

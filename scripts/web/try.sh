@@ -37,7 +37,11 @@ if [ -n "$browser" ] && command -v python3 > /dev/null; then
     else
         failed=$((failed + 1)); echo "the page doesn't show its first example:"; tail -3 "$work/log"
     fi
-    grep -q '<div class="verdict bad">It says: success. 3.3 V reached output 0.' "$work/page" && passed=$((passed + 1)) || { failed=$((failed + 1)); echo "the page doesn't say what went wrong"; }
+    if grep -q '<div class="verdict bad">It says: success. 3.3 V reached output 0.' "$work/page"; then
+        passed=$((passed + 1))
+    else
+        failed=$((failed + 1)); echo "the page doesn't say what went wrong"
+    fi
 else
     echo "a browser: not on this machine: chromium"
 fi
