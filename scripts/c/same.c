@@ -333,7 +333,7 @@ static void packets(void) {
             uint8_t whole[32];
             memcpy(whole, out.sending.bytes, 16);
             memcpy(whole + count % 17, came, length - 1);
-            came[length - 1] = pm_pec(whole, count % 17 + length - 1);
+            came[length - 1] = (uint8_t)wide_pec(whole, count % 17 + length - 1);
         }
         heard(36, pm_packet_read_answer(address, &packet, came, length, &out.payload), 255);
     } else if (draw(2))
@@ -400,8 +400,10 @@ static void step(void) {
         exchange(host);
     else if (kind < 70)
         ask(host);
+    else if (kind < 78 && draw(8))
+        numbers();
     else if (kind < 78)
-        (draw(8) ? numbers : names)();
+        names();
     else if (kind < 88)
         packets();
     else if (kind < 98)

@@ -1,13 +1,14 @@
 #!/usr/bin/env python3
 """The stack that a call of the library takes at most, by the compiler's own frames.
 
-    scripts/c/stack.py MODULE FRAMES [BYTES]
+    scripts/c/stack.py MODULE FRAMES [BYTES [EXPORT ..]]
 
 MODULE is the library's module as text, after all passes over it, and FRAMES what -fstack-usage wrote of its compilation.
 BYTES is what a call itself takes beside the frames: 8 on x86-64, where it leaves a return address; 0 if left out. It
-prints the most of the library's calls. What the functions of the C library take that a processor's compiler calls
-(memcpy, a division) isn't in it. A cycle of calls, a frame that isn't
-fixed and a function with no frame are refused.
+prints the most of the library's calls; with an EXPORT, whose stack the header promises by itself, the most of the others
+and then what that one takes, in one line. What the functions of the C library take that a processor's compiler calls
+(memcpy, a division) isn't in it. A cycle of calls, a frame that isn't fixed, a function with no frame and an EXPORT that
+the module doesn't have are refused.
 """
 import re
 import sys
@@ -55,10 +56,14 @@ def main():
         print(__doc__.strip())
         return
     if len(sys.argv) < 3:
-        sys.exit("stack.py: give MODULE FRAMES [BYTES]; --help says more")
+        sys.exit("stack.py: give MODULE FRAMES [BYTES [EXPORT ..]]; --help says more")
     frames, (calls, exports) = read_frames(sys.argv[2]), read_calls(sys.argv[1])
-    each = int(sys.argv[3]) if len(sys.argv) > 3 else 0
-    print(max(deepest(it, calls, frames, each) for it in exports))
+    each, apart = int(sys.argv[3]) if len(sys.argv) > 3 else 0, sys.argv[4:]
+    for name in apart:
+        if name not in exports:
+            sys.exit(f"stack.py: no export {name}")
+    most = max(deepest(it, calls, frames, each) for it in exports if it not in apart)
+    print(most, *(deepest(it, calls, frames, each) for it in apart))
 
 
 main()

@@ -58,15 +58,16 @@ END
 }
 
 # prove NAME WORDS ..: the archives that the toolchain builds, with their modules, where they aren't there yet; what is the
-# part's is NAME.part
+# part's is NAME.part. The archives of Rattle's own compiler have no module, so the toolchain itself builds them, and what
+# they stand on with what other copies of the repository kept.
 prove() {
-    local name=$1 crate kept; shift
+    local name=$1 crate kept by=$folder/kit; shift
     for crate in pm_c pm_part; do
         kept=$built/$name; [ $crate = pm_part ] && kept=$kept.part
         [ -f "$kept.a" ] && continue
-        [ -d "$folder/kit" ] || mirror
+        if [ $name = x86-64 ]; then by=$kit; elif [ ! -d "$by" ]; then mirror; fi
         rm -f "$folder"/module.bc "$folder"/module.words
-        if ! (cd crates/$crate && "$folder/kit/bin/rt" lib "$@") > "$folder/log" 2>&1; then
+        if ! (cd crates/$crate && "$by/bin/rt" lib "$@") > "$folder/log" 2>&1; then
             tail -5 "$folder/log"; echo "targets.sh: $crate isn't built for $name" >&2; exit 1
         fi
         if [ -f "$folder/module.bc" ]; then
@@ -132,16 +133,20 @@ instructions() {
     echo $(((count[1] - count[0]) / 10))
 }
 
-# deepest NAME: the stack of a call, by the frames, or as the archive says of itself
+# deepest NAME EXPORT ..: the stack of a call and then of each export that the header promises by itself, by the frames; or
+# as the archive says of itself, which is one bound of all
 deepest() {
-    if [ -f "$folder/$1.passed" ]; then
-        scripts/c/stack.py "$folder/$1.passed" "$folder/$1.su" "${call[${1%.part}]-0}" 2>&1
+    local of=$1 most each; shift
+    if [ -f "$folder/$of.passed" ]; then
+        scripts/c/stack.py "$folder/$of.passed" "$folder/$of.su" "${call[${of%.part}]-0}" "$@" 2>&1
     else
-        readelf -p .comment "$folder/$1.a" | grep -o 'stack-bytes=[0-9]*' | cut -d= -f2 | sort -n | tail -1
+        most=$(readelf -p .comment "$folder/$of.a" | grep -o 'stack-bytes=[0-9]*' | cut -d= -f2 | sort -n | tail -1)
+        for each in "" "$@"; do echo -n "${most:-none} "; done
     fi
 }
 
-# measured NAME: text of the host's archive, flash of an order alone, stack of a host's and of a part's call, instructions
+# measured NAME: text of the host's archive, flash of an order alone, stack of a host's call, of pm_refusal_name and of a
+# part's call, instructions
 measured() {
     local name=$1 text order=-
     text=$(size -t "$folder/$name.a" 2> /dev/null | awk 'END {print $1}')
@@ -151,20 +156,20 @@ measured() {
             -u pm_host_standing "$folder/$name.a" -o "$folder/$name.alone" 2> /dev/null &&
             order=$(size "$folder/$name.alone" | awk 'END {print $1}')
     fi
-    echo "$text $order $(deepest "$name") $(deepest "$name.part") $(instructions "$name")"
+    echo "$text $order $(deepest "$name" pm_refusal_name) $(deepest "$name.part") $(instructions "$name")"
 }
 
 # within NAME: the stack is at most what the header promises
 within() {
-    local host part most=() each
-    read -r _ _ host part _ < "$folder/$1.measured"
-    for each in PM_STACK PM_PART_STACK; do
+    local host naming part most=() each
+    read -r _ _ host naming part _ < "$folder/$1.measured"
+    for each in PM_STACK PM_NAME_STACK PM_PART_STACK; do
         most+=("$(sed -n "s/^#define $each \([0-9]*\)$/\1/p" crates/pm_c/include/pm.h crates/pm_part/include/pm_part.h)")
     done
-    if [ "$host" -le "${most[0]}" ] 2> /dev/null && [ "$part" -le "${most[1]}" ] 2> /dev/null; then
+    if { [ "$host" -le "${most[0]}" ] && [ "$naming" -le "${most[1]}" ] && [ "$part" -le "${most[2]}" ]; } 2> /dev/null; then
         echo "$1 stack: ok"
     else
-        echo "$1 stack: FAILED, $host of ${most[0]} and $part of ${most[1]}"
+        echo "$1 stack: FAILED, $host of ${most[0]}, $naming of ${most[1]} and $part of ${most[2]}"
     fi
 }
 
@@ -183,34 +188,34 @@ target() {
 
 # leave NAME: the archives, the headers and the line of facts
 leave() {
-    local name=$1 text order host part orders
-    read -r text order host part orders < "$folder/$name.measured"
+    local name=$1 text order host naming part orders
+    read -r text order host naming part orders < "$folder/$name.measured"
     mkdir -p "$out/$name"
     cp "$folder/$name.a" "$out/$name/libpm_c.a"
     cp "$folder/$name.part.a" "$out/$name/libpm_part.a"
     cp crates/pm_c/include/pm.h crates/pm_part/include/pm_part.h "$out/$name/"
     echo "commit=$(git rev-parse HEAD) toolchain=$(rt version | tr ' ' '-') target=$name proof=${class[$name]} flags=$(tr ' ' ',' <<< "${flags[$name]}")" \
-        "text=$text order=$order stack-host=$host stack-part=$part instructions=$orders sha256=$(sha256sum "$folder/$name.a" | cut -d' ' -f1)" \
+        "text=$text order=$order stack-host=$host stack-name=$naming stack-part=$part instructions=$orders sha256=$(sha256sum "$folder/$name.a" | cut -d' ' -f1)" \
         "sha256-part=$(sha256sum "$folder/$name.part.a" | cut -d' ' -f1)" \
         > "$out/$name/facts"
 }
 
 # table: what the page shows
 table() {
-    local name text order host part orders
-    echo "| target | how | host's archive, bytes | an order alone | stack of a host's call | of a part's | instructions of an order |"
-    echo "|---|---|---|---|---|---|---|"
+    local name text order host naming part orders
+    echo "| target | how | host's archive, bytes | an order alone | stack of a host's call | of pm_refusal_name | of a part's call | instructions of an order |"
+    echo "|---|---|---|---|---|---|---|---|"
     for name in $names; do
         [ -f "$folder/$name.measured" ] || continue
-        read -r text order host part orders < "$folder/$name.measured"
-        echo "| ${title[$name]} | ${meaning[${class[$name]}]} | $text | $order | $host | $part | $orders |"
+        read -r text order host naming part orders < "$folder/$name.measured"
+        echo "| ${title[$name]} | ${meaning[${class[$name]}]} | $text | $order | $host | $naming | $part | $orders |"
     done
 }
 
+prove x86-64 --backend rattle
 prove x86-64-llvm
 prove aarch64-linux --target aarch64-unknown-linux-gnu
 prove wasm64 --target wasm64-unknown-unknown
-prove x86-64 --backend rattle
 for each in "" .part; do
     $clang -x ir "$built/x86-64-llvm$each.bc" -S -emit-llvm -Xclang -disable-llvm-passes -o "$folder/module$each.text" 2> /dev/null
 done
@@ -230,7 +235,7 @@ for each in $names; do
     [ -f "$folder/$each.said" ] && cat "$folder/$each.said"
     [ -n "$out" ] && [ -f "$folder/$each.measured" ] && leave "$each"
 done
-echo "the sums of $seeds seeds of x86-64: $(tail -1 "$folder/same.wanted")"
+echo "x86-64, the last of $seeds seeds: $(tail -1 "$folder/same.wanted")"
 table
 passed=$(cat "$folder"/*.said | grep -c ': ok$') failed=$(cat "$folder"/*.said | grep -c ': FAILED')
 echo "$passed passed, $failed failed"
