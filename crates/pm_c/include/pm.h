@@ -39,9 +39,9 @@ extern "C" {
 #define PM_VERSION 0x0100
 
 /* The version of a host's layout, its size in bytes, and the stack that a call takes at most. On x86-64
- * bench/c_order.sh measured at most 720 bytes of the calls of a host, of LLVM's archive 1,040, and there pm_refusal_name
- * takes 3,208; the archive's own bound is the stack-bytes in its section .comment. By the frames of LLVM
- * scripts/c/targets.sh finds those of other processors. */
+ * bench/c_order.sh measured at most 720 bytes of the calls of a host, of LLVM's archive 1,040, and 3,208 of
+ * pm_refusal_name where a loader binds memmove at its first call; the archive's own bound is the stack-bytes in its
+ * section .comment. By the frames of LLVM scripts/c/targets.sh finds those of other processors. */
 #define PM_HOST_VERSION 4
 #define PM_HOST_SIZE 2056
 #define PM_STACK 2048
