@@ -136,7 +136,15 @@ def take_option(call, word):
 
 
 def take_limit(call, word, value):
-    """The limits of an output, in whole microvolts, go into the call."""
+    """The limits of an output go into the call."""
+    output, _, _ = limit_of(word, value)
+    if output in call.limits:
+        raise Refused(f"{word}: output {output} has limits already")
+    call.limits[output] = word
+
+
+def limit_of(word, value):
+    """An output, and the least and the most of its limits in whole microvolts. Refused."""
     found = re.fullmatch("([0-9]{1,3}):(-?[0-9]{1,19}):(-?[0-9]{1,19})", value)
     if not found:
         raise Refused(f"{shown(word)}: give an output, the least and the most in whole microvolts, as {LIMIT_EXAMPLE}")
@@ -145,9 +153,7 @@ def take_limit(call, word, value):
         raise Refused(f"{word}: a limit is at most {MOST_LIMIT} microvolts")
     if most < least:
         raise Refused(f"{word}: the least is above the most")
-    if output in call.limits:
-        raise Refused(f"{word}: output {output} has limits already")
-    call.limits[output] = word
+    return output, least, most
 
 
 def number_of(word, value, most):

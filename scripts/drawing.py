@@ -3,7 +3,7 @@ from html import escape
 
 SANS, MONO = "'DejaVu Sans', Verdana, sans-serif", "'DejaVu Sans Mono', Menlo, Consolas, monospace"
 INK, PALE, PANEL, EDGES = "#1c2127", "#5b6570", "#fbfbf8", "#8a9099"
-LINE, GOOD, FAULT, RESTART, LIMIT = "#1f4e9c", "#14713f", "#b3261e", "#7a3db8", "#8a4b08"
+LINE, GOOD, FAULT, RESTART, LIMIT, RAIL = "#1f4e9c", "#14713f", "#b3261e", "#7a3db8", "#8a4b08", "#8c1d5a"
 MARKS = {"good": GOOD, "fault": FAULT, "restart": RESTART, "none": PALE}
 
 
@@ -30,6 +30,11 @@ def line(x1, y1, x2, y2, colour, width=1.0, extra=""):
 def box(x, y, wide, high, fill, extra="", title=None):
     shape = f'<rect x="{x:.1f}" y="{y:.1f}" width="{wide:.1f}" height="{high:.1f}" fill="{fill}"{extra}'
     return f"{shape}><title>{escape(title)}</title></rect>" if title else f"{shape}/>"
+
+
+def named(shape, title):
+    """A shape that shows its title where it is pointed at."""
+    return f"<g><title>{escape(title)}</title>{shape}</g>"
 
 
 def wrapped(words, room, size):

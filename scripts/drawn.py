@@ -77,6 +77,18 @@ class Drawn:
                     found[self.output_at(x), self.columns[x], place] = told
         return found
 
+    def shades(self):
+        """By output and row, the microvolts that a shade is titled with, and where it ends to the left and to the right."""
+        found = {}
+        for it in self.root.iter(SVG + "g"):
+            shade, ends = it.find(SVG + "rect"), re.findall(r"-?\d+", it.find(SVG + "title").text)
+            x, y, wide, high = (float(shade.get(name)) for name in ("x", "y", "width", "height"))
+            output = self.output_at(x + wide / 2)
+            for place in self.rows_over(y, y + high):
+                left = x - self.lanes[output]
+                found[output, place] = tuple(map(int, ends)), (left, left + wide)
+        return found
+
     def boxes(self, fill, radius):
         """The rows that each rounded box of this fill stands over."""
         for it in self.root.iter(SVG + "rect"):

@@ -1,12 +1,14 @@
 """The lane of a picture that shows the voltage of one output: a scale of its own, from VOUT_MIN to VOUT_MAX with a
-little room, and farther where what is commanded lies outside."""
+little room, and farther where what is commanded or a limit of the rail lies outside."""
 from math import floor, log10
 
-from drawing import LIMIT, LINE, PALE, box, line, text, width_of
+from drawing import LIMIT, LINE, PALE, RAIL, box, line, named, text, width_of
 from told import in_volts
 
 PAD, BESIDE, LEAST_WIDTH = 8, 8, 120
 OUTSIDE, INSIDE = "#f6e4d3", "#eef3ee"
+# What lies over the ground where the host knows the voltage to be.
+SHADE = ' fill-opacity="0.18"'
 
 
 def ends_of(values):
@@ -22,22 +24,25 @@ def ends_of(values):
 
 class Lane:
     """Of one output. `told` has, row by row, what is shown: whether it is on, the microvolts, the limit that cuts it,
-    and the limits' microvolts by their names."""
+    and the limits' microvolts by their names. `bands` has the microvolts between which the host knows it, or None, and
+    `rail` those that the rail's limits allow, or None."""
 
-    def __init__(self, output, seen):
-        self.output = output
+    def __init__(self, output, seen, rail=None):
+        self.output, self.rail = output, rail
+        self.bands = [row.bands[output] for row in seen.rows]
         self.told = [(*row.report.outputs[output], row.cut.get(output), row.limits(seen.model, output))
                      for row in seen.rows]
         values = {micro for _, micro, _, _ in self.told}
         for *_, limits in self.told:
             values |= {*limits.values()}
+        values |= {*(rail or ())}
         self.low, self.high = ends_of(values)
         self.width = self.wide_enough()
 
     def wide_enough(self):
         """Wide enough for each value beside its line, for the limits, and for the ends of the scale."""
         ends = sum(width_of(in_volts(it), 11) for it in (self.low, self.high)) + 16
-        wide = max(ends, width_of(f"output {self.output}", 13) + 8, LEAST_WIDTH,
+        wide = max(ends, width_of(f"output {self.output}", 13) + 8, LEAST_WIDTH, width_of(self.commands(), 12) + 4,
                    *(width_of(it, 11) + 4 for it in {limits_in_words(told[3]) for told in self.told}))
         for told in set((on, micro, cut) for on, micro, cut, _ in self.told):
             share = self.share(told[1])
@@ -55,19 +60,18 @@ class Lane:
     def heads(self, x, y, first):
         """Above a page that begins with a row: the output, its limits then, and the ends of the scale."""
         yield text(x, y - 60, f"output {self.output}", 13, extra=' font-weight="bold"')
-        yield text(x, y - 42, "commands", 12, PALE)
+        yield text(x, y - 42, self.commands(), 12, RAIL if self.rail else PALE)
         yield text(x, y - 25, limits_in_words(self.told[first][3]), 11, LIMIT)
         yield text(x, y - 8, in_volts(self.low), 11, PALE)
         yield text(x + self.width, y - 8, in_volts(self.high), 11, PALE, anchor="end")
 
+    def commands(self):
+        """What the lane shows, and the limits of its rail."""
+        return f"commands, limits {in_volts(self.rail[0])} to {in_volts(self.rail[1])}" if self.rail else "commands"
+
     def runs(self, first, end, key):
         """The runs of rows of a page that have the same key: the first, the one after the last, and the key."""
-        place = first
-        while place < end:
-            start, told = place, key(self.told[place])
-            while place < end and key(self.told[place]) == told:
-                place += 1
-            yield start, place, told
+        yield from runs_of([key(it) for it in self.told[first:end]], first)
 
     def limits(self, x, top_of, first, end):
         """The ground between the limits and outside of them, the limits, and their values where they change."""
@@ -81,6 +85,18 @@ class Lane:
             yield box(x + left, top, right - left, high, INSIDE)
             for micro in limits.values():
                 yield line(x + self.x_of(micro), top, x + self.x_of(micro), top + high, LIMIT, 1.2)
+
+    def known(self, x, top_of, first, end):
+        """Where the host knows the voltage to be, as far as the scale goes, and the limits of the rail."""
+        for start, stop, band in runs_of(self.bands[first:end], first):
+            if band:
+                left, right = (self.x_of(min(max(it, self.low), self.high)) for it in band)
+                top, high = top_of(start), top_of(stop - 1) - top_of(start) + top_of.row
+                shade = box(x + left - 1, top, right - left + 2, high, LINE, SHADE)
+                yield named(shade, f"the host knows {band[0]} to {band[1]} uV")
+        for micro in self.rail or ():
+            at = x + self.x_of(micro)
+            yield line(at, top_of(first), at, top_of(end - 1) + top_of.row, RAIL, 1.6, ' stroke-dasharray="2 3"')
 
     def voltage(self, x, top_of, first, end):
         """The commanded voltage from row to row."""
@@ -104,6 +120,16 @@ class Lane:
                 at = self.x_of(self.told[start][1]) + (BESIDE if is_left else -BESIDE)
                 yield halo(x + at, top_of(start) + 25, "; ".join(changed(self.told[start - 1][3], limits)), 11, LIMIT,
                            "start" if is_left else "end")
+
+
+def runs_of(values, first):
+    """The runs of equal values, whose first stands in this row: the first row, the one after the last, the value."""
+    place = 0
+    while place < len(values):
+        start = place
+        while place < len(values) and values[place] == values[start]:
+            place += 1
+        yield first + start, first + place, values[start]
 
 
 def halo(x, y, words, size, colour, anchor):

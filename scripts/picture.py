@@ -3,12 +3,16 @@
 the host believes of the registers that the events name, jobs with their ends, status where it isn't 0, and what came of
 each event on the bus.
 
-    scripts/picture.py SCENARIO > picture.svg
+    scripts/picture.py SCENARIO [--limit=O:LEAST:MOST ..] > picture.svg
+
+--limit draws the limits of output O's rail, in whole microvolts, as pmbhost takes them; the events are those of the
+text, and none is refused by them. A shade shows between which voltages the host knows an output to be, once it has learned
+the output's format.
 
 Voltages, words, status, jobs and beliefs are the reports of the built program, or of the one that the environment
 variable PMB names: it runs the text up to each event, a text of version 1 in the form of version 2. What came of an
-event on the bus, which limit cuts, which confirmed words are in doubt since a restart was seen, and how many volts a
-word is are found by the plain model of scripts/plain. A refused text has status 1.
+event on the bus, which limit cuts, which confirmed words are in doubt since a restart was seen, the shade, and how many
+volts a word is are found by the plain model of scripts/plain. A refused text has status 1.
 """
 import os
 import sys
@@ -16,12 +20,13 @@ from html import escape
 
 sys.dont_write_bytecode = True
 
+import bus_arguments  # noqa: E402
 import program  # noqa: E402
 from drawing import (  # noqa: E402
-    EDGES, FAULT, GOOD, INK, LIMIT, MARKS, MONO, PALE, PANEL, RESTART, box, first_that_fits, line, path, symbol,
-    text, width_of,
+    EDGES, FAULT, GOOD, INK, LIMIT, LINE, MARKS, MONO, PALE, PANEL, RAIL, RESTART, box, first_that_fits, line, path,
+    symbol, text, width_of,
 )
-from lane import INSIDE, OUTSIDE, Lane  # noqa: E402
+from lane import INSIDE, OUTSIDE, SHADE, Lane  # noqa: E402
 from lived import Refused  # noqa: E402
 from refusals import in_words  # noqa: E402
 from seen import Seen  # noqa: E402
@@ -72,8 +77,9 @@ class Pages:
 
 
 class Picture:
-    def __init__(self, seen, name):
+    def __init__(self, seen, name, rails=None):
         self.seen, self.name, self.parts, self.entries = seen, name, [], None
+        self.rails = rails or {}
         rows = seen.rows
         self.numbers_at = EDGE + 8 + max(width_of(str(row.number), 12) for row in rows[-2:])
         self.labels_at = self.numbers_at + 10
@@ -92,7 +98,7 @@ class Picture:
         for output in (None, *self.seen.model.outputs):
             start = x
             if output is not None:
-                self.lanes[output] = x, Lane(output, self.seen)
+                self.lanes[output] = x, Lane(output, self.seen, self.rails.get(output))
                 x += self.lanes[output][1].width + 8
             for register in (it for it in self.seen.model.registers if it[0] == output):
                 self.beliefs_at[register] = x
@@ -221,7 +227,7 @@ class Picture:
         for place in range(first, end):
             self.draw_row(place, self.seen.rows[place])
         for x, lane in self.lanes.values():
-            for those in lane.limits, lane.voltage, lane.labels:
+            for those in lane.limits, lane.known, lane.voltage, lane.labels:
                 self.parts += those(x, self.tops, first, end)
         for register in self.beliefs_at:
             self.draw_beliefs(register, first, end)
@@ -240,6 +246,10 @@ class Picture:
         if any(bar[3] for register in self.beliefs_at for bar in self.bars(register, 0, len(rows))):
             entries.append(("none", edge_of("", True), "false since a restart"))
         entries += [(INSIDE, f' stroke="{LIMIT}"', "between the limits"), (OUTSIDE, "", "outside of them")]
+        if any(band for row in rows for band in row.bands.values()):
+            entries.append((LINE, SHADE, "where the host knows the voltage to be"))
+        if self.rails:
+            entries.append(("none", f' stroke="{RAIL}" stroke-width="1.6" stroke-dasharray="2 3"', "limits of the rail"))
         if self.seen.jobs:
             entries.append((BAND, "", "a job, from its order to its end"))
         zero = [] if None in self.status_at else ["STATUS_CML stays 00"]
@@ -334,14 +344,35 @@ def is_shown(report, output):
     return int(report.status[output].split()[1], 16) & ~cml != 0
 
 
+def rails_in(words, outputs):
+    """The limits that the options give, by output. Refused, of scripts/bus_arguments.py."""
+    rails = {}
+    for word in words:
+        name, _, value = word.partition("=")
+        if name != "--limit":
+            raise bus_arguments.Refused(f"{bus_arguments.shown(word)}: there is {bus_arguments.LIMIT_EXAMPLE}")
+        output, *limits = bus_arguments.limit_of(word, value)
+        if output not in outputs:
+            raise bus_arguments.Refused(f"{word}: there is no output {output}")
+        if output in rails:
+            raise bus_arguments.Refused(f"{word}: output {output} has limits already")
+        rails[output] = limits
+    return rails
+
+
 def main():
+    options = [word for word in sys.argv[1:] if word.startswith("--") and word != "--help"]
+    sys.argv[1:] = [word for word in sys.argv[1:] if word not in options]
     words = program.one_file(__doc__)
     try:
         seen = Seen(words)
+        rails = rails_in(options, seen.model.outputs)
+    except bus_arguments.Refused as refused:
+        sys.exit(f"picture.py: {refused}")
     except Refused as refused:
         letter = in_words(str(refused))
         sys.exit(f"{refused}: {letter}" if letter else str(refused))
-    write_all([Picture(seen, os.path.basename(sys.argv[1])).svg().rstrip("\n")])
+    write_all([Picture(seen, os.path.basename(sys.argv[1]), rails).svg().rstrip("\n")])
 
 
 if __name__ == "__main__":

@@ -1,6 +1,7 @@
 """What is wrong with a picture, by the plain model of the run that it shows."""
 import re
 from decimal import Decimal
+from math import ceil, floor
 
 import drawing
 import lane
@@ -8,6 +9,7 @@ import picture
 from lived import Report
 from plain.converter import MAX, MIN, format_of
 from plain.host import ANY
+from plain.limits import band
 from plain.numbers import millionths, value_of
 from plain.packets import name_of
 from plain.report import report
@@ -25,7 +27,7 @@ class Plain:
     def __init__(self, text):
         self.setup, passes, events = read_scenario(text)
         world = World(self.setup, passes)
-        self.reports, self.thoughts, self.cuts = [], [], []
+        self.reports, self.thoughts, self.cuts, self.bands = [], [], [], []
         self.note(world)
         for event in events:
             world.stop = world.step(event)
@@ -35,7 +37,7 @@ class Plain:
             self.note(world)
         # A stop's row, which shows what stood before.
         if world.stop:
-            for those in self.reports, self.thoughts, self.cuts:
+            for those in self.reports, self.thoughts, self.cuts, self.bands:
                 those.append(those[-1])
         self.stop = world.stop
 
@@ -44,6 +46,7 @@ class Plain:
         host, cells, device = world.host, world.device.cells, world.device
         self.cuts.append({it: {MAX: "max ", MIN: "min "}[device.commanding(it)] for it in device.outputs
                           if device.is_cut(it) and device.is_on(it)})
+        self.bands.append({it: in_microvolts(band(host, it)) for it in device.outputs})
         self.thoughts.append({cell: (host.standing(cell), host.possible(cell), cells[cell]) for cell in cells})
 
     def micro(self, output, word):
@@ -56,6 +59,11 @@ class Plain:
         if self.setup["version"] == 2:
             found["min"] = self.micro(output, self.thoughts[place][output, MIN][2])
         return found
+
+
+def in_microvolts(found):
+    """The ends of a band in whole microvolts, the least rounded down and the greatest up."""
+    return found and (floor(found[0] * 10**6), ceil(found[1] * 10**6))
 
 
 def tells(said, micro):
@@ -166,6 +174,43 @@ def scale_faults(drawn, plain):
                     yield f"row {place}: output {output} stands at {at}, and not at {wanted}"
 
 
+def place_in(drawn, output, micro):
+    """How far to the right of its lane's left edge a voltage stands, by the labels of the lane's scale; one beyond the
+    scale at its end."""
+    low, high = (drawn.in_head(0, output, nth) for nth in (1, 2))
+    ends = [float(it.words.split()[0]) * (1 if it.words.endswith("uV") else 1e6) for it in (low, high)]
+    share = (min(max(micro, ends[0]), ends[1]) - ends[0]) / (ends[1] - ends[0])
+    return lane.PAD + share * (high.x - drawn.lanes[output] - 2 * lane.PAD)
+
+
+def band_faults(drawn, plain):
+    """The shade is what the host knows of the voltage, to a microvolt in its title, and as far as the scale goes."""
+    shades = drawn.shades()
+    for place, bands in enumerate(plain.bands):
+        for output, wanted in bands.items():
+            found = shades.get((output, place))
+            if (found and found[0]) != wanted:
+                yield f"row {place}: the band of output {output} is {found}, and not {wanted}"
+            elif found:
+                ends = [place_in(drawn, output, it) for it in wanted]
+                if any(abs(one - two) > 2.1 for one, two in zip(found[1], ends)):
+                    yield f"row {place}: the band of output {output} stands at {found[1]}, and not at {ends}"
+
+
+def rail_faults(drawn, rails):
+    """The limits of the rails stand on their scales in each row, and in the heads; the other outputs have none."""
+    lines = drawn.upright(drawing.RAIL, 1.6)
+    for output in drawn.lanes:
+        wanted = sorted(place_in(drawn, output, it) for it in rails.get(output, ()))
+        for place in range(len(drawn.tops)):
+            at = sorted(lines.get((output, place), []))
+            if len(at) != len(wanted) or any(abs(one - two) > 1 for one, two in zip(at, wanted)):
+                yield f"row {place}: the limits of output {output} stand at {at}, and not at {wanted}"
+    said = [it.words for it in drawn.texts if it.colour == drawing.RAIL]
+    if len(said) != len(rails) * len(drawn.heads) or not all(it.startswith("commands, limits ") for it in said):
+        yield f"the heads say {said}"
+
+
 def limit_faults(drawn, plain):
     """The limits are told in volts over each page, and where they change."""
     for page, (first, end) in enumerate(drawn.pages()):
@@ -267,6 +312,7 @@ def colour_faults():
     grounds = {drawing.PANEL: (drawing.INK, drawing.PALE, *drawing.MARKS.values()),
                picture.BAND: (drawing.INK, drawing.PALE, *drawing.MARKS.values()),
                lane.INSIDE: (drawing.LINE, drawing.LIMIT), lane.OUTSIDE: (drawing.LINE, drawing.LIMIT)}
+    grounds[drawing.PANEL] += (drawing.RAIL,)
     pairs = [(ink, ground) for ground, inks in grounds.items() for ink in inks]
     for fill, ink, _ in picture.BELIEFS.values():
         behind = {"none": [drawing.PANEL], picture.HATCH: picture.STRIPES}.get(fill, [fill])

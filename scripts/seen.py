@@ -1,9 +1,14 @@
 """What a picture of a scenario's run shows, row by row. Voltages, words, status, jobs and what the host believes are
 the program's own reports; a report of version 1 doesn't tell possible words, so that of such a text its form in version
-2 is run. What came of each event on the bus, and which confirmed words are in doubt, is found by the plain model."""
+2 is run. What came of each event on the bus, which confirmed words are in doubt, and the band between which an output is
+by what the host believes, are found by the plain model."""
+from math import ceil, floor
+
 import program
 from lived import lived, report_of
 from plain.converter import MAX, MIN, PROTECT, REGISTERS
+from plain.host import ANY
+from plain.limits import band
 from plain.lines import lines_of, numbered
 from plain.packets import name_of
 from plain.scenario import read_scenario
@@ -18,13 +23,14 @@ JOBS = ("order", "volts", "check", "learn", "clear", "store", "restore")
 class Row:
     """One event, or the start: `number` and `label` of its line, `mark` (a kind and words), the `report` after it,
     by shown register the belief (confirmed, doubtful, possible or any, with words), and by output the limit that cuts
-    it. `begins` where the event begins a job."""
+    it and the band that the host knows. `begins` where the event begins a job."""
 
     def __init__(self, number, label, mark, report, model, begins=False):
         self.number, self.label, self.mark, self.report, self.begins = number, label, mark, report, begins
         self.beliefs = {register: belief(report, register, model.doubted) for register in model.registers}
         found = {output: model.limit_that_cuts(output) for output in model.outputs}
         self.cut = {output: limit for output, limit in found.items() if limit}
+        self.bands = {output: model.band_of(report, output) for output in model.outputs}
 
     def limits(self, model, output):
         """The microvolts of an output's limits, by their names; a text of version 1 has no least one."""
@@ -63,6 +69,20 @@ def in_version_2(text, setup):
             return b"\n".join(lines) + b"\n"
 
 
+class Known:
+    """What a report's host knows of an output: its format, and the words that each register may hold."""
+
+    def __init__(self, form, report, doubted):
+        self.form, self.report, self.doubted = form, report, doubted
+
+    def format(self, output):
+        return self.form
+
+    def possible(self, cell):
+        kind, words = belief(self.report, (cell[0], name_of(cell[1])), self.doubted)
+        return words if kind in ("confirmed", "possible") else ANY
+
+
 class Model:
     """The plain model, which takes each event after the program did."""
 
@@ -71,7 +91,7 @@ class Model:
         self.world, self.taken = World(setup, passes), False
         self.outputs = range(setup["count"])
         self.registers = self.named_registers()
-        self.doubted, self.looked_at, self.formats, self.cuts = set(), 0, {}, {}
+        self.doubted, self.looked_at, self.formats, self.cuts, self.bands = set(), 0, {}, {}, {}
         # The plain host looks for a format in all that it was told; this is what it found at the end of each job.
         self.world.host.format = self.formats.get
 
@@ -89,6 +109,17 @@ class Model:
         if words not in self.cuts:
             self.cuts[words] = LIMITS[device.commanding(output)] if device.is_cut(output) else None
         return self.cuts[words]
+
+    def band_of(self, report, output):
+        """The microvolts between which the host knows an output's voltage, the least rounded down and the greatest up;
+        None where it doesn't know its format. Each set of beliefs is judged once."""
+        known = Known(self.formats.get(output), report, self.doubted)
+        words = output, known.form, *((it is ANY, *(() if it is ANY else it))
+                                      for it in (known.possible((output, code)) for code in REGISTERS))
+        if words not in self.bands:
+            found = band(known, output)
+            self.bands[words] = found and (floor(found[0] * 10**6), ceil(found[1] * 10**6))
+        return self.bands[words]
 
     def step(self, event):
         """Takes an event, and gives its mark."""

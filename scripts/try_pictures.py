@@ -1,9 +1,9 @@
 #!/usr/bin/env python3
 """Holds scripts/timeline.py and scripts/picture.py to the plain model, event by event: for the scenarios of examples/,
 for some written here, and for some random ones. Of a picture it reads back what stands where: each output's scale,
-limits and voltage with their labels, each bar and its words, jobs and their ends, status, heads, restarts; it finds
-labels that overlap or leave their place, and colours that can't be read. 5,000 events must be told and drawn in 30
-processor seconds each. The pictures of docs/pictures/ must be those that the examples give. What is wrong is printed,
+limits and voltage with their labels, what the host knows of it, the limits of its rail, each bar and its words, jobs
+and their ends, status, heads, restarts; it finds labels that overlap or leave their place, and colours that can't be
+read. 5,000 events must be told and drawn in 30 processor seconds each. The pictures of docs/pictures/ must be those that the examples give. What is wrong is printed,
 and the status is then 1.
 
     scripts/try_pictures.py [--store]
@@ -134,6 +134,49 @@ exchange whole whole
 finish ack
 clear 1
 """
+# The band that a host knows gets narrow and wide, and is false after a restart.
+BANDS = b"""scenario 2
+address 58
+passes 2
+protect 00
+coefficients 1 0 3
+output 14 80 1000 4000 1100 0F00 0000
+output 40 80 0CE4 0D89 0D48 0C80 01F4
+begin
+learn 0
+exchange whole whole
+learn 1
+exchange whole whole
+exchange whole whole
+check 0 VOUT_COMMAND
+exchange whole whole
+check 0 OPERATION
+exchange whole whole
+check 0 VOUT_MAX
+exchange whole whole
+check 0 VOUT_MIN
+exchange whole whole
+order 0 VOUT_COMMAND 34CD
+deliver cut 0
+finish ack
+exchange whole cut 0
+deliver whole
+finish nack
+exchange whole cut 0
+check 0 VOUT_COMMAND
+exchange whole whole
+restart device
+check 0 VOUT_COMMAND
+exchange whole whole
+"""
+REFUSED_LIMITS = {
+    "--limit=2:1:2": "--limit=2:1:2: there is no output 2",
+    "--limit=0:2:1": "--limit=0:2:1: the least is above the most",
+    "--limit=0:1.5:2": "--limit=0:1.5:2: give an output, the least and the most in whole microvolts, as "
+                       "--limit=0:3200000:3465000",
+    "--limit=0:1:2 --limit=0:1:2": "--limit=0:1:2: output 0 has limits already",
+    "--limits=0:1:2": "--limits=0:1:2: there is --limit=0:3200000:3465000",
+}
 # Eight rails, of 0.85 to 5 V, in 100 rows: a job, its output and word, and what comes of it on the bus, a line each.
 RAILS = """scenario 2
 address 40
@@ -226,6 +269,7 @@ def faults_of(name, text, pmb):
         "values": [*faults_in.value_faults(drawn, plain)],
         "scales": [*faults_in.scale_faults(drawn, plain)],
         "limits": [*faults_in.limit_faults(drawn, plain)],
+        "bands": [*faults_in.band_faults(drawn, plain)],
         "layout": [*faults_in.layout_faults(drawn)],
         "timeline": [*timeline_faults(text, plain, events)],
         "volts": [*volt_faults(text, plain, pmb)],
@@ -246,7 +290,7 @@ def scenarios():
     for path in sorted(glob.glob(os.path.join(program.ROOT, "examples/*.scenario"))):
         with open(path, "rb") as file:
             yield os.path.basename(path).removesuffix(".scenario"), file.read()
-    yield from (("eight", EIGHT), ("three rails", THREE), ("eight rails", eight_rails(LIVES)))
+    yield from (("eight", EIGHT), ("three rails", THREE), ("bands", BANDS), ("eight rails", eight_rails(LIVES)))
     dice = random.Random(1)
     for number in range(12):
         setup, passes = search_promises.sound_setup(dice)
@@ -267,6 +311,23 @@ def shift_faults():
     drawn = Drawn(picture.Picture(Seen(eight_rails(LIVES)), "rails").svg())
     at = [it[0] for (output, _), it in sorted(drawn.upright(drawing.LINE, 3).items()) if output == 0]
     return [] if max(at) - min(at) >= 8 else [f"output 0 moves by {max(at) - min(at):.1f} pixels alone"]
+
+
+def rail_faults():
+    """Limits of rails are drawn, and bad ones are refused in one line."""
+    rails = {0: (950000, 3465000), 1: (-2000000, 5000000)}
+    drawn = Drawn(picture.Picture(Seen(BANDS), "bands", rails).svg())
+    yield from faults_in.rail_faults(drawn, rails)
+    yield from faults_in.layout_faults(drawn)
+    with tempfile.TemporaryDirectory() as folder:
+        path = os.path.join(folder, "bands.scenario")
+        with open(path, "wb") as file:
+            file.write(BANDS)
+        for option, wanted in REFUSED_LIMITS.items():
+            words = os.path.join(program.ROOT, "scripts/picture.py"), path, *option.split(" ")
+            ran = subprocess.run(words, capture_output=True, text=True)
+            if ran.returncode != 1 or ran.stderr != f"picture.py: {wanted}\n" or ran.stdout:
+                yield f"{option} gives {ran.stderr!r}"
 
 
 def slow_faults(script, count):
@@ -320,6 +381,7 @@ def checks():
     yield "colours", [*faults_in.colour_faults()]
     yield "help", help_faults()
     yield "a shift of 34 mV", shift_faults()
+    yield "limits of rails", [*rail_faults()]
     yield from by_hand().items()
     for script in "timeline.py", "picture.py":
         yield f"time of {script}", slow_faults(script, 5000)
