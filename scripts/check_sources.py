@@ -14,6 +14,7 @@ It prints a line for each finding, and has status 1 if there is one. With --plac
     laws       a record of laws in proofs, where the law has a name in the definitions of its crate
     page       a refusal of a type isn't in docs/refusals.md, or one of the page or of a help is in no type
     example    an example of a comment stands in no test, word for word
+    edit       a text that a planted bug replaces doesn't stand once in its file
 
 Tests are left out.
 """
@@ -22,6 +23,7 @@ import os
 import re
 import sys
 
+import planted
 import refusals
 from crate_copy import crates_below, read
 from program import answer_help
@@ -259,6 +261,7 @@ def findings(crates):
     for path, lines in proofs:
         yield from laws(path, lines)
     yield from unrun(crates)
+    yield from planted.findings(crates)
 
 
 def main():

@@ -1,5 +1,6 @@
 #!/usr/bin/env python3
-"""Plants lines that make a want of memory, or hide one, and asks scripts/check_sources.py whether it sees them.
+"""Plants lines that make a want of memory, or hide one, and edits whose text isn't there, and asks scripts/check_sources.py
+whether it sees them.
 
     scripts/try_sources.py
 
@@ -8,6 +9,7 @@ It prints each form that isn't seen, and has status 1 if there is one. The last 
 import sys
 
 import check_sources
+import planted
 from program import answer_help
 
 # Each is a body, or what stands beside one.
@@ -55,19 +57,29 @@ RIGHT = [
 ]
 
 
+# Edits of a file `a` of two lines, of which the first three are misplaced.
+FILES = {"a": "one\ntwo two\n"}
+EDITS = ["file: b\nold: one\nnew: 1", "file: a\nold: two\nnew: 2", "file: a\nold: one\nnew: 1\nold: one\nnew: 2",
+         "file: a\nold: one\nnew: two three\nold: three\nnew: 3"]
+
+
+def is_misplaced(edit):
+    return bool([*planted.misplaced(edit, FILES.get)])
+
+
 def is_seen(form):
     return bool(list(check_sources.memory("x.rt", [check_sources.without_comment(line) for line in form.split("\n")])))
 
 
 def main():
     answer_help(__doc__)
-    missed = [form for form in FORMS if not is_seen(form)]
-    blamed = [form for form in RIGHT if is_seen(form)]
+    missed = [form for form in FORMS if not is_seen(form)] + [it for it in EDITS[:3] if not is_misplaced(it)]
+    blamed = [form for form in RIGHT if is_seen(form)] + [it for it in EDITS[3:] if is_misplaced(it)]
     for form in missed:
         print("not seen: %s" % form.strip())
     for form in blamed:
         print("seen, and right: %s" % form.strip())
-    print("%d forms, %d not seen; %d that are right, %d seen" % (len(FORMS), len(missed), len(RIGHT), len(blamed)))
+    print("%d forms, %d not seen; %d that are right, %d seen" % (len(FORMS) + 3, len(missed), len(RIGHT) + 1, len(blamed)))
     return 1 if missed or blamed else 0
 
 
