@@ -1,6 +1,7 @@
 """The built program `pmb`, and what scripts say where it is missing."""
 import os
 import shutil
+import subprocess
 import sys
 
 ROOT = os.path.dirname(os.path.dirname(os.path.abspath(__file__)))
@@ -14,6 +15,11 @@ def needed():
     if not found:
         sys.exit(f"no program at {PROGRAM or 'PMB'}: build it by {BUILD}, or set PMB to one")
     return os.path.abspath(found)
+
+
+def has_options():
+    """Whether the program's `decode` has options."""
+    return subprocess.run([needed(), "decode", "--values"], stdin=subprocess.DEVNULL, capture_output=True).returncode == 0
 
 
 def main():
