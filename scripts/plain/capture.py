@@ -59,9 +59,13 @@ def whole_bytes(frame, read):
 
 
 def is_told_otherwise(packet, frame, read):
-    """Whether `--all` shows a packet with a fault by its code and bytes."""
-    return (packet["kind"] == "fault" and packet["address"] is not None and packet["fault"][0] in OTHERS
-            and len(frame) >= 2 and (read is None or read[:1] == [frame[0] + 1]))
+    """Whether `--all` shows a packet with a fault by its code and bytes. A write of a code that the table doesn't have is
+    no faulty one because it has no PEC."""
+    if packet["kind"] != "fault" or packet["address"] is None or len(frame) < 2:
+        return False
+    if packet["fault"][0] == "F5 WrongPec":
+        return read is None and frame[1] not in TABLE
+    return packet["fault"][0] in OTHERS and (read is None or read[:1] == [frame[0] + 1])
 
 
 def otherwise(address, frame, read):

@@ -1,0 +1,249 @@
+#!/usr/bin/env python3
+"""Tries `pmb decode` with options on the rows of scripts/told_rows.py, whose answers were written by hand: each status bit,
+each kind of value, formats that a trace teaches, faults, other codes, times, JSON, faulty command lines. Then a trace of
+5 MiB goes through in memory that doesn't grow, and each line is told before the next one comes.
+
+    scripts/try_told_captures.py [--plain]
+
+It runs the built program, or the one that the environment variable PMB names; with --plain the plain model of
+scripts/plain in its place, which reads no pipe. What is wrong is printed, and the status is then 1.
+"""
+import json
+import os
+import select
+import subprocess
+import sys
+import tempfile
+import time
+
+sys.dont_write_bytecode = True
+
+import program  # noqa: E402
+from told_rows import GROUPS, REFUSED, STATUS, STATUS_CODES, WHOLE  # noqa: E402
+
+EVERY = ["--values", "--all", "--long", "--times", "--json"]
+MIB, LONG = 1_048_576, 5_242_880
+# So much more memory may be in use behind 5 MiB than behind the first one.
+MOST_GROWTH = 128
+LINE = "B0 05 04 00 21 CD 34 5A\n"
+
+
+def crc(message):
+    """The PEC of bytes, bit by bit."""
+    left = 0
+    for byte in message:
+        left ^= byte
+        for _ in range(8):
+            left = left << 1 & 0xFF ^ (0x07 if left & 0x80 else 0)
+    return left
+
+
+def filled(line, told, has_time):
+    """A row's line with the bytes that stand for `*` and `!`, and what is told with them."""
+    if not {"*", "!"} & {*line}:
+        return line, told
+    before, mark, rest = line.partition("*" if "*" in line else "!")
+    message = [int(word, 16) for word in before.replace("/", " ").split()[has_time:]]
+    byte = f"{crc(message) ^ (mark == '!'):02X}"
+    return before + byte + rest, told.replace(mark, byte)
+
+
+class Program:
+    """The built program."""
+
+    def __init__(self):
+        self.path = program.needed()
+        if not program.has_options():
+            sys.exit(f"{self.path}: its decode has no options: build it anew, or give --plain")
+
+    def decode(self, text, words):
+        ran = subprocess.run([self.path, "decode", *words], input=text, capture_output=True)
+        return ran.returncode, ran.stdout.decode(), ran.stderr.decode()
+
+
+class Plain:
+    """The plain model in its place."""
+
+    def decode(self, text, words):
+        from plain import capture
+        status, told, said = capture.decode(text, words)
+        return status, told, "a text of its own\n" if said is None else said
+
+
+def traces(text):
+    """The traces of a group: their lines, and what is told of each."""
+    for block in text.strip().split("\n\n"):
+        yield [row for row in block.split("\n")]
+
+
+def wanted_of(rows, words):
+    """A trace's text, the lines that are told, and the counts that it names."""
+    lines, told, counts = [], [], []
+    for row in rows:
+        if row.startswith("= "):
+            counts.append(row[2:])
+            continue
+        line, _, said = row.partition("  ")
+        line, said = filled(line, said.strip(), "--times" in words)
+        lines.append(line)
+        if said:
+            told.append(said if said.startswith("{") else f"{len(lines)} {said}")
+    return "".join(line + "\n" for line in lines), told, counts
+
+
+def row_faults(decode, words, rows):
+    text, told, counts = wanted_of(rows, words)
+    status, said, errors = decode(text.encode(), words)
+    found, is_bad = said.splitlines(), any(" X1 " in it or " X2 " in it or '"X' in it for it in told)
+    for place, line in enumerate(told):
+        if found[place:place + 1] != [line]:
+            yield f"it tells {found[place:place + 1]}, and not {line!r}"
+    if counts and found[len(told):] != counts:
+        yield f"it counts {found[len(told):]}, and not {counts}"
+    if (status, errors) != (int(is_bad), ""):
+        yield f"it has status {status}, and says {errors!r}"
+    if "--json" in words:
+        yield from json_faults(found)
+
+
+def json_faults(lines):
+    """Each line is an object, as Python's reader has it, and is written as Python would write it."""
+    for line in lines:
+        try:
+            if json.dumps(json.loads(line), separators=(",", ":")) != line or not isinstance(json.loads(line), dict):
+                yield f"{line!r} isn't written as an object is"
+        except ValueError as fault:
+            yield f"{line!r}: {fault}"
+
+
+def status_rows():
+    """Each bit of each status register: read, read in JSON, and written where it can be."""
+    for row in STATUS.split("\n")[1:-1]:
+        name, word, bit = row.split(" ", 2)
+        code, wire = STATUS_CODES[name], " ".join(reversed([word[at:at + 2] for at in range(0, len(word), 2)]))
+        count = f"{len(word) // 2:02X}"
+        yield ["--values"], [f"B0 {code} / B1 {wire} *  58 {name} read {word} {bit}"]
+        yield ["--values"], [f"B0 06 02 01 {code} / B1 {count} {wire} *  58 page 1 {name} read {word} {bit}"]
+        yield ["--values", "--json"], [
+            f'B0 {code} / B1 {wire} *  {{"line":1,"address":"58","code":"{code}","name":"{name}","direction":"read",'
+            f'"bytes":"{wire}","flags":["{bit}"]}}']
+        if name in ("STATUS_VOUT", "STATUS_CML"):
+            yield ["--values"], [f"B0 {code} {wire} *  58 {name} write {word} {bit}"]
+            yield ["--values"], [f"B0 05 03 00 {code} {wire} *  58 page 0 {name} write {word} {bit}"]
+
+
+def all_rows():
+    for options, text in GROUPS:
+        for rows in traces(text):
+            yield options.split(), rows
+    yield from status_rows()
+
+
+def whole_faults(decode, words, text, status, said):
+    found = decode(text, words)
+    if found != (status, said, ""):
+        yield f"it gives {found}, and not {(status, said, '')}"
+
+
+def refusal_faults(decode, words, said):
+    status, told, errors = decode(b"B0 03 46\n", words)
+    if status != 2 or told or (errors != f"pmb: {said}\n" if said else not errors):
+        yield f"it gives status {status}, {told!r} and {errors!r}, and not {said!r}"
+
+
+def limit_faults(decode):
+    """Of more than 1 MiB without `--long` the lines that end in it are told; with it, all of them."""
+    text, count = LINE.encode() * 43_700, MIB // len(LINE)
+    for words in (["--values"], ["--all", "--json"], ["--long"], ["--long", "--values"]):
+        status, told, errors = decode(text, words)
+        is_long, lines = "--long" in words, told.splitlines()
+        wanted = (0, "", 43_700 + 2) if is_long else (1, "pmb: X3 TooLong\n", count)
+        if (status, errors, len(lines)) != wanted:
+            yield f"{words}: status {status}, {errors!r} and {len(lines)} lines, and not {wanted}"
+        if is_long and lines[-1] != "lines 43700 accepted 43700 faults 0 bad 0":
+            yield f"{words}: it counts {lines[-1]!r}"
+
+
+def most_memory(number):
+    """The most memory that a process had, in KiB."""
+    with open(f"/proc/{number}/status", encoding="ascii") as file:
+        return next(int(line.split()[1]) for line in file if line.startswith("VmHWM"))
+
+
+def long_faults(path):
+    """A trace of 5 MiB goes through in memory that doesn't grow."""
+    for words in (["--long"], EVERY):
+        # The number of the line stands as its time, so that no two lines are alike.
+        line = "{:09} " + LINE if "--times" in words else LINE
+        piece = "".join(line.format(number) for number in range(4096)).encode()
+        with tempfile.TemporaryFile() as out:
+            ran = subprocess.Popen([path, "decode", *words], stdin=subprocess.PIPE, stdout=out)
+            sent, after = 0, []
+            while sent < LONG:
+                ran.stdin.write(piece)
+                ran.stdin.flush()
+                sent += len(piece)
+                if sent >= (LONG if after else MIB):
+                    after.append(most_memory(ran.pid))
+            ran.stdin.close()
+            status, count = ran.wait(), sent // len(piece) * 4096
+            out.seek(max(0, out.seek(0, os.SEEK_END) - 200))
+            last = out.read().decode().splitlines()[-1]
+        wanted = (f'{{"lines":{count},"accepted":{count},"other":0,"faults":0,"bad":0}}' if "--json" in words
+                  else f"lines {count} accepted {count} faults 0 bad 0")
+        print(f"  {' '.join(words)}: {sent} bytes, {after[0]} KiB behind 1 MiB and {after[-1]} KiB at the end", flush=True)
+        if status or last != wanted or after[-1] - after[0] > MOST_GROWTH:
+            yield f"{words}: status {status}, {last!r}, {after} KiB"
+
+
+def live_faults(path):
+    """Each line is told before the next one is written."""
+    with subprocess.Popen([path, "decode", *EVERY], stdin=subprocess.PIPE, stdout=subprocess.PIPE, bufsize=0) as ran:
+        for number in range(10):
+            ran.stdin.write(f"{number} B0 96 / B1 34 12\n".encode())
+            wanted = (f'{{"line":{number + 1},"time":{number},"address":"58","code":"96","direction":"read","bytes":"34 12",'
+                      '"pec":false}\n').encode()
+            found, end = b"", time.monotonic() + 10
+            while len(found) < len(wanted) and select.select([ran.stdout], [], [], max(0, end - time.monotonic()))[0]:
+                part = os.read(ran.stdout.fileno(), 4096)
+                if not part:
+                    break
+                found += part
+            if found != wanted:
+                yield f"line {number + 1}: {found!r} comes in ten seconds, and not {wanted!r}"
+                break
+        ran.stdin.close()
+        ran.stdout.read()
+
+
+def checks(engine):
+    """Each check by its name, with what is wrong."""
+    for words, rows in all_rows():
+        yield f"{' '.join(words)}: {rows[0].split('  ')[0]}", row_faults(engine.decode, words, rows)
+    for options, text, status, said in WHOLE:
+        yield f"{options} on {text[:24]!r}", whole_faults(engine.decode, options.split(), text, status, said)
+    for options, said in REFUSED:
+        yield options, refusal_faults(engine.decode, options.split(), said)
+    yield "the limit of 1 MiB", limit_faults(engine.decode)
+    if isinstance(engine, Program):
+        yield "5 MiB", long_faults(engine.path)
+        yield "a live pipe", live_faults(engine.path)
+
+
+def main():
+    program.answer_help(__doc__)
+    if sys.argv[1:] not in ([], ["--plain"]):
+        sys.exit(__doc__.strip())
+    engine, passed, failed = Plain() if sys.argv[1:] else Program(), 0, 0
+    for name, found in checks(engine):
+        wrong = [*found]
+        print("".join(f"{name}: {it}\n" for it in wrong), end="", flush=True)
+        passed, failed = passed + (not wrong), failed + bool(wrong)
+    if isinstance(engine, Plain):
+        print("the plain model was tried: its memory and a live pipe weren't")
+    print(f"{passed} passed, {failed} failed")
+    return 1 if failed else 0
+
+
+if __name__ == "__main__":
+    sys.exit(main())
