@@ -232,9 +232,9 @@ def checks(engine):
 
 def main():
     program.answer_help(__doc__)
+    engine, passed, failed = Plain() if "--plain" in sys.argv else Program(), 0, 0
     if sys.argv[1:] not in ([], ["--plain"]):
         sys.exit(__doc__.strip())
-    engine, passed, failed = Plain() if sys.argv[1:] else Program(), 0, 0
     for name, found in checks(engine):
         wrong = [*found]
         print("".join(f"{name}: {it}\n" for it in wrong), end="", flush=True)
