@@ -206,7 +206,7 @@ B0 30 02 21 00 / B1 05 01 00 00 00 03 *   58 COEFFICIENTS of 21 side 0 read m 1 
 B0 05 04 00 21 CD 34 *                    58 page 0 VOUT_COMMAND write 34CD 13517/1000 13517000 uV
 B0 88 / B1 00 D3 *                        58 READ_VIN read D300 12/1 V
 """),
-    ("--vout=linear11 --values", """
+    ("--vout linear11 --values", """
 B0 8B / B1 00 D3 *                        58 READ_VOUT read D300 768/64 12000000 uV
 """),
     ("--values --vout=direct:-1:5:3", """

@@ -26,6 +26,8 @@ MIB, LONG = 1_048_576, 5_242_880
 # So much more memory may be in use behind 5 MiB than behind the first one.
 MOST_GROWTH = 128
 LINE = "B0 05 04 00 21 CD 34 5A\n"
+# Four lines of the long trace: two are accepted, one has another code, one is faulty.
+SOME = [LINE, "B0 06 02 00 20 / B1 01 14 4E\n", "B0 96 / B1 34 12\n", "B0 05 04 01 21 CD 34 5A\n"]
 
 
 def crc(message):
@@ -172,10 +174,10 @@ def most_memory(number):
 
 def long_faults(path):
     """A trace of 5 MiB goes through in memory that doesn't grow."""
-    for words in (["--long"], EVERY):
-        # The number of the line stands as its time, so that no two lines are alike.
-        line = "{:09} " + LINE if "--times" in words else LINE
-        piece = "".join(line.format(number) for number in range(4096)).encode()
+    for words in (["--long"], ["--long", "--values"], EVERY):
+        # With times no two lines are alike.
+        lines = [SOME[number % 4] for number in range(4096)]
+        piece = "".join(f"{number} {line}" if "--times" in words else line for number, line in enumerate(lines)).encode()
         with tempfile.TemporaryFile() as out:
             ran = subprocess.Popen([path, "decode", *words], stdin=subprocess.PIPE, stdout=out)
             sent, after = 0, []
@@ -186,14 +188,23 @@ def long_faults(path):
                 if sent >= (LONG if after else MIB):
                     after.append(most_memory(ran.pid))
             ran.stdin.close()
-            status, count = ran.wait(), sent // len(piece) * 4096
+            status = ran.wait()
             out.seek(max(0, out.seek(0, os.SEEK_END) - 200))
             last = out.read().decode().splitlines()[-1]
-        wanted = (f'{{"lines":{count},"accepted":{count},"other":0,"faults":0,"bad":0}}' if "--json" in words
-                  else f"lines {count} accepted {count} faults 0 bad 0")
+        wanted = last_line(words, sent // len(piece) * 1024)
         print(f"  {' '.join(words)}: {sent} bytes, {after[0]} KiB behind 1 MiB and {after[-1]} KiB at the end", flush=True)
         if status or last != wanted or after[-1] - after[0] > MOST_GROWTH:
-            yield f"{words}: status {status}, {last!r}, {after} KiB"
+            yield f"{words}: status {status}, {last!r} and not {wanted!r}, {after} KiB"
+
+
+def last_line(words, times):
+    """The last line of the counts, where the four lines came so often."""
+    counts = {"lines": 4 * times, "accepted": 2 * times, "faults": 2 * times, "bad": 0}
+    if "--all" in words:
+        counts = {"lines": 4 * times, "accepted": 2 * times, "other": times, "faults": times, "bad": 0}
+    if "--json" in words:
+        return json.dumps(counts, separators=(",", ":"))
+    return " ".join(f"{name} {count}" for name, count in counts.items())
 
 
 def live_faults(path):

@@ -35,11 +35,13 @@ def format_named(text):
 
 
 def options_of(words):
-    """The options that the words name: those that are given, `--vout` with its format."""
-    options = {}
-    for word in words:
-        name, equals, value = word.partition("=")
-        if name in options or (name not in SWITCHES or equals) and (name != "--vout" or not equals):
+    """The options that the words name: those that are given, `--vout` with its format, which may be a word of its own."""
+    options, left = {}, [*words]
+    while left:
+        name, equals, value = left.pop(0).partition("=")
+        if name == "--vout" and not equals and left and not left[0].startswith("-"):
+            equals, value = "=", left.pop(0)
+        if name in options or name not in (*SWITCHES, "--vout") or bool(equals) != (name == "--vout"):
             raise BadOptions(None)
         options[name] = value
     if "--vout" in options:

@@ -25,6 +25,8 @@ def options(dice):
     if dice.random() < 0.01:
         words.append(dice.choice([*words, "--value", "--all=", "--vout", "more", "--word=1"]))
     dice.shuffle(words)
+    if dice.random() < 0.1:
+        return [part for word in words for part in (word.split("=", 1) if word.startswith("--vout") else [word])]
     return words
 
 

@@ -145,7 +145,7 @@ def drawn_fault(options, rows):
             wanted.append(wanted_words(said + " ", parts[0]).rstrip(" "))
         else:
             lines[int(number) - 1] = "# not drawn"
-    vout = re.search(r"--vout=(\S+)", options)
+    vout = re.search(r"--vout[= ](\S+)", options)
     with tempfile.NamedTemporaryFile("w", suffix=".vcd") as file:
         file.write(waveform("\n".join(lines)))
         file.flush()
