@@ -60,7 +60,7 @@ class Program:
 
     def decode(self, text, words):
         ran = subprocess.run([self.path, "decode", *words], input=text, capture_output=True)
-        return ran.returncode, ran.stdout.decode(), ran.stderr.decode()
+        return ran.returncode, ran.stdout.decode(errors="replace"), ran.stderr.decode(errors="replace")
 
 
 class Plain:
@@ -241,13 +241,21 @@ def checks(engine):
         yield "a live pipe", live_faults(engine.path)
 
 
+def faults_of(found):
+    """What is wrong; also that the program ended while it was written to."""
+    try:
+        yield from found
+    except OSError as fault:
+        yield f"{fault.strerror}: the program ended early"
+
+
 def main():
     program.answer_help(__doc__)
     engine, passed, failed = Plain() if "--plain" in sys.argv else Program(), 0, 0
     if sys.argv[1:] not in ([], ["--plain"]):
         sys.exit(__doc__.strip())
     for name, found in checks(engine):
-        wrong = [*found]
+        wrong = [*faults_of(found)]
         print("".join(f"{name}: {it}\n" for it in wrong), end="", flush=True)
         passed, failed = passed + (not wrong), failed + bool(wrong)
     if isinstance(engine, Plain):

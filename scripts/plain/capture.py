@@ -5,13 +5,12 @@ import re
 from . import trace
 from .lines import MOST_BYTES, TextFault, decimal, numbered
 from .numbers import coefficients_fault
-from .packets import TABLE, name_of, pec
-from .trace import coefficients_words, judged, packet_words, parts_of
+from .packets import name_of
+from .telling import fields_of, is_told_otherwise, otherwise, text_of
+from .trace import judged, parts_of
 from .values import Formats, value_fields, words_of_value
 
 SWITCHES = ("--values", "--all", "--long", "--times", "--json")
-# The faults that a packet of a code that isn't in the table, or of another length, has.
-OTHERS = ("F2 Short", "F3 Long", "F4 WrongCount", "F6 UnknownCode")
 TIME = re.compile(rb" *([0-9]{1,18})(?= |$)")
 
 
@@ -51,34 +50,6 @@ def options_of(words):
     return options
 
 
-def spaced(frame):
-    return " ".join(f"{byte:02X}" for byte in frame)
-
-
-def whole_bytes(frame, read):
-    """All bytes of a packet, with a slash before its read part."""
-    return " ".join(word for word in (spaced(frame), *(("/", spaced(read)) if read is not None else ())) if word)
-
-
-def is_told_otherwise(packet, frame, read):
-    """Whether `--all` shows a packet with a fault by its code and bytes. A write of a code that the table doesn't have is
-    no faulty one because it has no PEC."""
-    if packet["kind"] != "fault" or packet["address"] is None or len(frame) < 2:
-        return False
-    if packet["fault"][0] == "F5 WrongPec":
-        return read is None and frame[1] not in TABLE
-    return packet["fault"][0] in OTHERS and (read is None or read[:1] == [frame[0] + 1])
-
-
-def otherwise(address, frame, read):
-    """A packet by its code and bytes, and whether its last byte is its PEC."""
-    last, before = (frame, 2) if read is None else (read, 1)
-    is_right = len(last) > before and last[-1] == pec([*frame, *(read or [])][:-1])
-    shown = last[before:-1] if is_right else last[before:]
-    written, got = (shown, None) if read is None else (frame[2:], shown)
-    return {"kind": "other", "address": address, "code": frame[1], "written": written, "got": got, "pec": is_right}
-
-
 class Telling:
     """What was told so far, and what the trace taught."""
 
@@ -101,11 +72,12 @@ class Telling:
         if "--all" in self.options and is_told_otherwise(packet, *parts):
             packet = otherwise(packet["address"], *parts)
         self.count(packet)
-        fields = self.value(packet)
+        value, has_values = self.value(packet), "--values" in self.options
         if "--json" in self.options:
-            self.say_json({"line": number, "time": time, **self.json_of(packet, *parts), **fields})
+            self.say_json({"line": number, "time": time, **fields_of(packet, *parts, has_values), **value})
         else:
-            self.said.append(f"{number}{'' if time is None else f' {time} us'} {self.words(packet, *parts)}{words_of_value(fields)}")
+            where = f"{number}" if time is None else f"{number} {time} us"
+            self.said.append(f"{where} {text_of(packet, *parts, has_values)}{words_of_value(value)}")
         self.formats.learn(packet)
 
     def bad_line(self, number, words):
@@ -129,34 +101,6 @@ class Telling:
             return {}
         return value_fields(packet["code"], packet["payload"], self.formats.of(packet))
 
-    def words(self, packet, frame, read):
-        if packet["kind"] == "other":
-            return other_words(packet)
-        words = packet_words(packet)
-        if packet["kind"] == "fault" and "--values" in self.options:
-            words += " bytes" + (" " + whole_bytes(frame, read)).rstrip(" ")
-        return words
-
-    def json_of(self, packet, frame, read):
-        """What JSON says of a packet between the time and the value."""
-        if packet["address"] is None:
-            head = {}
-        else:
-            head = {"address": f"{packet['address']:02X}"}
-        if packet["kind"] == "fault":
-            name, place = packet["fault"]
-            shown = whole_bytes(frame, read) if "--values" in self.options else None
-            return {**head, "direction": packet["part"], "bytes": shown, "fault": name, "place": place}
-        if packet["kind"] == "other":
-            return {**head, **other_fields(packet)}
-        code = {"code": f"{packet['code']:02X}", "name": name_of(packet["code"])}
-        shown = spaced(packet["payload"])
-        if packet["kind"] == "coefficients":
-            of = {"of": f"{packet['of']:02X}", "side": packet["side"], "direction": "read"}
-            return {**head, **code, **of, "bytes": shown, "value": coefficients_words(packet["payload"])}
-        direction = packet["kind"] if packet["payload"] else "send"
-        return {**head, "page": packet["page"], **code, "direction": direction, "bytes": shown or None}
-
     def say_json(self, fields):
         kept = {name: value for name, value in fields.items() if value is not None}
         self.said.append(json.dumps(kept, separators=(",", ":")))
@@ -177,29 +121,6 @@ class Telling:
             self.said += [f"count {name_of(code)} {count}" for code, count in self.counts.items()]
             self.said += [f"count code {code:02X} {count}" for code, count in codes]
             self.said.append(" ".join(f"{name} {count}" for name, count in last.items()))
-
-
-def other_words(packet):
-    written, got = packet["written"], packet["got"]
-    words = [f"{packet['address']:02X} code {packet['code']:02X}"]
-    if packet["code"] in TABLE:
-        words.append(name_of(packet["code"]))
-    if written:
-        words.append("write " + spaced(written))
-    if got is not None:
-        words.append(("read " + spaced(got)).rstrip(" "))
-    if not written and got is None:
-        words.append("send")
-    return " ".join(words) + (", PEC right" if packet["pec"] else ", no PEC")
-
-
-def other_fields(packet):
-    written, got = packet["written"], packet["got"]
-    direction, shown, before = "read", got, spaced(written) or None
-    if got is None:
-        direction, shown, before = ("write" if written else "send"), written, None
-    return {"code": f"{packet['code']:02X}", "name": name_of(packet["code"]) if packet["code"] in TABLE else None,
-            "direction": direction, "written": before, "bytes": spaced(shown) or None, "pec": packet["pec"]}
 
 
 def decode(text, words):

@@ -51,7 +51,10 @@ def line_of(write, read=None):
 
 def asked(decode, lines):
     """What is said of each line, in its order."""
-    said = [json.loads(line) for line in decode("".join(line + "\n" for line in lines)).splitlines()]
+    try:
+        said = [json.loads(line) for line in decode("".join(line + "\n" for line in lines)).splitlines()]
+    except ValueError as fault:
+        raise NoTables(f"decode writes no objects: {fault}") from fault
     if len(said) < len(lines) or any(said[place].get("line") != place + 1 for place in range(len(lines))):
         raise NoTables("decode doesn't tell each packet")
     return said[:len(lines)]
@@ -196,8 +199,11 @@ def main():
         sys.exit(f"no tables: {fault}")
     if "--check" in sys.argv:
         sys.exit(None if text == stored() else "the stored tables are others: run scripts/sigrok/make_tables.py")
-    with open(TABLES, "w", encoding="utf-8") as file:
-        file.write(text)
+    try:
+        with open(TABLES, "w", encoding="utf-8") as file:
+            file.write(text)
+    except OSError as fault:
+        sys.exit(f"{TABLES}: {fault.strerror}")
 
 
 if __name__ == "__main__":

@@ -64,7 +64,11 @@ def wanted_words(told, write):
 
 
 def table_faults(decode):
-    text = make_tables.text_of(make_tables.tables_of(lambda it: decode(it.encode(), make_tables.OPTIONS)[1]))
+    try:
+        text = make_tables.text_of(make_tables.tables_of(lambda it: decode(it.encode(), make_tables.OPTIONS)[1]))
+    except make_tables.NoTables as fault:
+        yield f"no tables: {fault}"
+        return
     if text != make_tables.stored():
         yield "the stored tables are others: run scripts/sigrok/make_tables.py"
 
