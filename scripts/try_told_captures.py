@@ -6,7 +6,7 @@ each kind of value, formats that a trace teaches, faults, other codes, times, JS
     scripts/try_told_captures.py [--plain]
 
 It runs the built program, or the one that the environment variable PMB names; with --plain the plain model of
-scripts/plain in its place, which reads no pipe. What is wrong is printed, and the status is then 1.
+scripts/plain in its place, which has no memory, pipes and streams to try. What is wrong is printed, and the status is then 1.
 """
 import json
 import os
@@ -19,7 +19,7 @@ import time
 sys.dont_write_bytecode = True
 
 import program  # noqa: E402
-from told_rows import GROUPS, REFUSED, STATUS, STATUS_CODES, WHOLE  # noqa: E402
+from told_rows import ALL, FAULTS, GROUPS, REFUSED, STATUS, STATUS_CODES, WHOLE  # noqa: E402
 
 EVERY = ["--values", "--all", "--long", "--times", "--json"]
 MIB, LONG = 1_048_576, 5_242_880
@@ -207,6 +207,34 @@ def last_line(words, times):
     return " ".join(f"{name} {count}" for name, count in counts.items())
 
 
+# What a shell does to the streams, the options, the status, and standard error.
+STREAMS = [
+    ("> /dev/full", ["--values"], 1, "pmb: X5 Write\n"), (">&-", ["--json"], 1, "pmb: X5 Write\n"),
+    ("< /", ["--all"], 1, "pmb: X4 Read\n"), ("<&-", ["--long", "--times"], 1, "pmb: X4 Read\n"),
+    ("2>&-", ["--all", "--values"], 0, ""), ("2>&-", ["--vout=linear11"], 2, ""),
+]
+
+
+def stream_faults(path):
+    for streams, words, status, errors in STREAMS:
+        ran = subprocess.run(["sh", "-c", f'"$0" "$@" {streams}', path, "decode", *words], input="B0 03 46\n",
+                             capture_output=True, text=True)
+        if (ran.returncode, ran.stderr) != (status, errors):
+            yield f"{words} {streams}: status {ran.returncode}, {ran.stderr!r}"
+
+
+def piece_faults(decode, path):
+    """A trace that comes byte by byte is told as a whole one."""
+    text = "".join(wanted_of(rows, [])[0] for rows in (*traces(ALL), *traces(FAULTS))).encode()
+    wanted = decode(text, EVERY[:3])[:2]
+    with subprocess.Popen([path, "decode", *EVERY[:3]], stdin=subprocess.PIPE, stdout=subprocess.PIPE, bufsize=0) as ran:
+        for byte in text:
+            ran.stdin.write(bytes([byte]))
+        told = ran.communicate()[0].decode()
+    if (ran.returncode, told) != wanted:
+        yield f"byte by byte it tells {told!r}, and not {wanted[1]!r}"
+
+
 def live_faults(path):
     """Each line is told before the next one is written."""
     with subprocess.Popen([path, "decode", *EVERY], stdin=subprocess.PIPE, stdout=subprocess.PIPE, bufsize=0) as ran:
@@ -239,6 +267,8 @@ def checks(engine):
     if isinstance(engine, Program):
         yield "5 MiB", long_faults(engine.path)
         yield "a live pipe", live_faults(engine.path)
+        yield "byte by byte", piece_faults(engine.decode, engine.path)
+        yield "streams", stream_faults(engine.path)
 
 
 def faults_of(found):
@@ -259,7 +289,7 @@ def main():
         print("".join(f"{name}: {it}\n" for it in wrong), end="", flush=True)
         passed, failed = passed + (not wrong), failed + bool(wrong)
     if isinstance(engine, Plain):
-        print("the plain model was tried: its memory and a live pipe weren't")
+        print("the plain model was tried: memory, pipes and streams weren't")
     print(f"{passed} passed, {failed} failed")
     return 1 if failed else 0
 
