@@ -58,7 +58,7 @@ def kind_of_told(line):
     """The kind of a line that options change: of an object its names, and of a status that it has flags."""
     if line.startswith("{"):
         return "{" + ",".join(json.loads(line)) + "}"
-    return re.sub(r"(STATUS_\w+ (?:read|write)) .*", r"\1 flags", shortened(line))
+    return re.sub(r"(STATUS_\w+ (?:read|write)) .*", r"\1 flags", shortened(line.replace(", ", " , ")))
 
 
 def ran(arguments, text=b""):

@@ -30,7 +30,12 @@ def main():
 def answer_help(text):
     """Ends the script with its own text where its arguments ask for help."""
     if "--help" in sys.argv[1:] or "-h" in sys.argv[1:]:
-        print(text.strip())
+        try:
+            print(text.strip(), flush=True)
+        except OSError:
+            # The reader left: what is left to be written goes nowhere.
+            os.dup2(os.open(os.devnull, os.O_WRONLY), 1)
+            sys.exit(1)
         sys.exit(0)
 
 
