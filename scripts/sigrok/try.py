@@ -159,6 +159,27 @@ def drawn_fault(options, rows):
         yield f"{options} {rows[0]}: it tells {found} {errors!r}, and not {wanted}"
 
 
+def random_wave_faults(decode, seed):
+    """A waveform of random packets that a bus can have is told as their trace is."""
+    dice, lines = random.Random(seed), []
+    while len(lines) < 300:
+        parts = parts_of(draw_captures.packet_line(dice, 0))
+        words = [] if isinstance(parts, str) else [bytes(part).hex(" ").split() for part in parts if part is not None]
+        if words and words[0] and is_on_bus("", words):
+            lines.append(" / ".join(" ".join(part) for part in words))
+    told = decode("\n".join(lines).encode(), ["--all", "--values", "--vout=ulinear16:-12"])[1].splitlines()
+    wanted = [wanted_words(said.partition(" ")[2] + " ", line.split("/")[0].split()).rstrip(" ") for said, line in zip(told, lines)]
+    with tempfile.NamedTemporaryFile("w", suffix=".vcd") as file:
+        file.write(waveform("\n".join(lines)))
+        file.flush()
+        found, errors = sigrok(file.name, ":vout=ulinear16/-12")
+    for line, one, other in zip(lines, found, wanted):
+        if one != other:
+            yield f"{line} is told as {one!r}, and not {other!r}"
+    if len(found) != len(lines):
+        yield f"{len(found)} of {len(lines)} packets are told: {errors!r}"
+
+
 def byte_faults():
     """What stands below the bytes of a packet, and what is said of a bad option."""
     path = os.path.join(CAPTURES, "bus.vcd")
@@ -180,6 +201,7 @@ def checks(engine, seed, texts):
         for name in NAMES:
             yield f"{name}.vcd", waveform_faults(engine.decode, name)
         yield "drawn rows", drawn_faults()
+        yield "drawn random packets", random_wave_faults(engine.decode, seed)
         yield "bytes", byte_faults()
 
 
