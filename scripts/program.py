@@ -17,9 +17,9 @@ def needed():
     return os.path.abspath(found)
 
 
-def has_options():
-    """Whether the program's `decode` has options."""
-    return subprocess.run([needed(), "decode", "--values"], stdin=subprocess.DEVNULL, capture_output=True).returncode == 0
+def has_options(option="--values"):
+    """Whether the program's `decode` has options, and this one among them."""
+    return subprocess.run([needed(), "decode", option], stdin=subprocess.DEVNULL, capture_output=True).returncode == 0
 
 
 def main():

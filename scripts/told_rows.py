@@ -485,7 +485,7 @@ WHOLE = [
 # Faulty command lines, and the one line that is said; None for a text of the parser's own.
 REFUSED = [
     ("--vout=linear11", "give --vout with --values"), ("--vout=", "give --vout with --values"),
-    ("--all --vout=ulinear16:-12 --json", "give --vout with --values"),
+    ("--all --vout=ulinear16:-12 --times", "give --vout with --values"),
     *((f"--values --vout={form}", "bad vout") for form in (
         "", "linear", "linear11:0", "LINEAR11", "linear16:-12", "ulinear16", "ulinear16:16", "ulinear16:-17", "ulinear16:x",
         "ulinear16:1:2", "direct", "direct:1:0", "direct:1:0:0:0", "direct:0:0:0", "direct:1:0:13", "direct:1:0:-13",

@@ -21,7 +21,8 @@ sys.dont_write_bytecode = True
 import program  # noqa: E402
 from told_rows import ALL, FAULTS, GROUPS, REFUSED, STATUS, STATUS_CODES, WHOLE  # noqa: E402
 
-EVERY = ["--values", "--all", "--long", "--times", "--json"]
+JSON = "--json"
+EVERY = ["--values", "--all", "--long", "--times"]
 MIB, LONG = 1_048_576, 5_242_880
 # So much more memory may be in use behind 5 MiB than behind the first one.
 MOST_GROWTH = 128
@@ -57,6 +58,7 @@ class Program:
         self.path = program.needed()
         if not program.has_options():
             sys.exit(f"{self.path}: its decode has no options: build it anew, or give --plain")
+        self.every = EVERY + [JSON] * program.has_options(JSON)
 
     def decode(self, text, words):
         ran = subprocess.run([self.path, "decode", *words], input=text, capture_output=True)
@@ -65,6 +67,8 @@ class Program:
 
 class Plain:
     """The plain model in its place."""
+
+    every = [*EVERY, JSON]
 
     def decode(self, text, words):
         from plain import capture
@@ -104,7 +108,7 @@ def row_faults(decode, words, rows):
         yield f"it counts {found[len(told):]}, and not {counts}"
     if (status, errors) != (int(is_bad), ""):
         yield f"it has status {status}, and says {errors!r}"
-    if "--json" in words:
+    if JSON in words:
         yield from json_faults(found)
 
 
@@ -126,7 +130,7 @@ def status_rows():
         count = f"{len(word) // 2:02X}"
         yield ["--values"], [f"B0 {code} / B1 {wire} *  58 {name} read {word} {bit}"]
         yield ["--values"], [f"B0 06 02 01 {code} / B1 {count} {wire} *  58 page 1 {name} read {word} {bit}"]
-        yield ["--values", "--json"], [
+        yield ["--values", JSON], [
             f'B0 {code} / B1 {wire} *  {{"line":1,"address":"58","code":"{code}","name":"{name}","direction":"read",'
             f'"bytes":"{wire}","flags":["{bit}"]}}']
         if name in ("STATUS_VOUT", "STATUS_CML"):
@@ -155,8 +159,9 @@ def refusal_faults(decode, words, said):
 
 def limit_faults(decode):
     """Of more than 1 MiB without `--long` the lines that end in it are told; with it, all of them."""
-    text, count = LINE.encode() * 43_700, MIB // len(LINE)
-    for words in (["--values"], ["--all", "--json"], ["--long"], ["--long", "--values"]):
+    for words in (["--values"], ["--all", "--times"], ["--long"], ["--long", "--values"]):
+        line = "0 " + LINE if "--times" in words else LINE
+        text, count = line.encode() * 43_700, MIB // len(line)
         status, told, errors = decode(text, words)
         is_long, lines = "--long" in words, told.splitlines()
         wanted = (0, "", 43_700 + 2) if is_long else (1, "pmb: X3 TooLong\n", count)
@@ -172,9 +177,9 @@ def most_memory(number):
         return next(int(line.split()[1]) for line in file if line.startswith("VmHWM"))
 
 
-def long_faults(path):
+def long_faults(path, every):
     """A trace of 5 MiB goes through in memory that doesn't grow."""
-    for words in (["--long"], ["--long", "--values"], EVERY):
+    for words in (["--long"], ["--long", "--values"], *([EVERY] if every != EVERY else []), every):
         # With times no two lines are alike.
         lines = [SOME[number % 4] for number in range(4096)]
         piece = "".join(f"{number} {line}" if "--times" in words else line for number, line in enumerate(lines)).encode()
@@ -202,14 +207,14 @@ def last_line(words, times):
     counts = {"lines": 4 * times, "accepted": 2 * times, "faults": 2 * times, "bad": 0}
     if "--all" in words:
         counts = {"lines": 4 * times, "accepted": 2 * times, "other": times, "faults": times, "bad": 0}
-    if "--json" in words:
+    if JSON in words:
         return json.dumps(counts, separators=(",", ":"))
     return " ".join(f"{name} {count}" for name, count in counts.items())
 
 
 # What a shell does to the streams, the options, the status, and standard error.
 STREAMS = [
-    ("> /dev/full", ["--values"], 1, "pmb: X5 Write\n"), (">&-", ["--json"], 1, "pmb: X5 Write\n"),
+    ("> /dev/full", ["--values"], 1, "pmb: X5 Write\n"), (">&-", ["--times"], 1, "pmb: X5 Write\n"),
     ("< /", ["--all"], 1, "pmb: X4 Read\n"), ("<&-", ["--long", "--times"], 1, "pmb: X4 Read\n"),
     ("2>&-", ["--all", "--values"], 0, ""), ("2>&-", ["--vout=linear11"], 2, ""),
 ]
@@ -235,13 +240,17 @@ def piece_faults(decode, path):
         yield f"byte by byte it tells {told!r}, and not {wanted[1]!r}"
 
 
-def live_faults(path):
+# A line that is told before the next one is written, as a text and as an object.
+ANSWERS = ("{} {} us 58 code 96 read 34 12, no PEC\n",
+           '{{"line":{},"time":{},"address":"58","code":"96","direction":"read","bytes":"34 12","pec":false}}\n')
+
+
+def live_faults(path, words):
     """Each line is told before the next one is written."""
-    with subprocess.Popen([path, "decode", *EVERY], stdin=subprocess.PIPE, stdout=subprocess.PIPE, bufsize=0) as ran:
+    with subprocess.Popen([path, "decode", *words], stdin=subprocess.PIPE, stdout=subprocess.PIPE, bufsize=0) as ran:
         for number in range(10):
             ran.stdin.write(f"{number} B0 96 / B1 34 12\n".encode())
-            wanted = (f'{{"line":{number + 1},"time":{number},"address":"58","code":"96","direction":"read","bytes":"34 12",'
-                      '"pec":false}\n').encode()
+            wanted = ANSWERS[JSON in words].format(number + 1, number).encode()
             found, end = b"", time.monotonic() + 10
             while len(found) < len(wanted) and select.select([ran.stdout], [], [], max(0, end - time.monotonic()))[0]:
                 part = os.read(ran.stdout.fileno(), 4096)
@@ -256,17 +265,21 @@ def live_faults(path):
 
 
 def checks(engine):
-    """Each check by its name, with what is wrong."""
+    """Each check by its name, with what is wrong; None where it can't be tried."""
     for words, rows in all_rows():
-        yield f"{' '.join(words)}: {rows[0].split('  ')[0]}", row_faults(engine.decode, words, rows)
+        found = row_faults(engine.decode, words, rows) if JSON not in words or JSON in engine.every else None
+        yield f"{' '.join(words)}: {rows[0].split('  ')[0]}", found
     for options, text, status, said in WHOLE:
-        yield f"{options} on {text[:24]!r}", whole_faults(engine.decode, options.split(), text, status, said)
+        words = options.split()
+        found = whole_faults(engine.decode, words, text, status, said) if JSON not in words or JSON in engine.every else None
+        yield f"{options} on {text[:24]!r}", found
     for options, said in REFUSED:
         yield options, refusal_faults(engine.decode, options.split(), said)
     yield "the limit of 1 MiB", limit_faults(engine.decode)
     if isinstance(engine, Program):
-        yield "5 MiB", long_faults(engine.path)
-        yield "a live pipe", live_faults(engine.path)
+        yield "5 MiB", long_faults(engine.path, engine.every)
+        yield "a live pipe", live_faults(engine.path, EVERY)
+        yield "a live pipe of objects", live_faults(engine.path, engine.every) if JSON in engine.every else None
         yield "byte by byte", piece_faults(engine.decode, engine.path)
         yield "streams", stream_faults(engine.path)
 
@@ -281,15 +294,21 @@ def faults_of(found):
 
 def main():
     program.answer_help(__doc__)
-    engine, passed, failed = Plain() if "--plain" in sys.argv else Program(), 0, 0
+    engine = Plain() if "--plain" in sys.argv else Program()
     if sys.argv[1:] not in ([], ["--plain"]):
         sys.exit(__doc__.strip())
+    passed = failed = left_out = 0
     for name, found in checks(engine):
+        if found is None:
+            left_out += 1
+            continue
         wrong = [*faults_of(found)]
         print("".join(f"{name}: {it}\n" for it in wrong), end="", flush=True)
         passed, failed = passed + (not wrong), failed + bool(wrong)
     if isinstance(engine, Plain):
         print("the plain model was tried: memory, pipes and streams weren't")
+    if left_out:
+        print(f"this decode has no {JSON}: {left_out} trials were left out")
     print(f"{passed} passed, {failed} failed")
     return 1 if failed else 0
 

@@ -191,8 +191,8 @@ def main():
     program.answer_help(__doc__)
     if {*sys.argv[1:]} - {"--plain", "--check"}:
         sys.exit(__doc__.strip())
-    if "--plain" not in sys.argv and not program.has_options():
-        sys.exit(f"{program.needed()}: its decode has no options: build it anew, or give --plain")
+    if "--plain" not in sys.argv and not program.has_options("--json"):
+        sys.exit(f"{program.needed()}: its decode has no --json: build it anew, or give --plain")
     try:
         text = text_of(tables_of(by_plain if "--plain" in sys.argv else by_program))
     except NoTables as fault:
