@@ -5,6 +5,7 @@ no write part become comments; so does an address that nobody acknowledged. Anot
 told in a comment above its packet.
 
     scripts/capture_to_trace.py FORMAT [--address=HH] [--bus=N] < CAPTURE | pmb decode
+    scripts/capture_to_trace.py FORMAT [--address=HH] [--bus=N] --times [--samplerate=HZ] < CAPTURE | pmb decode --times
 
 FORMAT is one of
 
@@ -14,7 +15,10 @@ FORMAT is one of
 
 HH is a device's seven-bit address, as 58. Without it the packets of all devices are in the trace. N is the kernel's
 number of a bus, as 1 of i2c-1: an adapter over another, as of a multiplexer, leaves events of both, so that without it
-each packet is in the trace twice. The status is 1 where no packet is found, or the text isn't a capture of that format.
+each packet is in the trace twice. With --times each packet has its time before it, in whole microseconds since the
+first packet of the capture began. Of sigrok that needs the option `--protocol-decoder-samplenum` of sigrok-cli, and here
+the samples a second, as `sigrok-cli -i FILE --show` has them; of saleae the column start_time, in seconds. The status is 1
+where no packet is found, or the text isn't a capture of that format.
 """
 import csv
 import re
@@ -22,6 +26,7 @@ import sys
 
 sys.dont_write_bytecode = True
 
+from capture_times import NoCapture, clock_of  # noqa: E402
 from program import answer_help  # noqa: E402
 from standard_streams import write_all  # noqa: E402
 
@@ -33,16 +38,13 @@ TEN_BITS, READS = 0x10, 0x01
 MOST_BYTES, MOST_PARTS = 300, 4
 
 
-class NoCapture(Exception):
-    """What is wrong with the text, in words."""
-
-
 class Packet:
     """What stands between a start and a stop: parts of bytes, each acknowledged or not; `ending` says what is wrong
-    with its end, if anything is."""
+    with its end, if anything is. `time` is that of its start, or None where times aren't asked for."""
 
-    def __init__(self):
+    def __init__(self, time=None):
         self.parts, self.ending, self.begun, self.is_long = [], "no stop", 0, False
+        self.time = time
 
     def begin(self):
         """Begins a part. Of more than a trace can tell the first ones are kept, so that no capture fills the memory."""
@@ -103,10 +105,11 @@ class Packet:
         refusal = self.refusal(address)
         if refusal:
             return [f"# {refusal}: {self.bytes()}"]
-        return [*self.unacknowledged(), self.bytes()]
+        before = "" if self.time is None else f"{self.time} "
+        return [*self.unacknowledged(), before + self.bytes()]
 
 
-def sigrok_packets(lines):
+def sigrok_packets(lines, clock=None):
     packet = None
     for number, line in enumerate(lines, 1):
         found = SIGROK.search(line)
@@ -116,7 +119,7 @@ def sigrok_packets(lines):
         if kind == "Start":
             if packet:
                 yield packet
-            packet = Packet()
+            packet = Packet(clock and clock.of_samples(line, number))
         if packet is None:
             continue
         if kind in ("Start", "Start repeat"):
@@ -136,10 +139,10 @@ def sigrok_packets(lines):
 
 
 class Messages:
-    """The messages of a transfer that the kernel began on one bus."""
+    """The messages of a transfer that the kernel began on one bus, at this time."""
 
-    def __init__(self):
-        self.sent, self.fault = {}, None
+    def __init__(self, time):
+        self.sent, self.fault, self.time = {}, None, time
 
     def take(self, kind, number, rest):
         found = MESSAGE.fullmatch(rest.strip())
@@ -155,7 +158,7 @@ class Messages:
         self.sent[int(place)] = [first, *payload]
 
     def packet(self, wanted, result):
-        packet = Packet()
+        packet = Packet(self.time)
         packet.ending = self.fault
         if result != wanted or len(self.sent) != wanted:
             packet.ending = f"failed ({result})" if result < 0 else f"failed ({result} of {wanted})"
@@ -166,7 +169,7 @@ class Messages:
         return packet
 
 
-def linux_packets(lines, wanted=None):
+def linux_packets(lines, clock=None, wanted=None):
     buses = {}
     for number, line in enumerate(lines, 1):
         found = LINUX.search(line)
@@ -174,7 +177,9 @@ def linux_packets(lines, wanted=None):
             continue
         kind, bus, rest = found.groups()
         if kind != "result":
-            buses.setdefault(bus, Messages()).take(kind, number, rest)
+            if bus not in buses:
+                buses[bus] = Messages(clock and clock.of_stamp(line[:found.start()], number))
+            buses[bus].take(kind, number, rest)
             continue
         ended = re.fullmatch(r"n=(\d+) ret=(-?\d+)", rest.strip())
         if not ended:
@@ -187,14 +192,16 @@ def linux_packets(lines, wanted=None):
         yield packet
 
 
-def saleae_packets(lines):
+def saleae_packets(lines, clock=None):
     rows = csv.DictReader(lines)
     if not {"type", "ack", "address", "read", "data"} <= set(rows.fieldnames or ()):
         raise NoCapture("the first line doesn't name the columns type, ack, address, read and data")
+    if clock and "start_time" not in rows.fieldnames:
+        raise NoCapture("the first line doesn't name the column start_time, which --times needs")
     packet = None
     for number, row in enumerate(rows, 2):
         if row["type"] == "start":
-            packet = packet or Packet()
+            packet = packet or Packet(clock and clock.of_seconds(row["start_time"], number))
             packet.begin()
         elif row["type"] == "stop" and packet:
             packet.ending = None
@@ -215,10 +222,10 @@ def saleae_packets(lines):
 FORMATS = {"sigrok": sigrok_packets, "linux": linux_packets, "saleae": saleae_packets}
 
 
-def trace(form, lines, address=None, bus=None):
-    """The lines of the trace, one after another as the capture's lines come."""
+def trace(form, lines, address=None, bus=None, clock=None):
+    """The lines of the trace, one after another as the capture's lines come; with a clock packets have their times."""
     is_empty = True
-    for packet in FORMATS[form](lines) if bus is None else linux_packets(lines, bus):
+    for packet in FORMATS[form](lines, clock) if bus is None else linux_packets(lines, clock, bus):
         is_empty = False
         yield from packet.lines(address)
     if is_empty:
@@ -232,18 +239,25 @@ def captured(file):
         yield text if number else text.removeprefix("\N{BYTE ORDER MARK}")
 
 
+# The options and what each may be, None for one without a value.
+OPTIONS = {"--address": "[0-7][0-9A-Fa-f]", "--bus": "[0-9]{1,9}", "--samplerate": "[1-9][0-9]{0,14}", "--times": None}
+
+
 def arguments(words):
-    """The format, the address and the bus that the words name; None where they don't."""
-    found = {"--address": None, "--bus": None}
+    """The format and the options that the words name; None where they don't."""
+    found = {}
     for word in words[1:]:
-        name, _, value = word.partition("=")
-        bound = {"--address": "[0-7][0-9A-Fa-f]", "--bus": "[0-9]{1,9}"}.get(name)
-        if not bound or found[name] is not None or not re.fullmatch(bound, value):
+        name, equals, value = word.partition("=")
+        if name not in OPTIONS or name in found or not re.fullmatch(OPTIONS[name] or "", value):
             return None
-        found[name] = int(value, 16 if name == "--address" else 10)
-    if not words or words[0] not in FORMATS or found["--bus"] is not None and words[0] != "linux":
+        if bool(equals) != bool(OPTIONS[name]):
+            return None
+        found[name] = value
+    if not words or words[0] not in FORMATS or "--bus" in found and words[0] != "linux":
         return None
-    return words[0], found["--address"], found["--bus"]
+    if "--samplerate" in found and (words[0] != "sigrok" or "--times" not in found):
+        return None
+    return words[0], found
 
 
 def main():
@@ -251,9 +265,14 @@ def main():
     asked = arguments(sys.argv[1:])
     if not asked:
         sys.exit(__doc__.strip())
-    form, address, bus = asked
+    form, options = asked
+    if form == "sigrok" and "--times" in options and "--samplerate" not in options:
+        sys.exit("the times of sigrok are numbers of samples: give --samplerate=HZ, as `sigrok-cli -i FILE --show` has it")
+    address = int(options["--address"], 16) if "--address" in options else None
+    bus = int(options["--bus"]) if "--bus" in options else None
+    clock = clock_of(form, int(options.get("--samplerate", 1))) if "--times" in options else None
     try:
-        write_all(trace(form, captured(sys.stdin.buffer), address, bus))
+        write_all(trace(form, captured(sys.stdin.buffer), address, bus, clock))
     except (NoCapture, csv.Error) as fault:
         sys.exit(f"no {form} capture: {fault}")
 

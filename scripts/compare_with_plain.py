@@ -1,13 +1,14 @@
 #!/usr/bin/env python3
-"""Compares `pmb` with the plain slow program of scripts/plain, over random texts: `hear`, `replay` and
-`decode` over TEXTS texts each, and `number` over a twentieth as many. What differs is printed, the shortest
-text of each kind of difference at the end, and the status is then 1. The counts at the end show that each
-kind of line came.
+"""Compares `pmb` with the plain slow program of scripts/plain, over random texts: `hear`, `replay`,
+`decode` and `told`, which is `decode` with random options, over TEXTS texts each, and `number` over a
+twentieth as many. What differs is printed, the shortest text of each kind of difference at the end, and the
+status is then 1. The counts at the end show that each kind of line came.
 
     scripts/compare_with_plain.py [SEED [TEXTS [COMMAND ..]]]
 
 It runs the built program, or the one that the environment variable PMB names.
 """
+import json
 import random
 import re
 import subprocess
@@ -16,12 +17,16 @@ import sys
 sys.dont_write_bytecode = True
 
 import program  # noqa: E402
-from plain import commands, draw_lines, draw_scenarios, draw_traces, report, trace  # noqa: E402
+from plain import capture, commands, draw_captures, draw_lines, draw_scenarios, draw_traces, report, trace  # noqa: E402
 
 TEXTS = {
     "hear": (draw_lines.hear_text, commands.hear), "replay": (draw_scenarios.scenario_text, report.replay),
     "decode": (draw_traces.trace_text, trace.decode),
 }
+# The command that reads options too, by its name here.
+TOLD = "told"
+# Options that the program doesn't have.
+LEFT_OUT = []
 # What is left out of a line of an answer, so that lines of one kind count together: numbers, bytes, words.
 SMALL = r"-?\d+|[0-9A-F]{2}|[0-9A-F]{4}|.*/.*|--|uV"
 
@@ -40,8 +45,8 @@ def kinds_of_events(text):
 
 
 def kinds_of(command, text, wanted):
-    for line in wanted[1].splitlines() + wanted[2].splitlines():
-        yield f"{command}: {shortened(line)}"
+    for line in wanted[1].splitlines() + (wanted[2] or "").splitlines():
+        yield f"{command}: {kind_of_told(line) if command == TOLD else shortened(line)}"
     if command == "replay" and wanted[1].startswith("ran"):
         for kind in kinds_of_events(text):
             yield f"replay event: {kind}"
@@ -49,6 +54,13 @@ def kinds_of(command, text, wanted):
 
 def shortened(line):
     return " ".join(word for word in line.split(" ") if not re.fullmatch(SMALL, word))
+
+
+def kind_of_told(line):
+    """The kind of a line that options change: of an object its names, and of a status that it has flags."""
+    if line.startswith("{"):
+        return "{" + ",".join(json.loads(line)) + "}"
+    return re.sub(r"(STATUS_\w+ (?:read|write)) .*", r"\1 flags", shortened(line.replace(", ", " , ")))
 
 
 def ran(arguments, text=b""):
@@ -60,7 +72,7 @@ def first_difference(found, wanted):
     """The first line that differs, on either stream, or the status."""
     for one, other in zip(found[1:], wanted[1:]):
         if one != other:
-            ours, theirs = one.splitlines(), other.splitlines()
+            ours, theirs = (one or "").splitlines(), (other or "").splitlines()
             for place in range(max(len(ours), len(theirs))):
                 pair = [it[place] if place < len(it) else None for it in (ours, theirs)]
                 if pair[0] != pair[1]:
@@ -69,21 +81,34 @@ def first_difference(found, wanted):
     return f"status {found[0]}, and not {wanted[0]}"
 
 
+def one_text(command, dice):
+    """A random text, what the program says of it, and what the plain one does; and the command line."""
+    if command != TOLD:
+        draw, plain = TEXTS[command]
+        text = draw(dice)
+        return text, ran([command], text), plain(text), command
+    options, text = draw_captures.capture(dice)
+    options = [option for option in options if option not in LEFT_OUT]
+    found, wanted = ran(["decode", *options], text), capture.decode(text, options)
+    # What the parser says of a faulty command line is its own.
+    if wanted[2] is None and found[2]:
+        found = *found[:2], None
+    return text, found, wanted, " ".join(["decode", *options])
+
+
 def compare_texts(command, dice, count, seen, smallest):
-    draw, plain = TEXTS[command]
     faults = 0
     for _ in range(count):
-        text = draw(dice)
-        found, wanted = ran([command], text), plain(text)
+        text, found, wanted, line = one_text(command, dice)
         for kind in kinds_of(command, text, wanted):
             seen[kind] = seen.get(kind, 0) + 1
         if found != wanted:
             faults += 1
             said = first_difference(found, wanted)
-            print(f"{command}: {said}: {text[:200]!r}")
+            print(f"{line}: {said}: {text[:200]!r}")
             kind = command + ": " + re.sub(r"\d+|[0-9A-F]{4}", "N", said)
             if kind not in smallest or len(text) < len(smallest[kind][1]):
-                smallest[kind] = said, text
+                smallest[kind] = f"{line}: {said}" if command == TOLD else said, text
     return faults
 
 
@@ -107,7 +132,13 @@ def main():
     program.needed()
     seed = int(sys.argv[1]) if len(sys.argv) > 1 else 1
     texts = int(sys.argv[2]) if len(sys.argv) > 2 else 10000
-    chosen = sys.argv[3:] or [*TEXTS, "number"]
+    chosen = sys.argv[3:] or [*TEXTS, TOLD, "number"]
+    if TOLD in chosen and not program.has_options():
+        print("this decode has no options: told isn't compared")
+        chosen.remove(TOLD)
+    elif TOLD in chosen and not program.has_options("--json"):
+        print("this decode has no --json: told is compared without")
+        LEFT_OUT.append("--json")
     faults, seen, smallest = 0, {}, {}
     for command in chosen:
         dice = random.Random(f"{seed} {command}")

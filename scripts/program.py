@@ -1,6 +1,7 @@
 """The built program `pmb`, and what scripts say where it is missing."""
 import os
 import shutil
+import subprocess
 import sys
 
 ROOT = os.path.dirname(os.path.dirname(os.path.abspath(__file__)))
@@ -16,6 +17,11 @@ def needed():
     return os.path.abspath(found)
 
 
+def has_options(option="--values"):
+    """Whether the program's `decode` has options, and this one among them."""
+    return subprocess.run([needed(), "decode", option], stdin=subprocess.DEVNULL, capture_output=True).returncode == 0
+
+
 def main():
     answer_help("Prints where the built program stands, or the one that the environment variable PMB names.")
     print(needed())
@@ -24,7 +30,12 @@ def main():
 def answer_help(text):
     """Ends the script with its own text where its arguments ask for help."""
     if "--help" in sys.argv[1:] or "-h" in sys.argv[1:]:
-        print(text.strip())
+        try:
+            print(text.strip(), flush=True)
+        except OSError:
+            # The reader left: what is left to be written goes nowhere.
+            os.dup2(os.open(os.devnull, os.O_WRONLY), 1)
+            sys.exit(1)
         sys.exit(0)
 
 

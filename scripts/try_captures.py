@@ -1,8 +1,9 @@
 #!/usr/bin/env python3
 """Tries scripts/capture_to_trace.py and scripts/frames_to_i2ctransfer.py on scripts/captures/: each capture must give
-its trace, its first line before its input ends, and the memory that is taken doesn't grow with it; frames become
-commands and come back; and commands are run by a stand-in for i2ctransfer that asks `pmbpart`. Where sigrok-cli is
-installed, the waveforms are decoded anew. What is wrong is printed, and the status is then 1.
+its trace, with the times of its packets where they are asked for, its first line before its input ends, and the memory
+that is taken doesn't grow with it; frames become commands and come back; and commands are run by a stand-in for
+i2ctransfer that asks `pmbpart`. Where sigrok-cli is installed, the waveforms are decoded anew. What is wrong is printed,
+and the status is then 1.
 
     scripts/try_captures.py
 
@@ -19,74 +20,18 @@ sys.dont_write_bytecode = True
 
 import program  # noqa: E402
 import session  # noqa: E402
+from capture_rows import (  # noqa: E402
+    CAPTURES, COUNTS, ENDLESS, FAULTY, FRAMES, HEADS, LONG, MOST_MEMORY, READINGS, REFUSED, STAND_IN, TIMES, UNTIMED, WRONG,
+)
+from capture_times import clock_of  # noqa: E402
 from capture_to_trace import NoCapture, trace  # noqa: E402
 from draw_waveform import waveform  # noqa: E402
 
 FOLDER = os.path.join(program.ROOT, "scripts/captures")
 TOOL = os.path.join(program.ROOT, "scripts/frames_to_i2ctransfer.py")
 READER = os.path.join(program.ROOT, "scripts/capture_to_trace.py")
-# The lines of a capture's head, which stand before its packets; how long a text is tried, and what memory it may take.
-HEADS = {"sigrok": 0, "linux": 0, "saleae": 1}
-LONG, MOST_MEMORY = 20_000_000, 50_000
-CAPTURES = [("bus", "sigrok", "bus.trace"), ("bus", "linux", "bus.trace"), ("bus", "saleae", "bus.trace"),
-            ("faults", "sigrok", "faults.trace"), ("faults", "saleae", "faults.trace"),
-            ("faults", "linux", "faults_of_linux.trace"),
-            ("kernel", "sigrok", "kernel.trace"), ("kernel", "linux", "kernel_of_linux.trace")]
 # The waveforms, with the packets that those are drawn from that no bus made.
 DRAWN = [("bus", os.path.join(program.ROOT, "examples/bus.trace")), ("faults", os.path.join(FOLDER, "faults.bus"))]
-SALEAE = "type,ack,address,read,data\nstart,,,,\n"
-# Texts that are no captures, and why.
-REFUSED = [
-    ("sigrok", "", "no packet"), ("linux", "i2c_write: i2c-1 0x58", "line 1: no message of the kernel"),
-    ("linux", "i2c_result: i2c-1 none", "line 1: no result of the kernel"), ("saleae", "type,data\n", "the first line"),
-    ("sigrok", "i2c-1: Start\ni2c-1: Address read: 58\n", "line 2: the address has no direction bit"),
-    ("saleae", f"{SALEAE}address,true,here,false,\n", "line 3: no byte in the column address"),
-    ("saleae", f"{SALEAE}address,true\n", "line 3: no byte in the column address"),
-    ("saleae", f"{SALEAE}data,true,,,0x134\n", "line 3: no byte in the column data"),
-]
-# What `decode` counts of the traces of faults: an address that nobody acknowledged is no packet, and no fault of one.
-COUNTS = [("faults.trace", "lines 4 accepted 3 faults 1 bad 0"),
-          ("faults_of_linux.trace", "lines 1 accepted 1 faults 0 bad 0")]
-# Arguments that are none of the script's.
-WRONG = [["linux", "--bus=x"], ["sigrok", "--bus=1"], ["linux", "--bus=1", "--bus=2"], ["linux", "--address=80"],
-         ["vcd"], []]
-# A packet that never ends, and one of too many bytes: neither fills the memory, and no line is too long for `decode`.
-ENDLESS = [("i2c-1: Start\ni2c-1: Address write: B0\n" + "i2c-1: Data write: 00\n" * 5000 + "i2c-1: Stop\n",
-            "# a part of more than 300 bytes: B0 00"),
-           ("i2c-1: Start\ni2c-1: Address write: B0\n" + "i2c-1: Start repeat\ni2c-1: Address read: B1\n" * 5000
-            + "i2c-1: Stop\n", "# 5001 parts: B0 / B1 / B1 / B1")]
-# Frames of `hear`, the command of each, and the line of the trace that comes of it.
-FRAMES = [
-    ("B0 00 01 ED", "w3@0x58 0x00 0x01 0xed", "B0 00 01 ED"),
-    ("B0 06 02 00 21 /", "w4@0x58 0x06 0x02 0x00 0x21 r4", "B0 06 02 00 21 / B1 02 00 10 41"),
-    ("B0 05 04 00 21 CD 34 5A", "w7@0x58 0x05 0x04 0x00 0x21 0xcd 0x34 0x5a", "B0 05 04 00 21 CD 34 5A"),
-    ("B0 06 02 00 21 /", "w4@0x58 0x06 0x02 0x00 0x21 r4", "B0 06 02 00 21 / B1 02 CD 34 B9"),
-    ("B0 20 /", "w1@0x58 0x20 r2", "B0 20 / B1 14 ED"),
-    ("B0 88 /", "w1@0x58 0x88 r3", "B0 88 / B1 00 00 C1"),
-    ("B0 30 02 21 00 /", "w4@0x58 0x30 0x02 0x21 0x00 r7", None),
-    ("A0 03 46", "w2@0x50 0x03 0x46", None),
-    ("B0 03 46", "w2@0x58 0x03 0x46", "B0 03 46"),
-]
-FAULTY = [("B0 9", "X2 BadHex line 1"), ("\nB0 20 / 1", "X1 Syntax line 2"), ("/", "X1 Syntax line 1"),
-          ("B1 20 /", "F1 NotOurs line 1"), ("B0 99 /", "F6 UnknownCode 1 line 1"), ("B0 06 /", "F2 Short 2 line 1")]
-# Answers as i2ctransfer does, by what a `pmbpart` says that runs behind two named pipes.
-STAND_IN = """#!/usr/bin/env python3
-import os, sys
-words = [word for word in sys.argv[3:] if not word.startswith("r")]
-count = [int(word[1:]) for word in sys.argv[3:] if word.startswith("r")]
-length, address = words[0][1:].split("@")
-if sys.argv[1:3] != ["-y", "7"] or int(length) != len(words) - 1:
-    sys.exit("Error: not called as it should be")
-frame = [int(address, 16) * 2, *(int(word, 16) for word in words[1:])]
-with open(os.environ["SAID"], "w") as said:
-    said.write(" ".join(f"{byte:02X}" for byte in frame) + (" /" if count else "") + "\\n")
-with open(os.environ["ANSWERED"]) as answered:
-    answer = answered.readline().split()
-if answer[0] == "silent" or count and answer[0] != "answer":
-    sys.exit("Error: Sending messages failed: No such device or address")
-if count:
-    print(" ".join("0x" + byte.lower() for byte in (answer[2:] + ["FF"] * 300)[:count[0]]))
-"""
 
 
 def stored(name):
@@ -102,15 +47,27 @@ def waveform_faults():
                 if waveform(file.read()) != stored(f"{name}.vcd"):
                     yield f"{name}.vcd isn't drawn from {os.path.relpath(path, program.ROOT)}"
         if shutil.which("sigrok-cli"):
-            ran = subprocess.run(
-                ["sigrok-cli", "-I", "vcd", "-i", os.path.join(FOLDER, f"{name}.vcd"), "-P",
-                 "i2c:scl=SCL:sda=SDA:address_format=unshifted", "-A", "i2c=addr-data"], capture_output=True, text=True)
+            ran = sigrok(name)
             if ran.stdout != stored(f"{name}.sigrok"):
                 yield f"sigrok-cli makes something else of {name}.vcd: {ran.stderr or ran.stdout[:200]!r}"
+    if shutil.which("sigrok-cli"):
+        ran = sigrok("bus", "--protocol-decoder-samplenum")
+        if ran.stdout != stored("bus.samples"):
+            yield f"sigrok-cli makes something else of bus.vcd with numbers of samples: {ran.stderr or ran.stdout[:200]!r}"
+        if "Samplerate: 1000000\n" not in subprocess.run(["sigrok-cli", "-i", os.path.join(FOLDER, "bus.vcd"), "--show"],
+                                                         capture_output=True, text=True).stdout:
+            yield "sigrok-cli --show has no samplerate of 1000000"
 
 
-def read_back(form, text, address=None, bus=None):
-    return [*trace(form, text.splitlines(), address, bus)]
+def sigrok(name, *options):
+    """What sigrok-cli makes of a waveform."""
+    return subprocess.run(["sigrok-cli", "-I", "vcd", "-i", os.path.join(FOLDER, f"{name}.vcd"), "-P",
+                           "i2c:scl=SCL:sda=SDA:address_format=unshifted", "-A", "i2c=addr-data", *options],
+                          capture_output=True, text=True)
+
+
+def read_back(form, text, address=None, bus=None, clock=None):
+    return [*trace(form, text.splitlines(), address, bus, clock)]
 
 
 def capture_faults(name, form, wanted):
@@ -118,6 +75,38 @@ def capture_faults(name, form, wanted):
     found = read_back(form, stored(f"{name}.{form}"), 0x58)
     if "\n".join(found) + "\n" != stored(wanted):
         yield f"{name}.{form} gives {found}"
+
+
+def time_faults(pmb):
+    """Packets with their times, in each format; texts without times; and what `decode --times` says of the trace."""
+    packets = stored("bus.trace").splitlines()
+    for form, words, name in READINGS:
+        if "--times" not in words:
+            continue
+        wanted = "".join(f"{time} {packet}\n" for time, packet in zip(TIMES[form], packets))
+        ran = subprocess.run([READER, form, "--address=58", *words], input=stored(name), capture_output=True, text=True)
+        if (ran.returncode, ran.stdout, ran.stderr) != (0, wanted, ""):
+            yield f"{form} {words} gives {ran.stdout!r}, {ran.stderr!r}, and not {wanted!r}"
+    slower = read_back("sigrok", stored("bus.samples"), 0x58, None, clock_of("sigrok", 4_000_000))
+    if [int(line.split()[0]) for line in slower] != [time // 4 for time in TIMES["sigrok"]]:
+        yield f"of 4 MHz the times are {slower}"
+    second = [line for line in read_back("linux", stored("two_adapters.linux"), 0x58, None, clock_of("linux", 1))
+              if not line.startswith("#")]
+    if second[:2] != ["0 B0 06 02 00 20 / B1 01 14 4E"] * 2:
+        yield f"two adapters begin by {second[:2]}"
+    for form, text, why in UNTIMED:
+        try:
+            yield f"{form} takes {text!r}: {read_back(form, text, None, None, clock_of(form, 1))}"
+        except NoCapture as fault:
+            if not str(fault).startswith(why):
+                yield f"{form} refuses {text!r} by {fault}"
+    ran = subprocess.run([READER, "sigrok", "--times"], input="", capture_output=True, text=True)
+    if ran.returncode != 1 or ran.stdout or "give --samplerate=HZ" not in ran.stderr or ran.stderr.count("\n") != 1:
+        yield f"without a samplerate it says {ran.stderr!r}"
+    if program.has_options():
+        told = subprocess.run([pmb, "decode", "--times"], input=wanted, capture_output=True, text=True).stdout.splitlines()
+        if told[:1] != ["1 0 us 58 page 0 VOUT_COMMAND write 34CD"] or told[-1:] != ["lines 8 accepted 6 faults 2 bad 0"]:
+            yield f"decode --times says {told}"
 
 
 def other_faults():
@@ -187,11 +176,11 @@ def kernel_faults():
         yield f"without --bus not each packet of two_adapters.linux is there for both adapters: {both}"
 
 
-def first_line_faults(form):
+def first_line_faults(form, words, name):
     """The first line comes before the input ends."""
-    text, wanted = stored(f"bus.{form}"), stored("bus.trace").splitlines()[0]
+    text, wanted = stored(name), ("0 " if words else "") + stored("bus.trace").splitlines()[0]
     pipe, around = subprocess.PIPE, {name: it for name, it in os.environ.items() if name != "PYTHONUNBUFFERED"}
-    with subprocess.Popen([READER, form, "--address=58"], stdin=pipe, stdout=pipe, text=True, env=around) as ran:
+    with subprocess.Popen([READER, form, "--address=58", *words], stdin=pipe, stdout=pipe, text=True, env=around) as ran:
         ran.stdin.write(text)
         ran.stdin.flush()
         is_there = select.select([ran.stdout], [], [], 20)[0]
@@ -202,9 +191,9 @@ def first_line_faults(form):
         yield f"{form} gives {found!r} before the end of input, and not {wanted!r}"
 
 
-def memory_faults(form):
+def memory_faults(form, words, name):
     """A long text gives each packet's line, in little memory."""
-    lines = stored(f"bus.{form}").splitlines(keepends=True)
+    lines = stored(name).splitlines(keepends=True)
     head, body = lines[:HEADS[form]], "".join(lines[HEADS[form]:])
     times = LONG // len(body) + 1
     with tempfile.TemporaryDirectory() as folder:
@@ -213,13 +202,13 @@ def memory_faults(form):
             file.writelines(head)
             file.writelines(body for _ in range(times))
         with open(path, "rb") as file, open(os.path.join(folder, "trace"), "w+b") as out:
-            ran = subprocess.Popen([READER, form, "--address=58"], stdin=file, stdout=out)
+            ran = subprocess.Popen([READER, form, "--address=58", *words], stdin=file, stdout=out)
             _, status, used = os.wait4(ran.pid, 0)
             ran.returncode = os.waitstatus_to_exitcode(status)
             out.seek(0)
             count = sum(1 for _ in out)
     wanted = times * len(stored("bus.trace").splitlines())
-    print(f"{form}: {count} lines of {LONG} bytes in {used.ru_utime:.1f} s and {used.ru_maxrss} KiB", flush=True)
+    print(f"{' '.join([form, *words])}: {count} lines of {LONG} bytes in {used.ru_utime:.1f} s and {used.ru_maxrss} KiB", flush=True)
     if ran.returncode or count != wanted or used.ru_maxrss > MOST_MEMORY:
         yield f"{form} takes {used.ru_maxrss} KiB for {count} lines of {wanted}, and has status {ran.returncode}"
 
@@ -276,13 +265,15 @@ def checks(pmb):
     yield "waveforms", waveform_faults()
     for name, form, wanted in CAPTURES:
         yield f"{name}.{form}", capture_faults(name, form, wanted)
+    yield "times", time_faults(pmb)
     yield "other captures", other_faults()
     yield "counts of faults", count_faults(pmb)
     yield "one bus of several", bus_faults()
     yield "captures of a kernel", kernel_faults()
-    for form in HEADS:
-        yield f"the first line of {form}", first_line_faults(form)
-        yield f"the memory of {form}", memory_faults(form)
+    for reading in READINGS:
+        name = " ".join([reading[0], *reading[1]])
+        yield f"the first line of {name}", first_line_faults(*reading)
+        yield f"the memory of {name}", memory_faults(*reading)
     yield "commands", command_faults()
     yield "a run", run_faults(pmb)
 
@@ -296,6 +287,8 @@ def main():
         wrong = [*found]
         print("".join(f"{name}: {it}\n" for it in wrong), end="", flush=True)
         passed, failed = passed + (not wrong), failed + bool(wrong)
+    if not program.has_options():
+        print("this decode has no options: traces with times weren't told by it")
     has_sigrok = shutil.which("sigrok-cli")
     print("sigrok-cli decoded the waveforms" if has_sigrok else "no sigrok-cli here: its stored lines served")
     print(f"{passed} passed, {failed} failed")

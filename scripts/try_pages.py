@@ -25,6 +25,9 @@ from plain.converter import ALLOWED  # noqa: E402
 
 BUILT = "crates/pmb/out/pmb"
 MOST_LINES = {"README.md": 120}
+# The tables of docs/texts.md with lines of a trace, and the options of `decode` that tell them so.
+TRACES = [("what is told",), ("what is told with values", "--values"), ("what is told of all codes", "--all"),
+          ("what is told with times", "--times")]
 FILE = re.compile(r"(?:\.\./)?(?:crates|scripts|docs|examples|bench|attacks)/[\w./-]*\w")
 
 
@@ -99,10 +102,11 @@ def rows_of(found, title):
 
 def text_faults(shell, found):
     """The lines of docs/texts.md: a trace's lines are told as the page says, and a scenario's examples are one."""
-    trace, told = zip(*[re.findall(r"`([^`]+)`", " ".join(row))[:2] for row in rows_of(found, "| line | what is told |")])
-    ran = subprocess.run([shell.pmb, "decode"], input="\n".join(trace), capture_output=True, text=True)
-    if ran.stdout.splitlines()[:len(told)] != list(told):
-        yield f"a trace's lines are told as {ran.stdout!r}"
+    for title, *options in TRACES:
+        trace, told = zip(*[re.findall(r"`([^`]+)`", " ".join(row))[:2] for row in rows_of(found, f"| line | {title} |")])
+        ran = subprocess.run([shell.pmb, "decode", *options], input="\n".join(trace), capture_output=True, text=True)
+        if ran.stdout.splitlines()[:len(told)] != list(told):
+            yield f"a trace's lines are told as {ran.stdout!r} by {options}"
     head = [row[-1].strip("` ") for row in rows_of(found, "| line | fields | example |")]
     ran = subprocess.run([shell.pmb, "replay"], input="\n".join(head), capture_output=True, text=True)
     if ran.returncode:

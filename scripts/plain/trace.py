@@ -4,7 +4,7 @@ import re
 from .lines import MOST_BYTES, hex_word, numbered
 from .numbers import signed
 from .packets import (
-    answer_fault, answer_payload, fault_words, name_of, request_fault, request_message, write_fault,
+    CODES, PLACELESS, answer_fault, answer_payload, fault_words, name_of, request_fault, request_message, write_fault,
     write_message,
 )
 
@@ -27,31 +27,46 @@ def payload_word(payload):
     return hex_word(int.from_bytes(bytes(payload), "little"), len(payload))
 
 
-def shown(frame, read):
-    """What a line says after its number, and the code that it counts for, None of a faulty one."""
-    if not frame or frame[0] % 2 or not 0x08 <= frame[0] // 2 <= 0x77:
-        return "-- write F1 NotOurs", None
-    address = frame[0] // 2
-    fault = (write_fault if read is None else request_fault)(address, frame)
-    if fault:
-        return f"{address:02X} write {fault_words(fault)}", None
-    message = write_message(frame) if read is None else request_message(frame)
-    if read is not None:
-        fault = answer_fault(address, message, read)
-        if fault:
-            return f"{address:02X} read {fault_words(fault)}", None
-        payload = answer_payload(message, read)
+def judged(frame, read):
+    """What a packet is: a dictionary with its kind, `fault`, `coefficients`, `write` or `read`, and what that has."""
+    address = frame[0] // 2 if frame else 0
+    if not frame or frame[0] % 2 or not 0x08 <= address <= 0x77:
+        return {"kind": "fault", "address": None, "part": "write", "fault": PLACELESS}
+    found, part = (write_fault if read is None else request_fault)(address, frame), "write"
+    message = None if found else (write_message if read is None else request_message)(frame)
+    if message and read is not None:
+        found, part = answer_fault(address, message, read), "read"
+    if found:
+        return {"kind": "fault", "address": address, "part": part, "fault": found}
+    packet = {"kind": message[0], "address": address}
+    packet["payload"] = message[3] if read is None else answer_payload(message, read)
     if message[0] == "coefficients":
-        m, b = (signed(payload[at] + 256 * payload[at + 1], 16) for at in (0, 2))
-        said = f"of {message[1]:02X} side {message[2]} read m {m} b {b} r {signed(payload[4], 8)}"
-        return f"{address:02X} COEFFICIENTS {said}", 0x30
-    page, code = message[1:3]
-    if read is not None:
-        said = "read " + payload_word(payload)
-    else:
-        said = "write " + payload_word(message[3]) if message[3] else "send"
-    where = "" if page is None else f"page {page} "
-    return f"{address:02X} {where}{name_of(code)} {said}", code
+        return {**packet, "code": CODES["COEFFICIENTS"], "of": message[1], "side": message[2]}
+    return {**packet, "page": message[1], "code": message[2]}
+
+
+def coefficients_of(payload):
+    """m, b and R of an answer to COEFFICIENTS."""
+    m, b = (signed(payload[at] + 256 * payload[at + 1], 16) for at in (0, 2))
+    return m, b, signed(payload[4], 8)
+
+
+def coefficients_words(payload):
+    return "m {} b {} r {}".format(*coefficients_of(payload))
+
+
+def packet_words(packet):
+    """What a line says after its number."""
+    if packet["kind"] == "fault":
+        where = "--" if packet["address"] is None else f"{packet['address']:02X}"
+        return f"{where} {packet['part']} {fault_words(packet['fault'])}"
+    address, code, payload = packet["address"], packet["code"], packet["payload"]
+    if packet["kind"] == "coefficients":
+        said = f"of {packet['of']:02X} side {packet['side']} read {coefficients_words(payload)}"
+        return f"{address:02X} {name_of(code)} {said}"
+    said = f"{packet['kind']} {payload_word(payload)}" if payload else "send"
+    where = "" if packet["page"] is None else f"page {packet['page']} "
+    return f"{address:02X} {where}{name_of(code)} {said}"
 
 
 def decode(text):
@@ -67,12 +82,12 @@ def decode(text):
             bad += 1
             said.append(f"{number} {parts}")
             continue
-        words, code = shown(*parts)
-        said.append(f"{number} {words}")
-        if code is None:
+        packet = judged(*parts)
+        said.append(f"{number} {packet_words(packet)}")
+        if packet["kind"] == "fault":
             faults += 1
         else:
-            counts[code] = counts.get(code, 0) + 1
+            counts[packet["code"]] = counts.get(packet["code"], 0) + 1
     if not is_whole:
         return 1, "".join(line + "\n" for line in said), "pmb: X3 TooLong\n"
     lines, accepted = len(said), sum(counts.values())

@@ -1,0 +1,157 @@
+"""Random captures and options of `decode`: packets that teach formats and change them, values, unknown codes, packets
+without PEC, faults; with times good and bad."""
+from .converter import coefficient_bytes
+from .draw_lines import lengthened, request, skipped_lines, spelled, text_of_lines, write_frame
+from .draw_traces import frame_line, spoiled_answer, trace_line
+from .packets import CODES, NOT_CARRIED, TABLE, VOUT_CODES, answer_of, answer_shape, is_read, is_written, pec, write_part
+from .values import STATUS_BITS, UNITS
+
+PLACES = [(0x58, 0), (0x58, 0), (0x58, 1), (0x08, 0), (0x77, 255)]
+MODES = [0x14, 0x14, 0x17, 0x00, 0x0F, 0x10, 0x1F, 0x40, 0x40, 0x40, 0x21, 0x60, 0x41, 0x94, 0xFF]
+FORMATS = ["linear11", "ulinear16:-12", "ulinear16:15", "ulinear16:-16", "direct:1:0:3", "direct:-7:-32768:-12",
+           "direct:32767:5:12", "direct:1:-1:0"]
+NO_FORMATS = ["", "linear16", "ulinear16", "ulinear16:16", "ulinear16:-17", "ulinear16:1:2", "direct:0:0:0", "direct:1:0:13",
+              "direct:1:0:-13", "direct:1:0", "direct:32768:0:0", "linear11:0", "ulinear16:+1", "ulinear16: 1", "direct:1:0:128"]
+SWITCHES = ["--all", "--long", "--times", "--json"]
+
+
+def options(dice):
+    """Words of the command line: mostly good ones."""
+    words = [word for word in SWITCHES if dice.random() < 0.4]
+    if dice.random() < 0.75:
+        words.append("--values")
+    if "--values" in words and dice.random() < 0.5 or dice.random() < 0.02:
+        words.append("--vout=" + dice.choice(NO_FORMATS if dice.random() < 0.05 else FORMATS))
+    if dice.random() < 0.01:
+        words.append(dice.choice([*words, "--value", "--all=", "--vout", "more", "--word=1"]))
+    dice.shuffle(words)
+    if dice.random() < 0.1:
+        return [part for word in words for part in (word.split("=", 1) if word.startswith("--vout") else [word])]
+    return words
+
+
+def read_line(dice, address, message, payload):
+    """A read and its answer, which is mostly good."""
+    frame = write_part(address, message)
+    answer = answer_of(address, message, payload)
+    if dice.random() < 0.1:
+        answer = answer[:-1] if dice.random() < 0.4 else spoiled_answer(dice, frame, answer)
+    return spelled(dice, frame) + dice.choice([b"/", b" / "]) + spelled(dice, answer)
+
+
+def write_line(dice, address, message):
+    frame = write_part(address, message)
+    if dice.random() < 0.1:
+        frame = dice.choice([frame[:-1], [*frame, 0], frame[:-1] + [frame[-1] ^ 1]])
+    return spelled(dice, frame)
+
+
+def payload_of(dice, code):
+    """Bytes of a code, mostly such as say something."""
+    name, count = TABLE[code][:2]
+    told = {"OPERATION": [0x00, 0x40, 0x7F, 0x80, 0x8F, 0x90, 0x93, 0x94, 0x9B, 0x9C, 0xA4, 0xAB, 0xAC],
+            "WRITE_PROTECT": [0x00, 0x20, 0x40, 0x80, 0x03], "VOUT_MODE": MODES}.get(name)
+    if told and dice.random() < 0.9:
+        return [dice.choice(told)]
+    if name in STATUS_BITS and dice.random() < 0.6:
+        word = dice.choice([0, 1 << dice.randrange(8 * count), (1 << 8 * count) - 1])
+        return [*word.to_bytes(count, "little")]
+    if name in UNITS and dice.random() < 0.4:
+        return [*dice.choice([0x0000, 0x8000, 0xD300, 0xF8FB, 0x7BFF, 0x7C00, 0x87FF, 0xE800]).to_bytes(2, "little")]
+    return [dice.randrange(256) for _ in range(count)]
+
+
+def known_line(dice):
+    """A packet of the table."""
+    address, page = dice.choice(PLACES)
+    code = dice.choice([*TABLE, *[*VOUT_CODES, *map(CODES.get, ["OPERATION", "WRITE_PROTECT", *STATUS_BITS, *UNITS])] * 2])
+    if code in NOT_CARRIED and code != CODES["PAGE"]:
+        return spelled(dice, write_frame(dice, address))
+    page = None if code in NOT_CARRIED or dice.random() < 0.35 else page
+    if is_written(code) and (not is_read(code) or dice.random() < 0.5):
+        return write_line(dice, address, ("write", page, code, payload_of(dice, code)))
+    return read_line(dice, address, ("read", page, code), payload_of(dice, code))
+
+
+def teaching_line(dice):
+    """An answer that teaches a mode or coefficients, or nearly."""
+    address, page = dice.choice(PLACES)
+    if dice.random() < 0.6:
+        return read_line(dice, address, ("read", page, CODES["VOUT_MODE"]), [dice.choice(MODES)])
+    m = dice.choice([1, 1, -1, 0, 7, 32767, -32768, dice.randrange(-32768, 32768)])
+    b, r = dice.choice([0, 0, 5, -32768, 32767]), dice.choice([0, 3, 3, -3, 12, -12, 13, -13, 127, -128])
+    code, side = dice.choice([*VOUT_CODES, CODES["READ_VIN"], CODES["VOUT_MODE"]]), dice.choice([0, 0, 1, 1, 2, 255])
+    return read_line(dice, address, ("coefficients", code, side), coefficient_bytes((m, b, r)))
+
+
+def unknown_line(dice):
+    """A packet of another code, or of a code of the table in another length, with PEC or without."""
+    address = dice.choice([0x58, 0x58, 0x08, 0x77, 0x10])
+    code = dice.choice([0x96, 0xD4, 0xFF, 0x02, 0x86, 0x96, dice.choice([*TABLE])])
+    frame = [2 * address, code, *[dice.randrange(256) for _ in range(dice.choice([0, 0, 1, 2, 3, 5, 33, 200, 297]))]]
+    if dice.random() < 0.5:
+        if dice.random() < 0.5:
+            frame.append(pec(frame))
+        return spelled(dice, frame)
+    frame = frame if dice.random() < 0.4 else frame[:2]
+    answer = [2 * address + 1, *[dice.randrange(256) for _ in range(dice.choice([0, 1, 2, 2, 3, 34, 298]))]]
+    if dice.random() < 0.1:
+        answer = dice.choice([[], [2 * address], [0xB1 if address != 0x58 else 0x21, 0x00]])
+    if dice.random() < 0.5:
+        answer.append(pec([*frame, *answer]))
+    return spelled(dice, frame) + b" / " + spelled(dice, answer)
+
+
+def packet_line(dice, strange):
+    kind = dice.random()
+    if kind < 0.35:
+        line = known_line(dice)
+    elif kind < 0.55:
+        line = teaching_line(dice)
+    elif kind < 0.8:
+        line = unknown_line(dice)
+    elif kind < 0.85:
+        frame = request(dice)
+        message = ("read", None, CODES["READ_VIN"])
+        line = spelled(dice, frame) + b"/" + spelled(dice, answer_of(0x58, message, [0] * answer_shape(message)[1]))
+    else:
+        return trace_line(dice, strange) if dice.random() < 0.9 else frame_line(dice)
+    if dice.random() < strange:
+        place = dice.randrange(len(line) + 1)
+        line = line[:place] + dice.choice([b"/", b"\r", b"\t", b"G", b"0", b"#", b"\x00", b"\xff"]) + line[place:]
+    return line
+
+
+def time_word(dice, now):
+    """The time before a packet: mostly a good one."""
+    if dice.random() < 0.9:
+        return b"%d" % now
+    return dice.choice([b"0", b"007", b"9" * 18, b"0" * 18, b"1" * 19, b"0" * 19, b"-1", b"+1", b"1.5", b"x", b"#1", b"1/",
+                        b"1\t", b"0x1", b"B0", b""])
+
+
+def timed(dice, lines):
+    """The lines with times before them; a packet now and then has none, or no bytes behind its time."""
+    now = dice.choice([0, 0, 5, 10**12])
+    for line in lines:
+        now += dice.choice([0, 1, 90, 1000, 10**6])
+        if line.startswith(b"#") or not line.strip(b" \r"):
+            yield line
+        elif dice.random() < 0.05:
+            yield dice.choice([line, b"%d" % now, b" %d " % now, b"%d #" % now, b"%d\r" % now])
+        else:
+            gap = dice.choice([b" ", b" ", b" ", b"   ", b"" if dice.random() < 0.2 else b" "])
+            yield dice.choice([b"", b"", b"", b"  "]) + time_word(dice, now) + gap + line
+
+
+def capture(dice):
+    """Options and a text."""
+    words = options(dice)
+    lines, strange = skipped_lines(dice), dice.choice([0, 0, 0.05, 0.3])
+    for _ in range(dice.choice([0, 1, 2, 5, 20, 60])):
+        lines.insert(dice.randrange(len(lines) + 1), packet_line(dice, strange))
+    if ("--times" in words) != (dice.random() < 0.03):
+        lines = [*timed(dice, lines)]
+    text = text_of_lines(dice, lines)
+    filler = dice.choice([b"# " + b"x" * 1000, b"0" + b" " * 300, b"12 B0 03 46" + b" " * 400]) + b"\n"
+    return words, lengthened(dice, text, filler) if dice.random() < 0.001 else text

@@ -1,0 +1,118 @@
+"""The decoder for sigrok: gathers the bytes of packets from the decoder `i2c`, and puts what packets.py tells of them."""
+import re
+
+import sigrokdecode as srd
+
+from .packets import FAULT, KNOWN, OTHER, Reader, format_of, labels, pec, spaced
+
+# Annotations by their places below.
+PACKET, OTHERS, FAULTY, NONE, BYTE, PEC_RIGHT, PEC_WRONG = range(7)
+CLASSES = {KNOWN: PACKET, OTHER: OTHERS, FAULT: FAULTY}
+
+
+class Decoder(srd.Decoder):
+    api_version = 3
+    id = "pmbus"
+    name = "PMBus"
+    longname = "Power Management Bus"
+    desc = "Commands of power converters over SMBus packets with packet error code."
+    license = "none chosen"
+    inputs = ["i2c"]
+    outputs = []
+    tags = ["Embedded/industrial"]
+    options = (
+        {"id": "address", "desc": "Address of the device, two hexadecimal digits (empty: all)", "default": ""},
+        {"id": "vout", "desc": "Format of a voltage whose mode wasn't read, as ulinear16/-12", "default": ""},
+    )
+    annotations = (
+        ("packet", "Packet"),
+        ("other", "Packet of another code or length"),
+        ("fault", "Faulty packet"),
+        ("none", "No packet"),
+        ("byte", "Byte"),
+        ("pec-right", "Right PEC"),
+        ("pec-wrong", "Wrong PEC"),
+    )
+    annotation_rows = (
+        ("packets", "Packets", (PACKET, OTHERS, FAULTY, NONE)),
+        ("bytes", "Bytes", (BYTE, PEC_RIGHT, PEC_WRONG)),
+    )
+
+    def __init__(self):
+        self.reset()
+
+    def reset(self):
+        self.reader, self.parts, self.first = None, None, 0
+
+    def start(self):
+        self.out_ann = self.register(srd.OUTPUT_ANN)
+        address, vout = self.options["address"], self.options["vout"]
+        if address and not re.fullmatch("[0-7][0-9A-Fa-f]", address):
+            raise ValueError("address: give two hexadecimal digits, as 58")
+        if vout and not format_of(vout):
+            raise ValueError("vout: give linear11, ulinear16/N or direct/M/B/R")
+        self.address = int(address, 16) if address else None
+        self.reader = Reader(vout)
+
+    def decode(self, ss, es, data):
+        """What the decoder `i2c` says, one after another. A part is a list of bytes, each with its samples and whether it
+        was acknowledged."""
+        kind, value = data
+        if kind == "START":
+            if self.parts:
+                self.told(ss, "no stop")
+            self.parts, self.first = [[]], ss
+        elif self.parts is None:
+            return
+        elif kind == "START REPEAT":
+            self.parts.append([])
+        elif kind == "BITS":
+            self.parts[-1].append([sum(bit[0] << place for place, bit in enumerate(value)), ss, es, True])
+        elif kind == "NACK" and self.parts[-1]:
+            self.parts[-1][-1][3] = False
+        elif kind == "STOP":
+            self.told(es, None)
+            self.parts = None
+
+    def told(self, last, ending):
+        """Puts what a packet says, from its start to its end."""
+        parts = [[it[0] for it in part] for part in self.parts]
+        if self.address is not None and parts[0] and parts[0][0] >> 1 != self.address:
+            return
+        refusal = self.refusal(parts, ending)
+        if refusal:
+            shown = " / ".join(spaced(part) for part in parts)
+            self.put(self.first, last, self.out_ann, [NONE, ["%s: %s" % (refusal, shown), refusal]])
+            return
+        told = self.reader.tell(*parts)
+        self.put(self.first, last, self.out_ann, [CLASSES[told.kind], [told.text, told.short]])
+        self.put_bytes(parts, told.pec)
+
+    def refusal(self, parts, ending):
+        """Why bytes are no packet."""
+        if len(parts) == 1 and [it[3] for it in self.parts[0]] == [False]:
+            return "no device acknowledged the address"
+        if ending:
+            return ending
+        if not all(parts):
+            return "a part with no byte"
+        if len(parts) > 2:
+            return "%d parts" % len(parts)
+        if parts[0][0] & 1:
+            return "a read alone"
+        return "the second part is no read of the device" if len(parts) == 2 and parts[1][0] != parts[0][0] + 1 else None
+
+    def put_bytes(self, parts, is_right):
+        """A word below each byte, and what the last one is as a PEC, where it stands for one."""
+        said = [word for part in labels(*(parts if len(parts) > 1 else (parts[0], None))) for word in part]
+        places = [it for part in self.parts for it in part]
+        if is_right is not None:
+            _, first, last, _ = places.pop()
+            message = [byte for part in parts for byte in part]
+            if is_right:
+                shown = [PEC_RIGHT, ["PEC right", "PEC"]]
+            else:
+                shown = [PEC_WRONG, ["PEC %02X, %02X would be right" % (message[-1], pec(message[:-1])), "PEC wrong"]]
+            self.put(first, last, self.out_ann, shown)
+        for word, (_, first, last, _) in zip(said, places):
+            self.put(first, last, self.out_ann, [BYTE, [word]])
