@@ -91,10 +91,13 @@ other_lines others (suc code) = other_lines others code ++ other_line others cod
 abbrev pub others_total : Bool → List (ℕ × ℕ) → List ℕ
 others_total all others = if all then codes " other " ++ decimal (total_of others) else []
 
+abbrev pub faults_text : ℕ → ℕ → List ℕ
+faults_text faults bad = codes " faults " ++ (decimal faults ++ (codes " bad " ++ (decimal bad ++ codes "\n")))
+
 unfoldable pub totals_line : Bool → Heard → List ℕ
 totals_line all heard = codes "lines " ++ (decimal (heard_lines heard) ++ (codes " accepted "
-    ++ (decimal heard.counts.accepted ++ (others_total all heard.others ++ (codes " faults "
-    ++ (decimal heard.counts.faults ++ (codes " bad " ++ (decimal heard.counts.bad ++ codes "\n"))))))))
+    ++ (decimal heard.counts.accepted ++ (others_total all heard.others
+    ++ faults_text heard.counts.faults heard.counts.bad))))
 
 abbrev pub counts_text : TellOptions → Heard → List ℕ
 counts_text options heard = flat_map count_line heard.counts.codes

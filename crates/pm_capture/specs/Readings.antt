@@ -1,6 +1,6 @@
 -- What a line of a capture reads as: the packet's bytes, as `pm_trace` reads them, and with times the number that
 -- stands before them. The forms are this project's own choice.
-use Rattle.std.specs.Prelude.{ℕ, ℤ, pos, negsuc, Bool, true, false, ◌||◌, ◌==◌, nat_lt, if◌then◌else◌, List, [], ◌∷◌, length, map, slice_index, Option, Some, None, Result, Ok, Err}
+use Rattle.std.specs.Prelude.{ℕ, ℤ, pos, negsuc, Bool, true, false, not, ◌||◌, ◌==◌, nat_lt, if◌then◌else◌, List, [], ◌∷◌, length, map, slice_index, Option, Some, None, Result, Ok, Err}
 use Rattle.pm_lines.specs.Digits.{signed_of}
 use Rattle.pm_lines.specs.Lines.{Numbered, is_space, unskipped_from}
 use Rattle.pm_trace.specs.Marks.{before}
@@ -11,15 +11,14 @@ use Rattle.pm_trace.specs.declared.trace_line.TraceLine.{TraceLine}
 
 -- ---- the word before a packet
 
--- what follows the spaces that stand first
-abbrev pub past_spaces : List ℕ → List ℕ
-past_spaces [] = []
-past_spaces (byte ∷ bytes) = if is_space byte then past_spaces bytes else byte ∷ bytes
+-- what stands from the first byte on that has this mark: nothing, where none has it
+abbrev pub from_first : (ℕ → Bool) → List ℕ → List ℕ
+from_first mark [] = []
+from_first mark (byte ∷ bytes) = if mark byte then byte ∷ bytes else from_first mark bytes
 
--- what stands from the first space on
-abbrev pub from_space : List ℕ → List ℕ
-from_space [] = []
-from_space (byte ∷ bytes) = if is_space byte then byte ∷ bytes else from_space bytes
+-- a line without the spaces that stand first
+abbrev pub past_spaces : List ℕ → List ℕ
+past_spaces line = from_first (λ byte. not (is_space byte)) line
 
 -- the first word of a line: the bytes up to a space, behind the spaces that stand first
 abbrev pub first_word : List ℕ → List ℕ
@@ -27,7 +26,7 @@ first_word line = before is_space (past_spaces line)
 
 -- what follows that word, from the space on that ends it
 abbrev pub behind_word : List ℕ → List ℕ
-behind_word line = from_space (past_spaces line)
+behind_word line = from_first is_space (past_spaces line)
 
 -- a number that isn't below 0
 abbrev pub natural : Option ℤ → Option ℕ

@@ -3,7 +3,7 @@
 use Rattle.std.specs.Prelude.{◌≡◌, ℕ, Bool, true, false, not, ◌&&◌, ◌||◌, ◌==◌, nat_eq, if◌then◌else◌, List, [], ◌∷◌, ◌++◌, codes, Option, Some, None, Result, Ok, Err}
 use Rattle.std.specs.List.{fold, list_any, starts_with}
 use Rattle.pm_lines.specs.Lines.{has_bytes, is_line_feed, is_skipped, is_space, without_return}
-use Rattle.pm_trace.specs.OpenLines.{is_begun, is_skipped_kind, line_of, line_takes, open_read}
+use Rattle.pm_trace.specs.OpenLines.{is_skipped_kind, line_of, line_takes, open_read}
 use Rattle.pm_trace.specs.Parts.{part_of, part_takes}
 use Rattle.pm_trace.specs.declared.line_fault.LineFault.TheVariants as fault
 use Rattle.pm_capture.specs.Readings.{Reading, behind_word, first_word, time_in, timed}
@@ -15,13 +15,14 @@ timed_of times line = record {
   times = times;
   has_mark = starts_with nat_eq line (codes "#");
   is_begun = has_bytes line;
+  is_over = if times then has_bytes (behind_word line) else true;
   word = part_of (if times then first_word line else []);
   packet = line_of (if times then behind_word line else line);
 }
 
 -- a byte is the packet's own: lines have no time, or a space ended the word, or ends it
 abbrev pub is_of_packet : TimedLine → ℕ → Bool
-is_of_packet line byte = not line.times || (is_begun line.packet || (is_space byte && has_bytes line.word.bytes))
+is_of_packet line byte = line.is_over || (is_space byte && has_bytes line.word.bytes)
 
 -- one byte more
 unfoldable pub timed_takes : TimedLine → ℕ → TimedLine
@@ -29,6 +30,7 @@ timed_takes line byte = record {
   times = line.times;
   has_mark = if line.is_begun then line.has_mark else byte == 35;
   is_begun = true;
+  is_over = is_of_packet line byte;
   word = if is_of_packet line byte || is_space byte then line.word else part_takes line.word byte;
   packet = if is_of_packet line byte then line_takes line.packet byte else line.packet;
 }
@@ -37,7 +39,7 @@ timed_takes line byte = record {
 
 -- the word, without the carriage return that is no part of the line
 abbrev pub word_ended : TimedLine → List ℕ
-word_ended line = if is_begun line.packet then line.word.bytes else without_return line.word.bytes
+word_ended line = if line.is_over then line.word.bytes else without_return line.word.bytes
 
 -- the line is skipped
 abbrev pub skips_timed : TimedLine → Bool

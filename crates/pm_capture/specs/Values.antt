@@ -2,7 +2,7 @@
 use Rattle.std.specs.Prelude.{ℕ, ℤ, pos, ◌+◌, ◌*◌, ◌/◌, ◌%◌, ◌*ℤ◌, zero, suc, Bool, ◌&&◌, ◌||◌, ◌==◌, if◌then◌else◌, List, [], slice_index, unwrap_or, option_map, Option, Some, None, Result, Ok, Err, int_div, int_rem}
 use Rattle.std.specs.Ordering.{int_eq}
 use Rattle.std.specs.Result.{result_ok}
-use Rattle.core.specs.Int.{int_div_euclid}
+use Rattle.std.specs.Int.{int_div_euclid}
 use Rattle.pm_frame.specs.View.{message_code, message_page, message_payload}
 use Rattle.pm_frame.specs.declared.message.Message.{Message}
 use Rattle.pm_num.specs.AnyFormat.{Shape, shape_value}

@@ -1,5 +1,8 @@
 //! A capture as its bytes come.
-ghost use Rattle.std.specs.Prelude.{◌≡◌};
+ghost use Rattle.std.specs.Prelude.{[], ◌≡◌, ◌+◌, ◌≤◌, ◌<◌, ◌^◌, ◌++◌, if◌then◌else◌, OnOk, OnErr};
+ghost use Rattle.pm_capture.specs.CaptureText.{line_text};
+ghost use Rattle.pm_capture.specs.Hearing.{heard_lines, heard_with};
+ghost use Rattle.pm_capture.specs.TimedLines.{skips_timed, timed_read};
 
 use crate::counts_text::push_counts;
 use crate::heard::Heard;
@@ -35,15 +38,13 @@ impl Model for Capture {
 }
 
 impl Capture {
-    ghost use Rattle.std.specs.Prelude.{[], ◌+◌, ◌-◌, ◌≤◌, ◌<◌, ◌^◌, ◌++◌, OnOk, OnErr, IfOk, List, ℕ, length, string_bytes};
-    ghost use Rattle.pm_trace.specs.OpenLines.{IsAtLineFeed};
+    ghost use Rattle.std.specs.Prelude.{[], ◌+◌, ◌≤◌, ◌<◌, ◌++◌, true, OnOk, OnErr, OnSome, IfSome, MatchOption, List, ℕ, length, string_bytes};
     ghost use Rattle.pm_trace.specs.TraceText.{end_of};
-    ghost use Rattle.pm_capture.specs.Captures.{PassesKept};
     ghost use Rattle.pm_capture.specs.Capturing.{kept_at_end, kept_of, line_ended, most_bytes, next, text_ended, told, told_at_end};
     ghost use Rattle.pm_capture.specs.CaptureText.{counts_text};
 
     /// A capture of no bytes. Takes no memory.
-    #[tactic(auto, unfolding(crate::specs::Capturing::kept_of, crate::specs::Capturing::said))]
+    #[tactic(auto, unfolding(crate::specs::Capturing::kept_of, crate::specs::Capturing::said, crate::specs::Hearing::heard_of, pm_trace::specs::Counts::counts_of))]
     pub(crate) fn new(alloc: Global, options: &TellOptions) -> Capture
         ensures { result ≡ kept_of options.now [] }
     {
@@ -87,43 +88,60 @@ impl Capture {
     {
         let mut rest = bytes;
         'lines: loop {
-            rest = self.take_front(rest);
-            let [_, more @ ..] = rest else {
+            let Some(more) = self.take_front(rest) else {
                 return Ok(());
             };
-            self.taken += 1;
             self.end_line(gathered)?;
             rest = more;
         }
     }
 
-    // Takes bytes up to the first line feed, and gives what is left: nothing, or what begins with that line feed.
-    fn take_front<'a>(&mut self, bytes: &'a [u8]) -> &'a [u8]
+    // Takes bytes up to the first line feed and with it, or all of them, and gives what follows it. The line isn't
+    // ended yet.
+    fn take_front<'a>(&mut self, bytes: &'a [u8]) -> Option<&'a [u8]>
         requires { self.old.taken + length bytes.now ≤ most_bytes self.old.options.long }
-        ensures passes { PassesKept self.old bytes.entry.now result.now self.new }
-        ensures stops { IsAtLineFeed result.now }
-        ensures fewer { length result.now ≤ length bytes.entry.now }
-        ensures taken { self.new.taken + length result.now ≡ self.old.taken + length bytes.entry.now }
+        ensures kept { MatchOption result (next self.old bytes.entry.now ≡ self.new)
+            (λ more. next self.old bytes.entry.now ≡ next (line_ended self.new) more.now) }
+        ensures told { MatchOption result (told self.old bytes.entry.now ≡ [])
+            (λ more. told self.old bytes.entry.now ≡ text_ended self.new ++ told (line_ended self.new) more.now) }
+        ensures fewer { IfSome result (λ more. length more.now < length bytes.entry.now) }
+        ensures room { IfSome result (λ more. self.new.taken + length more.now ≤ most_bytes self.new.options.long) }
+        ensures ended { OnSome result (self.new.ended + 1 ≤ self.new.taken) }
     {
         let rest = self.line.take_line(bytes);
         self.taken += (bytes.len() - rest.len()) as u64;
-        rest
+        let [_, more @ ..] = rest else {
+            return None;
+        };
+        self.taken += 1;
+        Some(more)
     }
 
     // Ends the line, and gathers what it says, if it isn't skipped.
     fn end_line(&mut self, gathered: &mut Told) -> Result<(), AllocError>
-        requires { self.old.ended + 1 < 2 ^ 64 }
+        requires { self.old.ended + 1 ≤ self.old.taken }
         ensures kept { OnOk result (self.new ≡ line_ended self.old) }
         ensures told { OnOk result (gathered.new ≡ gathered.old ++ text_ended self.old) }
         ensures unchanged { OnErr result (gathered.new ≡ gathered.old) }
     {
-        if !self.line.is_skipped() {
-            let line = self.line.reading();
-            gathered.hear(&mut self.heard, &self.options, self.ended + 1, &line)?;
-        }
+        let heard = hear_line(
+            &mut self.heard,
+            &self.options,
+            self.ended + 1,
+            &self.line,
+            gathered,
+        );
         self.ended += 1;
         self.line.clear();
-        Ok(())
+        heard
+    }
+
+    /// Whether the line that goes on has a byte.
+    fn is_begun(&self) -> bool
+        ensures begun { result ≡ self.now.line.is_begun }
+        ensures room { result ≡ true → self.now.ended + 1 ≤ self.now.taken }
+    {
+        self.line.is_begun()
     }
 
     /// Ends the capture: a last line ends here that has bytes and no line feed.
@@ -131,7 +149,7 @@ impl Capture {
         ensures kept { OnOk result (self.new ≡ kept_at_end self.old) }
         ensures told { OnOk result (gathered.new ≡ gathered.old ++ told_at_end self.old) }
     {
-        if self.line.is_begun() {
+        if self.is_begun() {
             self.end_line(gathered)?;
         }
         Ok(())
@@ -162,4 +180,27 @@ impl Capture {
             DecodeEnd::BadLines
         }
     }
+}
+
+// Gathers what a line says that ends here, with its number, and has it heard, if it isn't skipped.
+#[tactic(auto, using(crate::proofs::HearingLemmas::heard_one))]
+fn hear_line(
+    heard: &mut Heard,
+    options: &TellOptions,
+    number: u64,
+    line: &TimedLine,
+    gathered: &mut Told,
+) -> Result<(), AllocError>
+    requires { heard_lines heard.old + 1 < 2 ^ 64 }
+    ensures heard { OnOk result (heard.new ≡ (if skips_timed line.now then heard.old
+        else heard_with options.now.all heard.old (number, timed_read line.now))) }
+    ensures told { OnOk result (gathered.new ≡ gathered.old ++ (if skips_timed line.now then []
+        else line_text options.now heard.old.taught (number, timed_read line.now))) }
+    ensures unchanged { OnErr result (gathered.new ≡ gathered.old) }
+    ensures few { heard_lines heard.new ≤ heard_lines heard.old + 1 }
+{
+    if line.is_skipped() {
+        return Ok(());
+    }
+    gathered.hear(heard, options, number, &line.reading())
 }

@@ -1,7 +1,7 @@
 //! The text of the counts.
 ghost use Rattle.std.specs.Prelude.{◌≡◌, ◌+◌, ◌<◌, ◌++◌, ◌^◌, OnOk, string_bytes};
 ghost use Rattle.pm_trace.specs.Counts.{total_of};
-ghost use Rattle.pm_capture.specs.CaptureText.{counts_text, other_line, other_lines, others_total, totals_line};
+ghost use Rattle.pm_capture.specs.CaptureText.{counts_text, faults_text, other_line, other_lines, others_total, totals_line};
 ghost use Rattle.pm_capture.specs.Hearing.{heard_lines};
 
 use crate::heard::Heard;
@@ -31,7 +31,7 @@ pub(crate) fn push_counts(
 }
 
 // A line for each other code, in ascending order.
-#[tactic(auto, using(crate::proofs::Joins::joins), unfolding(crate::specs::CaptureText::other_lines))]
+#[tactic(auto, using(crate::proofs::CountsLemmas::count_steps))]
 fn push_others(text: &mut String, others: &Others) -> Result<(), AllocError>
     ensures { OnOk result (string_bytes text.new ≡ string_bytes text.old ++ other_lines others.now 256) }
 {
@@ -62,12 +62,20 @@ fn push_totals(text: &mut String, all: bool, heard: &Heard) -> Result<(), AllocE
     requires { heard_lines heard.now < 2 ^ 64 }
     ensures { OnOk result (string_bytes text.new ≡ string_bytes text.old ++ totals_line all heard.now) }
 {
-    let (lines, accepted, faults, bad) = heard.tally().lines();
+    let (_, accepted, faults, bad) = heard.tally().lines();
     text.push_str("lines ")?;
-    push_decimal(text, lines + heard.others().total())?;
+    push_decimal(text, heard.lines())?;
     text.push_str(" accepted ")?;
     push_decimal(text, accepted)?;
     push_others_total(text, all, heard.others())?;
+    push_faults(text, faults, bad)
+}
+
+// The end of that line: how many lines had a fault and were bad.
+#[tactic(auto, using(crate::proofs::Joins::joins))]
+fn push_faults(text: &mut String, faults: u64, bad: u64) -> Result<(), AllocError>
+    ensures { OnOk result (string_bytes text.new ≡ string_bytes text.old ++ faults_text faults bad) }
+{
     text.push_str(" faults ")?;
     push_decimal(text, faults)?;
     text.push_str(" bad ")?;

@@ -1,5 +1,7 @@
 //! What is known behind the lines of a capture.
-ghost use Rattle.std.specs.Prelude.{◌≡◌};
+ghost use Rattle.std.specs.Prelude.{◌≡◌, Err};
+ghost use Rattle.pm_trace.specs.ShownLines.{judged_in};
+ghost use Rattle.pm_trace.specs.Trace.{reading_judged};
 
 use crate::lessons::Lessons;
 use crate::line_text::{push_bad_line, push_packet_line};
@@ -28,9 +30,8 @@ impl Model for Heard {
 }
 
 impl Heard {
-    ghost use Rattle.std.specs.Prelude.{[], ◌+◌, ◌<◌, ◌^◌, ◌++◌, OnOk, Ok, Err, string_bytes};
+    ghost use Rattle.std.specs.Prelude.{[], ◌+◌, ◌<◌, ◌≤◌, ◌^◌, ◌++◌, false, OnOk, Ok, string_bytes};
     ghost use Rattle.pm_trace.specs.Counts.{lines_in};
-    ghost use Rattle.pm_trace.specs.ShownLines.{judged_in};
     ghost use Rattle.pm_capture.specs.CaptureText.{line_text};
     ghost use Rattle.pm_capture.specs.Hearing.{counted_with, heard_lines, heard_of, heard_with};
     ghost use Rattle.pm_capture.specs.ShownReadings.{packet_in, reading_in};
@@ -49,6 +50,7 @@ impl Heard {
 
     /// Appends what a line says to a text, with its number and a line feed, and counts it. Takes memory for the text, and
     /// for a code and an output that is new.
+    #[tactic(auto, using(crate::proofs::HearingLemmas::heard_one))]
     pub(crate) fn hear(
         &mut self,
         options: &TellOptions,
@@ -60,6 +62,7 @@ impl Heard {
         ensures text { OnOk result (string_bytes text.new ≡ string_bytes text.old
             ++ line_text options.now self.old.taught (number, reading_in line.now)) }
         ensures heard { OnOk result (self.new ≡ heard_with options.now.all self.old (number, reading_in line.now)) }
+        ensures few { heard_lines self.new ≤ heard_lines self.old + 1 }
     {
         match &line.packet {
             Ok(packet) => self.hear_packet(options, number, line.time, packet, text),
@@ -71,6 +74,7 @@ impl Heard {
     }
 
     // The same of a line that could be read.
+    #[tactic(auto, using(crate::proofs::HearingLemmas::heard_one))]
     fn hear_packet(
         &mut self,
         options: &TellOptions,
@@ -84,6 +88,7 @@ impl Heard {
             ++ line_text options.now self.old.taught (number, record { time = time; parts = Ok (packet_in packet.now) })) }
         ensures heard { OnOk result (self.new
             ≡ heard_with options.now.all self.old (number, record { time = time; parts = Ok (packet_in packet.now) })) }
+        ensures few { heard_lines self.new ≤ heard_lines self.old + 1 }
     {
         let shown = packet_shown(packet.write, packet.read);
         let other = if options.all {
@@ -97,6 +102,15 @@ impl Heard {
             None => self.tally.count(&shown),
             Some(_) => self.others.count(code_of(packet)),
         }
+    }
+
+    /// How many lines there were.
+    pub(crate) fn lines(&self) -> u64
+        requires { heard_lines self.now < 2 ^ 64 }
+        ensures { result ≡ heard_lines self.now }
+    {
+        let (lines, _, _, _) = self.tally.lines();
+        lines + self.others.total()
     }
 
     /// The counts of the lines that are told as the command table has them.

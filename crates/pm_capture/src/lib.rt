@@ -11,6 +11,7 @@ mod capture;
 mod counts_text;
 mod fraction;
 mod heard;
+mod laws;
 mod lessons;
 mod line_text;
 mod meaning;
@@ -26,5 +27,6 @@ mod value_text;
 #[cfg(test)]
 mod tests;
 
+pub use laws::plain_captures_are_traces;
 pub use options::TellOptions;
 pub use telling::tell;

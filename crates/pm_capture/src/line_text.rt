@@ -1,11 +1,12 @@
 //! The text of a line.
-ghost use Rattle.std.specs.Prelude.{◌≡◌, ◌++◌, Err, Ok, OnOk, codes, decimal, option_map, string_bytes};
+ghost use Rattle.std.specs.Prelude.{◌≡◌, ◌++◌, ℕ, Option, Err, Ok, OnOk, codes, decimal, option_map, string_bytes};
 ghost use Rattle.pm_trace.specs.ShownLines.{judged_in};
 ghost use Rattle.pm_trace.specs.Trace.{parts_judged, reading_judged};
 ghost use Rattle.pm_trace.specs.TraceText.{judged_text};
 ghost use Rattle.pm_capture.specs.CaptureText.{bytes_text, extra_text, line_text, meaning_text, packet_text_by, read_bytes_text, time_text};
 ghost use Rattle.pm_capture.specs.Hearing.{other_address};
 ghost use Rattle.pm_capture.specs.ShownReadings.{packet_in};
+ghost use Rattle.pm_capture.specs.Taught.{Taught};
 
 use crate::lessons::Lessons;
 use crate::meaning::packet_value;
@@ -21,12 +22,12 @@ use std::alloc::AllocError;
 #[tactic(auto, using(crate::proofs::Joins::joins), unfolding(crate::specs::CaptureText::line_text))]
 pub(crate) fn push_bad_line(
     text: &mut String,
-    _options: &TellOptions,
+    options: &TellOptions,
     number: u64,
     fault: LineFault,
 ) -> Result<(), AllocError>
-    ensures { OnOk result ((taught : Taught) → string_bytes text.new ≡ string_bytes text.old
-        ++ line_text _options.now taught (number, record { time = None; parts = Err fault })) }
+    ensures { OnOk result ((taught : Taught) (time : Option ℕ) → string_bytes text.new ≡ string_bytes text.old
+        ++ line_text options.now taught (number, record { time = time; parts = Err fault })) }
 {
     push_decimal(text, number)?;
     text.push_str(" ")?;

@@ -1,4 +1,4 @@
-ghost use Rattle.std.specs.Prelude.{◌≡◌, ◌+◌, ◌<◌, ◌^◌};
+ghost use Rattle.std.specs.Prelude.{◌≡◌, ◌+◌, ◌<◌, ◌≤◌, ◌^◌};
 
 use indexmap::IndexMap;
 use pm_trace::count_code;
@@ -24,7 +24,7 @@ impl Model for Others {
 }
 
 impl Others {
-    ghost use Rattle.std.specs.Prelude.{[], nat_eq, OnOk};
+    ghost use Rattle.std.specs.Prelude.{[], nat_eq, OnErr, OnOk};
     ghost use Rattle.std.specs.Map.{lookup};
     ghost use Rattle.pm_trace.specs.Counts.{one_more, total_of};
 
@@ -42,7 +42,9 @@ impl Others {
     #[tactic(auto, using(pm_trace::proofs::CountLemmas::total_one_more))]
     pub(crate) fn count(&mut self, code: u8) -> Result<(), AllocError>
         requires { total_of self.old + 1 < 2 ^ 64 }
-        ensures { OnOk result (self.new ≡ one_more self.old code) }
+        ensures ok { OnOk result (self.new ≡ one_more self.old code) }
+        ensures err { OnErr result (self.new ≡ self.old) }
+        ensures few { total_of self.new ≤ total_of self.old + 1 }
     {
         count_code(&mut self.codes, code)?;
         self.total += 1;

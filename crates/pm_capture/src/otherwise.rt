@@ -1,5 +1,5 @@
 //! Packets that are told by their code and bytes alone.
-ghost use Rattle.std.specs.Prelude.{◌≡◌, ◌≤◌, ◌++◌, true, length, option_map, slice_index, string_bytes, OnOk};
+ghost use Rattle.std.specs.Prelude.{◌≡◌, ◌+◌, ◌≤◌, ◌++◌, true, length, option_map, slice_index, string_bytes, OnOk};
 ghost use Rattle.pm_trace.specs.ShownLines.{judged_in};
 ghost use Rattle.pm_capture.specs.Otherwise.{address_otherwise as spec_address_otherwise, carried_text, ends_in_pec as spec_ends_in_pec, has_code as spec_has_code, has_pec as spec_has_pec, is_of_code as spec_is_of_code, is_read_from, named, other_text, sent_text, shown_of as spec_shown_of, spaced, verdict_text, written_text};
 
@@ -133,11 +133,14 @@ pub(crate) fn push_other(
     push_hex(text, code)?;
     push_named(text, code)?;
     push_carried(text, packet)?;
-    text.push_str(if has_pec(packet) {
-        ", PEC right"
-    } else {
-        ", no PEC"
-    })
+    text.push_str(verdict(has_pec(packet)))
+}
+
+// What is said of a packet's PEC.
+fn verdict(is_right: bool) -> &'static str
+    ensures { result.now ≡ verdict_text is_right }
+{
+    if is_right { ", PEC right" } else { ", no PEC" }
 }
 
 // The name of a code that the table has.

@@ -58,6 +58,7 @@ static CML: [Row; 8] = [
 
 impl Status {
     /// The bits of the register, the highest first, each with its name.
+    #[tactic(auto, unfolding(crate::specs::Statuses::rows_of))]
     pub(crate) fn rows(self) -> &'static [Row]
         ensures { map (λ row. (row.0, row.1.now)) result.now ≡ rows_of self }
     {

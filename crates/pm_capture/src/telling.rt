@@ -1,16 +1,16 @@
 //! Captures from a reader, and what they say, to a writer.
-ghost use Rattle.std.specs.Prelude.{◌≡◌, ◌≤◌, ◌<◌, ◌↔◌, ℕ, List, [], ◌++◌, length, true, false, is_err};
-ghost use Rattle.std.specs.Prelude.{Ok, Err, IfOk, IfErr, OnOk, OnErr, MatchResult, IsTrue, IsFalse, string_bytes};
+ghost use Rattle.std.specs.Prelude.{◌≡◌, ◌+◌, ◌≤◌, ◌↔◌, ℕ, List, [], ◌++◌, length, take, true, false, is_err};
+ghost use Rattle.std.specs.Prelude.{Ok, Err, IfOk, IfErr, OnOk, OnErr, MatchResult, IsTrue, IsFalse};
 ghost use Rattle.std.specs.Io.KnownBytes.{IsAtEnd};
 ghost use Rattle.pm_lines.specs.Engine.{EngineEnds, over};
 ghost use Rattle.pm_lines.specs.Streams.{AppendsFront};
 ghost use Rattle.pm_trace.specs.TraceText.{IsOfDecode};
 ghost use Rattle.pm_trace.specs.Written.{Puts};
 ghost use Rattle.pm_capture.specs.CaptureText.{capture_end, capture_text, counts_text};
-ghost use Rattle.pm_capture.specs.Capturing.{kept_at_end, kept_of, most_bytes, said_text, told_at_end};
+ghost use Rattle.pm_capture.specs.Capturing.{kept_at_end, most_bytes, next, said_text, told as told_of, told_at_end};
 ghost use Rattle.pm_capture.specs.LongEngine.{LongEnds};
 ghost use Rattle.pm_capture.specs.Outcome.{telling};
-ghost use Rattle.pm_capture.specs.WrittenCaptures.{Hears, StopsHearing, WrittenCapture};
+ghost use Rattle.pm_capture.specs.WrittenCaptures.{Hears, StopsBytes, StopsHearing, WrittenCapture};
 
 use crate::capture::Capture;
 use crate::options::TellOptions;
@@ -61,9 +61,24 @@ pub fn tell<R: Read, W: Write>(
         (over R.remaining reader.old reader.new W.contents writer.old writer.new) result }
     ensures faults { IfErr result IsOfDecode }
 {
-    let mut capture = Capture::new(alloc, options);
+    tell_all(alloc, reader, writer, options)
+}
+
+// The same, whatever the limit.
+fn tell_all<R: Read, W: Write>(
+    alloc: Global,
+    reader: &mut Source<R>,
+    writer: &mut Sink<W>,
+    options: &TellOptions,
+) -> Result<DecodeEnd, TextFault>
+    requires reader { IsFalse reader.old.failed }
+    requires writer { IsFalse writer.old.failed }
+    ensures ends { LongEnds (most_bytes options.now.long) (capture_text options.now) (said_text options.now)
+        (capture_end options.now) (over R.remaining reader.old reader.new W.contents writer.old writer.new) result }
+    ensures faults { IfErr result IsOfDecode }
+{
     let mut told = Told::new(alloc);
-    hear_pieces(reader, writer, &mut capture, &mut told)?;
+    let mut capture = hear_pieces(alloc, reader, writer, options, &mut told)?;
     if capture.taken() == 0 {
         // the text of the counts takes memory, which is wanted only for what was read
         writer.put(empty_text(options).as_bytes())?;
@@ -76,29 +91,31 @@ pub fn tell<R: Read, W: Write>(
 
 // Reads all pieces, and writes what the lines say that a line feed ended.
 fn hear_pieces<R: Read, W: Write>(
+    alloc: Global,
     reader: &mut Source<R>,
     writer: &mut Sink<W>,
-    capture: &mut Capture,
+    options: &TellOptions,
     told: &mut Told,
-) -> Result<(), TextFault>
+) -> Result<Capture, TextFault>
     requires reader { IsFalse reader.old.failed }
     requires writer { IsFalse writer.old.failed }
-    requires fresh { capture.old ≡ kept_of capture.old.options [] }
     requires empty { told.old ≡ [] }
-    ensures ok { OnOk result (IsFalse reader.new.failed × IsFalse writer.new.failed × (told.new ≡ []) × (input : List ℕ)
-        × WrittenCapture capture.old.options (R.remaining reader.old.inner) (R.remaining reader.new.inner)
-        (W.contents writer.old.inner) (W.contents writer.new.inner) input capture.new
+    ensures ok { IfOk result (λ capture. IsFalse reader.new.failed × IsFalse writer.new.failed × (told.new ≡ [])
+        × (input : List ℕ)
+        × WrittenCapture options.now (R.remaining reader.old.inner) (R.remaining reader.new.inner)
+        (W.contents writer.old.inner) (W.contents writer.new.inner) input capture
         × IsAtEnd (R.remaining reader.new.inner)) }
-    ensures broken { IfErr result (λ fault. IsOfDecode fault × LongEnds (most_bytes capture.old.options.long)
-        (capture_text capture.old.options) (said_text capture.old.options) (capture_end capture.old.options)
+    ensures broken { IfErr result (λ fault. IsOfDecode fault × LongEnds (most_bytes options.now.long)
+        (capture_text options.now) (said_text options.now) (capture_end options.now)
         (over R.remaining reader.old reader.new W.contents writer.old writer.new) (Err fault)) }
 {
+    let mut capture = Capture::new(alloc, options);
     let mut piece = [0u8; PIECE];
     'reads: loop {
-        let count = hear_piece(reader, capture, told, &mut piece);
+        let count = hear_piece(reader, &mut capture, told, &mut piece);
         put_due(writer, told, !is_full(&count))?;
         if count? == 0 {
-            return Ok(());
+            return Ok(capture);
         }
     }
 }
@@ -119,12 +136,31 @@ fn hear_piece<R: Read>(
         (λ fault. IsTrue reader.new.failed ↔ (fault ≡ TextFault.Read)) }
 {
     let count = reader.read(piece)?;
-    let room = capture.room(count);
-    capture.take(&piece[..room], told)?;
-    if room < count {
+    hear_bytes(capture, told, &piece[..count])?;
+    Ok(count)
+}
+
+// Gathers what the lines say that end in these bytes.
+fn hear_bytes(capture: &mut Capture, gathered: &mut Told, bytes: &[u8]) -> Result<(), TextFault>
+    ensures kept { OnOk result (capture.new ≡ next capture.old bytes.now) }
+    ensures told { OnOk result (gathered.new ≡ gathered.old ++ told_of capture.old bytes.now) }
+    ensures room { OnOk result (capture.old.taken + length bytes.now ≤ most_bytes capture.old.options.long) }
+    ensures stops { IfErr result (StopsBytes gathered.old gathered.new capture.old bytes.now) }
+{
+    let room = capture.room(bytes.len());
+    capture.take(front(bytes, room), gathered)?;
+    if room < bytes.len() {
         return Err(TextFault::TooLong);
     }
-    Ok(count)
+    Ok(())
+}
+
+// The first bytes.
+fn front(bytes: &[u8], count: usize) -> &[u8]
+    requires { count ≤ length bytes.now }
+    ensures { result.now ≡ take count bytes.now }
+{
+    &bytes[..count]
 }
 
 // Whether a read brought as many bytes as were asked for, so that more may wait.
@@ -153,17 +189,16 @@ fn put_due<W: Write>(writer: &mut Sink<W>, told: &mut Told, is_due: bool) -> Res
 }
 
 // Ends the capture, and gathers the rest of the output: an unfinished last line, and the counts.
-fn tell_end(capture: &mut Capture, told: &mut Told) -> Result<(), AllocError>
-    ensures told { OnOk result (told.new ≡ told.old
+fn tell_end(capture: &mut Capture, gathered: &mut Told) -> Result<(), AllocError>
+    ensures told { OnOk result (gathered.new ≡ gathered.old
         ++ (told_at_end capture.old ++ counts_text capture.old.options (kept_at_end capture.old).heard)) }
     ensures kept { OnOk result (capture.new ≡ kept_at_end capture.old) }
 {
-    capture.finish(told)?;
-    told.gather_counts(capture)
+    capture.finish(gathered)?;
+    gathered.gather_counts(capture)
 }
 
 // What is written of a capture of no bytes.
-#[tactic(auto, unfolding(crate::specs::CaptureText::capture_text, crate::specs::CaptureText::totals_line))]
 fn empty_text(options: &TellOptions) -> &'static str
     ensures { result.now ≡ capture_text options.now [] }
 {

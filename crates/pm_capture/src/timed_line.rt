@@ -15,6 +15,8 @@ pub(crate) struct TimedLine {
     has_mark: bool,
     // There is a byte.
     is_begun: bool,
+    // Bytes are the packet's own: lines have no time, or a space ended the word.
+    is_over: bool,
     // The first word, where lines begin with a time.
     word: Part,
     // The packet, with the space before it.
@@ -37,10 +39,9 @@ pub(crate) struct Packet<'a> {
 
 impl TimedLine {
     ghost use Rattle.std.specs.Prelude.{[], None, if◌then◌else◌};
-    ghost use Rattle.std.specs.Result.{result_map};
     ghost use Rattle.pm_trace.specs.OpenLines.{open_read};
     ghost use Rattle.pm_trace.specs.OpenLines.{IsAtLineFeed};
-    ghost use Rattle.pm_capture.specs.ShownReadings.{packet_in, reading_in};
+    ghost use Rattle.pm_capture.specs.ShownReadings.{parts_in, reading_in};
     ghost use Rattle.pm_capture.specs.TimedLines.{PassesTimed, skips_timed, timed_of, timed_read, timed_takes, word_ended};
 
     /// A line without bytes.
@@ -52,6 +53,7 @@ impl TimedLine {
             times,
             has_mark: false,
             is_begun: false,
+            is_over: !times,
             word: Part::new(),
             packet: OpenLine::new(),
         }
@@ -64,12 +66,14 @@ impl TimedLine {
     {
         self.has_mark = false;
         self.is_begun = false;
+        self.is_over = !self.times;
         self.word.clear();
         self.packet.clear();
     }
 
     /// Takes further bytes up to the first line feed, and gives what is left: nothing, or what begins
     /// with that line feed.
+    #[tactic(auto, using(crate::proofs::TimedLemmas::passes_none))]
     pub(crate) fn take_line<'a>(&mut self, bytes: &'a [u8]) -> &'a [u8]
         ensures passes { PassesTimed self.old bytes.entry.now result.now self.new }
         ensures stops { IsAtLineFeed result.now }
@@ -89,10 +93,11 @@ impl TimedLine {
     }
 
     // Takes at once what is all the packet's own, up to the first line feed, and gives what is left.
+    #[tactic(auto, using(crate::proofs::TimedLemmas::passes_none, crate::proofs::TimedLemmas::passes_packet))]
     fn take_packet<'a>(&mut self, bytes: &'a [u8]) -> &'a [u8]
         ensures { PassesTimed self.old bytes.entry.now result.now self.new }
     {
-        if !self.is_begun || self.times && !self.packet.is_begun() {
+        if !self.is_begun || !self.is_over {
             return bytes;
         }
         self.packet.take_line(bytes)
@@ -107,10 +112,10 @@ impl TimedLine {
             self.has_mark = byte == b'#';
             self.is_begun = true;
         }
-        if !self.times
-            || self.packet.is_begun()
-            || byte == b' ' && !self.word.bytes().is_empty()
-        {
+        if byte == b' ' && !self.word.bytes().is_empty() {
+            self.is_over = true;
+        }
+        if self.is_over {
             self.packet.take(byte);
         } else if byte != b' ' {
             self.word.take(byte);
@@ -133,7 +138,7 @@ impl TimedLine {
         ensures { result.now ≡ word_ended self.now }
     {
         let word = self.word.bytes();
-        if self.packet.is_begun() {
+        if self.is_over {
             word
         } else {
             without_carriage_return(word)
@@ -174,7 +179,7 @@ impl TimedLine {
 
     // The packet's bytes.
     fn packet(&self) -> Result<Packet<'_>, LineFault>
-        ensures { result_map packet_in result ≡ open_read self.now.packet }
+        ensures { parts_in result ≡ open_read self.now.packet }
     {
         match self.packet.parts() {
             Ok((write, read)) => Ok(Packet { write, read }),

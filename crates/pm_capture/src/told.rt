@@ -24,7 +24,7 @@ impl Model for Told {
 }
 
 impl Told {
-    ghost use Rattle.std.specs.Prelude.{[], ◌+◌, ◌<◌, ◌++◌, ◌^◌, OnErr, OnOk, length};
+    ghost use Rattle.std.specs.Prelude.{[], ◌+◌, ◌<◌, ◌≤◌, ◌++◌, ◌^◌, OnErr, OnOk, length};
     ghost use Rattle.pm_capture.specs.CaptureText.{counts_text, line_text};
     ghost use Rattle.pm_capture.specs.Hearing.{heard_lines, heard_with};
     ghost use Rattle.pm_capture.specs.ShownReadings.{reading_in};
@@ -73,6 +73,7 @@ impl Told {
             ≡ self.old ++ line_text options.now heard.old.taught (number, reading_in line.now)) }
         ensures heard { OnOk result (heard.new ≡ heard_with options.now.all heard.old (number, reading_in line.now)) }
         ensures unchanged { OnErr result (self.new ≡ self.old) }
+        ensures few { heard_lines heard.new ≤ heard_lines heard.old + 1 }
     {
         self.line.clear();
         heard.hear(options, number, line, &mut self.line)?;
