@@ -5,8 +5,8 @@ use Rattle.std.specs.Io.KnownBytes.{Appends, Keeps}
 use Rattle.std.proofs.KnownBytes.{Appends-kept}
 use Rattle.clap.specs.declared.error.kind.ErrorKind.{ErrorKind}
 use Rattle.clap.specs.declared.error.kind.ErrorKind.TheVariants.{OutOfMemory}
-use Rattle.clap.specs.Kinds.{IsAmong}
-use Rattle.clap.specs.Words.{Text, fault_of}
+use Rattle.clap.specs.Kinds.{IsAmong, Kinds}
+use Rattle.clap.specs.Words.{Text}
 use Rattle.pm_num.specs.declared.fault.NumFault.{NumFault}
 use Rattle.pm_lines.specs.Lemmas.Engines.{read_so_far}
 use Rattle.pm_lines.specs.Engine.{Engine, EngineEnds, IsLeft, Refuses, over}
@@ -14,9 +14,8 @@ use Rattle.pm_lines.specs.Streams.{AppendsFront, Held}
 use Rattle.pm_lines.specs.declared.fault.TextFault.{TextFault}
 use Rattle.pm_lines.specs.declared.fault.TextFault.TheVariants.{Syntax, BadHex, TooLong, Read, Write, Memory, Setup}
 use Rattle.pm_program.specs.Refusals.{Says, text_refusal}
-use Rattle.pm_tool.specs.Commandline.{pmb}
 use Rattle.pm_tool.specs.Execution.{End, EngineRuns, Printed, CutShort, Refused, Broken, Misused, NumberEnds, NumberRefuses, UsageEnds}
-use Rattle.pm_tool.specs.Execution.{IsDone, IsEnd, WordsEnd, refusal_line, wants_memory}
+use Rattle.pm_tool.specs.Execution.{IsDone, IsEnd, LineEnds, ParserEnds, refusal_line, wants_memory}
 use Rattle.pm_tool.specs.NumberFaults.{refusal_status, refusal_words}
 use Rattle.pm_tool.specs.NumberText.{IsCommandLineFault, IsNumberText, IsOfNumber, RefusesNumber}
 use Rattle.pm_tool.specs.declared.numbers.fault.NumberFault.{NumberFault}
@@ -169,11 +168,11 @@ module _ {W E : Type 0} (w : Writers W E) where
 -- ---- the parser's faults
 
 -- the parser's refusal is of a kind that it names, or is want of memory
-pub usage_ends : {R : Type 0} (remaining : R → Option (List ℕ)) (input : Held R) (words : List Text) (kind : ErrorKind) (end : End)
-    → (kind ≡ OutOfMemory) ⊎ IsAmong kind (fault_of pmb words) → UsageEnds kind end ⊎ (end ≡ wants_memory)
-    → WordsEnd remaining input input words end
-usage_ends remaining input words kind end (inr among) (inl usage) = inr (inl (refl, kind, among, usage))
-usage_ends remaining input words kind end (inl memory) (inl usage) = absurd (none end (subst (λ k. UsageEnds k end) memory usage))
+pub usage_ends : {R : Type 0} (input : Held R) (faults : Kinds) (kind : ErrorKind) (end : End)
+    → (kind ≡ OutOfMemory) ⊎ IsAmong kind faults → UsageEnds kind end ⊎ (end ≡ wants_memory)
+    → ParserEnds input input faults end
+usage_ends input faults kind end (inr among) (inl usage) = inl (refl, kind, among, usage)
+usage_ends input faults kind end (inl memory) (inl usage) = absurd (none end (subst (λ k. UsageEnds k end) memory usage))
   where
     none : (end : End) → UsageEnds OutOfMemory end → ⊥
     none (Printed status text) h = let e : ◌≡◌ {A = ℕ} 1 0 = h.1 in omega arith
@@ -181,4 +180,10 @@ usage_ends remaining input words kind end (inl memory) (inl usage) = absurd (non
     none (Refused status words) h = h
     none (Broken text words) h = h
     none (Misused text) h = let e : ◌≡◌ {A = ℕ} 1 2 = h.0 in omega arith
-usage_ends remaining input words kind end of (inr memory) = inr (inr (refl, memory))
+usage_ends input faults kind end of (inr memory) = inr (refl, memory)
+
+-- want of memory ends a run whatever its words
+pub memory_ends : {R : Type 0} (remaining : R → Option (List ℕ)) (input : Held R) (words : List Text) (options : Option (List Text))
+    → LineEnds remaining input input words options wants_memory
+memory_ends remaining input words None = inr (inr (refl, refl))
+memory_ends remaining input words (Some options) = inr (inr (refl, refl))

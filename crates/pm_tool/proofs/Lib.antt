@@ -6,3 +6,4 @@ pub mod PartLemmas
 pub mod RangeLemmas
 pub mod RefusalLemmas
 pub mod ScriptLemmas
+pub mod TellLemmas

@@ -1,21 +1,25 @@
 -- How a run of the program ends: its status, what standard output got, and the one line that
 -- standard error gets. This project's own choice.
 use Rattle.std.specs.Prelude.{◌≡◌, ◌⊎◌, ◌↔◌, ◌<◌, ◌≤◌, ℕ, List, [], ◌++◌, length, Option, Some, None}
-use Rattle.std.specs.Prelude.{Result, Ok, Err, IsTrue, IsFalse, IsSomeAnd, codes, ⊤}
+use Rattle.std.specs.Prelude.{Result, Ok, Err, IsTrue, IsFalse, IsSomeAnd, codes, false, ⊤}
 use Rattle.std.specs.Io.KnownBytes.{Appends, Consumes}
 use Rattle.std.specs.declared.io.ErrorKind.{ErrorKind as IoKind}
-use Rattle.clap.specs.Kinds.{IsAmong}
-use Rattle.clap.specs.Words.{Text, fault_of, subcommand_of}
+use Rattle.clap.specs.Kinds.{IsAmong, Kinds}
+use Rattle.clap.specs.Words.{Text, fault_of, matches_of, subcommand_of}
 use Rattle.clap.specs.declared.error.kind.ErrorKind.{ErrorKind}
 use Rattle.pm_lines.specs.Faults.{fault_words}
 use Rattle.pm_lines.specs.Lines.{EndsLine}
-use Rattle.pm_lines.specs.Engine.{Engine, IsMade, IsReadSoFar, IsTold, IsUnderWay, Refuses}
+use Rattle.pm_lines.specs.Engine.{Engine, IsMade, IsReadSoFar, IsTold, IsUnderWay, Refuses, Run, over}
 use Rattle.pm_lines.specs.Streams.{Held}
 use Rattle.pm_lines.specs.declared.fault.TextFault.{TextFault}
 use Rattle.pm_lines.specs.declared.fault.TextFault.TheVariants.{Read, Write, Memory}
 use Rattle.pm_trace.specs.Outcome.{decoding}
 use Rattle.pm_trace.specs.declared.decode_end.DecodeEnd.{DecodeEnd}
 use Rattle.pm_trace.specs.declared.decode_end.DecodeEnd.TheVariants.{Clean, BadLines}
+use Rattle.pm_capture.specs.CaptureText.{capture_end, capture_text}
+use Rattle.pm_capture.specs.Capturing.{most_bytes, said_text}
+use Rattle.pm_capture.specs.LongEngine.{Breaks, GaveAll, IsCut}
+use Rattle.pm_capture.specs.declared.options.TellOptions.{TellOptions}
 use Rattle.pm_text.specs.Replay.{replaying}
 use Rattle.pm_text.specs.declared.replay_end.ReplayEnd.{ReplayEnd}
 use Rattle.pm_text.specs.declared.replay_end.ReplayEnd.TheVariants.{Ran as AllTaken, Stopped}
@@ -26,6 +30,9 @@ use Rattle.pm_tool.specs.NumberFaults.{refusal_status, refusal_words}
 use Rattle.pm_tool.specs.NumberText.{IsNumberText, RefusesNumber}
 use Rattle.pm_tool.specs.Outcome.{hearing}
 use Rattle.pm_tool.specs.Question.{asked_by}
+use Rattle.pm_tool.specs.Telling.{HasTexts, IsAsked, tell_app, tell_fault_status, tell_fault_words, tell_words}
+use Rattle.pm_tool.specs.declared.commandline.tell_fault.TellFault.{TellFault}
+use Rattle.pm_tool.specs.declared.commandline.telling.TellTexts.{TellTexts}
 use Rattle.pm_tool.specs.declared.commandline.choice.Chosen.{Chosen}
 use Rattle.pm_tool.specs.declared.commandline.choice.Chosen.TheVariants.{Hear, Replay, Decode, Number as NumberChosen}
 use Rattle.pm_tool.specs.declared.numbers.fault.NumberFault.{NumberFault}
@@ -117,6 +124,42 @@ EngineRuns engine status_in remaining old new (Broken text words) = (early : Lis
     × IsTold early fault front text
 EngineRuns engine status_in remaining old new (Misused text) = ⊥
 
+-- ---- `decode` with options
+
+-- the run of a reader alone
+abbrev pub reading : {R : Type 0} → (R → Option (List ℕ)) → Held R → Held R → Run R (Unit {0})
+reading remaining old new = over remaining old new (λ _. None) (record { inner = tt; failed = false })
+    (record { inner = tt; failed = false })
+
+-- How a telling ends that these options ask for, by what its reader gave: as every engine does that writes early, but
+-- that a trace may have more bytes with `--long`.
+module _ {R : Type 0} (options : TellOptions) (remaining : R → Option (List ℕ)) (old new : Held R) where
+  abbrev pub TellRuns : End → Type 0
+  TellRuns (Printed status text) = IsFalse new.failed × (input : List ℕ)
+      × GaveAll (most_bytes options.long) (capture_text options) (said_text options) (capture_end options)
+      (reading remaining old new) input
+      × (status ≡ decode_status (capture_end options input)) × (text ≡ capture_text options input)
+  TellRuns (CutShort text) = IsCut (most_bytes options.long) (capture_text options) (said_text options)
+      (capture_end options) (reading remaining old new) text
+  TellRuns (Broken text words) = (fault : TextFault) × (words ≡ text_refusal fault)
+      × (IsTrue new.failed ↔ (fault ≡ Read)) × (front : List ℕ)
+      × Breaks (most_bytes options.long) (capture_text options) (said_text options) (capture_end options)
+      (reading remaining old new) fault front
+      × IsTold (said_text options) fault front text
+  TellRuns (Refused status words) = ⊥
+  TellRuns (Misused text) = ⊥
+
+-- how a run ends that asks for a telling, or for none that can be: then nothing is read
+abbrev pub AskedEnds : {R : Type 0} → (R → Option (List ℕ)) → Held R → Held R → Result TellOptions TellFault → End → Type 0
+AskedEnds remaining old new (Ok options) end = TellRuns options remaining old new end
+AskedEnds remaining old new (Err fault) end = (new ≡ old)
+    × (end ≡ Refused (tell_fault_status fault) (tell_fault_words fault))
+
+-- how a run ends whose options were written so
+abbrev pub TellEnds : {R : Type 0} → (R → Option (List ℕ)) → Held R → Held R → TellTexts → End → Type 0
+TellEnds remaining old new given end = (asked : Result TellOptions TellFault) × IsAsked given asked
+    × AskedEnds remaining old new asked end
+
 -- ---- `number`
 
 -- why `number` refuses; memory is wanted only for a line to write
@@ -158,15 +201,31 @@ UsageEnds kind (Misused text) = (usage_status kind ≡ 2) × EndsLine text
 abbrev pub wants_memory : End
 wants_memory = Refused 1 (fault_words Memory)
 
--- how a run ends: where the parser finds no fault, as what it found to be chosen; where it does, by
--- that fault; and for want of memory, with nothing read
+-- how a run ends that does nothing of what its words ask for: by a fault that the parser finds, or for want of memory,
+-- with nothing read
+abbrev pub ParserEnds : {R : Type 0} → Held R → Held R → Kinds → End → Type 0
+ParserEnds old new faults end = ((new ≡ old) × (kind : ErrorKind) × IsAmong kind faults × UsageEnds kind end)
+    ⊎ ((new ≡ old) × (end ≡ wants_memory))
+
+-- how a run ends: where the parser finds no fault, as what it found to be chosen; otherwise as `ParserEnds` says
 abbrev pub WordsEnd : {R : Type 0} → (R → Option (List ℕ)) → Held R → Held R → List Text → End → Type 0
 WordsEnd remaining old new words end =
     ((fault_of pmb words ≡ []) × (chosen : Chosen)
     × IsSomeAnd (subcommand_of pmb words) (λ met. Asks met.0 met.1 chosen)
     × ChoiceEnds remaining old new chosen end)
-    ⊎ ((new ≡ old) × (kind : ErrorKind) × IsAmong kind (fault_of pmb words) × UsageEnds kind end)
-    ⊎ ((new ≡ old) × (end ≡ wants_memory))
+    ⊎ ParserEnds old new (fault_of pmb words) end
+
+-- the same of `decode` with options, by the words from `decode` on
+abbrev pub OptionsEnd : {R : Type 0} → (R → Option (List ℕ)) → Held R → Held R → List Text → End → Type 0
+OptionsEnd remaining old new words end =
+    ((fault_of tell_app words ≡ []) × (given : TellTexts) × HasTexts given (matches_of tell_app words)
+    × TellEnds remaining old new given end)
+    ⊎ ParserEnds old new (fault_of tell_app words) end
+
+-- how a run ends with these words, where those that are read for the options of `decode` stand apart
+abbrev pub LineEnds : {R : Type 0} → (R → Option (List ℕ)) → Held R → Held R → List Text → Option (List Text) → End → Type 0
+LineEnds remaining old new words None end = WordsEnd remaining old new words end
+LineEnds remaining old new words (Some options) end = OptionsEnd remaining old new options end
 
 -- how a run ends whose arguments couldn't be had as words
 abbrev pub no_words_end : IoKind → End
@@ -174,7 +233,7 @@ no_words_end kind = Refused (no_words_status kind) (no_words kind)
 
 -- how a run ends, by its words or why there are none
 abbrev pub RunEnds : {R : Type 0} → (R → Option (List ℕ)) → Held R → Held R → Result (List Text) IoKind → End → Type 0
-RunEnds remaining old new (Ok words) end = WordsEnd remaining old new words end
+RunEnds remaining old new (Ok words) end = LineEnds remaining old new words (tell_words words) end
 RunEnds remaining old new (Err kind) end = (new ≡ old) × (end ≡ no_words_end kind)
 
 -- ---- a run as a whole

@@ -6,5 +6,6 @@ pub mod NumberText
 pub mod Outcome
 pub mod Question
 pub mod Script
+pub mod Telling
 -- How it is kept.
 pub mod LineEvent

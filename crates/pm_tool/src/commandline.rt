@@ -4,6 +4,8 @@
 //! three options.
 //! The options are optional for the parser, since which of them belong together is for `number` to
 //! judge.
+//!
+//! `decode` with options is read by a command of its own: `TellTexts`.
 ghost use Rattle.std.specs.Prelude.{◌≡◌, ◌∷◌, [], ℕ, List, codes, true};
 ghost use Rattle.std.specs.Prelude.{IfErr, IfOk, IsErrAnd, IsSomeAnd};
 ghost use Rattle.clap.specs.Walk.{texts};
@@ -15,6 +17,8 @@ ghost use Rattle.pm_tool.specs.Commandline.{UnlessMemory, is_once, number_words,
 mod choice;
 mod commands;
 mod helps;
+mod tell_fault;
+mod telling;
 
 pub use choice::Chosen;
 use clap::error::ErrorKind;
@@ -22,6 +26,9 @@ use clap::{ArgMatches, Error};
 use commands::pmb_command;
 use pm_program::text_of;
 use std::alloc::Global;
+pub use tell_fault::TellFault;
+pub use telling::TellTexts;
+pub(crate) use telling::option_words;
 
 /// Which subcommand the words name, with its options' texts. The first word is the program's name.
 /// Takes memory for what the parser makes of the words.

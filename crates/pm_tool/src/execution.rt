@@ -2,16 +2,19 @@ ghost use Rattle.std.specs.Prelude.{◌≡◌, ◌⊎◌, ◌≤◌, IsFalse, Ok
 ghost use Rattle.std.specs.Io.KnownBytes.{Keeps};
 ghost use Rattle.std.specs.Process.{exit_status};
 ghost use Rattle.std.specs.Vec.Iter.{into_iter_items};
+ghost use Rattle.clap.specs.Walk.{texts};
 ghost use Rattle.clap.specs.Words.{kind_of};
 ghost use Rattle.pm_program.specs.Arguments.{arguments_of};
 ghost use Rattle.pm_program.specs.Refusals.{Says, text_refusal};
 ghost use Rattle.pm_tool.specs.Execution.{End, EngineRuns, IsDone, IsEnd, NumberEnds, RunEnds, UsageEnds};
+ghost use Rattle.pm_tool.specs.Execution.{OptionsEnd, TellEnds, TellRuns, WordsEnd};
 ghost use Rattle.pm_tool.specs.Execution.{CutShort, Printed, refusal_line, wants_memory};
 ghost use Rattle.pm_tool.specs.Question.{asked_by};
 
-use crate::commandline::{Chosen, chosen};
+use crate::commandline::{Chosen, TellTexts, chosen, option_words};
 use crate::numbers::number;
 use crate::text_commands::{Decoding, Hearing, Replaying, TextCommand};
+use pm_capture::{TellOptions, tell};
 use pm_program::{
     Usage, misuse, refuse_arguments, refuse_memory, say, say_fault, texts_of, usage_of, words_of,
 };
@@ -102,6 +105,26 @@ pub fn run<R: Read, W: Write, E: Write>(
         Ok(words) => words,
         Err(kind) => return refuse_arguments(errors, NAME, kind),
     };
+    match option_words(words) {
+        Some(words) => run_decode(alloc, words, input, output, errors),
+        None => run_chosen(alloc, words, input, output, errors),
+    }
+}
+
+// What the words of a command line choose, but for `decode` with options.
+fn run_chosen<R: Read, W: Write, E: Write>(
+    alloc: Global,
+    words: &[&str],
+    input: &mut Source<R>,
+    output: &mut Sink<W>,
+    errors: &mut Sink<E>,
+) -> u8
+    requires input { IsFalse input.old.failed }
+    requires output { IsFalse output.old.failed }
+    requires errors { IsFalse errors.old.failed }
+    ensures { (end : End) × WordsEnd R.remaining input.old input.new (texts words.entry.now) end
+        × IsEnd W.contents E.contents output.old output.new errors.old errors.new result end }
+{
     match chosen(alloc, words) {
         Ok(Chosen::Hear) => run_engine(&Hearing, alloc, input, output, errors),
         Ok(Chosen::Replay) => run_engine(&Replaying, alloc, input, output, errors),
@@ -133,6 +156,69 @@ fn run_engine<G: TextCommand, R: Read, W: Write, E: Write>(
 {
     match engine.run(alloc, input, output) {
         Ok(end) => done(output, errors, engine.status_of(end)),
+        Err(fault) => refuse_text(errors, &fault),
+    }
+}
+
+// `pmb decode` with options, over the words from `decode` on.
+fn run_decode<R: Read, W: Write, E: Write>(
+    alloc: Global,
+    words: &[&str],
+    input: &mut Source<R>,
+    output: &mut Sink<W>,
+    errors: &mut Sink<E>,
+) -> u8
+    requires input { IsFalse input.old.failed }
+    requires output { IsFalse output.old.failed }
+    requires errors { IsFalse errors.old.failed }
+    ensures { (end : End) × OptionsEnd R.remaining input.old input.new (texts words.entry.now) end
+        × IsEnd W.contents E.contents output.old output.new errors.old errors.new result end }
+{
+    match TellTexts::read(alloc, words) {
+        Ok(given) => tell_given(alloc, &given, input, output, errors),
+        Err(error) => show_usage(alloc, &error, output, errors),
+    }
+}
+
+// The telling that options ask for.
+fn tell_given<R: Read, W: Write, E: Write>(
+    alloc: Global,
+    given: &TellTexts<'_>,
+    input: &mut Source<R>,
+    output: &mut Sink<W>,
+    errors: &mut Sink<E>,
+) -> u8
+    requires input { IsFalse input.old.failed }
+    requires output { IsFalse output.old.failed }
+    requires errors { IsFalse errors.old.failed }
+    ensures { (end : End) × TellEnds R.remaining input.old input.new given.now end
+        × IsEnd W.contents E.contents output.old output.new errors.old errors.new result end }
+{
+    match given.options() {
+        Ok(options) => run_telling(alloc, &options, input, output, errors),
+        Err(fault) => {
+            say(errors, NAME, fault.words());
+            fault.status()
+        }
+    }
+}
+
+// Tells the trace that is read, as the options have it.
+fn run_telling<R: Read, W: Write, E: Write>(
+    alloc: Global,
+    options: &TellOptions,
+    input: &mut Source<R>,
+    output: &mut Sink<W>,
+    errors: &mut Sink<E>,
+) -> u8
+    requires input { IsFalse input.old.failed }
+    requires output { IsFalse output.old.failed }
+    requires errors { IsFalse errors.old.failed }
+    ensures { (end : End) × TellRuns options.now R.remaining input.old input.new end
+        × IsEnd W.contents E.contents output.old output.new errors.old errors.new result end }
+{
+    match tell(alloc, input, output, options) {
+        Ok(end) => done(output, errors, Decoding.status_of(end)),
         Err(fault) => refuse_text(errors, &fault),
     }
 }

@@ -3,7 +3,8 @@
 //! `program` is the whole program, over the parts of a runtime, and `run` the same over any words and
 //! any streams: it answers the exit status. `hear` lets a model converter hear the frames of a text
 //! and writes its answers; `number` writes one word of a number format with its value. `replay` and
-//! `decode` are those of `pm_text`. `chosen` says which of them a command line names.
+//! `decode` are those of `pm_text`, and `decode` with options is the telling of `pm_capture`. `chosen` says
+//! which of the four a command line names, and `TellTexts` which options of `decode`.
 #![tactic(auto)]
 
 mod commandline;
@@ -13,9 +14,10 @@ mod numbers;
 mod script;
 mod text_commands;
 
-pub use commandline::{Chosen, chosen};
+pub use commandline::{Chosen, TellFault, TellTexts, chosen};
 pub use execution::{program, run};
 pub use laws::number_has_one_text;
 pub use numbers::{NumberFault, number};
+pub use pm_capture::TellOptions;
 pub use pm_text::{MAX_TEXT, Sink, Source, TextFault};
 pub use script::hear;

@@ -18,7 +18,8 @@ use answer::{Answer, answer_in, line};
 pub use fault::NumberFault;
 use pm_num::{Direct, Linear11, NumFault, Ulinear16};
 use pm_text::{Sink, TextFault};
-use question::{FormatText, Question, read_question};
+pub(crate) use question::{FormatText, read_format};
+use question::{Question, read_question};
 use std::alloc::Global;
 use std::io::Write;
 

@@ -1,4 +1,4 @@
-//! Tests over the public calls of `pm_tool`: the texts of `hear` and `number`, the command line, and whole runs.
+//! Tests over the public calls of `pm_tool`: the texts of `hear` and `number`, the command line, `decode` with options, and whole runs.
 //! There is nothing here to use.
 #![tactic(auto)]
 
@@ -16,5 +16,7 @@ mod program;
 mod run;
 #[cfg(test)]
 mod setups;
+#[cfg(test)]
+mod telling;
 #[cfg(test)]
 mod usage;

@@ -138,7 +138,7 @@ pushed_front {old = old} {mid = mid} front rest split some pushes refused same =
 
 module _ (a b c : Option (List ℕ)) where
   -- a prefix of what is written after what was written
-  AppendsFront-behind : (before part later all : List ℕ) → Appends a b before → AppendsFront b c part
+  pub AppendsFront-behind : (before part later all : List ℕ) → Appends a b before → AppendsFront b c part
       → all ≡ before ++ (part ++ later) → AppendsFront a c all
   AppendsFront-behind before part later all written (front, rest, split, some, appended) is = (
     before ++ front,
@@ -398,7 +398,7 @@ trace_text-end text =
     ∙ ap (λ k. told_lines (said text) ++ (told_lines (some_told (told_at_end (now text))) ++ counts_text k)) (sym (counts-end text))
 
 -- a list without a byte
-no_bytes : (bytes : List ℕ) → length bytes ≡ 0 → bytes ≡ []
+pub no_bytes : (bytes : List ℕ) → length bytes ≡ 0 → bytes ≡ []
 no_bytes [] none = refl
 no_bytes (x ∷ xs) none = absurd (omega (arith, none))
 

@@ -19,7 +19,7 @@ pub record HasLast (xs : List ℕ) : Type 0 where
   pub is : xs ≡ front ++ last ∷ []
 
 -- a list with an element has a last one
-has_last : (x : ℕ) (xs : List ℕ) → HasLast (x ∷ xs)
+pub has_last : (x : ℕ) (xs : List ℕ) → HasLast (x ∷ xs)
 has_last x [] = record { front = []; last = x; is = refl }
 has_last x (y ∷ ys) =
     let tail = has_last y ys in
@@ -51,7 +51,7 @@ ends-snoc xs b =
     ∙ and-true (eqb 13 b) ∙ turned 13 b
 
 -- the line without a carriage return that comes last
-without_return-snoc : (xs : List ℕ) (b : ℕ) → without_return (xs ++ b ∷ []) ≡ cond (eqb b 13) xs (xs ++ b ∷ [])
+pub without_return-snoc : (xs : List ℕ) (b : ℕ) → without_return (xs ++ b ∷ []) ≡ cond (eqb b 13) xs (xs ++ b ∷ [])
 without_return-snoc xs b =
     ap (λ c. cond c (take (length (xs ++ b ∷ []) - 1) (xs ++ b ∷ [])) (xs ++ b ∷ [])) (ends-snoc xs b)
     ∙ ap (λ l. cond (eqb b 13) l (xs ++ b ∷ [])) (ap (λ n. take n (xs ++ b ∷ [])) (one_less xs b) ∙ take-append_seam xs (b ∷ []))

@@ -34,7 +34,7 @@ use Rattle.pm_trace.proofs.PlainLineLemmas.{has_slash-is, has_more-is}
 -- ---- a line by what is kept of it
 
 -- a line is skipped by its kind
-skipped_kind : (line : List ℕ) → is_skipped line ≡ is_skipped_kind (kind_of line)
+pub skipped_kind : (line : List ℕ) → is_skipped line ≡ is_skipped_kind (kind_of line)
 skipped_kind [] = refl
 skipped_kind (x ∷ xs) =
     ap (λ c. (is_space x && list_all is_space xs) || c) (and-true (eqb 35 x) ∙ turned 35 x)
@@ -99,7 +99,7 @@ unfolding line_of open_read
 open_judges line = ap reading_judged (open_reads (without_return line))
 
 -- a line that has a byte is begun
-begun : (line : List ℕ) → is_begun (line_of line) ≡ has_bytes line
+pub begun : (line : List ℕ) → is_begun (line_of line) ≡ has_bytes line
 unfolding line_of plain_line
 begun [] = refl
 begun (x ∷ xs) = by (ends_with nat_eq (x ∷ xs) carriage_return) refl
@@ -117,7 +117,7 @@ begun (x ∷ xs) = by (ends_with nat_eq (x ∷ xs) carriage_return) refl
 -- ---- the lines that ended
 
 -- one line more has the next number
-enumerate_from-snoc : (n : ℕ) (ls : List (List ℕ)) (l : List ℕ)
+pub enumerate_from-snoc : (n : ℕ) (ls : List (List ℕ)) (l : List ℕ)
     → enumerate_from n (ls ++ l ∷ []) ≡ enumerate_from n ls ++ (n + length ls, l) ∷ []
 enumerate_from-snoc n [] l = let same : n ≡ n + 0 = omega arith in ap (λ k. (k, l) ∷ []) same
 enumerate_from-snoc n (x ∷ xs) l =
@@ -125,7 +125,7 @@ enumerate_from-snoc n (x ∷ xs) l =
     ap (λ r. (n, x) ∷ r) (enumerate_from-snoc (n + 1) xs l ∙ ap (λ k. enumerate_from (n + 1) xs ++ (k, l) ∷ []) same)
 
 -- no line is lost
-length-map : (ls : List (List ℕ)) → length (map without_return ls) ≡ length ls
+pub length-map : (ls : List (List ℕ)) → length (map without_return ls) ≡ length ls
 length-map [] = refl
 length-map (l ∷ ls) = let rest = length-map ls in omega arith
 
@@ -305,7 +305,7 @@ said-append bytes (b ∷ piece) =
 -- ---- the end
 
 -- the last line counts where it has bytes
-last_kept : (ls : List (List ℕ)) (l : List ℕ) → without_empty_last (ls ++ l ∷ []) ≡ ls ++ cond (has_bytes l) (l ∷ []) []
+pub last_kept : (ls : List (List ℕ)) (l : List ℕ) → without_empty_last (ls ++ l ∷ []) ≡ ls ++ cond (has_bytes l) (l ∷ []) []
 last_kept [] l = refl
 last_kept (x ∷ []) l = ap (λ r. x ∷ r) (last_kept [] l)
 last_kept (x ∷ y ∷ ls) l = ap (λ r. x ∷ r) (last_kept (y ∷ ls) l)

@@ -20,9 +20,9 @@ pub(crate) fn push_counts(text: &mut String, tally: &Tally) -> Result<(), AllocE
     push_totals(text, tally)
 }
 
-// The line of a code.
+/// Appends the line of a code to a text.
 #[tactic(auto, using(crate::proofs::Joins::joins), unfolding(crate::specs::TraceText::count_line))]
-fn push_count(text: &mut String, code: u8, count: u64) -> Result<(), AllocError>
+pub fn push_count(text: &mut String, code: u8, count: u64) -> Result<(), AllocError>
     ensures { OnOk result (string_bytes text.new ≡ string_bytes text.old ++ count_line (code, count)) }
 {
     text.push_str("count ")?;

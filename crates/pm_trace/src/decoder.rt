@@ -9,7 +9,7 @@ ghost use Rattle.std.specs.Prelude.{◌≡◌};
 
 use crate::decoder::intake::Intake;
 use crate::decoder::open_line::OpenLine;
-pub use crate::decoder::part::PART_BYTES;
+pub use crate::decoder::part::{PART_BYTES, Part};
 use crate::decoder::printer::{Printer, Unprinted};
 use crate::fed::Fed;
 use crate::shown::Shown;

@@ -34,9 +34,14 @@ mod usual_packets;
 
 pub use byte_list::ByteList;
 pub use decode_end::DecodeEnd;
-pub use decoder::{Decoder, PART_BYTES};
+pub use counts_text::push_count;
+pub use decoder::open_line::OpenLine;
+pub use decoder::{Decoder, PART_BYTES, Part};
 pub use fed::Fed;
 pub use laws::pieces_do_not_matter;
-pub use shown::Shown;
+pub use line_fault::LineFault;
+pub use shown::{Shown, packet_shown};
+pub use shown_text::{answered, coefficients_in, push_shown};
+pub use tally::{Tally, count_code};
 pub use trace_line::{TraceLine, read_trace_line, render_line};
 pub use traces::decode;

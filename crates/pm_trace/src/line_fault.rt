@@ -1,6 +1,6 @@
 /// Why a trace line can't be read.
 #[derive(Clone, Copy, Debug)]
-pub(crate) enum LineFault {
+pub enum LineFault {
     /// It has a second slash, or a part that is too long.
     Syntax,
     /// It has a word that isn't an even number of hexadecimal digits.

@@ -40,7 +40,7 @@ pub enum Shown<'a> {
 
 /// What a packet says by its two parts; there is no read part where a stop ended the write part.
 #[tactic(auto, unfolding(crate::specs::Trace::parts_judged))]
-pub(crate) fn packet_shown<'a>(write: &'a [u8], read: Option<&'a [u8]>) -> Shown<'a>
+pub fn packet_shown<'a>(write: &'a [u8], read: Option<&'a [u8]>) -> Shown<'a>
     ensures { judged_in result ≡ parts_judged write.entry.now
         (option_map (λ bytes. bytes.now) read.entry) }
 {

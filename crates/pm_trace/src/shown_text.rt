@@ -34,9 +34,9 @@ pub(crate) fn push_line(text: &mut String, number: u64, shown: &Shown<'_>) -> Re
     push_shown(text, number, shown)
 }
 
-// What the line of this number says.
+/// Appends what the line of this number says to a text.
 #[tactic(auto, using(crate::proofs::Joins::joins))]
-fn push_shown(text: &mut String, number: u64, shown: &Shown<'_>) -> Result<(), AllocError>
+pub fn push_shown(text: &mut String, number: u64, shown: &Shown<'_>) -> Result<(), AllocError>
     ensures { OnOk result (string_bytes text.new
         ≡ string_bytes text.old ++ judged_text number (judged_in shown.now)) }
 {
@@ -162,8 +162,8 @@ fn push_written(text: &mut String, payload: &[u8]) -> Result<(), AllocError>
     push_hex_number(text, payload)
 }
 
-// The bytes of an answer, none where there is no answer.
-fn answered<'a>(answer: Option<&'a [u8]>) -> &'a [u8]
+/// The bytes of an answer, none where there is no answer.
+pub fn answered<'a>(answer: Option<&'a [u8]>) -> &'a [u8]
     ensures { result.now ≡ unwrap_or (option_map (λ bytes. bytes.now) answer.entry) [] }
 {
     match answer {
@@ -217,8 +217,8 @@ fn push_named(text: &mut String, name: &str, number: i128) -> Result<(), AllocEr
     push_signed(text, number)
 }
 
-// The coefficients of an answer; a byte that isn't there counts as 0.
-fn coefficients_in(answer: &[u8]) -> Coefficients
+/// The coefficients of an answer; a byte that isn't there counts as 0.
+pub fn coefficients_in(answer: &[u8]) -> Coefficients
     ensures { result ≡ coefficients_of answer.now }
 {
     let byte = |place: usize| answer.get(place).copied().unwrap_or(0);

@@ -10,7 +10,7 @@ use std::marker::Model;
 /// How many lines of a trace were of each kind, and how often each code was carried, in the order
 /// of first appearance.
 #[derive(Debug, Drop)]
-pub(crate) struct Tally {
+pub struct Tally {
     accepted: u64,
     faults: u64,
     bad: u64,
@@ -41,7 +41,7 @@ impl Tally {
 
     /// No line yet. Takes no memory.
     #[tactic(auto, unfolding(crate::specs::Counts::counts_of))]
-    pub(crate) fn new(alloc: Global) -> Tally
+    pub fn new(alloc: Global) -> Tally
         ensures { result ≡ counts_of [] }
     {
         Tally {
@@ -55,7 +55,7 @@ impl Tally {
     /// Counts a line. Memory is wanted only where its code is new; where it was refused nothing is
     /// counted.
     #[tactic(auto, using(crate::proofs::CountLemmas::total_one_more))]
-    pub(crate) fn count(&mut self, shown: &Shown<'_>) -> Result<(), AllocError>
+    pub fn count(&mut self, shown: &Shown<'_>) -> Result<(), AllocError>
         requires { lines_in self.old + 1 < 2 ^ 64 }
         ensures ok { OnOk result (self.new ≡ one_counted self.old (judged_in shown.now)) }
         ensures err { OnErr result (self.new ≡ self.old) }
@@ -91,14 +91,14 @@ impl Tally {
 
     /// The codes that were carried, in the order of first appearance, each with the number of its
     /// lines.
-    pub(crate) fn codes(&self) -> &IndexMap<u8, u64>
+    pub fn codes(&self) -> &IndexMap<u8, u64>
         ensures { result.now.entries ≡ self.now.codes }
     {
         &self.codes
     }
 
     /// How many lines were counted, accepted, faulty and bad.
-    pub(crate) fn lines(&self) -> (u64, u64, u64, u64)
+    pub fn lines(&self) -> (u64, u64, u64, u64)
         requires { lines_in self.now < 2 ^ 64 }
         ensures { result ≡ (lines_in self.now, self.now.accepted, self.now.faults, self.now.bad) }
     {
@@ -107,10 +107,10 @@ impl Tally {
     }
 }
 
-// Counts one more line of a code: at its place, or at the end where the code is new, and then
-// memory may be wanted.
+/// Counts one more line of a code: at its place, or at the end where the code is new, and then
+/// memory may be wanted.
 #[tactic(auto, using(crate::proofs::CountLemmas::new_is, crate::proofs::CountLemmas::placed_is, crate::proofs::CountLemmas::found_bound, crate::proofs::CountLemmas::absent_code))]
-fn count_code(codes: &mut IndexMap<u8, u64>, code: u8) -> Result<(), AllocError>
+pub fn count_code(codes: &mut IndexMap<u8, u64>, code: u8) -> Result<(), AllocError>
     requires { total_of codes.old.entries + 1 < 2 ^ 64 }
     ensures ok { OnOk result (codes.new.entries ≡ one_more codes.old.entries code) }
     ensures err { OnErr result (codes.new.entries ≡ codes.old.entries) }

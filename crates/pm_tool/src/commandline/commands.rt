@@ -1,12 +1,16 @@
 //! The commands as `clap` knows them.
 ghost use Rattle.std.specs.Prelude.{◌≡◌, IfOk, codes};
-ghost use Rattle.clap.specs.Words.{app_of, new_app};
+ghost use Rattle.clap.specs.Words.{app_of, new_app, with_rule};
 ghost use Rattle.pm_tool.specs.Commandline.{number_app, pmb, with_required_subcommand};
+ghost use Rattle.pm_tool.specs.Telling.{flag_rule, tell_app};
 
 use super::helps;
-use clap::Command;
+use clap::{Arg, ArgAction, Command};
 use pm_program::{VERSION, with_option};
 use std::alloc::{AllocError, Global};
+
+/// What `decode` does.
+const DECODES: &str = "Tells what the packets of a bus trace say";
 
 /// The whole command line. A further subcommand is one more line here.
 pub(super) fn pmb_command<'a>(alloc: Global) -> Result<Command<'a>, AllocError>
@@ -34,7 +38,7 @@ pub(super) fn pmb_command<'a>(alloc: Global) -> Result<Command<'a>, AllocError>
     let with_replay = with_hear.subcommand(replaying)?;
     let decoding = text_command(
         alloc,
-        ("decode", "Tells what the packets of a bus trace say"),
+        ("decode", DECODES),
         "pmb decode < TRACE",
         helps::DECODE,
     );
@@ -101,4 +105,59 @@ fn number_command<'a>(alloc: Global) -> Result<Command<'a>, AllocError>
         ("micro", "K"),
         "A value of K millionths, whose nearest word is taken",
     )
+}
+
+/// `decode` with its options, whose words are read apart: with none of them `decode` is a command as the others are.
+pub(super) fn tell_command<'a>(alloc: Global) -> Result<Command<'a>, AllocError>
+    ensures { IfOk result (λ command. app_of command ≡ tell_app) }
+{
+    let decode = text_command(
+        alloc,
+        ("pmb decode", DECODES),
+        "pmb decode [OPTIONS] < TRACE",
+        helps::DECODE,
+    );
+    let valued = with_flag(
+        decode,
+        alloc,
+        "values",
+        "Tell what payloads mean, and the bytes of faulty packets",
+    )?;
+    let formatted = with_option(
+        valued,
+        alloc,
+        ("vout", "F"),
+        "The format of voltages that the trace teaches none of; with --values",
+    )?;
+    let full = with_flag(
+        formatted,
+        alloc,
+        "all",
+        "Tell packets that the command table doesn't have, by their bytes",
+    )?;
+    let long = with_flag(full, alloc, "long", "Take a trace of more than 1 MiB")?;
+    let timed = with_flag(
+        long,
+        alloc,
+        "times",
+        "Each line begins with its time in microseconds",
+    )?;
+    with_flag(timed, alloc, "json", "Print each line as an object of JSON")
+}
+
+// The command with one more option `--NAME`, which has no value. Takes memory for the option.
+fn with_flag<'a>(
+    command: Command<'a>,
+    alloc: Global,
+    name: &'a str,
+    help: &'a str,
+) -> Result<Command<'a>, AllocError>
+    ensures { IfOk result (λ with_it.
+        app_of with_it ≡ with_rule (app_of command.entry) (flag_rule name.entry.now)) }
+{
+    let flag = Arg::new(alloc, name)
+        .long(name)
+        .action(ArgAction::SetTrue)
+        .help(help);
+    command.arg(flag)
 }

@@ -92,13 +92,24 @@ A line is one of
   B0 06 02 00 21 / B1 02 CD 34 B9   a read: the request, and after / what came back
 
 Spaces alone part bytes, without 0x or h. Empty lines, and lines whose first byte is #, are skipped.
-A text has at most 1 MiB (split -C 1M), a part 300 bytes. Printed is a line for each, with its
-number, and then the counts.
+A text has at most 1 MiB, or any size with --long; a part has 300 bytes. Printed is a line for each,
+with its number, and then the counts.
 
   $ echo 'B0 05 04 00 21 CD 34 5A' | pmb decode
   1 58 page 0 VOUT_COMMAND write 34CD
   count VOUT_COMMAND 1
   lines 1 accepted 1 faults 0 bad 0
+
+With --values a packet's value stands behind it, and behind a faulty one its bytes. A voltage has
+the format that the lines before taught, by its page's VOUT_MODE and its device's COEFFICIENTS, or
+that of --vout, as pmb number has it: linear11, ulinear16:N or direct:M:B:R.
+
+  $ printf 'B0 06 02 00 20 / B1 01 14 4E\\nB0 05 04 00 21 CD 34 5A\\n' | pmb decode --values
+  1 58 page 0 VOUT_MODE read 14 ULINEAR16 -12
+  2 58 page 0 VOUT_COMMAND write 34CD 13517/4096 3300048 uV
+
+With --all a packet that the command table doesn't have is told so: 1 58 code D4 send, no PEC. With
+--times a line is 1234 B0 03 46, and told so: 1 1234 us 58 CLEAR_FAULTS send.
 
 A packet may be faulty; N counts bytes from 0, the address is byte 0:
 
@@ -112,7 +123,7 @@ A packet may be faulty; N counts bytes from 0, the address is byte 0:
   F8 Nested N         PAGE_PLUS doesn't carry the code
 
 Status 1 where a line is bad, X1 Syntax or X2 BadHex, or with a line on standard error: X3 TooLong,
-X4 Read, X5 Write, X6 Memory.";
+X4 Read, X5 Write, X6 Memory. Status 2: give --vout with --values, bad vout.";
 
 /// What the help of `number` shows at its end.
 pub(super) const NUMBER: &str = "\

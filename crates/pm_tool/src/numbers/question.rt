@@ -63,7 +63,7 @@ pub(crate) fn read_question(
 }
 
 /// The format that a text names.
-fn read_format(text: &str) -> Option<FormatText>
+pub(crate) fn read_format(text: &str) -> Option<FormatText>
     ensures named { result ≡ format_of text.now }
     ensures exponent { IfSome result HasExponent }
 {

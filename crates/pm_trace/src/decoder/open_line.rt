@@ -11,7 +11,7 @@ use pm_lines::{byte_of, is_digit};
 
 /// What is kept of a line of a trace while its bytes come one after another.
 #[derive(Debug, Drop)]
-pub(crate) struct OpenLine {
+pub struct OpenLine {
     // What it is by its first bytes.
     kind: LineKind,
     // The bytes before the first slash, and after it.
@@ -30,14 +30,14 @@ pub(crate) struct OpenLine {
 impl OpenLine {
     ghost use Rattle.std.specs.Prelude.{[], option_map, IfOk, IfErr, IfSome, Ok, Err, Some};
     ghost use Rattle.pm_trace.specs.OpenLines.{line_of, line_takes, plain_takes, word_ends, word_goes_on, with_byte, is_begun};
-    ghost use Rattle.pm_trace.specs.OpenLines.{open_read, open_told, Passes, IsAtLineFeed};
+    ghost use Rattle.pm_trace.specs.OpenLines.{is_skipped_kind, open_read, open_told, Passes, IsAtLineFeed};
     ghost use Rattle.pm_trace.specs.ShownLines.{judged_in};
     ghost use Rattle.pm_trace.specs.Trace.{line_read};
     ghost use Rattle.pm_trace.specs.Usual.{usual_judged};
 
     /// A line without bytes.
     #[tactic(auto, unfolding(crate::specs::OpenLines::line_of, crate::specs::OpenLines::plain_line))]
-    pub(crate) fn new() -> OpenLine
+    pub fn new() -> OpenLine
         ensures { result ≡ line_of [] }
     {
         OpenLine {
@@ -65,7 +65,7 @@ impl OpenLine {
 
     /// Leaves no byte.
     #[tactic(auto, unfolding(crate::specs::OpenLines::line_of, crate::specs::OpenLines::plain_line))]
-    pub(crate) fn clear(&mut self)
+    pub fn clear(&mut self)
         ensures { self.new ≡ line_of [] }
     {
         self.kind = LineKind::Empty;
@@ -80,7 +80,7 @@ impl OpenLine {
     /// Takes further bytes up to the first line feed, and gives what is left: nothing, or what
     /// begins with that line feed.
     #[tactic(auto, using(crate::proofs::PairLemmas::passes_none))]
-    pub(crate) fn take_line<'a>(&mut self, bytes: &'a [u8]) -> &'a [u8]
+    pub fn take_line<'a>(&mut self, bytes: &'a [u8]) -> &'a [u8]
         ensures passes { Passes self.old bytes.entry.now result.now self.new }
         ensures stops { IsAtLineFeed result.now }
     {
@@ -114,9 +114,9 @@ impl OpenLine {
         }
     }
 
-    // Takes one byte more.
+    /// Takes one byte more, which is no line feed.
     #[tactic(auto, unfolding(crate::specs::OpenLines::line_takes))]
-    fn take(&mut self, byte: u8)
+    pub fn take(&mut self, byte: u8)
         ensures { self.new ≡ line_takes self.old byte }
     {
         if self.is_returned {
@@ -181,7 +181,7 @@ impl OpenLine {
 
     /// The write part and the read part of the line as it stands.
     #[tactic(auto, unfolding(crate::specs::OpenLines::open_read))]
-    pub(crate) fn parts(&self) -> Result<(&[u8], Option<&[u8]>), LineFault>
+    pub fn parts(&self) -> Result<(&[u8], Option<&[u8]>), LineFault>
         ensures parts { IfOk result (λ parts. open_read self.now ≡ Ok (record {
           write = parts.0.now;
           read = option_map (λ read. read.now) parts.1;
@@ -233,8 +233,15 @@ impl OpenLine {
         }
     }
 
+    /// Whether the line is skipped, as it stands: it has no byte, spaces alone or `#` first.
+    pub fn is_skipped(&self) -> bool
+        ensures { result ≡ is_skipped_kind self.now.kind }
+    {
+        self.kind.is_skipped()
+    }
+
     /// Whether the line has a byte.
-    pub(crate) fn is_begun(&self) -> bool
+    pub fn is_begun(&self) -> bool
         ensures { result ≡ is_begun self.now }
     {
         !matches!(self.kind, LineKind::Empty) || self.is_returned

@@ -9,7 +9,7 @@ pub const PART_BYTES: usize = 300;
 
 /// The first bytes of a part, and whether it had more than one may have.
 #[derive(Debug, Drop)]
-pub(crate) struct Part {
+pub struct Part {
     // The bytes, and room for more.
     bytes: [u8; PART_BYTES],
     length: usize,
@@ -36,7 +36,7 @@ impl Part {
 
     /// A part without bytes.
     #[tactic(auto, unfolding(crate::specs::Parts::part_of))]
-    pub(crate) fn new() -> Part
+    pub fn new() -> Part
         ensures { result ≡ part_of [] }
     {
         Part {
@@ -48,7 +48,7 @@ impl Part {
 
     /// Takes one byte more, of which only the first ones are kept.
     #[tactic(auto, unfolding(crate::specs::Parts::part_takes))]
-    pub(crate) fn take(&mut self, byte: u8)
+    pub fn take(&mut self, byte: u8)
         ensures { self.new ≡ part_takes self.old byte }
     {
         if self.length == PART_BYTES {
@@ -112,7 +112,7 @@ impl Part {
 
     /// Leaves no byte.
     #[tactic(auto, unfolding(crate::specs::Parts::part_of))]
-    pub(crate) fn clear(&mut self)
+    pub fn clear(&mut self)
         ensures { self.new ≡ part_of [] }
     {
         self.length = 0;
@@ -120,14 +120,14 @@ impl Part {
     }
 
     /// The bytes that were kept.
-    pub(crate) fn bytes(&self) -> &[u8]
+    pub fn bytes(&self) -> &[u8]
         ensures { result.now ≡ self.now.bytes }
     {
         &self.bytes[..self.length]
     }
 
     /// Whether it had more bytes than a part may have.
-    pub(crate) fn is_long(&self) -> bool
+    pub fn is_long(&self) -> bool
         ensures { result ≡ self.now.is_long }
     {
         self.is_long

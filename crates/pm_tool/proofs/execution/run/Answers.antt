@@ -1,8 +1,6 @@
 use Rattle.std.proofs.Common.{refl}
-use Rattle.clap.specs.Walk.{texts}
 use Rattle.pm_program.specs.Refusals.{no_words, no_words_status}
 use Rattle.pm_tool.specs.Execution.{Refused}
-use Rattle.pm_tool.proofs.EndLemmas.{usage_ends}
 use Rattle.pm_tool.proofs.execution.run.Goals as goal
 
 pub returns-in-Err : goal.returns-in-Err
@@ -11,13 +9,4 @@ returns-in-Err g c =
       Refused (no_words_status c.in-Err.kind) (no_words c.in-Err.kind),
       rw c.in-Err.is (refl, refl),
       record { status_is = e.status; printed = refl; said = e.said },
-    )
-
-pub returns-in-Err-chosen : goal.returns-in-Err-chosen
-returns-in-Err-chosen g c =
-    let (end, usage, is) = c.show_usage.ensures in (
-      end,
-      rw c.in-Ok.is (usage_ends g.R.Read.remaining c.args.input.now
-          (texts c.in-Ok.words.now) _ end c.in-Err-chosen.ensures.kinds usage),
-      is,
     )

@@ -1,18 +1,28 @@
-use Rattle.std.proofs.Common.{◌≡◌, ◌∙◌, ap, inr, map, refl, string_bytes}
+use Rattle.std.proofs.Common.{◌≡◌, ◌∙◌, ap, map, refl, string_bytes}
 use Rattle.std.specs.Vec.Iter.{into_iter_items}
 use Rattle.clap.specs.Walk.{texts}
 use Rattle.pm_tool.specs.Execution.{wants_memory}
+use Rattle.pm_tool.specs.Telling.{tell_words}
+use Rattle.pm_tool.proofs.EndLemmas.{memory_ends}
 use Rattle.pm_tool.proofs.execution.run_given.Goals as goal
 
 pub returns-in_default : goal.returns-in_default
 returns-in_default g c =
     let e = c.refuse_memory.ensures in
-    (wants_memory, inr (inr (refl, refl)), record { status_is = e.status; printed = refl; said = e.said })
+    let words = map string_bytes (into_iter_items c.args.given) in (
+      wants_memory,
+      memory_ends g.R.Read.remaining c.args.input.now words (tell_words words),
+      record { status_is = e.status; printed = refl; said = e.said },
+    )
 
 pub returns-in_default-words_of : goal.returns-in_default-words_of
 returns-in_default-words_of g c =
     let e = c.refuse_memory-in_default-words_of.ensures in
-    (wants_memory, inr (inr (refl, refl)), record { status_is = e.status; printed = refl; said = e.said })
+    let words = map string_bytes (into_iter_items c.args.given) in (
+      wants_memory,
+      memory_ends g.R.Read.remaining c.args.input.now words (tell_words words),
+      record { status_is = e.status; printed = refl; said = e.said },
+    )
 
 pub returns : goal.returns
 returns g c =

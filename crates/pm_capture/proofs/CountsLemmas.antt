@@ -1,0 +1,14 @@
+-- The lines of other codes, one code after another.
+use Rattle.std.proofs.Common.{◌≡◌, ℕ, ◌+◌, List, [], ◌++◌, refl, append_assoc, append-nil, add-one}
+use Rattle.std.proofs.lemmas.Result.{IfOk-equal}
+use Rattle.pm_capture.specs.CaptureText.{other_line, other_lines}
+
+pub no_lines : (others : List (ℕ × ℕ)) → other_lines others 0 ≡ []
+unfolding other_lines
+no_lines others = refl
+
+pub more_lines : (others : List (ℕ × ℕ)) (code : ℕ) → other_lines others (code + 1) ≡ other_lines others code ++ other_line others code
+unfolding other_lines
+more_lines others code = rw add-one refl
+
+pub ruleset count_steps = (no_lines, more_lines, append_assoc, append-nil, IfOk-equal)

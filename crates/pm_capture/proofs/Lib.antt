@@ -1,0 +1,10 @@
+pub mod BoundLemmas
+pub mod CapturingLemmas
+pub mod CountsLemmas
+pub mod EmptyLemmas
+pub mod EndLemmas
+pub mod GatheredLemmas
+pub mod HearingLemmas
+pub mod Joins
+pub mod PlainLemmas
+pub mod TimedLemmas

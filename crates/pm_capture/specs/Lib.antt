@@ -1,0 +1,18 @@
+-- What the crate promises.
+pub mod CaptureText
+pub mod Hearing
+pub mod Laws
+pub mod LongEngine
+pub mod Otherwise
+pub mod Outcome
+pub mod Readings
+pub mod Statuses
+pub mod Taught
+pub mod Values
+pub mod ValueText
+-- How it is kept.
+pub mod Captures
+pub mod Capturing
+pub mod ShownReadings
+pub mod TimedLines
+pub mod WrittenCaptures

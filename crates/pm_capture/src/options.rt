@@ -1,0 +1,18 @@
+use pm_num::AnyFormat;
+
+/// How a capture is told.
+#[derive(Clone, Copy, Debug)]
+pub struct TellOptions {
+    /// Behind each packet stands what its payload means, and behind one with a fault its bytes.
+    pub values: bool,
+    /// The format of voltages whose own format the capture doesn't teach.
+    pub vout: Option<AnyFormat>,
+    /// Packets of codes that the command table doesn't have are told by their bytes.
+    pub all: bool,
+    /// The capture may have more than 1 MiB.
+    pub long: bool,
+    /// Each line begins with the time of its packet, in microseconds.
+    pub times: bool,
+    /// Each line is told as an object of JSON.
+    pub json: bool,
+}

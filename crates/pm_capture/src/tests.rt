@@ -1,0 +1,105 @@
+//! What captures are told as, written out by hand.
+
+use crate::{TellOptions, tell};
+use pm_lines::{Sink, Source, TextFault};
+use pm_trace::DecodeEnd;
+use std::alloc::Global;
+use std::process::Abort;
+
+// How a row is told: nothing beside the packets.
+const PLAIN: TellOptions = TellOptions {
+    values: false,
+    vout: None,
+    all: false,
+    long: false,
+    times: false,
+    json: false,
+};
+
+const VALUES: TellOptions = TellOptions {
+    values: true,
+    ..PLAIN
+};
+
+// What is written of a capture, and how it ends.
+fn told(
+    alloc: Global,
+    capture: &str,
+    options: &TellOptions,
+) -> (Result<DecodeEnd, TextFault>, Vec<u8>) {
+    let mut reader = Source::new(capture.as_bytes());
+    let mut writer = Sink::new(Vec::new(alloc));
+    let end = tell(alloc, &mut reader, &mut writer, options);
+    (end, writer.into_inner())
+}
+
+// Rows of captures and their texts, told with these options.
+fn are_told(rt: &(impl Abort + AllocGlobal), rows: &[(&str, &str)], options: &TellOptions) {
+    for (row, (capture, text)) in rows.iter().enumerate() {
+        let (_, written) = told(rt.alloc(), capture, options);
+        assert_eq!(rt; &written.as_slice(), &text.as_bytes(), "row {row}");
+    }
+}
+
+static PACKETS: [(&str, &str); 2] = [
+    ("", "lines 0 accepted 0 faults 0 bad 0\n"),
+    (
+        "# x\nB0 88 / B1 30 D3 0F\nB0 96 / B1 34 12 B1\nB0 0\n",
+        "2 58 READ_VIN read D330\n3 58 write F6 UnknownCode 1\n4 X2 BadHex\ncount READ_VIN 1\nlines 3 accepted 1 faults 1 bad 1\n",
+    ),
+];
+
+#[test]
+fn without_an_option_packets_are_told_as_before(rt: HostRuntime) {
+    are_told(&rt, &PACKETS, &PLAIN);
+}
+
+static MEANINGS: [(&str, &str); 9] = [
+    ("B0 88 / B1 30 D3 0F", "1 58 READ_VIN read D330 51/4 V\ncount READ_VIN 1\nlines 1 accepted 1 faults 0 bad 0\n"),
+    ("B0 8C / B1 FB FF E9", "1 58 READ_IOUT read FFFB -5/2 A\ncount READ_IOUT 1\nlines 1 accepted 1 faults 0 bad 0\n"),
+    ("B0 01 94 1A", "1 58 OPERATION write 94 on, margin low\ncount OPERATION 1\nlines 1 accepted 1 faults 0 bad 0\n"),
+    ("B0 10 20 5D", "1 58 WRITE_PROTECT write 20 writes of WRITE_PROTECT, OPERATION, PAGE and VOUT_COMMAND\ncount WRITE_PROTECT 1\nlines 1 accepted 1 faults 0 bad 0\n"),
+    ("B0 79 / B1 42 80 2C", "1 58 STATUS_WORD read 8042 VOUT, OFF, CML\ncount STATUS_WORD 1\nlines 1 accepted 1 faults 0 bad 0\n"),
+    ("B0 7E / B1 84 1C", "1 58 STATUS_CML read 84 COMMAND, bit 2\ncount STATUS_CML 1\nlines 1 accepted 1 faults 0 bad 0\n"),
+    ("B0 78 / B1 00 F4", "1 58 STATUS_BYTE read 00 none\ncount STATUS_BYTE 1\nlines 1 accepted 1 faults 0 bad 0\n"),
+    ("B0 05 04 01 21 CD 34 5A", "1 58 write F5 WrongPec 7 bytes B0 05 04 01 21 CD 34 5A\nlines 1 accepted 0 faults 1 bad 0\n"),
+    (
+        "B0 05 04 01 21 CD 34 4C\nB0 06 02 01 20 / B1 01 14 2C\nB0 05 04 01 21 CD 34 4C\nB0 06 02 01 20 / B1 01 40 87\nB0 05 04 01 21 CD 34 4C\nB0 30 02 21 00 / B1 05 01 00 00 00 03 6B\nB0 05 04 01 21 CD 34 4C\nB0 21 CD 34 38\n",
+        "1 58 page 1 VOUT_COMMAND write 34CD\n2 58 page 1 VOUT_MODE read 14 ULINEAR16 -12\n3 58 page 1 VOUT_COMMAND write 34CD 13517/4096 3300048 uV\n4 58 page 1 VOUT_MODE read 40 DIRECT\n5 58 page 1 VOUT_COMMAND write 34CD\n6 58 COEFFICIENTS of 21 side 0 read m 1 b 0 r 3\n7 58 page 1 VOUT_COMMAND write 34CD 13517/1000 13517000 uV\n8 58 VOUT_COMMAND write 34CD\ncount VOUT_COMMAND 5\ncount VOUT_MODE 2\ncount COEFFICIENTS 1\nlines 8 accepted 8 faults 0 bad 0\n",
+    ),
+];
+
+#[test]
+fn each_kind_of_value_stands_behind_its_packet(rt: HostRuntime) {
+    are_told(&rt, &MEANINGS, &VALUES);
+}
+
+static OTHERS: [(&str, &str); 2] = [
+    ("", "lines 0 accepted 0 other 0 faults 0 bad 0\n"),
+    (
+        "B0 D4 01 02 03\nB0 D4\nB0 96 / B1 34 12 B1\nB0 86 02 01 02 / B1 03 04 1E\nB0 21 CD 34\nB0\nB0 03 47\nB0 96 / B1\n",
+        "1 58 code D4 write 01 02 03, no PEC\n2 58 code D4 send, no PEC\n3 58 code 96 read 34 12, PEC right\n4 58 code 86 write 02 01 02 read 03 04, PEC right\n5 58 code 21 VOUT_COMMAND write CD 34, no PEC\n6 58 write F2 Short 1\n7 58 write F5 WrongPec 2\n8 58 code 96 read, no PEC\ncount code 21 1\ncount code 86 1\ncount code 96 2\ncount code D4 2\nlines 8 accepted 0 other 6 faults 2 bad 0\n",
+    ),
+];
+
+#[test]
+fn packets_of_other_codes_are_told_by_their_bytes(rt: HostRuntime) {
+    are_told(&rt, &OTHERS, &TellOptions { all: true, ..PLAIN });
+}
+
+static TIMES: [(&str, &str); 1] = [(
+    "0012 B0 10 80 34\r\n7\r\n # x\n#\n  \n\r\n1234567890123456789 B0\n12 # x\n 3 B0 10 80 34 00/00/00\n\n5\r",
+    "1 12 us 58 WRITE_PROTECT write 80\n2 7 us -- write F1 NotOurs\n3 X1 Syntax\n7 X1 Syntax\n8 X2 BadHex\n9 X1 Syntax\n11 5 us -- write F1 NotOurs\ncount WRITE_PROTECT 1\nlines 7 accepted 1 faults 2 bad 4\n",
+)];
+
+#[test]
+fn each_line_begins_with_its_time(rt: HostRuntime) {
+    are_told(
+        &rt,
+        &TIMES,
+        &TellOptions {
+            times: true,
+            ..PLAIN
+        },
+    );
+}

@@ -1,0 +1,104 @@
+-- `decode` with options: the words that are read for them, the command as the parser reads it, and the telling that
+-- they ask for. This project's own choice.
+use Rattle.std.specs.Prelude.{◌≡◌, ◌∷◌, ℕ, Bool, true, false, if◌then◌else◌, List, [], codes}
+use Rattle.std.specs.Prelude.{Option, Some, None, option_and_then, option_map, Result, Ok, Err}
+use Rattle.std.specs.Result.{result_map_both, result_ok}
+use Rattle.std.specs.Str.{bytes_eq}
+use Rattle.clap.specs.Words.{App, Row, Rule, Text, first_of, new_app, new_rule, one_of, with_rule}
+use Rattle.clap.specs.declared.builder.action.ArgAction.TheVariants.{SetTrue}
+use Rattle.pm_num.specs.AnyFormat.{Shape, InLinear11, InUlinear16, shape_of}
+use Rattle.pm_num.specs.declared.any_format.AnyFormat.{AnyFormat}
+use Rattle.pm_table.specs.Format.{shape_in}
+use Rattle.pm_table.specs.declared.vout_mode.VoutMode.TheVariants as mode
+use Rattle.pm_capture.specs.declared.options.TellOptions.{TellOptions}
+use Rattle.pm_program.specs.Options.{option_rule}
+use Rattle.pm_tool.specs.Question.{format_of, text_at}
+use Rattle.pm_tool.specs.declared.commandline.telling.TellTexts.{TellTexts}
+use Rattle.pm_tool.specs.declared.commandline.tell_fault.TellFault.{TellFault}
+use Rattle.pm_tool.specs.declared.commandline.tell_fault.TellFault.TheVariants.{VoutAlone, Vout}
+use Rattle.pm_tool.specs.declared.numbers.question.FormatText.{FormatText}
+use Rattle.pm_tool.specs.declared.numbers.question.FormatText.TheVariants.{Linear11, Ulinear16, Direct}
+
+-- ---- the words
+
+-- of a command line that names `decode` with more words behind it: the words from `decode` on, which stands where the
+-- parser wants the program's name
+abbrev pub tell_words : List Text → Option (List Text)
+tell_words (program ∷ name ∷ option ∷ options) =
+    if bytes_eq name (codes "decode") then Some (name ∷ option ∷ options) else None
+tell_words _ = None
+
+-- ---- the command, as the builder's calls make it
+
+-- `--NAME`
+abbrev pub flag_rule : Text → Rule
+flag_rule name = record (new_rule name) { long = Some name; action = Some SetTrue }
+
+abbrev pub tell_app : App
+tell_app = with_rule (with_rule (with_rule (with_rule (with_rule (with_rule (new_app (codes "pmb decode"))
+    (flag_rule (codes "values"))) (option_rule (codes "vout"))) (flag_rule (codes "all")))
+    (flag_rule (codes "long"))) (flag_rule (codes "times"))) (flag_rule (codes "json"))
+
+-- Whether a flag is given, by the text that the parser has for it: `true` where it is among the words, and otherwise
+-- `false`.
+abbrev pub IsFlag : Option Text → Bool → Type 0
+IsFlag None given = given ≡ false
+IsFlag (Some text) given = (text ≡ codes "true" → given ≡ true) × (text ≡ codes "false" → given ≡ false)
+
+-- the options are as the parser found them
+pub record HasTexts (given : TellTexts) (rows : List Row) : Type 0 where
+  pub values : IsFlag (one_of (codes "values") rows) given.values
+  pub vout : text_at given.vout ≡ first_of (codes "vout") rows
+  pub all : IsFlag (one_of (codes "all") rows) given.all
+  pub long : IsFlag (one_of (codes "long") rows) given.long
+  pub times : IsFlag (one_of (codes "times") rows) given.times
+  pub json : IsFlag (one_of (codes "json") rows) given.json
+
+-- ---- the format of `--vout`
+
+-- the format that a text names, where it can be: a DIRECT one has a slope other than 0 and an exponent in its range
+abbrev pub shape_named : FormatText → Option Shape
+shape_named Linear11 = Some InLinear11
+shape_named (Ulinear16 n) = Some (InUlinear16 n)
+shape_named (Direct m b r) = result_ok (shape_in mode.Direct (record { m = m; b = b; r = r }))
+
+abbrev pub named_or_fault : Option Shape → Result (Option Shape) TellFault
+named_or_fault (Some shape) = Ok (Some shape)
+named_or_fault None = Err Vout
+
+-- the format that the two options ask for, or the first fault
+abbrev pub vout_of : Bool → Option Text → Result (Option Shape) TellFault
+vout_of values None = Ok None
+vout_of false (Some text) = Err VoutAlone
+vout_of true (Some text) = named_or_fault (option_and_then shape_named (format_of text))
+
+abbrev pub vout_asked : TellTexts → Result (Option Shape) TellFault
+vout_asked given = vout_of given.values (text_at given.vout)
+
+-- a format that was made, or the fault, with the format seen as its shape
+abbrev pub vout_seen : Result (Option AnyFormat) TellFault → Result (Option Shape) TellFault
+vout_seen made = result_map_both (option_map shape_of) (λ fault. fault) made
+
+-- ---- the telling that the options ask for
+
+pub record IsTelling (given : TellTexts) (options : TellOptions) : Type 0 where
+  pub values : options.values ≡ given.values
+  pub vout : vout_asked given ≡ Ok (option_map shape_of options.vout)
+  pub all : options.all ≡ given.all
+  pub long : options.long ≡ given.long
+  pub times : options.times ≡ given.times
+  pub json : options.json ≡ given.json
+
+-- the telling, or the first fault of the options
+abbrev pub IsAsked : TellTexts → Result TellOptions TellFault → Type 0
+IsAsked given (Ok options) = IsTelling given options
+IsAsked given (Err fault) = vout_asked given ≡ Err fault
+
+-- what is said of a fault of the options, and the status that goes with it
+abbrev pub tell_fault_words : TellFault → List ℕ
+tell_fault_words VoutAlone = codes "give --vout with --values"
+tell_fault_words Vout = codes "bad vout"
+
+abbrev pub tell_fault_status : TellFault → ℕ
+tell_fault_status VoutAlone = 2
+tell_fault_status Vout = 2

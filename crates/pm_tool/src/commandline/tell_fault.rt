@@ -1,0 +1,36 @@
+use thiserror::Error;
+
+/// Why the options of `decode` ask for no telling: the first that applies, in the order of these. Both are
+/// faults of the command line. This is this project's own choice.
+#[derive(Clone, Copy, Debug, PartialEq, Eq, Error)]
+#[error("{words}", words = self.words())]
+pub enum TellFault {
+    /// `--vout` is given, and `--values` isn't.
+    VoutAlone,
+    /// The text of `--vout` is no format, or one of DIRECT that can't be.
+    Vout,
+}
+
+impl TellFault {
+    ghost use Rattle.std.specs.Prelude.{◌≡◌};
+    ghost use Rattle.pm_tool.specs.Telling.{tell_fault_status, tell_fault_words};
+
+    /// What the program says of the fault: `bad vout`.
+    pub fn words(self) -> &'static str
+        ensures { result.now ≡ tell_fault_words self }
+    {
+        match self {
+            TellFault::VoutAlone => "give --vout with --values",
+            TellFault::Vout => "bad vout",
+        }
+    }
+
+    /// The status with which the program then ends.
+    pub fn status(self) -> u8
+        ensures { result ≡ tell_fault_status self }
+    {
+        match self {
+            TellFault::VoutAlone | TellFault::Vout => 2,
+        }
+    }
+}

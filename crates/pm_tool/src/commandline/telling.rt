@@ -1,0 +1,142 @@
+//! `decode` with options: which words are read for them, and what their texts ask of a telling.
+ghost use Rattle.std.specs.Prelude.{◌≡◌, IfErr, IfOk, option_and_then, option_map, true};
+ghost use Rattle.clap.specs.Walk.{texts};
+ghost use Rattle.clap.specs.Words.{FailsBy, fault_of, found_of, kind_of, matches_of, one_of, rows_of};
+ghost use Rattle.clap.specs.Words.{takes};
+ghost use Rattle.clap.specs.declared.error.kind.ErrorKind.TheVariants.{OutOfMemory};
+ghost use Rattle.pm_num.specs.AnyFormat.{shape_of};
+ghost use Rattle.pm_tool.specs.Question.{HasExponent, format_of as format_named};
+ghost use Rattle.pm_tool.specs.Telling.{HasTexts, IsAsked, IsFlag, shape_named, tell_app, tell_words};
+ghost use Rattle.pm_tool.specs.Telling.{vout_asked, vout_seen};
+
+use super::commands::tell_command;
+use super::tell_fault::TellFault;
+use crate::numbers::{FormatText, read_format};
+use clap::{ArgMatches, Error};
+use pm_capture::TellOptions;
+use pm_num::{AnyFormat, Ulinear16};
+use pm_program::given_text;
+use pm_table::{Coefficients, VoutMode, format_of};
+use std::alloc::Global;
+
+/// The options of `decode`, as they were written.
+#[derive(Clone, Copy, Debug, PartialEq, Eq)]
+pub struct TellTexts<'a> {
+    /// `--values`: what payloads mean is told too.
+    pub values: bool,
+    /// The text of `--vout`: the format of voltages whose own format the trace doesn't teach.
+    pub vout: Option<&'a str>,
+    /// `--all`: packets of codes that the command table doesn't have are told by their bytes.
+    pub all: bool,
+    /// `--long`: the trace may have more than 1 MiB.
+    pub long: bool,
+    /// `--times`: each line begins with the time of its packet.
+    pub times: bool,
+    /// `--json`: each line is told as an object of JSON.
+    pub json: bool,
+}
+
+impl<'a> TellTexts<'a> {
+    /// The options that the words give. The first word is `decode` itself. Takes memory for what the parser
+    /// makes of the words.
+    ///
+    /// # Errors
+    ///
+    /// Whatever `clap` refuses, with its text for the user: help that was asked for, a word that is no
+    /// option, `--vout` with no text, an option that is given twice; and want of memory.
+    pub fn read(alloc: Global, words: &'a [&'a str]) -> Result<TellTexts<'a>, Error>
+        ensures given { IfOk result (λ given. HasTexts given (matches_of tell_app (texts words.entry.now))) }
+        ensures kinds { FailsBy (fault_of tell_app (texts words.entry.now)) result }
+        ensures passes { IfErr result (λ error. takes tell_app (texts words.entry.now) ≡ true
+            → kind_of error ≡ OutOfMemory) }
+    {
+        let matches = tell_command(alloc)?.try_get_matches_from(words)?;
+        Ok(TellTexts {
+            values: is_given(&matches, "values"),
+            vout: given_text(&matches, "vout"),
+            all: is_given(&matches, "all"),
+            long: is_given(&matches, "long"),
+            times: is_given(&matches, "times"),
+            json: is_given(&matches, "json"),
+        })
+    }
+
+    /// The telling that the options ask for, or the first fault of them: `--vout` without `--values`, and then
+    /// a text of it that is no format or one that can't be. The formats are those of `number`.
+    pub fn options(&self) -> Result<TellOptions, TellFault>
+        ensures { IsAsked self.now result }
+    {
+        let vout = self.vout_format()?;
+        Ok(TellOptions {
+            values: self.values,
+            vout,
+            all: self.all,
+            long: self.long,
+            times: self.times,
+            json: self.json,
+        })
+    }
+
+    // The format that is asked for.
+    fn vout_format(&self) -> Result<Option<AnyFormat>, TellFault>
+        ensures { vout_seen result ≡ vout_asked self.now }
+    {
+        let Some(text) = self.vout else {
+            return Ok(None);
+        };
+        if !self.values {
+            return Err(TellFault::VoutAlone);
+        }
+        match format_in(text) {
+            Some(format) => Ok(Some(format)),
+            None => Err(TellFault::Vout),
+        }
+    }
+}
+
+/// The words that are read for the options of `decode`, from `decode` on; None where it isn't what the words
+/// name, or nothing follows it.
+pub(crate) fn option_words<'a>(words: &'a [&'a str]) -> Option<&'a [&'a str]>
+    ensures { option_map (λ left. texts left.now) result ≡ tell_words (texts words.entry.now) }
+{
+    if words.len() > 2 && words[1] == "decode" {
+        Some(&words[1..])
+    } else {
+        None
+    }
+}
+
+// Whether a flag is given.
+fn is_given(matches: &ArgMatches<'_>, name: &str) -> bool
+    ensures { IsFlag (one_of name.now (rows_of (found_of matches.now))) result }
+{
+    matches.get_flag(name)
+}
+
+// The format that a text names, where it can be.
+fn format_in(text: &str) -> Option<AnyFormat>
+    ensures { option_map shape_of result ≡ option_and_then shape_named (format_named text.now) }
+{
+    let format = read_format(text)?;
+    format_made(format)
+}
+
+// The same of a text that was read.
+fn format_made(format: FormatText) -> Option<AnyFormat>
+    requires { HasExponent format }
+    ensures { option_map shape_of result ≡ shape_named format }
+{
+    match format {
+        FormatText::Linear11 => Some(AnyFormat::Linear11),
+        FormatText::Ulinear16(n) => match Ulinear16::new(n) {
+            Some(made) => Some(AnyFormat::Ulinear16(made)),
+            None => None,
+        },
+        FormatText::Direct(m, b, r) => {
+            match format_of(VoutMode::Direct, Coefficients { m, b, r }) {
+                Ok(made) => Some(made),
+                Err(_) => None,
+            }
+        }
+    }
+}

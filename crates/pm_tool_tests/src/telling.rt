@@ -1,0 +1,122 @@
+//! `decode` with options, from the words of a command line to what is printed.
+
+use crate::checks::is_true;
+use crate::run::run_on;
+use pm_tool::TellTexts;
+use std::test::Fail;
+
+/// The words, what is read, the status, what is printed and what is said.
+static TOLD: [(&[&str], &str, u8, &str, &str); 11] = [
+    // An output's mode teaches its format, and no other's.
+    (
+        &["pmb", "decode", "--values"],
+        "B0 06 02 00 20 / B1 01 14 4E\nB0 05 04 00 21 CD 34 5A\nB0 05 04 01 21 CD 34 4C\n",
+        0,
+        "1 58 page 0 VOUT_MODE read 14 ULINEAR16 -12\n2 58 page 0 VOUT_COMMAND write 34CD 13517/4096 3300048 uV\n3 58 page 1 VOUT_COMMAND write 34CD\ncount VOUT_MODE 1\ncount VOUT_COMMAND 2\nlines 3 accepted 3 faults 0 bad 0\n",
+        "",
+    ),
+    (
+        &["pmb", "decode", "--vout=direct:1:0:3", "--values"],
+        "B0 05 04 00 21 CD 34 5A\n",
+        0,
+        "1 58 page 0 VOUT_COMMAND write 34CD 13517/1000 13517000 uV\ncount VOUT_COMMAND 1\nlines 1 accepted 1 faults 0 bad 0\n",
+        "",
+    ),
+    (
+        &["pmb", "decode", "--times", "--all", "--long"],
+        "01234 B0 03 46\n5 B0 D4\n",
+        0,
+        "1 1234 us 58 CLEAR_FAULTS send\n2 5 us 58 code D4 send, no PEC\ncount CLEAR_FAULTS 1\ncount code D4 1\nlines 2 accepted 1 other 1 faults 0 bad 0\n",
+        "",
+    ),
+    // Each of these flags alone. A time may have zeros before it.
+    (
+        &["pmb", "decode", "--times"],
+        "01234 B0 03 46\n5 B0 D4\n",
+        0,
+        "1 1234 us 58 CLEAR_FAULTS send\n2 5 us 58 write F2 Short 2\ncount CLEAR_FAULTS 1\nlines 2 accepted 1 faults 1 bad 0\n",
+        "",
+    ),
+    (
+        &["pmb", "decode", "--all"],
+        "B0 D4\n",
+        0,
+        "1 58 code D4 send, no PEC\ncount code D4 1\nlines 1 accepted 0 other 1 faults 0 bad 0\n",
+        "",
+    ),
+    (
+        &["pmb", "decode", "--long"],
+        "B0 D4\nB\n",
+        1,
+        "1 58 write F2 Short 2\n2 X2 BadHex\nlines 2 accepted 0 faults 1 bad 1\n",
+        "",
+    ),
+    // The options are judged in their order.
+    (
+        &["pmb", "decode", "--vout=float"],
+        "B0 05 04 00 21 CD 34 5A\n",
+        2,
+        "",
+        "pmb: give --vout with --values\n",
+    ),
+    (
+        &["pmb", "decode", "--values", "--vout=float"],
+        "B0 05 04 00 21 CD 34 5A\n",
+        2,
+        "",
+        "pmb: bad vout\n",
+    ),
+    (
+        &["pmb", "decode", "--values", "--vout", "direct:0:5:3"],
+        "B0 05 04 00 21 CD 34 5A\n",
+        2,
+        "",
+        "pmb: bad vout\n",
+    ),
+    (
+        &["pmb", "decode", "--values", "--vout=direct:1:5:13"],
+        "B0 05 04 00 21 CD 34 5A\n",
+        2,
+        "",
+        "pmb: bad vout\n",
+    ),
+    (
+        &["pmb", "decode", "--values", "--vout=ulinear16:16"],
+        "B0 05 04 00 21 CD 34 5A\n",
+        2,
+        "",
+        "pmb: bad vout\n",
+    ),
+];
+
+#[test]
+fn options_decide_what_is_told(rt: HostRuntime) {
+    for &(words, text, status, output, errors) in &TOLD {
+        let found = run_on(rt.alloc(), words, text);
+        is_true(&rt, found.is(status, output, errors), &words);
+    }
+}
+
+#[test]
+fn options_are_read_as_they_are_written(rt: HostRuntime) -> Result<(), Fail> {
+    let given = TellTexts::read(rt.alloc(), &["decode", "--json", "--vout=linear11", "--times"])?;
+    let wanted = TellTexts {
+        values: false,
+        vout: Some("linear11"),
+        all: false,
+        long: false,
+        times: true,
+        json: true,
+    };
+    is_true(&rt, given == wanted, &given);
+    is_true(&rt, given.options().is_err(), &given);
+    let more = TellTexts {
+        values: true,
+        ..wanted
+    };
+    let options = more.options()?;
+    is_true(&rt, options.values && options.vout.is_some(), &more);
+    is_true(&rt, options.times && options.json, &more);
+    is_true(&rt, !options.all && !options.long, &more);
+    Ok(())
+}
