@@ -23,7 +23,7 @@ use Rattle.pm_world.specs.State.{State, asked, share_of, share_beside, tells, sh
 use Rattle.pm_world.specs.State.{cause_beside, cause_of, event_limit, IsTaken}
 
 -- what the host doesn't refuse has no fault
-refused-none : (fault : Option HostFault) → refused fault ≡ None → fault ≡ None
+pub refused-none : (fault : Option HostFault) → refused fault ≡ None → fault ≡ None
 refused-none None h = refl
 refused-none (Some fault) h = cc
 

@@ -3,7 +3,7 @@
 
 ghost use Rattle.pm_world.specs.Below.{Below};
 ghost use Rattle.pm_world.specs.Honest.{IsSpelled};
-ghost use Rattle.pm_world.specs.Laws.{BetrayedDamageIsLegal, BetrayedDamageIsTaken, ConfirmedSettingsAreHeld, DifferingOrdersNeverTook, FramesAreFew, HonestOrdersGoThrough, LearnedFormatsAreTrue, LegalLivesAreFollowed, ListsSayEnough, LivesAreFollowed, LivesAreOrders, OpenListsAreFollowed, OwnRequestsAreAnswered, PossibleWordsAreExact, PossibleWordsAreHeld};
+ghost use Rattle.pm_world.specs.Laws.{BetrayedDamageIsLegal, BetrayedDamageIsTaken, CausesDecide, ConfirmedSettingsAreHeld, DifferingOrdersNeverTook, FramesAreFew, HonestOrdersGoThrough, LearnedFormatsAreTrue, LegalLivesAreFollowed, ListsSayEnough, LivesAreFollowed, LivesAreOrders, OpenListsAreFollowed, OwnRequestsAreAnswered, PossibleWordsAreExact, PossibleWordsAreHeld};
 ghost use Rattle.pm_world.specs.LimitLaws.{BandsAreExact, BandsAreHeld, LivesStayLimited};
 ghost use Rattle.pm_world.specs.GoodBus.{GoodFramesEndJobs};
 ghost use Rattle.pm_world.specs.Moves.{SettingsMoveByTheOpenJob};
@@ -23,6 +23,13 @@ use pm_host::{
 };
 use pm_model::{orders_stay_in_their_cells, settings_are_a_map};
 use pm_table::{cells_are_told_apart, cells_have_places, registers_are_in_the_table};
+
+/// Whether an event is taken, its cause alone decides. An order in microvolts that isn't refused has a word, since a
+/// format has a nearest word for each number (`word`). So an event is taken exactly where the world isn't full and
+/// nothing else is against it (`taken`), and events are legal exactly where nothing else is against any (`legal`).
+pub fn causes_decide()
+    ensures { CausesDecide }
+{}
 
 /// What a world holds after its life, which the definitions find in what its ends lived through, is
 /// what one event after another makes of its start: of no event (`none`), and of one more (`more`).

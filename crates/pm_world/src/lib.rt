@@ -43,7 +43,7 @@ pub use cause::Cause;
 pub use event::Event;
 pub use laws::{
     bands_are_exact, bands_are_held, betrayed_damage_is_legal, betrayed_damage_is_taken,
-    confirmed_settings_are_held, differing_orders_never_took, frames_are_few, good_frames_end_jobs,
+    causes_decide, confirmed_settings_are_held, differing_orders_never_took, frames_are_few, good_frames_end_jobs,
     honest_orders_go_through, learned_formats_are_true, legal_lives_are_followed, lists_say_enough,
     lives_are_followed, lives_are_orders, lives_stay_limited, open_lists_are_followed,
     own_requests_are_answered, possible_words_are_exact, possible_words_are_held,
