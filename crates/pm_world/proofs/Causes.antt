@@ -1,5 +1,5 @@
 -- Why an event is taken, and the job that it asks for.
-use Rattle.std.proofs.Common.{◌≡◌, ℕ, ℤ, Bool, false, Option, Some, None, refl, ap, subst}
+use Rattle.std.proofs.Common.{◌≡◌, ℕ, ℤ, false, Option, Some, None, refl, ap, subst}
 use Rattle.std.specs.Prelude.{nat_le, option_map, IsSome}
 use Rattle.std.specs.Option.{option_and_then, option_map_or}
 pub use Rattle.std.proofs.lemmas.Bool.{not-false}

@@ -1,5 +1,5 @@
 -- An event is taken where its cause says so: one that nothing is against has its word.
-use Rattle.std.proofs.Common.{◌≡◌, ◌↔◌, ℕ, ◌<◌, ℤ, List, [], ◌∷◌, ◌++◌, Option, Some, None, is_none, not, false, inl, inr, refl, ◌∙◌, ap, ap₂, arith}
+use Rattle.std.proofs.Common.{◌≡◌, ◌↔◌, ℕ, ◌<◌, ℤ, List, [], ◌∷◌, ◌++◌, Option, Some, None, is_none, not, false, inl, inr, refl, ◌∙◌, ap, ap₂}
 use Rattle.std.specs.Prelude.{nat_le, IsSome}
 use Rattle.std.specs.Option.{option_and_then}
 use Rattle.std.proofs.lemmas.Bool.{cases_lt, le-leb}
@@ -10,7 +10,7 @@ use Rattle.pm_table.specs.declared.cell.Cell.{Cell}
 use Rattle.pm_table.specs.Cell.{is_voltage_cell, output_of}
 use Rattle.pm_device.specs.declared.config.Config.{Config}
 use Rattle.pm_host.specs.declared.fault.HostFault.TheVariants.{BadWord, FormatUnknown}
-use Rattle.pm_host.specs.Refusals.{cell_fault, micro_fault, micro_word, voltage_fault}
+use Rattle.pm_host.specs.Refusals.{cell_fault, micro_fault, voltage_fault}
 use Rattle.pm_host.specs.Summary.{Summary, format_at}
 use Rattle.pm_world.specs.declared.cause.Cause.TheVariants.{Full}
 use Rattle.pm_world.specs.declared.event.Event.{Event}

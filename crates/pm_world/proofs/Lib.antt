@@ -52,4 +52,7 @@ mod Tellings
 mod TrueHost
 mod Undisturbed
 mod Unread
+mod WayForms
+mod WayRuns
+mod WholeFrames
 mod Witness

@@ -7,6 +7,8 @@ ghost use Rattle.pm_world.specs.Laws.{BetrayedDamageIsLegal, BetrayedDamageIsTak
 ghost use Rattle.pm_world.specs.LimitLaws.{BandsAreExact, BandsAreHeld, LivesStayLimited};
 ghost use Rattle.pm_world.specs.GoodBus.{GoodFramesEndJobs};
 ghost use Rattle.pm_world.specs.Moves.{SettingsMoveByTheOpenJob};
+ghost use Rattle.pm_world.specs.Way.{WaysAreFollowed};
+ghost use Rattle.pm_world.specs.WholeFrames.{WholeFramesAreUndisturbed};
 ghost use Rattle.std.specs.Prelude.{◌<◌, ◌^◌};
 
 use pm_device::{
@@ -263,6 +265,25 @@ pub fn open_lists_are_followed()
 {
     lower_laws();
 }
+
+/// How far the last order has come with nothing to disturb it goes by one event after another (`none`, `more`), so
+/// that [`Way::after`](crate::Way::after) and [`run_way`](crate::run_way) decide it while they happen. An order is on
+/// its way exactly where the events are it, allowed by WRITE_PROTECT, and deliveries of its write alone (`sent`), and
+/// through exactly where they have the form of an undisturbed order (`through`); then it went through, as
+/// [`honest_orders_go_through`] says (`went`). Once its write was heard whole, its end and an undisturbed read are
+/// taken, where the world has room for two more events, and it goes through by them (`ahead`).
+pub fn ways_are_followed()
+    ensures { WaysAreFollowed }
+{
+    lower_laws();
+}
+
+/// Frames that come whole are what the promises on undisturbed frames ask for: a write that is delivered once, and then
+/// over (`written`), an exchange of a request (`read`), and so of a cell's (`cell`), and of both an order that
+/// WRITE_PROTECT allows (`sent`, `order`). So [`ways_are_followed`] and [`good_frames_end_jobs`] speak of them.
+pub fn whole_frames_are_undisturbed()
+    ensures { WholeFramesAreUndisturbed }
+{}
 
 /// The laws of the crates below that those of this crate rest on.
 pub(crate) fn lower_laws()
