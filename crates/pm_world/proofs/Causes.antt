@@ -1,5 +1,5 @@
 -- Why an event is taken, and the job that it asks for.
-use Rattle.std.proofs.Common.{◌≡◌, ℕ, ℤ, Bool, false, Option, Some, None, refl, ap, subst}
+use Rattle.std.proofs.Common.{◌≡◌, ℕ, ℤ, false, Option, Some, None, refl, ap, subst}
 use Rattle.std.specs.Prelude.{nat_le, option_map, IsSome}
 use Rattle.std.specs.Option.{option_and_then, option_map_or}
 pub use Rattle.std.proofs.lemmas.Bool.{not-false}
@@ -23,7 +23,7 @@ use Rattle.pm_world.specs.State.{State, asked, share_of, share_beside, tells, sh
 use Rattle.pm_world.specs.State.{cause_beside, cause_of, event_limit, IsTaken}
 
 -- what the host doesn't refuse has no fault
-refused-none : (fault : Option HostFault) → refused fault ≡ None → fault ≡ None
+pub refused-none : (fault : Option HostFault) → refused fault ≡ None → fault ≡ None
 refused-none None h = refl
 refused-none (Some fault) h = cc
 

@@ -2,6 +2,7 @@ mod Answered
 mod BandLives
 mod CameBack
 mod Causes
+mod CausesDecide
 mod DamagedFrames
 mod DamagedRequests
 mod Deliveries
@@ -26,6 +27,7 @@ mod LeftWords
 mod LimitedLives
 mod Lives
 mod Moves
+mod NearestExists
 mod NeverTook
 mod OpenMarks
 mod OpenOrders
@@ -50,4 +52,7 @@ mod Tellings
 mod TrueHost
 mod Undisturbed
 mod Unread
+mod WayForms
+mod WayRuns
+mod WholeFrames
 mod Witness

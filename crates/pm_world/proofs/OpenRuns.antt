@@ -21,7 +21,7 @@ abbrev pub left_by : Config → ℕ → List Event → Bool
 left_by config passes events = are_open (marks (setup_of config passes) (since_restart (life config passes events).entries))
 
 -- the events so far, with one more
-past-more : (events : List Event) (at : ℕ) (event : Event) → event ≡ get_or events at event → at < length events →
+pub past-more : (events : List Event) (at : ℕ) (event : Event) → event ≡ get_or events at event → at < length events →
     past (at + 1) events ≡ event ∷ past at events
 past-more events at event is below =
     ap reverse (take_more events at event below)

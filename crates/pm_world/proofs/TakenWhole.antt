@@ -86,7 +86,7 @@ unfolding now state_of
 now-taken config passes events = refl
 
 -- after its deliveries the write is still being sent
-sent-stage : Below → {config : Config} {passes : ℕ} (before : List Event) (order : Event) {cell : Cell} {word : ℕ}
+pub sent-stage : Below → {config : Config} {passes : ℕ} (before : List Event) (order : Event) {cell : Cell} {word : ℕ}
     (arrivals : List Arrival) →
     IsLived config passes (sent_by order arrivals before) → asked (now config passes before) order ≡ Some (host.Order cell word) →
     (now config passes (sent_by order arrivals before)).host.stage ≡ Some (Writes cell word 0)

@@ -1,5 +1,5 @@
 -- The laws of a world, over the definitions alone. Events are newest first.
-use Rattle.std.specs.Prelude.{◌≡◌, ◌↔◌, ◌<◌, ◌≤◌, ◌+◌, ◌*◌, ℕ, Bool, true, false, List, [], ◌∷◌, Some, length}
+use Rattle.std.specs.Prelude.{◌≡◌, ◌↔◌, ◌<◌, ◌≤◌, ◌+◌, ◌*◌, ℕ, Bool, true, false, List, [], ◌∷◌, ◌++◌, Some, None, length}
 use Rattle.std.specs.List.{list_any}
 use Rattle.pm_table.specs.declared.cell.Cell.{Cell}
 use Rattle.pm_table.specs.declared.cell.Cell.TheVariants.{Protect}
@@ -39,8 +39,20 @@ use Rattle.pm_world.specs.OpenLists.{are_open, stays_open}
 use Rattle.pm_world.specs.Possible.{PossibleIsHeld, SeenIsTrue, restarted_since_host}
 use Rattle.pm_world.specs.Retelling.{CommandsOwn, IsOrderRun, IsOwnWord}
 use Rattle.pm_world.specs.Setup.{setup_of, start}
-use Rattle.pm_world.specs.State.{IsTaken, answer_to, asked, event_limit, next}
+use Rattle.pm_world.specs.State.{HasWord, IsTaken, State, answer_to, asked, event_cause, event_limit, next}
 use Rattle.pm_world.specs.Uncertainty.{AreLegal, AreOfBytes, AreOpen, ArePossible, AreWordsChosen, Choice, Leaves, due_before, since_restart, witness_events, witness_start}
+
+-- Whether an event is taken, its cause alone decides, in any state. An order in microvolts that nothing is against has
+-- a word: a format has a nearest word for each number (`word`). So an event is taken exactly where there is room and
+-- nothing else is against it (`taken`), and events are legal exactly where nothing else is against any of them
+-- (`legal`).
+pub record CausesDecide : Type 0 where
+  pub word : (s : State) (event : Event) → event_cause s event ≡ None → HasWord s event
+  pub taken : (s : State) (event : Event) →
+      IsTaken s event ↔ (s.taken < event_limit) × (event_cause s event ≡ None)
+  pub legal : (config : Config) (passes : ℕ) (events : List Event) → AreLegal config passes events ↔
+      ((later before : List Event) (event : Event) → events ≡ later ++ event ∷ before →
+      event_cause (now config passes before) event ≡ None)
 
 -- What a world holds after its life is what one event after another makes of its start: of no event, and of
 -- one more. What the host was told is a transcript that might come. Events that are taken one after another

@@ -19,5 +19,7 @@ pub mod LimitLaws
 pub mod FaultWords
 pub mod Moves
 pub mod GoodBus
+pub mod Way
+pub mod WholeFrames
 -- How it is kept.
 pub mod Below

@@ -3,10 +3,12 @@
 
 ghost use Rattle.pm_world.specs.Below.{Below};
 ghost use Rattle.pm_world.specs.Honest.{IsSpelled};
-ghost use Rattle.pm_world.specs.Laws.{BetrayedDamageIsLegal, BetrayedDamageIsTaken, ConfirmedSettingsAreHeld, DifferingOrdersNeverTook, FramesAreFew, HonestOrdersGoThrough, LearnedFormatsAreTrue, LegalLivesAreFollowed, ListsSayEnough, LivesAreFollowed, LivesAreOrders, OpenListsAreFollowed, OwnRequestsAreAnswered, PossibleWordsAreExact, PossibleWordsAreHeld};
+ghost use Rattle.pm_world.specs.Laws.{BetrayedDamageIsLegal, BetrayedDamageIsTaken, CausesDecide, ConfirmedSettingsAreHeld, DifferingOrdersNeverTook, FramesAreFew, HonestOrdersGoThrough, LearnedFormatsAreTrue, LegalLivesAreFollowed, ListsSayEnough, LivesAreFollowed, LivesAreOrders, OpenListsAreFollowed, OwnRequestsAreAnswered, PossibleWordsAreExact, PossibleWordsAreHeld};
 ghost use Rattle.pm_world.specs.LimitLaws.{BandsAreExact, BandsAreHeld, LivesStayLimited};
 ghost use Rattle.pm_world.specs.GoodBus.{GoodFramesEndJobs};
 ghost use Rattle.pm_world.specs.Moves.{SettingsMoveByTheOpenJob};
+ghost use Rattle.pm_world.specs.Way.{WaysAreFollowed};
+ghost use Rattle.pm_world.specs.WholeFrames.{WholeFramesAreUndisturbed};
 ghost use Rattle.std.specs.Prelude.{◌<◌, ◌^◌};
 
 use pm_device::{
@@ -23,6 +25,13 @@ use pm_host::{
 };
 use pm_model::{orders_stay_in_their_cells, settings_are_a_map};
 use pm_table::{cells_are_told_apart, cells_have_places, registers_are_in_the_table};
+
+/// Whether an event is taken, its cause alone decides. An order in microvolts that isn't refused has a word, since a
+/// format has a nearest word for each number (`word`). So an event is taken exactly where the world isn't full and
+/// nothing else is against it (`taken`), and events are legal exactly where nothing else is against any (`legal`).
+pub fn causes_decide()
+    ensures { CausesDecide }
+{}
 
 /// What a world holds after its life, which the definitions find in what its ends lived through, is
 /// what one event after another makes of its start: of no event (`none`), and of one more (`more`).
@@ -256,6 +265,25 @@ pub fn open_lists_are_followed()
 {
     lower_laws();
 }
+
+/// How far the last order has come with nothing to disturb it goes by one event after another (`none`, `more`), so
+/// that [`Way::after`](crate::Way::after) and [`run_way`](crate::run_way) decide it while they happen. An order is on
+/// its way exactly where the events are it, allowed by WRITE_PROTECT, and deliveries of its write alone (`sent`), and
+/// through exactly where they have the form of an undisturbed order (`through`); then it went through, as
+/// [`honest_orders_go_through`] says (`went`). Once its write was heard whole, its end and an undisturbed read are
+/// taken, where the world has room for two more events, and it goes through by them (`ahead`).
+pub fn ways_are_followed()
+    ensures { WaysAreFollowed }
+{
+    lower_laws();
+}
+
+/// Frames that come whole are what the promises on undisturbed frames ask for: a write that is delivered once, and then
+/// over (`written`), an exchange of a request (`read`), and so of a cell's (`cell`), and of both an order that
+/// WRITE_PROTECT allows (`sent`, `order`). So [`ways_are_followed`] and [`good_frames_end_jobs`] speak of them.
+pub fn whole_frames_are_undisturbed()
+    ensures { WholeFramesAreUndisturbed }
+{}
 
 /// The laws of the crates below that those of this crate rest on.
 pub(crate) fn lower_laws()

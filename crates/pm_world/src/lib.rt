@@ -35,6 +35,7 @@ mod legal;
 mod openness;
 mod short;
 mod stop;
+mod way;
 mod world;
 
 pub use arrival::Arrival;
@@ -43,11 +44,12 @@ pub use cause::Cause;
 pub use event::Event;
 pub use laws::{
     bands_are_exact, bands_are_held, betrayed_damage_is_legal, betrayed_damage_is_taken,
-    confirmed_settings_are_held, differing_orders_never_took, frames_are_few, good_frames_end_jobs,
-    honest_orders_go_through, learned_formats_are_true, legal_lives_are_followed, lists_say_enough,
-    lives_are_followed, lives_are_orders, lives_stay_limited, open_lists_are_followed,
-    own_requests_are_answered, possible_words_are_exact, possible_words_are_held,
-    settings_move_by_the_open_job, spell,
+    causes_decide, confirmed_settings_are_held, differing_orders_never_took, frames_are_few,
+    good_frames_end_jobs, honest_orders_go_through, learned_formats_are_true,
+    legal_lives_are_followed, lists_say_enough, lives_are_followed, lives_are_orders,
+    lives_stay_limited, open_lists_are_followed, own_requests_are_answered,
+    possible_words_are_exact, possible_words_are_held, settings_move_by_the_open_job, spell,
+    ways_are_followed, whole_frames_are_undisturbed,
 };
 pub use legal::{
     answer_in, back_bytes, heard_bytes, heard_ending, is_heard_whole, is_legal_hearing,
@@ -57,4 +59,5 @@ pub use openness::run_open;
 pub use pm_setup::SetupFault;
 pub use short::words_are_short;
 pub use stop::Stop;
+pub use way::{Way, run_way};
 pub use world::World;
