@@ -115,6 +115,7 @@ impl OpenLine {
     }
 
     /// Takes one byte more, which is no line feed.
+    #[inline(always)]
     #[tactic(auto, unfolding(crate::specs::OpenLines::line_takes))]
     pub fn take(&mut self, byte: u8)
         ensures { self.new ≡ line_takes self.old byte }
