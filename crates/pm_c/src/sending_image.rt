@@ -55,7 +55,12 @@ pub(crate) fn copy_frame(bytes: &mut [u8; 16], frame: &Frame) -> u8
     ensures copied { take result bytes.new ≡ frame.now.items }
     ensures rest { drop result bytes.new ≡ drop result bytes.old }
 {
-    let count = frame.len();
-    bytes[..count].copy_from_slice(frame.as_slice());
-    count as u8
+    let sent = frame.as_slice();
+    match sent.len() {
+        // A request and a write of a word are the usual frames: of a length that is known, a copy is one of words.
+        5 => bytes[..5].copy_from_slice(sent),
+        8 => bytes[..8].copy_from_slice(sent),
+        count => bytes[..count].copy_from_slice(sent),
+    }
+    sent.len() as u8
 }
