@@ -32,6 +32,7 @@ impl SendingImage {
     }
 
     /// The frame of a message is to be sent.
+    #[inline(always)]
     pub(crate) fn put(&mut self, address: u8, message: &Message)
         requires address { IsAddress address }
         requires fits { fits_layout message.now ≡ true }

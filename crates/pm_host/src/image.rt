@@ -94,6 +94,7 @@ impl Image {
     }
 
     /// Keeps where the open job stands after a call of the state.
+    #[inline(always)]
     #[tactic(auto, unfolding(crate::specs::Image::host_of))]
     pub fn write_stage(&mut self, stage: Option<Stage>)
         requires current { is_current self.old ≡ true }
