@@ -1,3 +1,4 @@
 mod Tells
 mod Named
 mod Ceils
+mod Unlimited

@@ -4,10 +4,11 @@ ghost use Rattle.std.specs.Prelude.{◌≡◌, ◌≢◌, Some, option_map, IfOk
 ghost use Rattle.std.specs.Result.{result_err};
 ghost use Rattle.pm_table.specs.Cell.{cell_at};
 ghost use Rattle.pm_host.specs.Image.{held, host_of, image_version};
+ghost use Rattle.pm_host.specs.Jobs.{begin_fault};
 ghost use Rattle.pm_host.specs.Sound.{IsSound};
 ghost use Rattle.pm_host.specs.Summary.{start};
 ghost use Rattle.pm_host.specs.Transcript.{Setup, Restarted};
-ghost use Rattle.pm_limits.specs.Guard.{limited_fault};
+ghost use Rattle.pm_limits.specs.Guard.{limited_fault, of_host};
 ghost use Rattle.pm_c.specs.Guard.{guard_of, no_limits};
 ghost use Rattle.pm_c.specs.Sizes.{host_size, library_version};
 ghost use Rattle.pm_c.specs.Host.{new_number, memory_number, after, job_begun, BeginsJob};
@@ -67,8 +68,17 @@ pub extern "C" fn pm_host_new(host: &mut GuardImage, address: u8, outputs: u8, p
     }
 }
 
-// Begins a job; none is asked for by a code that is no cell's.
+// Begins a job; none is asked for by a code that is no cell's. All jobs but an order of a word share this code.
+#[inline(never)]
 fn begin(host: &mut GuardImage, job: Option<Job>) -> u8
+    ensures { BeginsJob host.old job result host.new }
+{
+    begin_inlined(host, job)
+}
+
+// The same. An order of a word, which is asked for most, has this code for itself.
+#[inline(always)]
+fn begin_inlined(host: &mut GuardImage, job: Option<Job>) -> u8
     ensures { BeginsJob host.old job result host.new }
 {
     let Ok(stage) = host.host.read_stage() else {
@@ -87,7 +97,9 @@ fn begin(host: &mut GuardImage, job: Option<Job>) -> u8
     }
 }
 
-// Begins a job whose output has these limits, as a guard does.
+// Begins a job whose output has these limits, as a guard does. An order for an output without limits isn't judged first:
+// the host refuses it for all that the guard does.
+#[inline(always)]
 fn begin_within(
     state: &mut State,
     stage: Option<Stage>,
@@ -100,8 +112,40 @@ fn begin_within(
     ensures ok { IfOk result (λ at. Some (held (Some at) state.new) ≡ job_begun (Some (held stage state.old)) (Some job)) }
     ensures err { OnErr result (state.new ≡ state.old) }
 {
+    match (limits, job) {
+        (None, Job::Order(_, _)) => begin_asked(state, stage, job),
+        _ => begin_judged(state, stage, limits, job),
+    }
+}
+
+// The same for every job.
+#[inline(never)]
+fn begin_judged(
+    state: &mut State,
+    stage: Option<Stage>,
+    limits: Option<Limits>,
+    job: Job,
+) -> Result<Stage, LimitFault>
+    requires sound { IsSound (held stage state.old) }
+    ensures sound { IfOk result (λ at. IsSound (held (Some at) state.new)) }
+    ensures fault { result_err result ≡ limited_fault limits (held stage state.old) job }
+    ensures ok { IfOk result (λ at. Some (held (Some at) state.new) ≡ job_begun (Some (held stage state.old)) (Some job)) }
+    ensures err { OnErr result (state.new ≡ state.old) }
+{
     let asked = judge(state, stage, limits, job)?;
-    match state.begin(stage, asked) {
+    begin_asked(state, stage, asked)
+}
+
+// Begins a job as a host does.
+#[inline(always)]
+fn begin_asked(state: &mut State, stage: Option<Stage>, job: Job) -> Result<Stage, LimitFault>
+    requires sound { IsSound (held stage state.old) }
+    ensures sound { IfOk result (λ at. IsSound (held (Some at) state.new)) }
+    ensures fault { result_err result ≡ of_host (begin_fault (held stage state.old) job) }
+    ensures ok { IfOk result (λ at. Some (held (Some at) state.new) ≡ job_begun (Some (held stage state.old)) (Some job)) }
+    ensures err { OnErr result (state.new ≡ state.old) }
+{
+    match state.begin(stage, job) {
         Ok(stage) => Ok(stage),
         Err(fault) => Err(LimitFault::Host(fault)),
     }
@@ -114,7 +158,7 @@ pub extern "C" fn pm_host_order(host: &mut GuardImage, output: u8, code: u8, wor
         BeginsJob host.old job result host.new }
 {
     let cell = cell_of(Code(code), output);
-    begin(host, cell.map(|cell| Job::Order(cell, word)))
+    begin_inlined(host, cell.map(|cell| Job::Order(cell, word)))
 }
 
 /// Begins an order of the word nearest to a number of microvolts, in the format that was learned for
@@ -184,7 +228,7 @@ pub extern "C" fn pm_host_restart(host: &mut GuardImage) -> u8
     ensures limits { host.new.limits ≡ host.old.limits }
     ensures refused { result ≢ 0 → host.new ≡ host.old }
 {
-    if host.host.read_stage().is_err() {
+    if host.open_stage().is_err() {
         return NO_HOST;
     }
     host.host.state.restart();

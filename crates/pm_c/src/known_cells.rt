@@ -44,7 +44,7 @@ pub extern "C" fn pm_host_known(host: &GuardImage, known: &mut KnownCells) -> u8
     ensures said { result ≡ 0 → IsSomeAnd (host_of host.now.host) (λ s. IsKnownOf s known.new) }
     ensures refused { result ≢ 0 → known.new ≡ known.old }
 {
-    if host.host.read_stage().is_err() {
+    if host.open_stage().is_err() {
         return NO_HOST;
     }
     known.count = fill(&host.host.state, &mut known.cells);

@@ -30,7 +30,7 @@ pub extern "C" fn pm_host_narrow(host: &mut GuardImage, output: u8, least: i64, 
     ensures narrowed { result ≡ 0 → guard_of host.new ≡ option_map (λ g. narrowed g output least most) (guard_of host.old) }
     ensures refused { result ≢ 0 → host.new ≡ host.old }
 {
-    if host.host.read_stage().is_err() {
+    if host.open_stage().is_err() {
         return NO_HOST;
     }
     if host.host.state.outputs <= output {
@@ -53,7 +53,7 @@ pub extern "C" fn pm_host_limits(host: &GuardImage, output: u8, limits: &mut Lim
         (λ g. limits_held limits.new ≡ limits_at g output) }
     ensures refused { result ≢ 0 → limits.new ≡ limits.old }
 {
-    if host.host.read_stage().is_err() {
+    if host.open_stage().is_err() {
         return NO_HOST;
     }
     if host.host.state.outputs <= output {
@@ -74,7 +74,7 @@ pub extern "C" fn pm_host_limits(host: &GuardImage, output: u8, limits: &mut Lim
 pub extern "C" fn pm_host_within(host: &GuardImage, output: u8) -> u8
     ensures { result ≡ within_number (guard_of host.now) output }
 {
-    if host.host.read_stage().is_err() {
+    if host.open_stage().is_err() {
         return NO_HOST;
     }
     if host.host.state.outputs <= output {
@@ -103,7 +103,7 @@ pub extern "C" fn pm_host_band(host: &GuardImage, output: u8, band: &mut BandIma
         (λ s. IsSomeAnd (band_at s output) (λ known. IsBand known band.new)) }
     ensures refused { result ≢ 0 → band.new ≡ band.old }
 {
-    if host.host.read_stage().is_err() {
+    if host.open_stage().is_err() {
         return NO_HOST;
     }
     if host.host.state.outputs <= output {

@@ -32,6 +32,7 @@ impl SendingImage {
     }
 
     /// The frame of a message is to be sent.
+    #[inline(always)]
     pub(crate) fn put(&mut self, address: u8, message: &Message)
         requires address { IsAddress address }
         requires fits { fits_layout message.now ≡ true }
@@ -55,7 +56,12 @@ pub(crate) fn copy_frame(bytes: &mut [u8; 16], frame: &Frame) -> u8
     ensures copied { take result bytes.new ≡ frame.now.items }
     ensures rest { drop result bytes.new ≡ drop result bytes.old }
 {
-    let count = frame.len();
-    bytes[..count].copy_from_slice(frame.as_slice());
-    count as u8
+    let sent = frame.as_slice();
+    match sent.len() {
+        // A request and a write of a word are the usual frames: of a length that is known, a copy is one of words.
+        5 => bytes[..5].copy_from_slice(sent),
+        8 => bytes[..8].copy_from_slice(sent),
+        count => bytes[..count].copy_from_slice(sent),
+    }
+    sent.len() as u8
 }

@@ -27,7 +27,8 @@ pub extern "C" fn pm_host_got(host: &mut GuardImage, bytes: &[u8]) -> HostStep
     tell(host, Told::Got(bytes))
 }
 
-// Tells a host what became of its frame.
+// Tells a host what became of its frame. Either call has this code for itself, with the part that is its own.
+#[inline(always)]
 fn tell(host: &mut GuardImage, told: Told<'_>) -> HostStep
     ensures { TellsHost host.old (entry_told told.entry) result host.new }
 {

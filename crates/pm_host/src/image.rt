@@ -16,7 +16,6 @@ use crate::command::Command;
 use crate::fault::HostFault;
 use crate::question::Question;
 use crate::stage::Stage;
-use crate::standing::Standing;
 use crate::state::State;
 use pm_table::{Cell, Code, address_ok, cell_of};
 
@@ -76,6 +75,7 @@ impl Image {
 
     /// Where the open job stands of the host whose image it is, `None` where none is open: each call of its
     /// state wants it. `NoHost` where it isn't the image of a host.
+    #[inline(always)]
     #[tactic(auto, unfolding(crate::specs::Image::host_of))]
     pub fn read_stage(&self) -> Result<Option<Stage>, NoHost>
         ensures found { IfOk result (λ stage. host_of self.now ≡ Some (held stage self.now.state)) }
@@ -94,6 +94,7 @@ impl Image {
     }
 
     /// Keeps where the open job stands after a call of the state.
+    #[inline(always)]
     #[tactic(auto, unfolding(crate::specs::Image::host_of))]
     pub fn write_stage(&mut self, stage: Option<Stage>)
         requires current { is_current self.old ≡ true }
@@ -131,8 +132,7 @@ impl State {
             Stage::Writes { cell, word, pass } | Stage::Reads { cell, word, pass } => {
                 cell.is_there(self.outputs)
                     && cell.accepts(word)
-                    && self.known.possible(cell).allows(word)
-                    && self.known.standing(cell).standing() == Standing::Unknown
+                    && self.known.is_open(cell, word)
                     && pass < passes
             }
             Stage::Asks { question, tries } => question.is_there(self.outputs) && tries < passes,

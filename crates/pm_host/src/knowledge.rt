@@ -1,6 +1,6 @@
-ghost use Rattle.std.specs.Prelude.{◌≡◌, true, false, slice_set};
+ghost use Rattle.std.specs.Prelude.{◌≡◌, ◌&&◌, true, false, slice_set};
 ghost use Rattle.pm_table.specs.Cell.{place_of, IsCell};
-ghost use Rattle.pm_host.specs.Image.{known_held, words_held, standing_held};
+ghost use Rattle.pm_host.specs.Image.{is_unknown, known_held, words_held, standing_held};
 ghost use Rattle.pm_host.specs.Possible.{is_possible, has_room, only};
 ghost use Rattle.pm_host.specs.Known.{HasPlaces, known_possible, known_standing, known_after, nothing_known};
 ghost use Rattle.pm_host.specs.Marks.{Put, Good, Restored};
@@ -56,6 +56,17 @@ impl Knowledge {
         ensures { standing_held result ≡ known_standing (known_held self.now) cell }
     {
         self.standing[cell.place()]
+    }
+
+    /// Whether an order of this word may be open: the cell may hold it, and no word of the cell is confirmed.
+    #[tactic(auto, unfolding(crate::specs::Image::known_held))]
+    pub(crate) fn is_open(&self, cell: Cell, word: u16) -> bool
+        requires { IsCell 8 cell }
+        ensures { result ≡ (is_possible word (known_possible (known_held self.now) cell)
+            && is_unknown (known_standing (known_held self.now) cell)) }
+    {
+        let place = cell.place();
+        self.possible[place].allows(word) && self.standing[place].standing() == Standing::Unknown
     }
 
     /// Whether a restart of the device was seen, as `Host::restart_seen` says.

@@ -49,12 +49,14 @@ impl WordsImage {
         }
     }
 
-    /// Whether the cell may hold this word.
+    /// Whether the cell may hold this word. The word that was listed last is looked at first: it is that of the open
+    /// order.
+    #[inline(always)]
     pub(crate) fn allows(&self, word: u16) -> bool
         ensures { result ≡ is_possible word (words_held self.now) }
     {
         match self.listed() {
-            Some(words) => words.contains(&word),
+            Some(words) => words.last() == Some(&word) || words.contains(&word),
             None => true,
         }
     }

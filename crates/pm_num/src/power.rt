@@ -62,12 +62,26 @@ pub fn lower_of_ten(r: i8) -> i128
     }
 }
 
-// `10^n`.
+// `10^n`. Each value of DIRECT asks for one, so they stand here and aren't multiplied out.
 fn power_of_ten(n: u8) -> i128
     requires { n ≤ 12 }
     ensures value { result ≡ pos (10 ^ n) }
     ensures positive { pos 0 <ℤ result }
     ensures small { result ≤ℤ pos (10 ^ 12) }
 {
-    10i128.pow(u32::from(n))
+    match n {
+        0 => 1,
+        1 => 10,
+        2 => 100,
+        3 => 1000,
+        4 => 10_000,
+        5 => 100_000,
+        6 => 1_000_000,
+        7 => 10_000_000,
+        8 => 100_000_000,
+        9 => 1_000_000_000,
+        10 => 10_000_000_000,
+        11 => 100_000_000_000,
+        _ => 1_000_000_000_000,
+    }
 }
