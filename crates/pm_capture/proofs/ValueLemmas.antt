@@ -1,5 +1,5 @@
 -- The whole millionths of a fraction.
-use Rattle.std.proofs.Common.{ℕ, ◌<◌, ◌*ℤ◌, ◌<ℤ◌, pos, refl, arith}
+use Rattle.std.proofs.Common.{◌<◌, ◌*ℤ◌, ◌<ℤ◌, pos, refl, arith}
 use Rattle.std.proofs.lemmas.Int.{ints}
 use Rattle.pm_num.specs.Ratio.{IsMicroFloor, Ratio}
 use Rattle.pm_num.proofs.Rounding.{floor_from, greatest_from_floor}
