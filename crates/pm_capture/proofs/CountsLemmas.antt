@@ -2,6 +2,7 @@
 use Rattle.std.proofs.Common.{◌≡◌, ℕ, ◌+◌, List, [], ◌++◌, refl, append_assoc, append-nil, add-one}
 use Rattle.std.proofs.lemmas.Result.{IfOk-equal}
 use Rattle.pm_capture.specs.CaptureText.{other_line, other_lines}
+use Rattle.pm_capture.specs.JsonText.{other_json, other_jsons}
 
 pub no_lines : (others : List (ℕ × ℕ)) → other_lines others 0 ≡ []
 unfolding other_lines
@@ -12,3 +13,14 @@ unfolding other_lines
 more_lines others code = rw add-one refl
 
 pub ruleset count_steps = (no_lines, more_lines, append_assoc, append-nil, IfOk-equal)
+
+-- the same as objects of JSON
+pub no_objects : (others : List (ℕ × ℕ)) → other_jsons others 0 ≡ []
+unfolding other_jsons
+no_objects others = refl
+
+pub more_objects : (others : List (ℕ × ℕ)) (code : ℕ) → other_jsons others (code + 1) ≡ other_jsons others code ++ other_json others code
+unfolding other_jsons
+more_objects others code = rw add-one refl
+
+pub ruleset json_steps = (no_objects, more_objects, append_assoc, append-nil, IfOk-equal)

@@ -10,7 +10,7 @@ use Rattle.pm_trace.specs.Trace.{line_read, parts_judged, reading_judged, told_o
 use Rattle.pm_trace.specs.TraceText.{count_line, counts_text as trace_counts, judged_text, told_line, told_lines, told_text, totals_line as trace_totals, trace_text}
 use Rattle.pm_trace.specs.declared.line_fault.LineFault.{LineFault}
 use Rattle.pm_trace.specs.declared.trace_line.TraceLine.{TraceLine}
-use Rattle.pm_capture.specs.CaptureText.{capture_text, counts_text, line_text, lines_text, totals_line}
+use Rattle.pm_capture.specs.CaptureText.{capture_text, counts_text, line_text, lines_text, plain_counts, plain_line, totals_line}
 use Rattle.pm_capture.specs.Hearing.{Heard, heard_of, is_usual, other_code, told_in}
 use Rattle.pm_capture.specs.Laws.{plain_options}
 use Rattle.pm_capture.specs.Readings.{Entry, entries_of, entry_of, judged_in}
@@ -20,7 +20,7 @@ module _ (vout : Option AnyFormat) (long : Bool) where
   -- a line by what it reads as
   line_by : (taught : Taught) (number : ℕ) (parts : Result TraceLine LineFault)
       → line_text (plain_options vout long) taught (number, record { time = None; parts = parts }) ≡ told_line (number, reading_judged parts)
-  unfolding line_text told_text
+  unfolding line_text plain_line told_text
   line_by taught number (Ok parts) =
       let text = judged_text number (parts_judged parts.write parts.read) in
       ap (λ l. decimal number ++ ((codes " " ++ l) ++ codes "\n")) (append-nil text)
@@ -74,6 +74,7 @@ module _ (vout : Option AnyFormat) (long : Bool) where
       rw none (rw count (simp append_assoc))
 
   counts_by : (heard : Heard) → heard.others ≡ [] → counts_text (plain_options vout long) heard ≡ trace_counts heard.counts
+  unfolding plain_counts
   counts_by heard none = ap (λ l. flat_map count_line heard.counts.codes ++ l) (totals_by heard none)
 
   pub plain_text : (text : List ℕ) → capture_text (plain_options vout long) text ≡ trace_text text

@@ -1,6 +1,6 @@
 -- What is written of a capture: a line for each of its lines that isn't skipped, a line for each code that was
 -- carried, and the counts. The forms are this project's own choice; names are printed as in PMBus 1.3 Part II.
-use Rattle.std.specs.Prelude.{ℕ, ◌+◌, zero, suc, Bool, if◌then◌else◌, nat_eq, List, [], ◌∷◌, ◌++◌, map, flat_map, decimal, codes, Option, Some, None, Result, Ok, Err}
+use Rattle.std.specs.Prelude.{ℕ, ◌+◌, zero, suc, Bool, true, false, if◌then◌else◌, nat_eq, List, [], ◌∷◌, ◌++◌, map, flat_map, decimal, codes, Option, Some, None, Result, Ok, Err}
 use Rattle.std.specs.Map.{lookup}
 use Rattle.pm_lines.specs.Numbers.{hex_byte}
 use Rattle.pm_trace.specs.Counts.{Counts, lines_in, total_of}
@@ -10,6 +10,7 @@ use Rattle.pm_trace.specs.declared.decode_end.DecodeEnd.{DecodeEnd}
 use Rattle.pm_trace.specs.declared.line_fault.LineFault.{LineFault}
 use Rattle.pm_trace.specs.declared.trace_line.TraceLine.{TraceLine}
 use Rattle.pm_capture.specs.Hearing.{Heard, heard_of, heard_lines, other_address}
+use Rattle.pm_capture.specs.JsonText.{count_json, judged_fields, number_field_if, other_fields, other_jsons, text_field, totals_json}
 use Rattle.pm_capture.specs.Otherwise.{other_text, spaced}
 use Rattle.pm_capture.specs.Readings.{Entry, Reading, entries_of, judged_in}
 use Rattle.pm_capture.specs.Taught.{Taught, taught_by, untaught}
@@ -61,10 +62,32 @@ reading_text options taught number time (Ok parts) =
     time_text time ++ (codes " " ++ packet_text options taught number parts)
 reading_text options taught number time (Err fault) = codes " " ++ judged_text number (reading_judged (Err fault))
 
+-- a line as it is told to a person
+unfoldable pub plain_line : TellOptions → Taught → Entry → List ℕ
+plain_line options taught entry = decimal entry.0
+    ++ (reading_text options taught entry.0 entry.1.time entry.1.parts ++ codes "\n")
+
+-- a packet as fields of JSON
+abbrev pub packet_fields_by : TellOptions → Taught → TraceLine → Option ℕ → List ℕ
+packet_fields_by options taught parts None = judged_fields options.vout options.values taught parts.write parts.read
+    (parts_judged parts.write parts.read)
+packet_fields_by options taught parts (Some addr) = other_fields addr parts.write parts.read
+
+abbrev pub reading_fields : TellOptions → Taught → ℕ → Option ℕ → Result TraceLine LineFault → List ℕ
+reading_fields options taught number time (Ok parts) = number_field_if (codes "time") time
+    ++ packet_fields_by options taught parts (other_address options.all parts)
+reading_fields options taught number time (Err fault) =
+    text_field (codes "fault") (judged_text number (reading_judged (Err fault)))
+
+-- a line as an object of JSON
+unfoldable pub json_line : TellOptions → Taught → Entry → List ℕ
+json_line options taught entry = codes "{\"line\":" ++ (decimal entry.0
+    ++ (reading_fields options taught entry.0 entry.1.time entry.1.parts ++ codes "}\n"))
+
 -- what is written of a line, with a line feed, by what the lines before it taught
 unfoldable pub line_text : TellOptions → Taught → Entry → List ℕ
-line_text options taught entry = decimal entry.0
-    ++ (reading_text options taught entry.0 entry.1.time entry.1.parts ++ codes "\n")
+line_text options taught entry =
+    if options.json then json_line options taught entry else plain_line options taught entry
 
 -- what is written of lines one after another
 abbrev pub lines_text : TellOptions → Taught → List Entry → List ℕ
@@ -99,9 +122,17 @@ totals_line all heard = codes "lines " ++ (decimal (heard_lines heard) ++ (codes
     ++ (decimal heard.counts.accepted ++ (others_total all heard.others
     ++ faults_text heard.counts.faults heard.counts.bad))))
 
+-- the counts as they are told to a person, and as objects of JSON
+unfoldable pub plain_counts : Bool → Heard → List ℕ
+plain_counts all heard = flat_map count_line heard.counts.codes
+    ++ ((if all then other_lines heard.others 256 else []) ++ totals_line all heard)
+
+unfoldable pub json_counts : Bool → Heard → List ℕ
+json_counts all heard = flat_map count_json heard.counts.codes
+    ++ ((if all then other_jsons heard.others 256 else []) ++ totals_json all heard)
+
 abbrev pub counts_text : TellOptions → Heard → List ℕ
-counts_text options heard = flat_map count_line heard.counts.codes
-    ++ ((if options.all then other_lines heard.others 256 else []) ++ totals_line options.all heard)
+counts_text options heard = if options.json then json_counts options.all heard else plain_counts options.all heard
 
 -- ---- the whole
 
@@ -109,6 +140,13 @@ counts_text options heard = flat_map count_line heard.counts.codes
 unfoldable pub capture_text : TellOptions → List ℕ → List ℕ
 capture_text options text = lines_text options untaught (entries_of options.times text)
     ++ counts_text options (heard_of options.all (entries_of options.times text))
+
+-- what is written of one without bytes, by whether it is told as JSON, and whether other codes are told
+abbrev pub empty_by : Bool → Bool → List ℕ
+empty_by false false = codes "lines 0 accepted 0 faults 0 bad 0\n"
+empty_by false true = codes "lines 0 accepted 0 other 0 faults 0 bad 0\n"
+empty_by true false = codes "{\"lines\":0,\"accepted\":0,\"faults\":0,\"bad\":0}\n"
+empty_by true true = codes "{\"lines\":0,\"accepted\":0,\"other\":0,\"faults\":0,\"bad\":0}\n"
 
 -- how it ends: there are bad lines, or none
 abbrev pub capture_end : TellOptions → List ℕ → DecodeEnd

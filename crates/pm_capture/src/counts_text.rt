@@ -1,10 +1,11 @@
 //! The text of the counts.
 ghost use Rattle.std.specs.Prelude.{◌≡◌, ◌+◌, ◌<◌, ◌++◌, ◌^◌, OnOk, string_bytes};
 ghost use Rattle.pm_trace.specs.Counts.{total_of};
-ghost use Rattle.pm_capture.specs.CaptureText.{counts_text, faults_text, other_line, other_lines, others_total, totals_line};
+ghost use Rattle.pm_capture.specs.CaptureText.{counts_text, faults_text, json_counts, other_line, other_lines, others_total, plain_counts, totals_line};
 ghost use Rattle.pm_capture.specs.Hearing.{heard_lines};
 
 use crate::heard::Heard;
+use crate::json_counts::push_json_counts;
 use crate::options::TellOptions;
 use crate::others::Others;
 use pm_lines::{push_decimal, push_hex};
@@ -12,7 +13,6 @@ use pm_trace::push_count;
 use std::alloc::AllocError;
 
 /// Appends a line for each code that was carried, and the line of the counts, to a text.
-#[tactic(auto, using(crate::proofs::Joins::joins))]
 pub(crate) fn push_counts(
     text: &mut String,
     options: &TellOptions,
@@ -21,13 +21,26 @@ pub(crate) fn push_counts(
     requires { heard_lines heard.now < 2 ^ 64 }
     ensures { OnOk result (string_bytes text.new ≡ string_bytes text.old ++ counts_text options.now heard.now) }
 {
+    if options.json {
+        push_json_counts(text, options.all, heard)
+    } else {
+        push_plain_counts(text, options.all, heard)
+    }
+}
+
+// The same as it is told to a person.
+#[tactic(auto, using(crate::proofs::Joins::joins), unfolding(crate::specs::CaptureText::plain_counts))]
+fn push_plain_counts(text: &mut String, all: bool, heard: &Heard) -> Result<(), AllocError>
+    requires { heard_lines heard.now < 2 ^ 64 }
+    ensures { OnOk result (string_bytes text.new ≡ string_bytes text.old ++ plain_counts all heard.now) }
+{
     for (code, count) in heard.tally().codes().iter() {
         push_count(text, *code, *count)?;
     }
-    if options.all {
+    if all {
         push_others(text, heard.others())?;
     }
-    push_totals(text, options.all, heard)
+    push_totals(text, all, heard)
 }
 
 // A line for each other code, in ascending order.

@@ -96,7 +96,16 @@ impl Heard {
         } else {
             None
         };
-        push_packet_line(text, options, &self.lessons, number, time, packet, &shown, other)?;
+        push_packet_line(
+            text,
+            options,
+            &self.lessons,
+            number,
+            time,
+            packet,
+            &shown,
+            other,
+        )?;
         self.lessons.learn(&shown)?;
         match other {
             None => self.tally.count(&shown),

@@ -55,12 +55,7 @@ impl Lessons {
     }
 
     // Learns from a good answer.
-    fn learn_answer(
-        &mut self,
-        addr: u8,
-        message: &Message,
-        answer: &[u8],
-    ) -> Result<(), AllocError>
+    fn learn_answer(&mut self, addr: u8, message: &Message, answer: &[u8]) -> Result<(), AllocError>
         ensures { OnOk result (self.new ≡ answer_taught self.old addr message.now answer.now) }
     {
         match *message {

@@ -11,6 +11,10 @@ mod capture;
 mod counts_text;
 mod fraction;
 mod heard;
+mod json_counts;
+mod json_fields;
+mod json_text;
+mod json_value;
 mod laws;
 mod lessons;
 mod line_text;
@@ -20,12 +24,12 @@ mod others;
 mod otherwise;
 mod status;
 mod telling;
+#[cfg(test)]
+mod tests;
 mod timed_line;
 mod told;
 mod value;
 mod value_text;
-#[cfg(test)]
-mod tests;
 
 pub use laws::plain_captures_are_traces;
 pub use options::TellOptions;

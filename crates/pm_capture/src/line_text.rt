@@ -3,11 +3,13 @@ ghost use Rattle.std.specs.Prelude.{◌≡◌, ◌++◌, ℕ, Option, Err, Ok, O
 ghost use Rattle.pm_trace.specs.ShownLines.{judged_in};
 ghost use Rattle.pm_trace.specs.Trace.{parts_judged, reading_judged};
 ghost use Rattle.pm_trace.specs.TraceText.{judged_text};
-ghost use Rattle.pm_capture.specs.CaptureText.{bytes_text, extra_text, line_text, meaning_text, packet_text_by, read_bytes_text, time_text};
+ghost use Rattle.pm_capture.specs.CaptureText.{bytes_text, extra_text, json_line, line_text, plain_line, meaning_text, packet_text_by, read_bytes_text, time_text};
 ghost use Rattle.pm_capture.specs.Hearing.{other_address};
 ghost use Rattle.pm_capture.specs.ShownReadings.{packet_in};
 ghost use Rattle.pm_capture.specs.Taught.{Taught};
 
+use crate::json_fields::{push_number_field_if, push_text_field};
+use crate::json_text::{push_judged_fields, push_other_fields};
 use crate::lessons::Lessons;
 use crate::meaning::packet_value;
 use crate::options::TellOptions;
@@ -19,7 +21,7 @@ use pm_trace::{LineFault, Shown, push_shown};
 use std::alloc::AllocError;
 
 /// Appends a line that can't be read to a text, with its number and a line feed.
-#[tactic(auto, using(crate::proofs::Joins::joins), unfolding(crate::specs::CaptureText::line_text))]
+#[tactic(auto, unfolding(crate::specs::CaptureText::line_text))]
 pub(crate) fn push_bad_line(
     text: &mut String,
     options: &TellOptions,
@@ -28,6 +30,41 @@ pub(crate) fn push_bad_line(
 ) -> Result<(), AllocError>
     ensures { OnOk result ((taught : Taught) (time : Option ℕ) → string_bytes text.new ≡ string_bytes text.old
         ++ line_text options.now taught (number, record { time = time; parts = Err fault })) }
+{
+    if options.json {
+        push_bad_json(text, options, number, fault)
+    } else {
+        push_bad_plain(text, options, number, fault)
+    }
+}
+
+// The same as an object of JSON.
+#[tactic(auto, using(crate::proofs::Joins::joins), unfolding(crate::specs::CaptureText::json_line))]
+fn push_bad_json(
+    text: &mut String,
+    options: &TellOptions,
+    number: u64,
+    fault: LineFault,
+) -> Result<(), AllocError>
+    ensures { OnOk result ((taught : Taught) (time : Option ℕ) → string_bytes text.new ≡ string_bytes text.old
+        ++ json_line options.now taught (number, record { time = time; parts = Err fault })) }
+{
+    text.push_str("{\"line\":")?;
+    push_decimal(text, number)?;
+    push_text_field(text, "fault", fault_words(number, fault))?;
+    text.push_str("}\n")
+}
+
+// The same as it is told to a person.
+#[tactic(auto, using(crate::proofs::Joins::joins), unfolding(crate::specs::CaptureText::plain_line))]
+fn push_bad_plain(
+    text: &mut String,
+    options: &TellOptions,
+    number: u64,
+    fault: LineFault,
+) -> Result<(), AllocError>
+    ensures { OnOk result ((taught : Taught) (time : Option ℕ) → string_bytes text.new ≡ string_bytes text.old
+        ++ plain_line options.now taught (number, record { time = time; parts = Err fault })) }
 {
     push_decimal(text, number)?;
     text.push_str(" ")?;
@@ -47,7 +84,7 @@ fn fault_words(number: u64, fault: LineFault) -> &'static str
 
 /// Appends a packet's line to a text, with its number and a line feed: as the command table has the packet, or by its
 /// address, code and bytes where `other` is its address.
-#[tactic(auto, using(crate::proofs::Joins::joins), unfolding(crate::specs::CaptureText::line_text))]
+#[tactic(auto, unfolding(crate::specs::CaptureText::line_text))]
 pub(crate) fn push_packet_line(
     text: &mut String,
     options: &TellOptions,
@@ -62,6 +99,57 @@ pub(crate) fn push_packet_line(
     requires other { other ≡ other_address options.now.all (packet_in packet.now) }
     ensures { OnOk result (string_bytes text.new ≡ string_bytes text.old
         ++ line_text options.now lessons.now (number, record { time = time; parts = Ok (packet_in packet.now) })) }
+{
+    if options.json {
+        push_packet_json(text, options, lessons, number, time, packet, shown, other)
+    } else {
+        push_packet_plain(text, options, lessons, number, time, packet, shown, other)
+    }
+}
+
+// The same as an object of JSON.
+#[tactic(auto, using(crate::proofs::Joins::joins), unfolding(crate::specs::CaptureText::json_line))]
+fn push_packet_json(
+    text: &mut String,
+    options: &TellOptions,
+    lessons: &Lessons,
+    number: u64,
+    time: Option<u64>,
+    packet: &Packet<'_>,
+    shown: &Shown<'_>,
+    other: Option<u8>,
+) -> Result<(), AllocError>
+    requires shown { judged_in shown.now ≡ parts_judged packet.now.write.now (option_map (λ bytes. bytes.now) packet.now.read) }
+    requires other { other ≡ other_address options.now.all (packet_in packet.now) }
+    ensures { OnOk result (string_bytes text.new ≡ string_bytes text.old
+        ++ json_line options.now lessons.now (number, record { time = time; parts = Ok (packet_in packet.now) })) }
+{
+    text.push_str("{\"line\":")?;
+    push_decimal(text, number)?;
+    push_number_field_if(text, "time", time)?;
+    match other {
+        None => push_judged_fields(text, options, lessons, packet, shown)?,
+        Some(addr) => push_other_fields(text, addr, packet)?,
+    }
+    text.push_str("}\n")
+}
+
+// The same as it is told to a person.
+#[tactic(auto, using(crate::proofs::Joins::joins), unfolding(crate::specs::CaptureText::plain_line))]
+fn push_packet_plain(
+    text: &mut String,
+    options: &TellOptions,
+    lessons: &Lessons,
+    number: u64,
+    time: Option<u64>,
+    packet: &Packet<'_>,
+    shown: &Shown<'_>,
+    other: Option<u8>,
+) -> Result<(), AllocError>
+    requires shown { judged_in shown.now ≡ parts_judged packet.now.write.now (option_map (λ bytes. bytes.now) packet.now.read) }
+    requires other { other ≡ other_address options.now.all (packet_in packet.now) }
+    ensures { OnOk result (string_bytes text.new ≡ string_bytes text.old
+        ++ plain_line options.now lessons.now (number, record { time = time; parts = Ok (packet_in packet.now) })) }
 {
     push_decimal(text, number)?;
     push_time(text, time)?;
@@ -106,7 +194,10 @@ fn push_extra(
     }
     match shown {
         Shown::Accepted { addr, view, answer } => {
-            push_known(text, packet_value(options.vout, lessons, *addr, view, *answer))
+            push_known(
+                text,
+                packet_value(options.vout, lessons, *addr, view, *answer),
+            )
         }
         Shown::Faulty { .. } => push_bytes(text, packet),
         Shown::BadSyntax | Shown::BadHex => Ok(()),

@@ -118,11 +118,7 @@ pub(crate) fn push_spaced(text: &mut String, bytes: &[u8]) -> Result<(), AllocEr
 
 /// Appends a packet by its code and bytes to a text.
 #[tactic(auto, using(crate::proofs::Joins::joins), unfolding(crate::specs::Otherwise::other_text))]
-pub(crate) fn push_other(
-    text: &mut String,
-    addr: u8,
-    packet: &Packet<'_>,
-) -> Result<(), AllocError>
+pub(crate) fn push_other(text: &mut String, addr: u8, packet: &Packet<'_>) -> Result<(), AllocError>
     requires { spec_has_code packet.now.write.now (option_map (λ bytes. bytes.now) packet.now.read) ≡ true }
     ensures { OnOk result (string_bytes text.new ≡ string_bytes text.old
         ++ other_text addr packet.now.write.now (option_map (λ bytes. bytes.now) packet.now.read)) }

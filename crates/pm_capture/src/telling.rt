@@ -6,7 +6,7 @@ ghost use Rattle.pm_lines.specs.Engine.{EngineEnds, over};
 ghost use Rattle.pm_lines.specs.Streams.{AppendsFront};
 ghost use Rattle.pm_trace.specs.TraceText.{IsOfDecode};
 ghost use Rattle.pm_trace.specs.Written.{Puts};
-ghost use Rattle.pm_capture.specs.CaptureText.{capture_end, capture_text, counts_text};
+ghost use Rattle.pm_capture.specs.CaptureText.{capture_end, capture_text, counts_text, empty_by as spec_empty_by};
 ghost use Rattle.pm_capture.specs.Capturing.{kept_at_end, most_bytes, next, said_text, told as told_of, told_at_end};
 ghost use Rattle.pm_capture.specs.LongEngine.{LongEnds};
 ghost use Rattle.pm_capture.specs.Outcome.{telling};
@@ -199,12 +199,21 @@ fn tell_end(capture: &mut Capture, gathered: &mut Told) -> Result<(), AllocError
 }
 
 // What is written of a capture of no bytes.
+#[tactic(auto, using(crate::proofs::EmptyLemmas::empty_all))]
 fn empty_text(options: &TellOptions) -> &'static str
     ensures { result.now ≡ capture_text options.now [] }
 {
-    if options.all {
-        "lines 0 accepted 0 other 0 faults 0 bad 0\n"
-    } else {
-        "lines 0 accepted 0 faults 0 bad 0\n"
+    empty_by(options.json, options.all)
+}
+
+// The same by whether it is an object of JSON, and whether other codes are counted.
+fn empty_by(json: bool, all: bool) -> &'static str
+    ensures { result.now ≡ spec_empty_by json all }
+{
+    match (json, all) {
+        (false, false) => "lines 0 accepted 0 faults 0 bad 0\n",
+        (false, true) => "lines 0 accepted 0 other 0 faults 0 bad 0\n",
+        (true, false) => "{\"lines\":0,\"accepted\":0,\"faults\":0,\"bad\":0}\n",
+        (true, true) => "{\"lines\":0,\"accepted\":0,\"other\":0,\"faults\":0,\"bad\":0}\n",
     }
 }

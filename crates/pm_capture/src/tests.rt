@@ -55,14 +55,38 @@ fn without_an_option_packets_are_told_as_before(rt: HostRuntime) {
 }
 
 static MEANINGS: [(&str, &str); 9] = [
-    ("B0 88 / B1 30 D3 0F", "1 58 READ_VIN read D330 51/4 V\ncount READ_VIN 1\nlines 1 accepted 1 faults 0 bad 0\n"),
-    ("B0 8C / B1 FB FF E9", "1 58 READ_IOUT read FFFB -5/2 A\ncount READ_IOUT 1\nlines 1 accepted 1 faults 0 bad 0\n"),
-    ("B0 01 94 1A", "1 58 OPERATION write 94 on, margin low\ncount OPERATION 1\nlines 1 accepted 1 faults 0 bad 0\n"),
-    ("B0 10 20 5D", "1 58 WRITE_PROTECT write 20 writes of WRITE_PROTECT, OPERATION, PAGE and VOUT_COMMAND\ncount WRITE_PROTECT 1\nlines 1 accepted 1 faults 0 bad 0\n"),
-    ("B0 79 / B1 42 80 2C", "1 58 STATUS_WORD read 8042 VOUT, OFF, CML\ncount STATUS_WORD 1\nlines 1 accepted 1 faults 0 bad 0\n"),
-    ("B0 7E / B1 84 1C", "1 58 STATUS_CML read 84 COMMAND, bit 2\ncount STATUS_CML 1\nlines 1 accepted 1 faults 0 bad 0\n"),
-    ("B0 78 / B1 00 F4", "1 58 STATUS_BYTE read 00 none\ncount STATUS_BYTE 1\nlines 1 accepted 1 faults 0 bad 0\n"),
-    ("B0 05 04 01 21 CD 34 5A", "1 58 write F5 WrongPec 7 bytes B0 05 04 01 21 CD 34 5A\nlines 1 accepted 0 faults 1 bad 0\n"),
+    (
+        "B0 88 / B1 30 D3 0F",
+        "1 58 READ_VIN read D330 51/4 V\ncount READ_VIN 1\nlines 1 accepted 1 faults 0 bad 0\n",
+    ),
+    (
+        "B0 8C / B1 FB FF E9",
+        "1 58 READ_IOUT read FFFB -5/2 A\ncount READ_IOUT 1\nlines 1 accepted 1 faults 0 bad 0\n",
+    ),
+    (
+        "B0 01 94 1A",
+        "1 58 OPERATION write 94 on, margin low\ncount OPERATION 1\nlines 1 accepted 1 faults 0 bad 0\n",
+    ),
+    (
+        "B0 10 20 5D",
+        "1 58 WRITE_PROTECT write 20 writes of WRITE_PROTECT, OPERATION, PAGE and VOUT_COMMAND\ncount WRITE_PROTECT 1\nlines 1 accepted 1 faults 0 bad 0\n",
+    ),
+    (
+        "B0 79 / B1 42 80 2C",
+        "1 58 STATUS_WORD read 8042 VOUT, OFF, CML\ncount STATUS_WORD 1\nlines 1 accepted 1 faults 0 bad 0\n",
+    ),
+    (
+        "B0 7E / B1 84 1C",
+        "1 58 STATUS_CML read 84 COMMAND, bit 2\ncount STATUS_CML 1\nlines 1 accepted 1 faults 0 bad 0\n",
+    ),
+    (
+        "B0 78 / B1 00 F4",
+        "1 58 STATUS_BYTE read 00 none\ncount STATUS_BYTE 1\nlines 1 accepted 1 faults 0 bad 0\n",
+    ),
+    (
+        "B0 05 04 01 21 CD 34 5A",
+        "1 58 write F5 WrongPec 7 bytes B0 05 04 01 21 CD 34 5A\nlines 1 accepted 0 faults 1 bad 0\n",
+    ),
     (
         "B0 05 04 01 21 CD 34 4C\nB0 06 02 01 20 / B1 01 14 2C\nB0 05 04 01 21 CD 34 4C\nB0 06 02 01 20 / B1 01 40 87\nB0 05 04 01 21 CD 34 4C\nB0 30 02 21 00 / B1 05 01 00 00 00 03 6B\nB0 05 04 01 21 CD 34 4C\nB0 21 CD 34 38\n",
         "1 58 page 1 VOUT_COMMAND write 34CD\n2 58 page 1 VOUT_MODE read 14 ULINEAR16 -12\n3 58 page 1 VOUT_COMMAND write 34CD 13517/4096 3300048 uV\n4 58 page 1 VOUT_MODE read 40 DIRECT\n5 58 page 1 VOUT_COMMAND write 34CD\n6 58 COEFFICIENTS of 21 side 0 read m 1 b 0 r 3\n7 58 page 1 VOUT_COMMAND write 34CD 13517/1000 13517000 uV\n8 58 VOUT_COMMAND write 34CD\ncount VOUT_COMMAND 5\ncount VOUT_MODE 2\ncount COEFFICIENTS 1\nlines 8 accepted 8 faults 0 bad 0\n",
@@ -100,6 +124,46 @@ fn each_line_begins_with_its_time(rt: HostRuntime) {
         &TellOptions {
             times: true,
             ..PLAIN
+        },
+    );
+}
+
+static OBJECTS: [(&str, &str); 2] = [
+    (
+        "",
+        "{\"lines\":0,\"accepted\":0,\"other\":0,\"faults\":0,\"bad\":0}\n",
+    ),
+    (
+        "B0 05 04 01 21 CD 34 4C\nB0 06 02 01 20 / B1 01 14 2C\nB0 05 04 01 21 CD 34 4C\nB0 79 / B1 42 80 2C\nB0 78 / B1 00 F4\nB0 30 02 21 00 / B1 05 01 00 00 00 03 6B\nB0 88 / B1 30 D3 0F\nB0 05 04 01 21 CD 34 5A\nB0 0\nB0 96 / B1 34 12 B1\nB0 86 02 01 02 / B1 03 04 1E\nB0 D4\nB0 03 46\n/\n",
+        "{\"line\":1,\"address\":\"58\",\"page\":1,\"code\":\"21\",\"name\":\"VOUT_COMMAND\",\"direction\":\"write\",\"bytes\":\"CD 34\"}\n\
+{\"line\":2,\"address\":\"58\",\"page\":1,\"code\":\"20\",\"name\":\"VOUT_MODE\",\"direction\":\"read\",\"bytes\":\"14\",\"value\":\"ULINEAR16 -12\"}\n\
+{\"line\":3,\"address\":\"58\",\"page\":1,\"code\":\"21\",\"name\":\"VOUT_COMMAND\",\"direction\":\"write\",\"bytes\":\"CD 34\",\"value\":\"13517/4096\",\"micro\":3300048,\"unit\":\"V\"}\n\
+{\"line\":4,\"address\":\"58\",\"code\":\"79\",\"name\":\"STATUS_WORD\",\"direction\":\"read\",\"bytes\":\"42 80\",\"flags\":[\"VOUT\",\"OFF\",\"CML\"]}\n\
+{\"line\":5,\"address\":\"58\",\"code\":\"78\",\"name\":\"STATUS_BYTE\",\"direction\":\"read\",\"bytes\":\"00\",\"flags\":[]}\n\
+{\"line\":6,\"address\":\"58\",\"code\":\"30\",\"name\":\"COEFFICIENTS\",\"of\":\"21\",\"side\":0,\"direction\":\"read\",\"bytes\":\"01 00 00 00 03\",\"value\":\"m 1 b 0 r 3\"}\n\
+{\"line\":7,\"address\":\"58\",\"code\":\"88\",\"name\":\"READ_VIN\",\"direction\":\"read\",\"bytes\":\"30 D3\",\"value\":\"51/4\",\"unit\":\"V\"}\n\
+{\"line\":8,\"address\":\"58\",\"direction\":\"write\",\"bytes\":\"B0 05 04 01 21 CD 34 5A\",\"fault\":\"F5 WrongPec\",\"place\":7}\n\
+{\"line\":9,\"fault\":\"X2 BadHex\"}\n\
+{\"line\":10,\"address\":\"58\",\"code\":\"96\",\"direction\":\"read\",\"bytes\":\"34 12\",\"pec\":true}\n\
+{\"line\":11,\"address\":\"58\",\"code\":\"86\",\"direction\":\"read\",\"written\":\"02 01 02\",\"bytes\":\"03 04\",\"pec\":true}\n\
+{\"line\":12,\"address\":\"58\",\"code\":\"D4\",\"direction\":\"send\",\"pec\":false}\n\
+{\"line\":13,\"address\":\"58\",\"code\":\"03\",\"name\":\"CLEAR_FAULTS\",\"direction\":\"send\"}\n\
+{\"line\":14,\"direction\":\"write\",\"bytes\":\"/\",\"fault\":\"F1 NotOurs\"}\n\
+{\"count\":\"VOUT_COMMAND\",\"lines\":2}\n{\"count\":\"VOUT_MODE\",\"lines\":1}\n{\"count\":\"STATUS_WORD\",\"lines\":1}\n{\"count\":\"STATUS_BYTE\",\"lines\":1}\n{\"count\":\"COEFFICIENTS\",\"lines\":1}\n{\"count\":\"READ_VIN\",\"lines\":1}\n{\"count\":\"CLEAR_FAULTS\",\"lines\":1}\n\
+{\"code\":\"86\",\"lines\":1}\n{\"code\":\"96\",\"lines\":1}\n{\"code\":\"D4\",\"lines\":1}\n\
+{\"lines\":14,\"accepted\":8,\"other\":3,\"faults\":2,\"bad\":1}\n",
+    ),
+];
+
+#[test]
+fn each_line_is_an_object_of_json(rt: HostRuntime) {
+    are_told(
+        &rt,
+        &OBJECTS,
+        &TellOptions {
+            all: true,
+            json: true,
+            ..VALUES
         },
     );
 }

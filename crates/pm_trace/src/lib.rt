@@ -33,8 +33,8 @@ mod usual;
 mod usual_packets;
 
 pub use byte_list::ByteList;
-pub use decode_end::DecodeEnd;
 pub use counts_text::push_count;
+pub use decode_end::DecodeEnd;
 pub use decoder::open_line::OpenLine;
 pub use decoder::{Decoder, PART_BYTES, Part};
 pub use fed::Fed;

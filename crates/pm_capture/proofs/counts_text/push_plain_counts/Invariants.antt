@@ -1,7 +1,7 @@
 use Rattle.std.proofs.Common.{◌≡◌, ◌++◌, string_bytes}
 use Rattle.std.specs.Prelude.{flat_map}
 use Rattle.pm_trace.specs.TraceText.{count_line}
-use Rattle.pm_capture.proofs.counts_text.push_counts.Given as goal
+use Rattle.pm_capture.proofs.counts_text.push_plain_counts.Given as goal
 
 -- what is written and what is left are the whole
 abbrev pub invariant-loop-code : goal.invariant-loop-code
