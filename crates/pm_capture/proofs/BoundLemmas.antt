@@ -1,7 +1,7 @@
 -- How many lines were heard and ended, at the beginning and where a line ends.
-use Rattle.std.proofs.Common.{◌≡◌, ℕ, ◌+◌, ◌≤◌, Bool, false, cond, [], subst, sym, ap, refl, arith}
+use Rattle.std.proofs.Common.{◌≡◌, ◌+◌, ◌≤◌, Bool, false, [], ap, arith}
 use Rattle.pm_trace.specs.Counts.{counts_of}
-use Rattle.pm_capture.specs.Capturing.{IsBounded, Kept, most_bytes}
+use Rattle.pm_capture.specs.Capturing.{IsBounded, Kept}
 use Rattle.pm_capture.specs.Hearing.{Heard, heard_lines, heard_of}
 use Rattle.pm_capture.specs.TimedLines.{timed_of}
 use Rattle.pm_capture.specs.declared.options.TellOptions.{TellOptions}

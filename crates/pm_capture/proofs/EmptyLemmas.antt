@@ -1,5 +1,5 @@
 -- What is written of a capture of no bytes.
-use Rattle.std.proofs.Common.{◌≡◌, ℕ, Bool, true, false, [], refl}
+use Rattle.std.proofs.Common.{◌≡◌, Bool, true, false, [], refl}
 use Rattle.std.specs.Fmt.{digits}
 use Rattle.pm_lines.specs.Lines.{lines_of, unskipped_from}
 use Rattle.pm_trace.specs.Counts.{counts_of}

@@ -1,7 +1,6 @@
 -- How a telling ends, by what was read and what was written.
-use Rattle.std.proofs.Common.{◌≡◌, ◌∙◌, ◌<◌, ◌≤◌, ◌++◌, ◌↔◌, true≢false, ℕ, Bool, true, false, List, [], length, Ok, Err, Result, IfOk, IfErr, IsTrue, IsFalse, Option, Some, ap, inl, inr, refl, sym, subst}
-use Rattle.std.specs.Prelude.{MatchResult}
-use Rattle.std.specs.Io.KnownBytes.{Appends, Consumes, IsAtEnd}
+use Rattle.std.proofs.Common.{◌≡◌, ◌∙◌, ◌<◌, ◌≤◌, ◌++◌, ◌↔◌, true≢false, ℕ, false, List, [], length, Ok, Err, Result, IfOk, IfErr, IsTrue, IsFalse, Option, ap, inl, inr, refl, sym, subst}
+use Rattle.std.specs.Io.KnownBytes.{Appends, Consumes}
 use Rattle.pm_lines.specs.Engine.{EngineEnds, Run}
 use Rattle.pm_lines.specs.Lemmas.Engines.{false_unless}
 use Rattle.pm_lines.specs.Streams.{AppendsFront, IsWholeText, max_text}
@@ -11,7 +10,7 @@ use Rattle.pm_trace.specs.TraceText.{IsOfDecode}
 use Rattle.pm_trace.specs.Written.{Puts}
 use Rattle.pm_trace.specs.declared.decode_end.DecodeEnd.{DecodeEnd}
 use Rattle.pm_capture.specs.CaptureText.{capture_end, capture_text}
-use Rattle.pm_capture.specs.Capturing.{Kept, kept_of, most_bytes, said_text}
+use Rattle.pm_capture.specs.Capturing.{Kept, most_bytes, said_text}
 use Rattle.pm_capture.specs.LongEngine.{IsWhole, LongEnds}
 use Rattle.pm_capture.specs.Outcome.{telling}
 use Rattle.pm_capture.specs.WrittenCaptures.{Gathered, Hears, StopsHearing}

@@ -1,12 +1,12 @@
 -- What is known, and what is written, behind one line more.
-use Rattle.std.proofs.Common.{◌≡◌, ℕ, ◌+◌, Bool, true, false, cond, not, List, [], ◌∷◌, ◌++◌, map, filter, Option, Some, None}
+use Rattle.std.proofs.Common.{◌≡◌, ℕ, ◌+◌, Bool, cond, not, List, [], ◌∷◌, ◌++◌, map, filter, Option, Some, None}
 use Rattle.std.proofs.Common.{refl, sym, ap, ◌∙◌, arith, append_assoc, append-nil}
 use Rattle.std.specs.Prelude.{is_some}
-use Rattle.std.specs.List.{fold, filter_map}
+use Rattle.std.specs.List.{filter_map}
 use Rattle.std.proofs.lemmas.List.{map-append}
 use Rattle.std.proofs.lemmas.List.Elements.{filter-append, filter_map-append}
 use Rattle.std.proofs.lemmas.List.Sums.{fold-append}
-use Rattle.pm_trace.specs.Counts.{Counts, counted, counts_of, lines_in, one_counted, one_more, total_of}
+use Rattle.pm_trace.specs.Counts.{counted, counts_of, lines_in, one_counted, one_more}
 use Rattle.pm_trace.specs.Trace.{Judged, Told, Accepted, Faulty, BadSyntax, BadHex}
 use Rattle.pm_trace.proofs.CountLemmas.{total_one_more}
 use Rattle.pm_trace.proofs.SaidLemmas.{counts_of-snoc}

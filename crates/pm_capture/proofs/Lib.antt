@@ -8,3 +8,4 @@ pub mod HearingLemmas
 pub mod Joins
 pub mod PlainLemmas
 pub mod TimedLemmas
+pub mod ValueLemmas

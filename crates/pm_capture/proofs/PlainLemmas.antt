@@ -1,11 +1,11 @@
 -- What is told without options is what a trace is told as.
-use Rattle.std.proofs.Common.{◌≡◌, ◌∙◌, ℕ, ◌+◌, Bool, true, false, cond, not, List, [], ◌∷◌, ◌++◌, map, filter, codes, Option, Some, None, Result, Ok, Err}
+use Rattle.std.proofs.Common.{◌≡◌, ◌∙◌, ℕ, ◌+◌, Bool, false, List, [], ◌∷◌, ◌++◌, map, filter, codes, Option, None, Result, Ok, Err}
 use Rattle.std.proofs.Common.{refl, sym, ap, arith, append_assoc, append-nil}
-use Rattle.std.specs.Prelude.{decimal, flat_map, is_some}
+use Rattle.std.specs.Prelude.{decimal, flat_map}
 use Rattle.std.specs.List.{filter_map}
 use Rattle.pm_lines.specs.Lines.{Numbered, unskipped_from}
 use Rattle.pm_num.specs.declared.any_format.AnyFormat.{AnyFormat}
-use Rattle.pm_trace.specs.Counts.{Counts, counted, counts_of, lines_in}
+use Rattle.pm_trace.specs.Counts.{counted, counts_of, lines_in}
 use Rattle.pm_trace.specs.Trace.{line_read, parts_judged, reading_judged, told_of, trace_of}
 use Rattle.pm_trace.specs.TraceText.{count_line, counts_text as trace_counts, judged_text, told_line, told_lines, told_text, totals_line as trace_totals, trace_text}
 use Rattle.pm_trace.specs.declared.line_fault.LineFault.{LineFault}

@@ -1,23 +1,23 @@
 -- What is kept of a line with one byte more at its end, and what it reads as where it ends.
-use Rattle.std.proofs.Common.{◌≡◌, ℕ, ◌+◌, ◌-◌, ◌<◌, ◌≤◌, eqb, Bool, true, false, cond, not, ◌||◌, ◌&&◌, List, [], ◌∷◌, ◌++◌, length, take, drop, get_or, None, Some}
-use Rattle.std.proofs.Common.{refl, sym, ap, subst, ◌∙◌, arith, append_assoc, append-nil, length-append, ne_eqb, Option}
+use Rattle.std.proofs.Common.{◌≡◌, ℕ, ◌+◌, ◌-◌, ◌<◌, ◌≤◌, eqb, Bool, true, false, cond, not, ◌||◌, ◌&&◌, List, [], ◌∷◌, ◌++◌, length, take, drop, get_or, None}
+use Rattle.std.proofs.Common.{refl, sym, ap, subst, ◌∙◌, arith, append_assoc, append-nil, length-append, ne_eqb}
 use Rattle.std.proofs.lemmas.List.Folds.{list_any-append}
 use Rattle.std.proofs.lemmas.List.Sums.{fold-append}
 use Rattle.std.specs.Prelude.{nat_eq, nat_lt, codes}
-use Rattle.std.specs.List.{fold, list_all, list_any, starts_with}
+use Rattle.std.specs.List.{fold, list_all, starts_with}
 use Rattle.std.proofs.lemmas.Bool.Decides.{nat_tests}
 use Rattle.std.proofs.lemmas.List.{take_all, length-take}
 use Rattle.std.proofs.Math.Bool.{or-true, or-false, and-true}
 use Rattle.pm_lines.specs.Lines.{has_bytes, is_line_feed, is_skipped, is_space, without_return}
 use Rattle.pm_trace.specs.Marks.{before}
-use Rattle.pm_trace.specs.OpenLines.{Passes, line_of, line_takes, open_read, is_skipped_kind, kind_of, plain_line}
+use Rattle.pm_trace.specs.OpenLines.{Passes, line_of, line_takes, open_read, plain_line}
 use Rattle.pm_trace.specs.declared.decoder.open_line.OpenLine.{OpenLine}
 use Rattle.pm_trace.specs.Parts.{part_of, part_takes}
-use Rattle.pm_trace.specs.Trace.{line_read, max_part}
-use Rattle.pm_trace.proofs.OpenLineLemmas.{HasLast, has_last, line_of-snoc, turned, without_return-snoc}
+use Rattle.pm_trace.specs.Trace.{line_read}
+use Rattle.pm_trace.proofs.OpenLineLemmas.{has_last, line_of-snoc, turned, without_return-snoc}
 use Rattle.pm_trace.proofs.PlainLineLemmas.{part_of-snoc}
 use Rattle.pm_trace.proofs.SaidLemmas.{open_reads, skipped_kind}
-use Rattle.pm_capture.specs.Readings.{Reading, behind_word, first_word, from_first, past_spaces, reading_of, time_in, timed}
+use Rattle.pm_capture.specs.Readings.{behind_word, first_word, from_first, past_spaces, reading_of, time_in, timed}
 use Rattle.pm_capture.specs.TimedLines.{PassesTimed, skips_timed, timed_of, timed_read, timed_takes, word_ended}
 use Rattle.pm_capture.specs.declared.timed_line.TimedLine.{TimedLine}
 

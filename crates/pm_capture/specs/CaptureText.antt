@@ -1,9 +1,9 @@
 -- What is written of a capture: a line for each of its lines that isn't skipped, a line for each code that was
 -- carried, and the counts. The forms are this project's own choice; names are printed as in PMBus 1.3 Part II.
-use Rattle.std.specs.Prelude.{ℕ, ◌+◌, zero, suc, Bool, true, false, if◌then◌else◌, nat_eq, List, [], ◌∷◌, ◌++◌, map, flat_map, decimal, codes, Option, Some, None, Result, Ok, Err}
+use Rattle.std.specs.Prelude.{ℕ, zero, suc, Bool, true, false, if◌then◌else◌, nat_eq, List, [], ◌∷◌, ◌++◌, flat_map, decimal, codes, Option, Some, None, Result, Ok, Err}
 use Rattle.std.specs.Map.{lookup}
 use Rattle.pm_lines.specs.Numbers.{hex_byte}
-use Rattle.pm_trace.specs.Counts.{Counts, lines_in, total_of}
+use Rattle.pm_trace.specs.Counts.{total_of}
 use Rattle.pm_trace.specs.Trace.{Judged, Accepted, Faulty, BadSyntax, BadHex, parts_judged, reading_judged}
 use Rattle.pm_trace.specs.TraceText.{count_line, end_of, judged_text}
 use Rattle.pm_trace.specs.declared.decode_end.DecodeEnd.{DecodeEnd}
@@ -12,7 +12,7 @@ use Rattle.pm_trace.specs.declared.trace_line.TraceLine.{TraceLine}
 use Rattle.pm_capture.specs.Hearing.{Heard, heard_of, heard_lines, other_address}
 use Rattle.pm_capture.specs.JsonText.{count_json, judged_fields, number_field_if, other_fields, other_jsons, text_field, totals_json}
 use Rattle.pm_capture.specs.Otherwise.{other_text, spaced}
-use Rattle.pm_capture.specs.Readings.{Entry, Reading, entries_of, judged_in}
+use Rattle.pm_capture.specs.Readings.{Entry, entries_of, judged_in}
 use Rattle.pm_capture.specs.Taught.{Taught, taught_by, untaught}
 use Rattle.pm_capture.specs.ValueText.{known_text}
 use Rattle.pm_capture.specs.Values.{packet_value}

@@ -1,6 +1,6 @@
 -- What is known behind the lines of a capture: what they teach, and how many there were of each kind. This project's
 -- own choice.
-use Rattle.std.specs.Prelude.{ℕ, ◌+◌, Bool, not, ◌==◌, if◌then◌else◌, List, [], ◌∷◌, map, filter, slice_index, is_some, Option, Some, None, Result, Ok, Err}
+use Rattle.std.specs.Prelude.{ℕ, ◌+◌, Bool, not, if◌then◌else◌, List, map, filter, slice_index, is_some, Option, Some, None, Result, Ok, Err}
 use Rattle.std.specs.List.{filter_map}
 use Rattle.pm_trace.specs.Counts.{Counts, counted, counts_of, lines_in, one_counted, one_more, total_of}
 use Rattle.pm_trace.specs.Trace.{Judged, Told, parts_judged}

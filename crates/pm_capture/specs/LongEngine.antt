@@ -1,11 +1,11 @@
 -- What an engine promises of the reader and the writer that it runs over where its text may have this many bytes: what
 -- `pm_lines` has of every engine, whose limit is `max_text`. This project's own choice.
-use Rattle.std.specs.Prelude.{◌≡◌, ◌⊎◌, ◌↔◌, ℕ, ◌<◌, ◌≤◌, Bool, List, ◌++◌, length, Option, Some, None, Result, Ok, Err, IsTrue, IsFalse, ⊤}
+use Rattle.std.specs.Prelude.{◌≡◌, ◌⊎◌, ◌↔◌, ℕ, ◌<◌, ◌≤◌, List, ◌++◌, length, Option, Result, Ok, Err, IsTrue, IsFalse}
 use Rattle.std.specs.Io.KnownBytes.{Appends, Consumes, IsAtEnd}
-use Rattle.pm_lines.specs.Engine.{Engine, Run, IsTold}
+use Rattle.pm_lines.specs.Engine.{Run, IsTold}
 use Rattle.pm_lines.specs.Streams.{AppendsFront}
 use Rattle.pm_lines.specs.declared.fault.TextFault.{TextFault}
-use Rattle.pm_lines.specs.declared.fault.TextFault.TheVariants.{Syntax, BadHex, TooLong, Read, Write, Memory, Setup}
+use Rattle.pm_lines.specs.declared.fault.TextFault.TheVariants.{TooLong, Read, Write, Memory}
 
 -- the reader gave these bytes and has no more, and a text may have as many
 pub record IsWhole (limit : ℕ) (old new : Option (List ℕ)) (text : List ℕ) : Type 0 where

@@ -6,8 +6,7 @@ use Rattle.pm_frame.specs.declared.fault.FrameFault.{FrameFault}
 use Rattle.pm_frame.specs.declared.fault.FrameFault.TheVariants.{NotOurs, Short, Long, WrongCount, WrongPec, UnknownCode, WrongDirection, Nested}
 use Rattle.pm_lines.specs.Numbers.{hex_byte}
 use Rattle.pm_table.specs.Commands.{is_known, name_of}
-use Rattle.pm_trace.specs.Trace.{Judged, Accepted, Faulty, BadSyntax, BadHex, parts_judged}
-use Rattle.pm_trace.specs.declared.trace_line.TraceLine.{TraceLine}
+use Rattle.pm_trace.specs.Trace.{Judged, Accepted, Faulty, BadSyntax, BadHex}
 
 -- ---- which packets
 

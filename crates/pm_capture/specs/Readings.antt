@@ -1,6 +1,6 @@
 -- What a line of a capture reads as: the packet's bytes, as `pm_trace` reads them, and with times the number that
 -- stands before them. The forms are this project's own choice.
-use Rattle.std.specs.Prelude.{ℕ, ℤ, pos, negsuc, Bool, true, false, not, ◌||◌, ◌==◌, nat_lt, if◌then◌else◌, List, [], ◌∷◌, length, map, slice_index, Option, Some, None, Result, Ok, Err}
+use Rattle.std.specs.Prelude.{ℕ, ℤ, pos, negsuc, Bool, true, false, not, ◌||◌, ◌==◌, nat_lt, if◌then◌else◌, List, [], ◌∷◌, length, map, slice_index, Option, Some, None, Result, Err}
 use Rattle.pm_lines.specs.Digits.{signed_of}
 use Rattle.pm_lines.specs.Lines.{Numbered, is_space, unskipped_from}
 use Rattle.pm_trace.specs.Marks.{before}

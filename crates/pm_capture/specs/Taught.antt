@@ -1,7 +1,7 @@
 -- What a capture teaches of the formats of outputs' voltages (PMBus 1.3 Part II, VOUT_MODE and COEFFICIENTS): the last
 -- good answer to PAGE_PLUS_READ of VOUT_MODE for each address and page, and for each address the last good answer to
 -- COEFFICIENTS of a code that has a voltage. That these decide is this project's own choice.
-use Rattle.std.specs.Prelude.{ℕ, ◌+◌, ◌*◌, Bool, ◌||◌, ◌==◌, nat_eq, if◌then◌else◌, List, [], ◌∷◌, slice_index, unwrap_or, option_map, Option, Some, None, Result, Ok, Err}
+use Rattle.std.specs.Prelude.{ℕ, ◌+◌, ◌*◌, Bool, ◌||◌, ◌==◌, nat_eq, if◌then◌else◌, List, [], slice_index, unwrap_or, option_map, Option, Some, None, Result, Ok, Err}
 use Rattle.std.specs.List.{fold}
 use Rattle.std.specs.Map.{lookup}
 use Rattle.std.specs.Option.{option_or}

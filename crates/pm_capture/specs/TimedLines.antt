@@ -1,11 +1,10 @@
 -- What is kept of a line of a capture while its bytes come one after another, as a look back over its bytes so far
 -- (`timed_of`), and what one more byte makes of it (`timed_takes`). This project's own choice.
-use Rattle.std.specs.Prelude.{◌≡◌, ℕ, Bool, true, false, not, ◌&&◌, ◌||◌, ◌==◌, nat_eq, if◌then◌else◌, List, [], ◌∷◌, ◌++◌, codes, Option, Some, None, Result, Ok, Err}
+use Rattle.std.specs.Prelude.{◌≡◌, ℕ, Bool, true, false, not, ◌&&◌, ◌||◌, ◌==◌, nat_eq, if◌then◌else◌, List, [], ◌++◌, codes, None}
 use Rattle.std.specs.List.{fold, list_any, starts_with}
-use Rattle.pm_lines.specs.Lines.{has_bytes, is_line_feed, is_skipped, is_space, without_return}
+use Rattle.pm_lines.specs.Lines.{has_bytes, is_line_feed, is_space, without_return}
 use Rattle.pm_trace.specs.OpenLines.{is_skipped_kind, line_of, line_takes, open_read}
 use Rattle.pm_trace.specs.Parts.{part_of, part_takes}
-use Rattle.pm_trace.specs.declared.line_fault.LineFault.TheVariants as fault
 use Rattle.pm_capture.specs.Readings.{Reading, behind_word, first_word, time_in, timed}
 use Rattle.pm_capture.specs.declared.timed_line.TimedLine.{TimedLine}
 

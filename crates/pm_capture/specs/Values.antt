@@ -1,5 +1,5 @@
 -- What a code's payload means (PMBus 1.3 Part II): which codes are told with a value is this project's own choice.
-use Rattle.std.specs.Prelude.{ℕ, ℤ, pos, ◌+◌, ◌*◌, ◌/◌, ◌%◌, ◌*ℤ◌, zero, suc, Bool, ◌&&◌, ◌||◌, ◌==◌, if◌then◌else◌, List, [], slice_index, unwrap_or, option_map, Option, Some, None, Result, Ok, Err, int_div, int_rem}
+use Rattle.std.specs.Prelude.{ℕ, ℤ, pos, ◌+◌, ◌*◌, ◌/◌, ◌%◌, ◌*ℤ◌, zero, suc, Bool, ◌&&◌, ◌||◌, ◌==◌, if◌then◌else◌, List, slice_index, unwrap_or, option_map, Option, Some, None, int_div, int_rem}
 use Rattle.std.specs.Ordering.{int_eq}
 use Rattle.std.specs.Result.{result_ok}
 use Rattle.std.specs.Int.{int_div_euclid}
@@ -12,9 +12,7 @@ use Rattle.pm_num.specs.declared.any_format.AnyFormat.{AnyFormat}
 use Rattle.pm_table.specs.Codes as command
 use Rattle.pm_table.specs.Operation.{operation_of}
 use Rattle.pm_table.specs.VoutMode.{mode_of}
-use Rattle.pm_trace.specs.Trace.{Judged, Accepted, Faulty, BadSyntax, BadHex}
 use Rattle.pm_capture.specs.Taught.{Taught, is_voltage, voltage_shape}
-use Rattle.pm_capture.specs.declared.status.Status.{Status}
 use Rattle.pm_capture.specs.declared.status.Status.TheVariants as status
 use Rattle.pm_capture.specs.declared.fraction.Fraction.{Fraction}
 use Rattle.pm_capture.specs.declared.value.Value.{Value}

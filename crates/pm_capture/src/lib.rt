@@ -31,6 +31,6 @@ mod told;
 mod value;
 mod value_text;
 
-pub use laws::plain_captures_are_traces;
+pub use laws::{microvolts_are_the_floor, plain_captures_are_traces};
 pub use options::TellOptions;
 pub use telling::tell;

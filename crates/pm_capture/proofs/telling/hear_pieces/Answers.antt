@@ -1,5 +1,5 @@
 -- What the loop over the pieces of a capture keeps, and what each way out of it comes to.
-use Rattle.std.proofs.Common.{◌≡◌, ◌++◌, [], rules, arith}
+use Rattle.std.proofs.Common.{◌++◌, [], rules, arith}
 use Rattle.std.proofs.lemmas.Result.{err_from_is_err_and}
 use Rattle.pm_lines.specs.Engine.{over}
 use Rattle.pm_trace.proofs.BreakLemmas.{due_at_end, due_at_fault, read_at, why_at}
