@@ -6,7 +6,7 @@ use pm_tool::TellTexts;
 use std::test::Fail;
 
 /// The words, what is read, the status, what is printed and what is said.
-static TOLD: [(&[&str], &str, u8, &str, &str); 11] = [
+static TOLD: [(&[&str], &str, u8, &str, &str); 12] = [
     // An output's mode teaches its format, and no other's.
     (
         &["pmb", "decode", "--values"],
@@ -49,6 +49,13 @@ static TOLD: [(&[&str], &str, u8, &str, &str); 11] = [
         "B0 D4\nB\n",
         1,
         "1 58 write F2 Short 2\n2 X2 BadHex\nlines 2 accepted 0 faults 1 bad 1\n",
+        "",
+    ),
+    (
+        &["pmb", "decode", "--json", "--values"],
+        "B0 06 02 00 20 / B1 01 14 4E\nB0 05 04 00 21 CD 34 5A\n",
+        0,
+        "{\"line\":1,\"address\":\"58\",\"page\":0,\"code\":\"20\",\"name\":\"VOUT_MODE\",\"direction\":\"read\",\"bytes\":\"14\",\"value\":\"ULINEAR16 -12\"}\n{\"line\":2,\"address\":\"58\",\"page\":0,\"code\":\"21\",\"name\":\"VOUT_COMMAND\",\"direction\":\"write\",\"bytes\":\"CD 34\",\"value\":\"13517/4096\",\"micro\":3300048,\"unit\":\"V\"}\n{\"count\":\"VOUT_MODE\",\"lines\":1}\n{\"count\":\"VOUT_COMMAND\",\"lines\":1}\n{\"lines\":2,\"accepted\":2,\"faults\":0,\"bad\":0}\n",
         "",
     ),
     // The options are judged in their order.
@@ -99,7 +106,10 @@ fn options_decide_what_is_told(rt: HostRuntime) {
 
 #[test]
 fn options_are_read_as_they_are_written(rt: HostRuntime) -> Result<(), Fail> {
-    let given = TellTexts::read(rt.alloc(), &["decode", "--json", "--vout=linear11", "--times"])?;
+    let given = TellTexts::read(
+        rt.alloc(),
+        &["decode", "--json", "--vout=linear11", "--times"],
+    )?;
     let wanted = TellTexts {
         values: false,
         vout: Some("linear11"),
