@@ -21,5 +21,6 @@ pub mod Moves
 pub mod GoodBus
 pub mod Way
 pub mod WholeFrames
+pub mod Newest
 -- How it is kept.
 pub mod Below

@@ -7,6 +7,7 @@ ghost use Rattle.pm_world.specs.Laws.{BetrayedDamageIsLegal, BetrayedDamageIsTak
 ghost use Rattle.pm_world.specs.LimitLaws.{BandsAreExact, BandsAreHeld, LivesStayLimited};
 ghost use Rattle.pm_world.specs.GoodBus.{GoodFramesEndJobs};
 ghost use Rattle.pm_world.specs.Moves.{SettingsMoveByTheOpenJob};
+ghost use Rattle.pm_world.specs.Newest.{NewestEventsAreParts};
 ghost use Rattle.pm_world.specs.Way.{WaysAreFollowed};
 ghost use Rattle.pm_world.specs.WholeFrames.{WholeFramesAreUndisturbed};
 ghost use Rattle.std.specs.Prelude.{◌<◌, ◌^◌};
@@ -283,6 +284,13 @@ pub fn ways_are_followed()
 /// WRITE_PROTECT allows (`sent`, `order`). So [`ways_are_followed`] and [`good_frames_end_jobs`] speak of them.
 pub fn whole_frames_are_undisturbed()
     ensures { WholeFramesAreUndisturbed }
+{}
+
+/// What the laws on any part of a list of events say of its newest ones, for a caller that goes on event by event: of
+/// [`settings_move_by_the_open_job`] (`moves`, `stores`, `moment`) and of [`good_frames_end_jobs`] (`check`, `order`,
+/// `read_back`, `send`).
+pub fn newest_events_are_parts()
+    ensures { NewestEventsAreParts }
 {}
 
 /// The laws of the crates below that those of this crate rest on.

@@ -47,9 +47,9 @@ pub use laws::{
     causes_decide, confirmed_settings_are_held, differing_orders_never_took, frames_are_few,
     good_frames_end_jobs, honest_orders_go_through, learned_formats_are_true,
     legal_lives_are_followed, lists_say_enough, lives_are_followed, lives_are_orders,
-    lives_stay_limited, open_lists_are_followed, own_requests_are_answered,
-    possible_words_are_exact, possible_words_are_held, settings_move_by_the_open_job, spell,
-    ways_are_followed, whole_frames_are_undisturbed,
+    lives_stay_limited, newest_events_are_parts, open_lists_are_followed,
+    own_requests_are_answered, possible_words_are_exact, possible_words_are_held,
+    settings_move_by_the_open_job, spell, ways_are_followed, whole_frames_are_undisturbed,
 };
 pub use legal::{
     answer_in, back_bytes, heard_bytes, heard_ending, is_heard_whole, is_legal_hearing,
