@@ -190,7 +190,7 @@ that of --vout, as pmb number has it: linear11, ulinear16:N or direct:M:B:R.
   1 58 page 0 VOUT_MODE read 14 ULINEAR16 -12
   2 58 page 0 VOUT_COMMAND write 34CD 13517/4096 3300048 uV
 
-With --all a packet that the command table doesn't have is told so: 1 58 code D4 send, no PEC. With
+With --all a packet that the command table doesn't have is told so: 1 58 code FD send, no PEC. With
 --times a line is 1234 B0 03 46, and told so: 1 1234 us 58 CLEAR_FAULTS send.
 
 A packet may be faulty; N counts bytes from 0, the address is byte 0:
