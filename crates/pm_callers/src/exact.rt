@@ -1,20 +1,25 @@
 //! What the host calls possible is exact, for all cells of all outputs together.
 
-ghost use Rattle.std.specs.Prelude.{◌≡◌, ◌∷◌, ◌<◌, ◌≤◌, ◌*◌, ◌^◌, ℕ, List, None, false, IfOk, IfSome, length, reverse};
+ghost use Rattle.std.specs.Prelude.{◌≡◌, ◌∷◌, ◌<◌, ◌≤◌, ◌*◌, ℕ, List, None, false, IfOk, IfSome, OnSome, length, reverse};
 ghost use Rattle.std.specs.List.{list_any};
 ghost use Rattle.pm_device.specs.declared.config.Config.{Config as AnyConfig};
-ghost use Rattle.pm_device.specs.Start.{start_word};
 ghost use Rattle.pm_host.specs.Marks.{marks};
 ghost use Rattle.pm_world.specs.declared.event.Event.{Event as Happening};
+ghost use Rattle.pm_world.specs.declared.event.Event.TheVariants.{Check};
 ghost use Rattle.pm_world.specs.Confirmed.{restarts_converter};
-ghost use Rattle.pm_world.specs.Life.{AreTaken, life, now};
+ghost use Rattle.pm_world.specs.Life.{life};
+ghost use Rattle.pm_world.specs.OpenLists.{is_other, lists_other as spec_lists_other};
 ghost use Rattle.pm_world.specs.Setup.{setup_fault, setup_of};
-ghost use Rattle.pm_world.specs.State.{event_limit};
-ghost use Rattle.pm_world.specs.Uncertainty.{AreLegal, AreOfBytes, AreOpen, ArePossible, AreWordsChosen, Choice, Leaves, due_before, since_restart, witness_events, witness_start};
+ghost use Rattle.pm_world.specs.Uncertainty.{AreOpen, ArePossible, Choice, Leaves, due_before, since_restart, witness_events, witness_start};
 
 use crate::further::run_and_step;
 use pm_device::Config;
-use pm_world::{Event, SetupFault, World, lists_say_enough, possible_words_are_exact, run_open};
+use pm_host::Possible;
+use pm_table::Cell;
+use pm_world::{
+    Event, SetupFault, World, lists_say_enough, lives_are_followed, open_lists_are_followed,
+    possible_words_are_exact, run_open,
+};
 
 /// Let the converter not restart in these events, and WRITE_PROTECT be ordered and read as 00h alone. Then words that
 /// are all possible are left together by a life that is named, which tells the host just the same.
@@ -94,4 +99,47 @@ pub fn words_of_an_open_list(
         (world, None, true) => Ok(Some(world)),
         _ => Ok(None),
     }
+}
+
+/// A list that is open stays so with a check, where no other word than 00h is possible for WRITE_PROTECT.
+pub fn a_list_that_stays_open(
+    c: Config,
+    passes: u8,
+    events: &[Event],
+    cell: Cell,
+) -> Result<Option<World>, SetupFault>
+    ensures { IfOk result (λ found. OnSome found (AreOpen (marks (setup_of c passes)
+        (since_restart (life c passes (Check cell ∷ reverse events.now)).entries)))) }
+{
+    // These hand their laws to the prover.
+    lives_are_followed();
+    open_lists_are_followed();
+    let (mut world, stop, open) = run_open(c, passes, events)?;
+    if stop.is_some() || !open {
+        return Ok(None);
+    }
+    if world.step(&Event::Check(cell)).is_err() {
+        return Ok(None);
+    }
+    if lists_other(&world.host().possible(Cell::Protect)) {
+        return Ok(None);
+    }
+    Ok(Some(world))
+}
+
+// Another word than 00h is listed.
+fn lists_other(possible: &Possible) -> bool
+    ensures { result ≡ spec_lists_other possible.now }
+{
+    match possible {
+        Possible::Any => false,
+        Possible::Words(words) => has_other(words.as_slice()),
+    }
+}
+
+// One of the words isn't 00h.
+fn has_other(words: &[u16]) -> bool
+    ensures { result ≡ list_any is_other words.now }
+{
+    words.iter().any(|word| *word != 0)
 }

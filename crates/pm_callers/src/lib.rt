@@ -7,9 +7,15 @@
 //! - `ends`: what the host says when a job begins and ends, and what an order that differs says of the converter.
 //! - `damage`: damage that the packet error code betrays stops no run.
 //! - `exact`: what the host calls possible is exact, and the words that show it can be had in a world.
+//! - `orders`: an order that nothing disturbs goes through, and a run says which one it was.
+//! - `moves`: what moves a setting or the store.
+//! - `legal`: events that nothing is against, whoever lets them happen.
 #![tactic(auto)]
 
 pub mod damage;
 pub mod ends;
 pub mod exact;
 pub mod further;
+pub mod legal;
+pub mod moves;
+pub mod orders;
