@@ -1,5 +1,5 @@
 -- What happens to a converter before and while a frame is being sent, in parts that are put together.
-use Rattle.std.specs.Prelude.{◌≡◌, ℕ, List}
+use Rattle.std.specs.Prelude.{◌≡◌, ℕ, ◌≤◌, List, []}
 use Rattle.pm_device.specs.Held.{Held}
 use Rattle.pm_world.specs.declared.event.Event.{Event}
 use Rattle.pm_driver.specs.Bus.{AreAll, IsAsked, IsSent, held_after, is_beside}
@@ -18,3 +18,7 @@ pub record PartsCompose : Type 0 where
   pub disturbed : (frame : List ℕ) (first second : Held) → IsDisturbed first second → IsSent frame first second
   pub asked : (request : List ℕ) (needed : ℕ) (came : List ℕ) (first second third : Held) →
       IsDisturbed first second → IsAsked request needed second came third → IsAsked request needed first came third
+
+-- A request that is never sent: no byte of it is heard, none comes back, and the converter is as it was.
+abbrev pub RequestsMayBeLost : Type 0
+RequestsMayBeLost = (request : List ℕ) (needed : ℕ) (held : Held) → 1 ≤ needed → IsAsked request needed held [] held

@@ -21,6 +21,6 @@ mod simulated_bus;
 
 pub use dead_bus::DeadBus;
 pub use fault::Fault;
-pub use laws::parts_compose;
+pub use laws::{parts_compose, requests_may_be_lost};
 pub use retrying::Retrying;
 pub use simulated_bus::{SimulatedBus, driver_over};
