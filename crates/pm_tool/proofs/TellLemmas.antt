@@ -22,8 +22,12 @@ module _ {R W E : Type 0} (w : Writers W E) (options : TellOptions) (remaining :
       → Keeps (w.out mid.inner) (w.out w.output'.inner) → IsDone w.err w.output' w.errors w.errors' wanted status
       → (e : End) × TellRuns options remaining old new e × Ends w status e
   tell_printed mid end wanted status same (read, sound, input, gave, is, written) kept done =
-      let all = record { mid = mid; written = written; kept = kept; done = done } in
-      elim (ended w wanted status (capture_text options input) all) [
+      elim (ended w wanted status (capture_text options input) (record {
+        mid = mid;
+        written = written;
+        kept = kept;
+        done = done;
+      })) [
         | inl e ↦ (Printed wanted (capture_text options input), (read, input, gave, same ∙ ap decode_status is, refl), e)
         | inr e ↦ (CutShort (capture_text options input), inr (read, input, gave, refl), e)
       ]
