@@ -186,7 +186,7 @@ With --values a packet's value stands behind it, and behind a faulty one its byt
 the format that the lines before taught, by its page's VOUT_MODE and its device's COEFFICIENTS, or
 that of --vout, as pmb number has it: linear11, ulinear16:N or direct:M:B:R.
 
-  $ printf 'B0 06 02 00 20 / B1 01 14 4E\\nB0 05 04 00 21 CD 34 5A\\n' | pmb decode --values
+  $ printf 'B0 06 02 00 20 / B1 01 14 4E\\nB0 05 04 00 21 CD 34 5A\\n' | pmb decode --values | head -2
   1 58 page 0 VOUT_MODE read 14 ULINEAR16 -12
   2 58 page 0 VOUT_COMMAND write 34CD 13517/4096 3300048 uV
 
