@@ -77,6 +77,7 @@ impl Tally {
     }
 
     /// The same of a usual line.
+    #[inline(always)]
     #[tactic(auto, using(crate::proofs::CountLemmas::total_one_more, crate::proofs::UsualLemmas::usual_counted, crate::proofs::UsualLemmas::usual_new))]
     pub(crate) fn count_usual(&mut self, usual: Usual) -> Result<(), AllocError>
         requires { lines_in self.old + 1 < 2 ^ 64 }
@@ -109,6 +110,7 @@ impl Tally {
 
 /// Counts one more line of a code: at its place, or at the end where the code is new, and then
 /// memory may be wanted.
+#[inline(always)]
 #[tactic(auto, using(crate::proofs::CountLemmas::new_is, crate::proofs::CountLemmas::placed_is, crate::proofs::CountLemmas::found_bound, crate::proofs::CountLemmas::absent_code))]
 pub fn count_code(codes: &mut IndexMap<u8, u64>, code: u8) -> Result<(), AllocError>
     requires { total_of codes.old.entries + 1 < 2 ^ 64 }
