@@ -215,6 +215,7 @@ impl Decoder {
     }
 
     // What the line says that ends, where it is a usual one. None says nothing of it.
+    #[inline(always)]
     fn usual(&self) -> Option<Usual>
         requires { self.now.shown ≡ None }
         ensures { IfSome result (λ usual.

@@ -9,6 +9,7 @@ use pm_frame::pec;
 use pm_table::{Attributes, Code};
 
 /// What a write says that a stop ended, where it is a word of a page. None says nothing of it.
+#[inline(always)]
 pub(crate) fn usual_write(write: &[u8]) -> Option<Usual>
     ensures { IfSome result (λ usual. parts_judged write.now None ≡ usual_judged usual) }
 {
@@ -32,6 +33,7 @@ pub(crate) fn usual_write(write: &[u8]) -> Option<Usual>
 }
 
 /// What a read says, where it is a word of a page. None says nothing of it.
+#[inline(always)]
 pub(crate) fn usual_read(write: &[u8], read: &[u8]) -> Option<Usual>
     ensures { IfSome result (λ usual. parts_judged write.now (Some read.now) ≡ usual_judged usual) }
 {
@@ -58,6 +60,7 @@ pub(crate) fn usual_read(write: &[u8], read: &[u8]) -> Option<Usual>
 
 // What the command table says of a code that has a word, after the first byte of a packet to an address, and a
 // page of one digit.
+#[inline(always)]
 fn word_attributes(first: u8, page: u8, code: u8) -> Option<Attributes>
     ensures word { IfSome result (λ _. HasWord first page code) }
     ensures known { IfSome result (λ attributes. attributes_of code ≡ Some attributes) }

@@ -217,6 +217,7 @@ impl OpenLine {
     }
 
     /// What the line says as it stands, where it is a usual one. None says nothing of it.
+    #[inline(always)]
     #[tactic(auto, unfolding(crate::specs::OpenLines::open_read))]
     pub(crate) fn usual(&self) -> Option<Usual>
         ensures { IfSome result (λ usual. open_told self.now ≡ Some (usual_judged usual)) }
