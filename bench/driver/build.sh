@@ -1,6 +1,6 @@
 #!/usr/bin/env bash
-# Builds the program whose orders over pm_driver bench/instructions.py counts: orders.rattle, in a copy of the crates
-# that it stands on. With checks of these kept in their out/ that takes a minute or two, otherwise much more.
+# Builds the program whose orders and bands bench/instructions.py and bench/costs.py count: orders.rattle, in a copy of the
+# crates that it stands on. With checks of these kept in their out/ that takes a minute or two, otherwise much more.
 #
 #   bench/driver/build.sh FILE
 set -eu
@@ -11,12 +11,20 @@ cd "$(dirname "$0")/../.."
 folder=$(mktemp -d)
 trap 'rm -rf "$folder"' EXIT
 
+# copied CRATE: this crate and those below it stand in the copy; what has no folder is the kit's
+copied() {
+    [ -d "crates/$1" ] && [ ! -d "$folder/crates/$1" ] || return 0
+    cp -a "crates/$1" "$folder/crates/"
+    grep "^$1:" crates.txt >> "$folder/crates.txt"
+    local below
+    below=$(sed -n "s/^$1://p" crates.txt)
+    for crate in $below; do copied "$crate"; done
+}
+
+below_bench="pm_buses pm_driver pm_limits pm_device pm_host pm_table"
 mkdir -p "$folder/crates/driver_bench/src"
-for crate in pm_num pm_table pm_frame pm_model pm_device pm_host pm_limits pm_world pm_driver pm_buses; do
-    cp -a "crates/$crate" "$folder/crates/"
-    grep "^$crate:" crates.txt >> "$folder/crates.txt"
-done
-echo "driver_bench: pm_buses pm_device pm_host pm_table" >> "$folder/crates.txt"
+echo "driver_bench: $below_bench" > "$folder/crates.txt"
+for crate in $below_bench; do copied "$crate"; done
 cp bench/driver/orders.rattle "$folder/crates/driver_bench/src/main.rt"
-(cd "$folder/crates/driver_bench" && rt run -- 1 < /dev/null > "$folder/log" 2>&1) || { tail -20 "$folder/log"; exit 1; }
+(cd "$folder/crates/driver_bench" && rt run -- driver linear 1 < /dev/null > "$folder/log" 2>&1) || { tail -20 "$folder/log"; exit 1; }
 cp "$folder/crates/driver_bench/out/driver_bench" "$made"
