@@ -26,7 +26,7 @@ if command -v rt > /dev/null; then
     else
         echo "lacks: an archive of crates/pm_c, which wasn't built, so an order over pm_c isn't measured" > "$folder/lacks"
     fi
-    if bench/driver/build.sh "$folder/driver" > "$folder/log" 2>&1; then
+    if bench/driver/build.sh orders "$folder/driver" > "$folder/log" 2>&1; then
         orders="$orders --driver $folder/driver"
     else
         echo "lacks: a program over pm_driver, which wasn't built, so an order over it isn't measured" >> "$folder/lacks"

@@ -1,14 +1,14 @@
 #!/usr/bin/env python3
 """Counts by valgrind's callgrind, and judges by a bound of this project each: an order by pm_driver beside one by the same
-loop written out over a host; an order within limits beside one without; and a band for each word that the output's
-registers list. Limits and bands are counted over the C library too.
+loop written out over a host; an order within limits beside that one too; and a band for each word that the output's
+registers list. Limits and bands are counted over the C library as well, where the host without limits is the same host.
 
-    bench/costs.py [--driver FILE] [--archive FILE]
+    bench/costs.py [--driver FILE] [--bands FILE] [--archive FILE]
 
-`--driver` is the program that bench/driver/build.sh makes, and `--archive` the static library of crates/pm_c. The one that
-isn't given is proved and built first, which takes many minutes from nothing. A bus for pm_driver has a converter at its
-other end: what that takes of an order is counted alone and taken off, which leaves orders over a bus of no cost. It needs
-valgrind and gcc.
+`--driver` and `--bands` are the programs orders and bands that bench/driver/build.sh makes, and `--archive` is the static
+library of crates/pm_c. What isn't given is proved and built first, which takes many minutes from nothing. A bus for
+pm_driver has a converter at its other end: what that takes of an order is counted alone and taken off, which leaves orders
+over a bus of no cost. It needs valgrind and gcc.
 """
 import os
 import shutil
@@ -35,12 +35,12 @@ def a_word(name, taken):
     return taken <= A_WORD
 
 
-def over_driver(driver, folder):
+def over_driver(driver, bands, folder):
     for kind in FORMATS:
-        driven, loop, guard, bus = (measured.for_one([driver, way, kind], folder) for way in ("driver", "loop", "guard", "bus"))
+        driven, guard, loop, bus = (measured.for_one([driver, way, kind], folder) for way in ("driver", "guard", "loop", "bus"))
         yield beside(f"an order by pm_driver, {kind}", driven - bus, loop - bus, BY_DRIVER)
         yield beside(f"an order within limits, {kind}", guard - bus, loop - bus, WITHIN_LIMITS)
-        yield a_word(f"a band, a word, {kind}", measured.for_one([driver, "bands", kind], folder))
+        yield a_word(f"a band, a word, {kind}", measured.for_one([bands, kind], folder))
 
 
 def over_pm_c(archive, folder):
@@ -59,6 +59,12 @@ def built(command, crate, path):
     return path
 
 
+def program_of(name, folder):
+    """A program of bench/driver."""
+    path = os.path.join(folder, name)
+    return built(["bench/driver/build.sh", name, path], ".", path)
+
+
 def main():
     program.answer_help(__doc__)
     for tool in "valgrind", "gcc":
@@ -66,11 +72,11 @@ def main():
             measured.lacks(tool, "what the driver and limits cost")
             return
     with tempfile.TemporaryDirectory() as folder:
-        path, library = os.path.join(folder, "orders"), os.path.join(program.ROOT, "crates/pm_c/out/libpm_c.a")
-        driver = measured.value_behind("--driver") or built(["bench/driver/build.sh", path], ".", path)
+        driver, bands = (measured.value_behind(word) or program_of(name, folder) for word, name in (("--driver", "orders"), ("--bands", "bands")))
+        library = os.path.join(program.ROOT, "crates/pm_c/out/libpm_c.a")
         archive = measured.value_behind("--archive") or built(["rt", "lib", "--backend", "rattle"], "crates/pm_c", library)
         print("| what | instructions | beside | ratio | at most |\n|---|---|---|---|---|")
-        checks = [*over_driver(driver, folder), *over_pm_c(archive, folder)]
+        checks = [*over_driver(driver, bands, folder), *over_pm_c(archive, folder)]
     print(f"{sum(checks)} passed, {len(checks) - sum(checks)} failed")
     sys.exit(0 if all(checks) else 1)
 

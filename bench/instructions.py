@@ -6,7 +6,7 @@ order over the C library and over pm_driver. A count is the same from run to run
     bench/instructions.py [--earlier PMB] [--archive FILE] [--earlier-archive FILE] [--driver FILE] [--by COMMAND]
 
 It runs the built program, or the one that the environment variable PMB names, and beside it the one that `--earlier`
-names. `--archive` is the static library of crates/pm_c, `--driver` the program that bench/driver/build.sh makes; without
+names. `--archive` is the static library of crates/pm_c, `--driver` the program orders that bench/driver/build.sh makes; without
 them no order is counted. `--by` lists a command's most expensive functions. It needs valgrind, and gcc for the C library.
 """
 import os
