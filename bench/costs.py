@@ -1,7 +1,7 @@
 #!/usr/bin/env python3
 """Counts by valgrind's callgrind, and judges by a bound of this project each: an order by pm_driver beside one by the same
-loop written out over a host; an order within limits beside that one too; and a band for each word that the output's
-registers list. Limits and bands are counted over the C library as well, where the host without limits is the same host.
+loop written out over a host; an order within limits beside one without, and beside that of the host; and a band for each
+word that the output's registers list. Limits and bands are counted over the C library as well.
 
     bench/costs.py [--driver FILE] [--bands FILE] [--archive FILE]
 
@@ -39,7 +39,8 @@ def over_driver(driver, bands, folder):
     for kind in FORMATS:
         driven, guard, loop, bus = (measured.for_one([driver, way, kind], folder) for way in ("driver", "guard", "loop", "bus"))
         yield beside(f"an order by pm_driver, {kind}", driven - bus, loop - bus, BY_DRIVER)
-        yield beside(f"an order within limits, {kind}", guard - bus, loop - bus, WITHIN_LIMITS)
+        yield beside(f"an order within limits beside one without, {kind}", guard - bus, driven - bus, WITHIN_LIMITS)
+        yield beside(f"an order within limits beside a host's, {kind}", guard - bus, loop - bus, WITHIN_LIMITS)
         yield a_word(f"a band, a word, {kind}", measured.for_one([bands, kind], folder))
 
 
@@ -47,7 +48,7 @@ def over_pm_c(archive, folder):
     made = measured.over_archive(archive, os.path.join(folder, "c_order"))
     for kind in FORMATS:
         loop, guard = (measured.for_one([made, way, kind], folder) for way in ("loop", "guard"))
-        yield beside(f"pm_c: an order within limits, {kind}", guard, loop, WITHIN_LIMITS)
+        yield beside(f"pm_c: an order within limits beside one without, {kind}", guard, loop, WITHIN_LIMITS)
         yield a_word(f"pm_c: a band, a word, {kind}", measured.for_one([made, "bands", kind], folder))
 
 
