@@ -1,6 +1,8 @@
 /* How long an order takes over the static library, and how much stack its calls take; beside it an order by
- * plain code: the frame and its PEC, the answer judged, no words kept. bench/c_order.sh runs it. With a number as its
- * argument it gives so many orders and ends: bench/instructions.py counts these. */
+ * plain code: the frame and its PEC, the answer judged, no words kept. bench/c_order.sh runs it. With arguments it does
+ * one thing alone and ends, so that its instructions are counted: `loop`, orders; `guard`, orders within limits; `bands`,
+ * bands of outputs whose registers list as many words as they can. The second says the format, `linear` or `direct`, and
+ * the third how often. It prints how many orders were done, or how many listed words were looked at. */
 #include "pm.h"
 #include <stdio.h>
 #include <stdlib.h>
@@ -23,6 +25,63 @@ static int order(pm_host *host, const uint8_t *answer, uint16_t word) {
     pm_host_finished(host, 1);
     pm_host_sending(host, &frame);
     return pm_host_got(host, answer, 5).kind == PM_DONE;
+}
+
+/* Answers the request that is being sent by these bytes. */
+static void answer(pm_host *host, const uint8_t *payload, uint8_t count) {
+    uint8_t bytes[24];
+    pm_sending frame;
+    pm_host_sending(host, &frame);
+    memcpy(bytes, frame.bytes, frame.length);
+    uint8_t *back = bytes + frame.length;
+    back[0] = frame.bytes[0] | 1;
+    back[1] = count;
+    memcpy(back + 2, payload, count);
+    back[2 + count] = pm_pec(bytes, (uint64_t)frame.length + 2 + count);
+    pm_host_got(host, back, (uint64_t)count + 3);
+}
+
+/* The host learns an output's format: DIRECT with m 409, b 2 and R 1, or ULINEAR16 with 2^-12 V a step. */
+static void learn(pm_host *host, uint8_t output, int is_direct) {
+    pm_host_learn(host, output);
+    answer(host, is_direct ? (const uint8_t[]){0x40} : (const uint8_t[]){0x14}, 1);
+    if (is_direct)
+        answer(host, (const uint8_t[]){0x99, 0x01, 0x02, 0x00, 0x01}, 5);
+}
+
+/* Orders words for an output's registers whose answers are all lost. How many words they list then. */
+static long fill(pm_host *host, uint8_t output) {
+    static const uint8_t codes[] = {PM_VOUT_COMMAND, PM_VOUT_MAX, PM_VOUT_MARGIN_HIGH, PM_VOUT_MARGIN_LOW, PM_VOUT_MIN};
+    long listed = 0;
+    for (size_t i = 0; i < sizeof codes; i++) {
+        pm_sending frame;
+        pm_words words;
+        pm_host_check(host, output, codes[i]);
+        answer(host, (const uint8_t[]){0x00, 0x10}, 2);
+        for (int at = 0; at < 16; at++) {
+            pm_host_order(host, output, codes[i], (uint16_t)(at * 0x2F35));
+            while (pm_host_sending(host, &frame) == PM_OK && frame.kind != PM_NOTHING) {
+                if (frame.kind == PM_WRITE)
+                    pm_host_finished(host, 0);
+                else
+                    pm_host_got(host, frame.bytes, 0);
+            }
+        }
+        pm_host_possible(host, output, codes[i], &words);
+        listed += words.count;
+    }
+    return listed;
+}
+
+/* So many bands, of two outputs in turn: how many listed words were looked at. */
+static long bands(pm_host *host, long count) {
+    long listed[2] = {fill(host, 0), fill(host, 1)}, words = 0;
+    for (long i = 0; i < count; i++) {
+        pm_band band;
+        if (pm_host_band(host, i & 1, &band) == PM_OK && band.least < band.greatest)
+            words += listed[i & 1];
+    }
+    return words;
 }
 
 static uint8_t plain_pec(uint8_t pec, const uint8_t *bytes, size_t count) {
@@ -87,10 +146,21 @@ int main(int count, char **arguments) {
         return 1;
     }
     pm_host_new(&host, 0x58, 8, 3);
-    if (count > 1) {
-        for (long i = 0, all = atol(arguments[1]); i < all; i++)
-            done += order(&host, answers[i & 1], (uint16_t)(0x34CD + (i & 1)));
-        printf("%ld orders done\n", done);
+    if (count > 3) {
+        long all = atol(arguments[3]);
+        int is_direct = !strcmp(arguments[2], "direct");
+        if (strcmp(arguments[1], "loop")) {
+            learn(&host, 0, is_direct);
+            learn(&host, 1, is_direct);
+        }
+        if (!strcmp(arguments[1], "guard"))
+            pm_host_narrow(&host, 0, 3200000, 3400000);
+        if (!strcmp(arguments[1], "bands"))
+            done = bands(&host, all);
+        else
+            for (long i = 0; i < all; i++)
+                done += order(&host, answers[i & 1], (uint16_t)(0x34CD + (i & 1)));
+        printf("%ld\n", done);
         return 0;
     }
     double best = 1e9, plain = 1e9;

@@ -20,7 +20,7 @@ fi
 gcc -O2 -Icrates/pm_c/include bench/c_order.c "$archive" -o "$folder/bench"
 "$folder/bench"
 # counted ORDERS: the instructions of a program that gives so many
-counted() { valgrind --tool=callgrind --callgrind-out-file=/dev/null "$folder/bench" "$1" 2>&1 | sed -n 's/.*Collected : //p'; }
+counted() { valgrind --tool=callgrind --callgrind-out-file=/dev/null "$folder/bench" loop linear "$1" 2>&1 | sed -n 's/.*Collected : //p'; }
 if command -v valgrind > /dev/null; then
     echo "an order: $((($(counted 2500) - $(counted 500) + 1000) / 2000)) instructions"
 else

@@ -6,7 +6,7 @@ order over the C library and over pm_driver. A count is the same from run to run
     bench/instructions.py [--earlier PMB] [--archive FILE] [--earlier-archive FILE] [--driver FILE] [--by COMMAND]
 
 It runs the built program, or the one that the environment variable PMB names, and beside it the one that `--earlier`
-names. `--archive` is the static library of crates/pm_c, `--driver` the program that bench/driver/build.sh makes; without
+names. `--archive` is the static library of crates/pm_c, `--driver` the program orders that bench/driver/build.sh makes; without
 them no order is counted. `--by` lists a command's most expensive functions. It needs valgrind, and gcc for the C library.
 """
 import os
@@ -19,25 +19,13 @@ import tempfile
 import measured
 import program
 
-FEW, MANY = 500, 2500
-
-
-def counted(command, folder, text=b""):
-    """How many instructions a command takes, and where callgrind's listing stands."""
-    found = os.path.join(folder, "found")
-    run = subprocess.run(["valgrind", "--tool=callgrind", f"--callgrind-out-file={found}", *command], input=text, capture_output=True)
-    total = re.search(rb"Collected : (\d+)", run.stderr)
-    if not total or run.returncode:
-        sys.exit(f"callgrind has no count of {command[0]}: {run.stderr.decode()[-300:]}")
-    return int(total[1]), found
-
 
 def texts(folder, listed):
     programs = measured.programs()
     for command in measured.COMMANDS:
         text, counts = measured.usual_text(command), {}
         for name, pmb in programs.items():
-            count, found = counted([pmb, command], folder, text)
+            count, found, _ = measured.counted([pmb, command], folder, text)
             counts[name] = count / 1e6
             if name == "this" and command == listed:
                 listing = subprocess.run(["callgrind_annotate", found], capture_output=True, text=True).stdout
@@ -46,25 +34,15 @@ def texts(folder, listed):
 
 
 def an_order(name, orders, folder):
-    """A row of what one order takes, by two runs of a program that is told how many to give."""
-    counts = {}
-    for which, path in orders.items():
-        few, _ = counted([path, str(FEW)], folder)
-        many, _ = counted([path, str(MANY)], folder)
-        counts[which] = round((many - few) / (MANY - FEW))
+    """A row of what one order takes, by the programs that give orders."""
+    counts = {which: round(measured.for_one(command, folder)) for which, command in orders.items()}
     measured.row(name, "instructions", counts)
 
 
 def c_orders(folder):
     """The programs of bench/c_order.c over the archives that the arguments name."""
-    made, here = {}, os.path.dirname(os.path.abspath(__file__))
-    for which, word in ("this", "--archive"), ("earlier", "--earlier-archive"):
-        archive = measured.value_behind(word)
-        if archive:
-            made[which] = os.path.join(folder, which)
-            include = os.path.join(program.ROOT, "crates/pm_c/include")
-            subprocess.run(["gcc", "-O2", f"-I{include}", os.path.join(here, "c_order.c"), archive, "-o", made[which]], check=True)
-    return made
+    archives = {"this": measured.value_behind("--archive"), "earlier": measured.value_behind("--earlier-archive")}
+    return {which: [measured.over_archive(path, os.path.join(folder, which)), "loop", "linear"] for which, path in archives.items() if path}
 
 
 def main():
@@ -82,7 +60,7 @@ def main():
                 measured.lacks("gcc", "an order over pm_c")
         driver = measured.value_behind("--driver")
         if driver:
-            an_order("an order over pm_driver and the model converter", {"this": driver}, folder)
+            an_order("an order over pm_driver and the model converter", {"this": [driver, "driver", "linear"]}, folder)
 
 
 main()

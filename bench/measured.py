@@ -1,7 +1,9 @@
 """What the scripts here share: the programs that they measure, the texts, and the rows of their tables."""
 import os
 import random
+import re
 import shutil
+import subprocess
 import sys
 
 sys.path.append(os.path.join(os.path.dirname(os.path.dirname(os.path.abspath(__file__))), "scripts"))
@@ -20,6 +22,7 @@ output 14 80 1000 4000 1100 0F00
 output 14 80 1000 4000 1100 0F00
 begin
 """
+FEW, MANY = 500, 2500
 READ = "B0 06 02 00 21 / B1 02 CD 34 B9\n"
 
 
@@ -77,6 +80,31 @@ def programs():
             sys.exit(f"--earlier: no program at {earlier}")
         found["earlier"] = os.path.abspath(earlier)
     return found
+
+
+def counted(command, folder, text=b""):
+    """How many instructions a command takes by callgrind, where the listing of them stands, and what it prints."""
+    found = os.path.join(folder, "found")
+    run = subprocess.run(["valgrind", "--tool=callgrind", f"--callgrind-out-file={found}", *command], input=text, capture_output=True)
+    total = re.search(rb"Collected : (\d+)", run.stderr)
+    if not total or run.returncode:
+        sys.exit(f"callgrind has no count of {command[0]}: {run.stderr.decode()[-300:]}")
+    return int(total[1]), found, run.stdout
+
+
+def for_one(command, folder):
+    """The instructions for one of what a program prints the number of: it is told to do it few times, and many times."""
+    (few, _, less), (many, _, more) = (counted([*command, str(times)], folder) for times in (FEW, MANY))
+    if int(more) - int(less) < MANY - FEW:
+        sys.exit(f"{' '.join(command)}: only {int(more)} of {MANY} were done")
+    return (many - few) / (int(more) - int(less))
+
+
+def over_archive(archive, made):
+    """Builds the program of bench/c_order.c over a static library of crates/pm_c."""
+    include, source = (os.path.join(program.ROOT, path) for path in ("crates/pm_c/include", "bench/c_order.c"))
+    subprocess.run(["gcc", "-O2", f"-I{include}", source, archive, "-o", made], check=True)
+    return made
 
 
 def row(name, unit, found, is_time=False):

@@ -1,0 +1,85 @@
+#!/usr/bin/env python3
+"""Counts by valgrind's callgrind, and judges by a bound of this project each: an order by pm_driver beside one by the same
+loop written out over a host; an order within limits beside one without, and beside that of the host; and a band for each
+word that the output's registers list. Limits and bands are counted over the C library as well.
+
+    bench/costs.py [--driver FILE] [--bands FILE] [--archive FILE]
+
+`--driver` and `--bands` are the programs orders and bands that bench/driver/build.sh makes, and `--archive` is the static
+library of crates/pm_c. What isn't given is proved and built first, which takes many minutes from nothing. A bus for
+pm_driver has a converter at its other end: what that takes of an order is counted alone and taken off, which leaves orders
+over a bus of no cost. It needs valgrind and gcc.
+"""
+import os
+import shutil
+import subprocess
+import sys
+import tempfile
+
+import measured
+import program
+
+BY_DRIVER, WITHIN_LIMITS, A_WORD = 1.1, 1.2, 100
+FORMATS = ("linear", "direct")
+
+
+def beside(name, taken, other, bound):
+    """A row of two counts. Whether the first is at most so many times the second."""
+    print(f"| {name} | {taken:.0f} | {other:.0f} | {taken / other:.3f} | {bound} |", flush=True)
+    return taken / other <= bound
+
+
+def a_word(name, taken):
+    """A row of a band. Whether it takes at most the bound for each listed word."""
+    print(f"| {name} | {taken:.1f} | | | {A_WORD} |", flush=True)
+    return taken <= A_WORD
+
+
+def over_driver(driver, bands, folder):
+    for kind in FORMATS:
+        driven, guard, loop, bus = (measured.for_one([driver, way, kind], folder) for way in ("driver", "guard", "loop", "bus"))
+        yield beside(f"an order by pm_driver, {kind}", driven - bus, loop - bus, BY_DRIVER)
+        yield beside(f"an order within limits beside one without, {kind}", guard - bus, driven - bus, WITHIN_LIMITS)
+        yield beside(f"an order within limits beside a host's, {kind}", guard - bus, loop - bus, WITHIN_LIMITS)
+        yield a_word(f"a band, a word, {kind}", measured.for_one([bands, kind], folder))
+
+
+def over_pm_c(archive, folder):
+    made = measured.over_archive(archive, os.path.join(folder, "c_order"))
+    for kind in FORMATS:
+        loop, guard = (measured.for_one([made, way, kind], folder) for way in ("loop", "guard"))
+        yield beside(f"pm_c: an order within limits beside one without, {kind}", guard, loop, WITHIN_LIMITS)
+        yield a_word(f"pm_c: a band, a word, {kind}", measured.for_one([made, "bands", kind], folder))
+
+
+def built(command, crate, path):
+    """The file that a command proves and builds."""
+    run = subprocess.run(command, cwd=os.path.join(program.ROOT, crate), stdout=subprocess.PIPE, stderr=subprocess.STDOUT, text=True)
+    if run.returncode:
+        sys.exit(f"{' '.join(command)}: {run.stdout[-2000:]}")
+    return path
+
+
+def program_of(name, folder):
+    """A program of bench/driver."""
+    path = os.path.join(folder, name)
+    return built(["bench/driver/build.sh", name, path], ".", path)
+
+
+def main():
+    program.answer_help(__doc__)
+    for tool in "valgrind", "gcc":
+        if not shutil.which(tool):
+            measured.lacks(tool, "what the driver and limits cost")
+            return
+    with tempfile.TemporaryDirectory() as folder:
+        driver, bands = (measured.value_behind(word) or program_of(name, folder) for word, name in (("--driver", "orders"), ("--bands", "bands")))
+        library = os.path.join(program.ROOT, "crates/pm_c/out/libpm_c.a")
+        archive = measured.value_behind("--archive") or built(["rt", "lib", "--backend", "rattle"], "crates/pm_c", library)
+        print("| what | instructions | beside | ratio | at most |\n|---|---|---|---|---|")
+        checks = [*over_driver(driver, bands, folder), *over_pm_c(archive, folder)]
+    print(f"{sum(checks)} passed, {len(checks) - sum(checks)} failed")
+    sys.exit(0 if all(checks) else 1)
+
+
+main()
