@@ -1,4 +1,3 @@
 mod Tells
 mod Named
 mod Ceils
-mod Unlimited

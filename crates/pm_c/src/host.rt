@@ -97,30 +97,9 @@ fn begin_inlined(host: &mut GuardImage, job: Option<Job>) -> u8
     }
 }
 
-// Begins a job whose output has these limits, as a guard does. An order for an output without limits isn't judged first:
-// the host refuses it for all that the guard does.
+// Begins a job whose output has these limits, as a guard does.
 #[inline(always)]
 fn begin_within(
-    state: &mut State,
-    stage: Option<Stage>,
-    limits: Option<Limits>,
-    job: Job,
-) -> Result<Stage, LimitFault>
-    requires sound { IsSound (held stage state.old) }
-    ensures sound { IfOk result (λ at. IsSound (held (Some at) state.new)) }
-    ensures fault { result_err result ≡ limited_fault limits (held stage state.old) job }
-    ensures ok { IfOk result (λ at. Some (held (Some at) state.new) ≡ job_begun (Some (held stage state.old)) (Some job)) }
-    ensures err { OnErr result (state.new ≡ state.old) }
-{
-    match (limits, job) {
-        (None, Job::Order(_, _)) => begin_asked(state, stage, job),
-        _ => begin_judged(state, stage, limits, job),
-    }
-}
-
-// The same for every job.
-#[inline(never)]
-fn begin_judged(
     state: &mut State,
     stage: Option<Stage>,
     limits: Option<Limits>,

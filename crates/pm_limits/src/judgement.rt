@@ -23,7 +23,27 @@ use pm_table::{Cell, Operation, Reg};
 /// What a host is to be asked for in place of this job, whose output has these limits: the same, and of an order in
 /// microvolts the order of the nearest word. Or why it isn't asked at all, as [`crate::Guard::begin`] says. A guard
 /// asks its host so; who keeps limits otherwise asks as well, and then begins what is answered.
+// An order of a word for an output without limits isn't judged: the host refuses it for all that a guard does.
+#[inline(always)]
+#[tactic(auto, using(crate::proofs::Unlimited::unlimited))]
 pub fn judge(
+    state: &State,
+    stage: Option<Stage>,
+    limits: Option<Limits>,
+    job: Job,
+) -> Result<Job, LimitFault>
+    requires { IsSound (held stage state.now) }
+    ensures { IsJudged limits (held stage state.now) job result }
+{
+    match (limits, job) {
+        (None, Job::Order(_, _)) => Ok(job),
+        _ => judge_any(state, stage, limits, job),
+    }
+}
+
+// The same for every job. It isn't inlined: it would weigh on each order without limits.
+#[inline(never)]
+fn judge_any(
     state: &State,
     stage: Option<Stage>,
     limits: Option<Limits>,
@@ -111,8 +131,9 @@ fn micro_word(state: &State, stage: Option<Stage>, cell: Cell, x: i64) -> Result
     }
 }
 
-// Refuses what the limits of the cell's output don't let through.
-#[inline]
+// Refuses what the limits of the cell's output don't let through. It is inlined, and so is the next: an answer that goes
+// through memory would weigh on each order.
+#[inline(always)]
 fn judge_word(
     state: &State,
     limits: Option<Limits>,
@@ -130,6 +151,7 @@ fn judge_word(
 }
 
 // Refuses a voltage beyond limits.
+#[inline(always)]
 fn judge_voltage(
     state: &State,
     limits: Option<Limits>,
