@@ -24,8 +24,6 @@ mod others;
 mod otherwise;
 mod status;
 mod telling;
-#[cfg(test)]
-mod tests;
 mod timed_line;
 mod told;
 mod value;

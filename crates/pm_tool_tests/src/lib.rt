@@ -1,7 +1,9 @@
-//! Tests over the public calls of `pm_tool`: the texts of `hear` and `number`, the command line, `decode` with options, and whole runs.
-//! There is nothing here to use.
+//! Tests over the public calls of `pm_tool` and `pm_capture`: the texts of `hear` and `number`, the command line, `decode`
+//! with options, and whole runs. There is nothing here to use.
 #![tactic(auto)]
 
+#[cfg(test)]
+mod captures;
 #[cfg(test)]
 mod checks;
 #[cfg(test)]

@@ -1,6 +1,7 @@
 //! What captures are told as, written out by hand.
 
-use crate::{TellOptions, tell};
+use crate::checks::equal;
+use pm_capture::{TellOptions, tell};
 use pm_lines::{Sink, Source, TextFault};
 use pm_trace::DecodeEnd;
 use std::alloc::Global;
@@ -37,7 +38,7 @@ fn told(
 fn are_told(rt: &(impl Abort + AllocGlobal), rows: &[(&str, &str)], options: &TellOptions) {
     for (row, (capture, text)) in rows.iter().enumerate() {
         let (_, written) = told(rt.alloc(), capture, options);
-        assert_eq!(rt; &written.as_slice(), &text.as_bytes(), "row {row}");
+        equal(rt, &written.as_slice(), &text.as_bytes(), &row);
     }
 }
 
