@@ -23,10 +23,15 @@ BY_DRIVER, WITHIN_LIMITS, A_WORD = 1.1, 1.2, 100
 FORMATS = ("linear", "direct")
 
 
-def beside(name, taken, other, bound):
-    """A row of two counts. Whether the first is at most so many times the second."""
+def told(name, taken, other, bound=""):
+    """A row of two counts: how many times the second the first is."""
     print(f"| {name} | {taken:.0f} | {other:.0f} | {taken / other:.3f} | {bound} |", flush=True)
-    return taken / other <= bound
+    return taken / other
+
+
+def beside(name, taken, other, bound):
+    """The same. Whether that is at most the bound."""
+    return told(name, taken, other, bound) <= bound
 
 
 def a_word(name, taken):
@@ -40,7 +45,7 @@ def over_driver(driver, bands, folder):
         driven, guard, loop, bus = (measured.for_one([driver, way, kind], folder) for way in ("driver", "guard", "loop", "bus"))
         yield beside(f"an order by pm_driver, {kind}", driven - bus, loop - bus, BY_DRIVER)
         yield beside(f"an order within limits beside one without, {kind}", guard - bus, driven - bus, WITHIN_LIMITS)
-        yield beside(f"an order within limits beside a host's, {kind}", guard - bus, loop - bus, WITHIN_LIMITS)
+        told(f"an order within limits beside a host's, {kind}", guard - bus, loop - bus)
         yield a_word(f"a band, a word, {kind}", measured.for_one([bands, kind], folder))
 
 

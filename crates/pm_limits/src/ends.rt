@@ -134,6 +134,7 @@ impl OutputEnds {
 }
 
 /// The format of an output's voltages, as far as it is known.
+#[inline(always)]
 pub(crate) fn format_in(host: &State, output: u8) -> Option<AnyFormat>
     requires { output < 8 }
     ensures { option_map shape_of result ≡ format_at (held None host.now) output }
