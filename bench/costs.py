@@ -1,6 +1,6 @@
 #!/usr/bin/env python3
 """Counts by valgrind's callgrind, and judges by a bound of this project each: an order by pm_driver beside one by the same
-loop written out over a host; an order within limits beside one without, and beside that of the host; and a band for each
+loop written out over a host; an order within limits beside one without, and, with no bound, beside that of the host; and a band for each
 word that the output's registers list. Limits and bands are counted over the C library as well.
 
     bench/costs.py [--driver FILE] [--bands FILE] [--archive FILE]

@@ -23,9 +23,7 @@ use pm_table::{Cell, Operation, Reg};
 /// What a host is to be asked for in place of this job, whose output has these limits: the same, and of an order in
 /// microvolts the order of the nearest word. Or why it isn't asked at all, as [`crate::Guard::begin`] says. A guard
 /// asks its host so; who keeps limits otherwise asks as well, and then begins what is answered.
-// An order of a word for an output without limits isn't judged: the host refuses it for all that a guard does.
 #[inline(always)]
-#[tactic(auto, using(crate::proofs::Unlimited::unlimited))]
 pub fn judge(
     state: &State,
     stage: Option<Stage>,
@@ -37,9 +35,7 @@ pub fn judge(
 {
     match job {
         Job::Order(cell, word) => {
-            if let Some(limits) = limits {
-                judge_order(state, stage, limits, cell, word)?;
-            }
+            judge_order(state, stage, limits, cell, word)?;
             Ok(job)
         }
         Job::OrderMicro(cell, x) => judge_micro(state, stage, limits, cell, x),
@@ -47,10 +43,33 @@ pub fn judge(
     }
 }
 
-// Refuses an order of a word for what comes before the host's own refusals. It isn't inlined: it would weigh on each
-// order without limits.
+/// Refuses an order of a word where the limits of its output do, as [`judge`]; the host refuses what is let through for
+/// all that is left.
+// An order for an output without limits isn't judged: the host refuses it for all that a guard does.
+#[inline(always)]
+#[tactic(auto, using(crate::proofs::Unlimited::unlimited))]
+pub fn judge_order(
+    state: &State,
+    stage: Option<Stage>,
+    limits: Option<Limits>,
+    cell: Cell,
+    word: u16,
+) -> Result<(), LimitFault>
+    requires { IsSound (held stage state.now) }
+    ensures refused { let s = held stage state.now in
+        IfErr result (λ fault. limited_fault limits s (Job.Order cell word) ≡ Some fault) }
+    ensures passed { let s = held stage state.now in
+        OnOk result (limited_fault limits s (Job.Order cell word) ≡ of_host (begin_fault s (Job.Order cell word))) }
+{
+    match limits {
+        None => Ok(()),
+        Some(limits) => judge_within(state, stage, limits, cell, word),
+    }
+}
+
+// The same where its output has limits. It isn't inlined: it would weigh on each order without limits.
 #[inline(never)]
-fn judge_order(
+fn judge_within(
     state: &State,
     stage: Option<Stage>,
     limits: Limits,
@@ -64,12 +83,12 @@ fn judge_order(
         OnOk result (limited_fault (Some limits) s (Job.Order cell word) ≡ of_host (begin_fault s (Job.Order cell word))) }
 {
     refuse_cell(state, stage, cell)?;
-    judge_word(state, Some(limits), cell, word)?;
-    Ok(())
+    judge_word(state, limits, cell, word)
 }
 
 // An order in microvolts, judged by the nearest word.
 #[inline(never)]
+#[tactic(auto, using(crate::proofs::Unlimited::free))]
 fn judge_micro(
     state: &State,
     stage: Option<Stage>,
@@ -82,7 +101,9 @@ fn judge_micro(
 {
     refuse_cell(state, stage, cell)?;
     let word = micro_word(state, stage, cell, x)?;
-    judge_word(state, limits, cell, word)?;
+    if let Some(limits) = limits {
+        judge_word(state, limits, cell, word)?;
+    }
     Ok(Job::Order(cell, word))
 }
 
@@ -152,14 +173,9 @@ fn micro_word(state: &State, stage: Option<Stage>, cell: Cell, x: i64) -> Result
 // Refuses what the limits of the cell's output don't let through. It is inlined, and so is the next: an answer that goes
 // through memory would weigh on each order.
 #[inline(always)]
-fn judge_word(
-    state: &State,
-    limits: Option<Limits>,
-    cell: Cell,
-    word: u16,
-) -> Result<(), LimitFault>
+fn judge_word(state: &State, limits: Limits, cell: Cell, word: u16) -> Result<(), LimitFault>
     requires { IsCell 8 cell }
-    ensures { result_err result ≡ judged limits (held None state.now) cell word }
+    ensures { result_err result ≡ judged (Some limits) (held None state.now) cell word }
 {
     match cell {
         Cell::Out(output, Reg::Operation) => judge_operation(state, limits, output, word),
@@ -170,19 +186,10 @@ fn judge_word(
 
 // Refuses a voltage beyond limits.
 #[inline(always)]
-fn judge_voltage(
-    state: &State,
-    limits: Option<Limits>,
-    output: u8,
-    word: u16,
-) -> Result<(), LimitFault>
+fn judge_voltage(state: &State, limits: Limits, output: u8, word: u16) -> Result<(), LimitFault>
     requires { output < 8 }
-    ensures { result_err result ≡ voltage_limit limits (format_at (held None state.now) output) word }
+    ensures { result_err result ≡ voltage_limit (Some limits) (format_at (held None state.now) output) word }
 {
-    let limits = match limits {
-        Some(limits) => limits,
-        None => return Ok(()),
-    };
     match format_in(state, output) {
         Some(format) => limits.refuse(&format.value_of(word)),
         None => Err(LimitFault::FormatUnknown),
@@ -192,17 +199,12 @@ fn judge_voltage(
 // Refuses a byte that leaves the output on where that isn't known to be within its limits. It isn't inlined: it would
 // weigh on each order of a voltage.
 #[inline(never)]
-fn judge_operation(
-    state: &State,
-    limits: Option<Limits>,
-    output: u8,
-    byte: u16,
-) -> Result<(), LimitFault>
+fn judge_operation(state: &State, limits: Limits, output: u8, byte: u16) -> Result<(), LimitFault>
     requires { output < 8 }
-    ensures { result_err result ≡ operation_limit limits (held None state.now) output byte }
+    ensures { result_err result ≡ operation_limit (Some limits) (held None state.now) output byte }
 {
     if Operation::has_on(byte)
-        && within_limits(limits, band_on(state, output, byte)) != Within::Yes
+        && within_limits(Some(limits), band_on(state, output, byte)) != Within::Yes
     {
         return Err(LimitFault::NotKnownWithin);
     }
