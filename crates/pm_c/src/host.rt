@@ -16,7 +16,7 @@ ghost use Rattle.pm_c.specs.Host.{new_number, memory_number, after, job_begun, B
 use crate::guard_image::GuardImage;
 use crate::numbers::{ACCEPTED, NO_ADDRESS, NO_CELL, NO_HOST};
 use pm_host::{Command, Image, Job, Stage, State};
-use pm_limits::{LimitFault, Limits, judge, judge_order};
+use pm_limits::{LimitFault, Limits, judge};
 use pm_table::{Code, address_ok, cell_of};
 use std::mem::size_of;
 
@@ -100,29 +100,6 @@ fn begin_inlined(host: &mut GuardImage, job: Option<Job>) -> u8
 // Begins a job whose output has these limits, as a guard does.
 #[inline(always)]
 fn begin_within(
-    state: &mut State,
-    stage: Option<Stage>,
-    limits: Option<Limits>,
-    job: Job,
-) -> Result<Stage, LimitFault>
-    requires sound { IsSound (held stage state.old) }
-    ensures sound { IfOk result (λ at. IsSound (held (Some at) state.new)) }
-    ensures fault { result_err result ≡ limited_fault limits (held stage state.old) job }
-    ensures ok { IfOk result (λ at. Some (held (Some at) state.new) ≡ job_begun (Some (held stage state.old)) (Some job)) }
-    ensures err { OnErr result (state.new ≡ state.old) }
-{
-    match job {
-        Job::Order(cell, word) => {
-            judge_order(state, stage, limits, cell, word)?;
-            begin_asked(state, stage, job)
-        }
-        _ => begin_judged(state, stage, limits, job),
-    }
-}
-
-// The same for every job.
-#[inline(never)]
-fn begin_judged(
     state: &mut State,
     stage: Option<Stage>,
     limits: Option<Limits>,

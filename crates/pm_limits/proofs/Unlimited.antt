@@ -19,7 +19,7 @@ never true fault = refl
 never false fault = refl
 
 -- nothing is judged
-pub free : (s : Summary) (cell : Cell) (word : ℕ) → judged None s cell word ≡ None
+free : (s : Summary) (cell : Cell) (word : ℕ) → judged None s cell word ≡ None
 free s (Out output Operation) word = never (has_on word) NotKnownWithin
 free s (Out output register) word = refl
 free s Protect word = refl

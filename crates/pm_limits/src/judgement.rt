@@ -1,15 +1,15 @@
 //! What limits refuse beside a host, by what is held beside its open job.
 
-ghost use Rattle.std.specs.Prelude.{◌≡◌, ◌<◌, None, Some, IfErr, IfOk, OnOk};
+ghost use Rattle.std.specs.Prelude.{◌≡◌, ◌<◌, None, Some, IfOk, OnOk};
 ghost use Rattle.std.specs.Result.{result_err};
 ghost use Rattle.pm_table.specs.Cell.{IsCell};
 ghost use Rattle.pm_host.specs.Image.{held};
-ghost use Rattle.pm_host.specs.Jobs.{HasNearestWord, begin_fault};
+ghost use Rattle.pm_host.specs.Jobs.{HasNearestWord};
 ghost use Rattle.pm_host.specs.Refusals.{cell_fault, micro_word as spec_micro_word};
 ghost use Rattle.pm_host.specs.Sound.{IsSound};
 ghost use Rattle.pm_host.specs.Summary.{format_at};
 ghost use Rattle.pm_limits.specs.Band.{within_of};
-ghost use Rattle.pm_limits.specs.Guard.{IsJudged, judged, limited_fault, of_host, operation_limit, ordered_output as spec_ordered_output, voltage_limit, word_fault};
+ghost use Rattle.pm_limits.specs.Guard.{IsJudged, judged, of_host, operation_limit, ordered_output as spec_ordered_output, voltage_limit, word_fault};
 
 use crate::band::{Band, band_on};
 use crate::ends::format_in;
@@ -23,8 +23,27 @@ use pm_table::{Cell, Operation, Reg};
 /// What a host is to be asked for in place of this job, whose output has these limits: the same, and of an order in
 /// microvolts the order of the nearest word. Or why it isn't asked at all, as [`crate::Guard::begin`] says. A guard
 /// asks its host so; who keeps limits otherwise asks as well, and then begins what is answered.
+// An order of a word for an output without limits isn't judged: the host refuses it for all that a guard does.
 #[inline(always)]
+#[tactic(auto, using(crate::proofs::Unlimited::unlimited))]
 pub fn judge(
+    state: &State,
+    stage: Option<Stage>,
+    limits: Option<Limits>,
+    job: Job,
+) -> Result<Job, LimitFault>
+    requires { IsSound (held stage state.now) }
+    ensures { IsJudged limits (held stage state.now) job result }
+{
+    match (limits, job) {
+        (None, Job::Order(_, _)) => Ok(job),
+        _ => judge_any(state, stage, limits, job),
+    }
+}
+
+// The same for every job. It isn't inlined: it would weigh on each order without limits.
+#[inline(never)]
+fn judge_any(
     state: &State,
     stage: Option<Stage>,
     limits: Option<Limits>,
@@ -35,76 +54,18 @@ pub fn judge(
 {
     match job {
         Job::Order(cell, word) => {
-            judge_order(state, stage, limits, cell, word)?;
+            refuse_cell(state, stage, cell)?;
+            judge_word(state, &limits, cell, word)?;
             Ok(job)
         }
-        Job::OrderMicro(cell, x) => judge_micro(state, stage, limits, cell, x),
+        Job::OrderMicro(cell, x) => {
+            refuse_cell(state, stage, cell)?;
+            let word = micro_word(state, stage, cell, x)?;
+            judge_word(state, &limits, cell, word)?;
+            Ok(Job::Order(cell, word))
+        }
         _ => Ok(job),
     }
-}
-
-/// Refuses an order of a word where the limits of its output do, as [`judge`]; the host refuses what is let through for
-/// all that is left.
-// An order for an output without limits isn't judged: the host refuses it for all that a guard does.
-#[inline(always)]
-#[tactic(auto, using(crate::proofs::Unlimited::unlimited))]
-pub fn judge_order(
-    state: &State,
-    stage: Option<Stage>,
-    limits: Option<Limits>,
-    cell: Cell,
-    word: u16,
-) -> Result<(), LimitFault>
-    requires { IsSound (held stage state.now) }
-    ensures refused { let s = held stage state.now in
-        IfErr result (λ fault. limited_fault limits s (Job.Order cell word) ≡ Some fault) }
-    ensures passed { let s = held stage state.now in
-        OnOk result (limited_fault limits s (Job.Order cell word) ≡ of_host (begin_fault s (Job.Order cell word))) }
-{
-    match limits {
-        None => Ok(()),
-        Some(limits) => judge_within(state, stage, limits, cell, word),
-    }
-}
-
-// The same where its output has limits. It isn't inlined: it would weigh on each order without limits.
-#[inline(never)]
-fn judge_within(
-    state: &State,
-    stage: Option<Stage>,
-    limits: Limits,
-    cell: Cell,
-    word: u16,
-) -> Result<(), LimitFault>
-    requires { IsSound (held stage state.now) }
-    ensures refused { let s = held stage state.now in
-        IfErr result (λ fault. limited_fault (Some limits) s (Job.Order cell word) ≡ Some fault) }
-    ensures passed { let s = held stage state.now in
-        OnOk result (limited_fault (Some limits) s (Job.Order cell word) ≡ of_host (begin_fault s (Job.Order cell word))) }
-{
-    refuse_cell(state, stage, cell)?;
-    judge_word(state, limits, cell, word)
-}
-
-// An order in microvolts, judged by the nearest word.
-#[inline(never)]
-#[tactic(auto, using(crate::proofs::Unlimited::free))]
-fn judge_micro(
-    state: &State,
-    stage: Option<Stage>,
-    limits: Option<Limits>,
-    cell: Cell,
-    x: i64,
-) -> Result<Job, LimitFault>
-    requires { IsSound (held stage state.now) }
-    ensures { IsJudged limits (held stage state.now) (Job.OrderMicro cell x) result }
-{
-    refuse_cell(state, stage, cell)?;
-    let word = micro_word(state, stage, cell, x)?;
-    if let Some(limits) = limits {
-        judge_word(state, limits, cell, word)?;
-    }
-    Ok(Job::Order(cell, word))
 }
 
 /// The output whose cell a job orders: its limits are those by which the job is judged.
@@ -173,12 +134,17 @@ fn micro_word(state: &State, stage: Option<Stage>, cell: Cell, x: i64) -> Result
 // Refuses what the limits of the cell's output don't let through. It is inlined, and so is the next: an answer that goes
 // through memory would weigh on each order.
 #[inline(always)]
-fn judge_word(state: &State, limits: Limits, cell: Cell, word: u16) -> Result<(), LimitFault>
+fn judge_word(
+    state: &State,
+    limits: &Option<Limits>,
+    cell: Cell,
+    word: u16,
+) -> Result<(), LimitFault>
     requires { IsCell 8 cell }
-    ensures { result_err result ≡ judged (Some limits) (held None state.now) cell word }
+    ensures { result_err result ≡ judged limits.now (held None state.now) cell word }
 {
     match cell {
-        Cell::Out(output, Reg::Operation) => judge_operation(state, limits, output, word),
+        Cell::Out(output, Reg::Operation) => judge_operation(state, *limits, output, word),
         Cell::Out(output, _) => judge_voltage(state, limits, output, word),
         Cell::Protect => Ok(()),
     }
@@ -186,10 +152,19 @@ fn judge_word(state: &State, limits: Limits, cell: Cell, word: u16) -> Result<()
 
 // Refuses a voltage beyond limits.
 #[inline(always)]
-fn judge_voltage(state: &State, limits: Limits, output: u8, word: u16) -> Result<(), LimitFault>
+fn judge_voltage(
+    state: &State,
+    limits: &Option<Limits>,
+    output: u8,
+    word: u16,
+) -> Result<(), LimitFault>
     requires { output < 8 }
-    ensures { result_err result ≡ voltage_limit (Some limits) (format_at (held None state.now) output) word }
+    ensures { result_err result ≡ voltage_limit limits.now (format_at (held None state.now) output) word }
 {
+    let limits = match limits {
+        Some(limits) => limits,
+        None => return Ok(()),
+    };
     match format_in(state, output) {
         Some(format) => limits.refuse(&format.value_of(word)),
         None => Err(LimitFault::FormatUnknown),
@@ -199,12 +174,17 @@ fn judge_voltage(state: &State, limits: Limits, output: u8, word: u16) -> Result
 // Refuses a byte that leaves the output on where that isn't known to be within its limits. It isn't inlined: it would
 // weigh on each order of a voltage.
 #[inline(never)]
-fn judge_operation(state: &State, limits: Limits, output: u8, byte: u16) -> Result<(), LimitFault>
+fn judge_operation(
+    state: &State,
+    limits: Option<Limits>,
+    output: u8,
+    byte: u16,
+) -> Result<(), LimitFault>
     requires { output < 8 }
-    ensures { result_err result ≡ operation_limit (Some limits) (held None state.now) output byte }
+    ensures { result_err result ≡ operation_limit limits (held None state.now) output byte }
 {
     if Operation::has_on(byte)
-        && within_limits(Some(limits), band_on(state, output, byte)) != Within::Yes
+        && within_limits(limits, band_on(state, output, byte)) != Within::Yes
     {
         return Err(LimitFault::NotKnownWithin);
     }

@@ -32,7 +32,7 @@ mod within;
 pub use band::{Band, band_in, band_of};
 pub use fault::LimitFault;
 pub use guard::Guard;
-pub use judgement::{judge, judge_order, ordered_output, within_limits};
+pub use judgement::{judge, ordered_output, within_limits};
 pub use laws::{bands_are_ends, guarded_orders_are_within};
 pub use limits::Limits;
 pub use side::Side;
