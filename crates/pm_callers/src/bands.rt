@@ -7,15 +7,15 @@ ghost use Rattle.pm_host.specs.Marks.{marks};
 ghost use Rattle.pm_host.specs.Refusals.{IsSetup};
 ghost use Rattle.pm_limits.specs.declared.band.Band.{Band};
 ghost use Rattle.pm_limits.specs.declared.side.Side.{Side};
-ghost use Rattle.pm_limits.specs.Band.{InBand, band_at};
-ghost use Rattle.pm_world.specs.Bands.{AreShort, BandStands};
+ghost use Rattle.pm_limits.specs.Band.{InBand, band_at, side_end};
+ghost use Rattle.pm_world.specs.Bands.{AreShort, BandStands, end_choices};
 ghost use Rattle.pm_laws.specs.ByName.{IsReached};
 ghost use Rattle.pm_world.specs.Confirmed.{restarts_converter};
 ghost use Rattle.pm_world.specs.Honest.{IsSpelled};
 ghost use Rattle.pm_world.specs.Life.{AreTaken, life, now};
 ghost use Rattle.pm_world.specs.Limited.{commands};
 ghost use Rattle.pm_world.specs.Setup.{setup_of};
-ghost use Rattle.pm_world.specs.Uncertainty.{AreOpen, since_restart};
+ghost use Rattle.pm_world.specs.Uncertainty.{AreOpen, Leaves, due_before, since_restart, witness_events, witness_start};
 
 use crate::further::{run_all, run_and_step};
 use pm_device::Config;
@@ -101,4 +101,26 @@ pub fn a_band_of_an_open_list(
         (world, None, true) => Ok(Some(world)),
         _ => Ok(None),
     }
+}
+
+/// So a life that is named tells the host just the same, and each output that has a band commands its end on the chosen
+/// side, as that very fraction: what `IsReached` says, opened.
+#[tactic(auto, unfolding(pm_laws::specs::ByName::IsReached))]
+pub fn a_band_that_is_reached(
+    c: Config,
+    passes: u8,
+    events: &[Event],
+) -> Result<Option<World>, SetupFault>
+    ensures { IfOk result (λ found. OnSome found ((sides : ℕ → Side) →
+        list_any restarts_converter (reverse events.now) ≡ false →
+        let host = (now c passes (reverse events.now)).host in
+        let entries = since_restart (life c passes (reverse events.now)).entries in
+        let chosen = end_choices c host sides in
+        let first = witness_start c (due_before chosen (marks (setup_of c passes) entries)) in
+        let retold = witness_events (setup_of c passes) chosen entries in
+        Leaves c passes entries chosen first retold
+        × ((output : ℕ) (band : Band) → output < c.count → band_at host output ≡ Some band →
+        commands first passes retold output ≡ side_end (sides output) band))) }
+{
+    a_band_of_an_open_list(c, passes, events)
 }

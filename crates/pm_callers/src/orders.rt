@@ -9,7 +9,7 @@ ghost use Rattle.pm_host.specs.Transcript.{Order};
 ghost use Rattle.pm_world.specs.declared.arrival.Arrival.{Arrival};
 ghost use Rattle.pm_world.specs.declared.event.Event.{Event as Happening};
 ghost use Rattle.pm_laws.specs.ByName.{GoesThrough, IsAhead};
-ghost use Rattle.pm_world.specs.Honest.{sent_by};
+ghost use Rattle.pm_world.specs.Honest.{honest, sent_by};
 ghost use Rattle.pm_world.specs.Life.{AreTaken, now};
 ghost use Rattle.pm_world.specs.Setup.{setup_of};
 ghost use Rattle.pm_world.specs.State.{asked, event_limit};
@@ -118,6 +118,21 @@ pub fn an_order_that_is_taken(
         Some(world) => Ok(Some(world)),
         None => Ok(None),
     }
+}
+
+/// So these events are taken: what `IsAhead` says, opened.
+#[tactic(auto, unfolding(pm_laws::specs::ByName::IsAhead))]
+pub fn events_that_are_taken(
+    c: Config,
+    passes: u8,
+    events: &[Event],
+) -> Result<Option<World>, SetupFault>
+    ensures { IfOk result (λ found. OnSome found
+        ((before : List Happening) (order : Happening) (cell : AnyCell) (word : ℕ) (arrivals : List Arrival) (acked : Bool) →
+        reverse events.now ≡ sent_by order arrivals before → asked (now c passes before) order ≡ Some (Order cell word) →
+        AreTaken c passes (honest order arrivals acked before))) }
+{
+    an_order_that_is_taken(c, passes, events)
 }
 
 /// The same after one more step.

@@ -14,7 +14,7 @@ ghost use Rattle.pm_world.specs.declared.arrival.Arrival.TheVariants as arrival;
 ghost use Rattle.pm_world.specs.declared.back.Back.TheVariants as back;
 ghost use Rattle.pm_world.specs.declared.event.Event.TheVariants.{Deliver, Exchange, Finish};
 ghost use Rattle.pm_laws.specs.ByName.{CheckEnds, CommandEnds, PassEnds, ReadBackEnds};
-ghost use Rattle.pm_world.specs.GoodBus.{GoodFrames, IsRead, IsWritten, held_after, stage_after};
+ghost use Rattle.pm_world.specs.GoodBus.{GoodFrames, IsRead, IsWritten, ReadDone, WentInPass, held_after, stage_after};
 ghost use Rattle.pm_world.specs.Legal.{frame_of};
 ghost use Rattle.pm_world.specs.Life.{AreTaken};
 ghost use Rattle.pm_world.specs.Setup.{setup_of};
@@ -43,6 +43,19 @@ pub fn a_check_that_comes_whole(
         Some(check) => Ok(Some(check)),
         None => Ok(None),
     }
+}
+
+/// So the cell was read, and the check is done: what `CheckEnds` says, opened.
+#[tactic(auto, unfolding(pm_laws::specs::ByName::CheckEnds))]
+pub fn a_check_that_is_done(
+    c: Config,
+    passes: u8,
+    events: &[Event],
+) -> Result<Option<(Cell, u8)>, SetupFault>
+    ensures { IfOk result (λ found. IfSome found (λ check. ReadDone c passes check.0 (reverse events.now)
+        (Exchange arrival.Whole back.Whole ∷ reverse events.now))) }
+{
+    a_check_that_comes_whole(c, passes, events)
 }
 
 // That read is undisturbed.
@@ -170,6 +183,20 @@ pub fn a_pass_that_comes_whole(
         Some(order) => Ok(Some(order)),
         None => Ok(None),
     }
+}
+
+/// So the order went through: what `PassEnds` says, opened.
+#[tactic(auto, unfolding(pm_laws::specs::ByName::PassEnds))]
+pub fn a_pass_that_went_through(
+    c: Config,
+    passes: u8,
+    events: &[Event],
+    acked: bool,
+) -> Result<Option<(Cell, u16, u8)>, SetupFault>
+    ensures { IfOk result (λ found. IfSome found (λ order. WentInPass c passes order.0 order.1 acked (reverse events.now)
+        (Exchange arrival.Whole back.Whole ∷ Finish acked ∷ Deliver arrival.Whole ∷ reverse events.now))) }
+{
+    a_pass_that_comes_whole(c, passes, events, acked)
 }
 
 // That write and that read are undisturbed.
