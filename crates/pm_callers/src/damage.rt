@@ -1,6 +1,6 @@
 //! Damage that the packet error code betrays stops no run.
 
-ghost use Rattle.std.specs.Prelude.{◌≡◌, ◌<◌, ℕ, List, Some, false, true, IfOk, IfSome, OnSome, OnOk, reverse};
+ghost use Rattle.std.specs.Prelude.{◌≡◌, ◌∷◌, ◌<◌, ℕ, List, Some, false, true, IfOk, IfSome, OnSome, OnOk, reverse};
 ghost use Rattle.pm_frame.specs.declared.message.Message.{Message};
 ghost use Rattle.pm_frame.specs.Damage.{DifferWithinEight};
 ghost use Rattle.pm_frame.specs.Layout.{AreBytes, is_read_message};
@@ -23,7 +23,8 @@ ghost use Rattle.pm_world.specs.State.{IsTaken, answer_to, event_limit};
 
 use pm_device::{Config, Converter, Ending as End};
 use pm_world::{
-    Event, SetupFault, World, answer_in, betrayed_damage_is_taken, own_requests_are_answered,
+    Event, SetupFault, World, answer_in, betrayed_damage_is_taken, lives_are_followed,
+    own_requests_are_answered,
 };
 
 /// After a run of fewer than a million events, a damaged write is taken, which the converter then ignores.
@@ -77,6 +78,65 @@ pub fn a_damaged_request(
     Ok(found)
 }
 
+/// After one more step the damaged write is taken too.
+pub fn a_damaged_write_after_a_step(
+    c: Config,
+    passes: u8,
+    events: &[Event],
+    more: &Event,
+) -> Result<Option<World>, SetupFault>
+    ensures { IfOk result (λ found. OnSome found ((message : Message) (bytes : List ℕ) (ending : Ending) →
+        sending_in (now c passes (more.now ∷ reverse events.now)).host ≡ Some message → is_read_message message ≡ false →
+        IsBetrayedDamage (frame_of c.addr message) bytes →
+        IsTaken (now c passes (more.now ∷ reverse events.now)) (Deliver (arrival.Bytes (record { items = bytes }) ending)))) }
+{
+    // Hands its law to the prover.
+    betrayed_damage_is_taken();
+    ran_and_stepped(c, passes, events, more)
+}
+
+/// So is the exchange whose answer is damaged.
+pub fn a_damaged_answer_after_a_step(
+    c: Config,
+    passes: u8,
+    events: &[Event],
+    more: &Event,
+) -> Result<Option<World>, SetupFault>
+    ensures { IfOk result (λ found. OnSome found ((cell : Cell) (bytes : List ℕ) →
+        sending_in (now c passes (more.now ∷ reverse events.now)).host ≡ Some (cell_read cell) →
+        IsBetrayedDamage (answer_to (now c passes (more.now ∷ reverse events.now)).device c.addr (cell_read cell) arrival.Whole) bytes →
+        IsTaken (now c passes (more.now ∷ reverse events.now))
+        (Exchange arrival.Whole (back.Bytes (record { items = bytes }))))) }
+{
+    // These hand their laws to the prover.
+    betrayed_damage_is_taken();
+    own_requests_are_answered();
+    ran_and_stepped(c, passes, events, more)
+}
+
+/// And that of a damaged request.
+pub fn a_damaged_request_after_a_step(
+    c: Config,
+    passes: u8,
+    events: &[Event],
+    more: &Event,
+    bytes: &[u8],
+) -> Result<Option<World>, SetupFault>
+    ensures { IfOk result (λ found. OnSome found ((request : Message) →
+        sending_in (now c passes (more.now ∷ reverse events.now)).host ≡ Some request → is_read_message request ≡ true →
+        AreOthers (frame_of c.addr request) bytes.now → DifferWithinEight (frame_of c.addr request) bytes.now →
+        IsTaken (now c passes (more.now ∷ reverse events.now))
+        (Exchange (arrival.Bytes (record { items = bytes.now }) Restart) back.Whole))) }
+{
+    // Hands its law to the prover.
+    betrayed_damage_is_taken();
+    let found = ran_and_stepped(c, passes, events, more)?;
+    if let Some(world) = &found {
+        answers_in_bytes(world.device(), bytes);
+    }
+    Ok(found)
+}
+
 /// What a converter answers are bytes.
 pub fn answers_in_bytes(device: &Converter, bytes: &[u8])
     ensures { AreBytes (spec_answer_in (reply_of device.now bytes.now Restart)) }
@@ -96,4 +156,29 @@ fn ran(c: Config, passes: u8, events: &[Event]) -> Result<Option<World>, SetupFa
         return Ok(None);
     }
     Ok(Some(world))
+}
+
+// The same with one more, for which there is room.
+fn ran_and_stepped(
+    c: Config,
+    passes: u8,
+    events: &[Event],
+    more: &Event,
+) -> Result<Option<World>, SetupFault>
+    ensures now { IfOk result (λ found. IfSome found (λ world. world ≡ now c passes (more.now ∷ reverse events.now))) }
+    ensures all { IfOk result (λ found. OnSome found (AreTaken c passes (more.now ∷ reverse events.now))) }
+    ensures room { IfOk result (λ found. OnSome found
+        ((now c passes (more.now ∷ reverse events.now)).taken < event_limit)) }
+    ensures sound { OnOk result (IsSound c × IsSetup (setup_of c passes)) }
+{
+    // Hands the prover what a step makes of a life.
+    lives_are_followed();
+    let (mut world, stop) = World::run(c, passes, events)?;
+    if stop.is_some() || events.len() >= 1_000_000 {
+        return Ok(None);
+    }
+    match world.step(more) {
+        Ok(()) => Ok(Some(world)),
+        Err(_) => Ok(None),
+    }
 }

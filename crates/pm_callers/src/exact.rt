@@ -3,18 +3,21 @@
 ghost use Rattle.std.specs.Prelude.{◌≡◌, ◌∷◌, ◌<◌, ◌≤◌, ◌*◌, ℕ, List, None, false, IfOk, IfSome, OnSome, length, reverse};
 ghost use Rattle.std.specs.List.{list_any};
 ghost use Rattle.pm_device.specs.declared.config.Config.{Config as AnyConfig};
+ghost use Rattle.pm_device.specs.Start.{start_word};
 ghost use Rattle.pm_host.specs.Marks.{marks};
 ghost use Rattle.pm_world.specs.declared.event.Event.{Event as Happening};
 ghost use Rattle.pm_world.specs.declared.event.Event.TheVariants.{Check};
+ghost use Rattle.pm_laws.specs.ByName.{BeginsShort, CameInBytes, IsShort};
 ghost use Rattle.pm_world.specs.Confirmed.{restarts_converter};
 ghost use Rattle.pm_world.specs.Life.{life};
 ghost use Rattle.pm_world.specs.OpenLists.{is_other, lists_other as spec_lists_other};
 ghost use Rattle.pm_world.specs.Setup.{setup_fault, setup_of};
-ghost use Rattle.pm_world.specs.Uncertainty.{AreOpen, ArePossible, Choice, Leaves, due_before, since_restart, witness_events, witness_start};
+ghost use Rattle.pm_world.specs.Uncertainty.{AreOfBytes, AreOpen, ArePossible, AreWordsChosen, Choice, Leaves, due_before, since_restart, witness_events, witness_start};
 
-use crate::further::run_and_step;
+use crate::further::{run_all, run_and_step};
 use pm_device::Config;
 use pm_host::Possible;
+use pm_laws::laws_by_name;
 use pm_table::Cell;
 use pm_world::{
     Event, SetupFault, World, lists_say_enough, lives_are_followed, open_lists_are_followed,
@@ -77,6 +80,58 @@ pub fn words_that_a_life_leaves(
     // Hands its law to the prover.
     possible_words_are_exact();
     run_and_step(c, passes, events, more)
+}
+
+/// The words that such a world starts with are below 2^16, where the chosen words are and what came back were bytes.
+pub fn words_that_a_life_starts_with(
+    c: Config,
+    passes: u8,
+    events: &[Event],
+    more: &Event,
+) -> Result<Option<World>, SetupFault>
+    ensures { IfOk result (λ found. OnSome found ((chosen : Choice) →
+        CameInBytes c passes (more.now ∷ reverse events.now) → IsShort c chosen →
+        BeginsShort c passes (more.now ∷ reverse events.now) chosen)) }
+{
+    // Hands its law to the prover.
+    laws_by_name();
+    match run_and_step(c, passes, events, more)? {
+        Some(world) => Ok(Some(world)),
+        None => Ok(None),
+    }
+}
+
+/// So each word of the start is below 2^16: what these names say, opened.
+#[tactic(auto, unfolding(pm_laws::specs::ByName::CameInBytes, pm_laws::specs::ByName::IsShort, pm_laws::specs::ByName::BeginsShort))]
+pub fn words_that_have_two_bytes(
+    c: Config,
+    passes: u8,
+    events: &[Event],
+    more: &Event,
+) -> Result<Option<World>, SetupFault>
+    ensures { IfOk result (λ found. OnSome found ((chosen : Choice) →
+        let entries = since_restart (life c passes (more.now ∷ reverse events.now)).entries in
+        AreOfBytes entries → AreWordsChosen c chosen →
+        AreWordsChosen c (start_word (witness_start c (due_before chosen (marks (setup_of c passes) entries)))))) }
+{
+    words_that_a_life_starts_with(c, passes, events, more)
+}
+
+/// The same after a run alone.
+pub fn words_that_a_run_starts_with(
+    c: Config,
+    passes: u8,
+    events: &[Event],
+) -> Result<Option<World>, SetupFault>
+    ensures { IfOk result (λ found. OnSome found ((chosen : Choice) →
+        CameInBytes c passes (reverse events.now) → IsShort c chosen → BeginsShort c passes (reverse events.now) chosen)) }
+{
+    // Hands its law to the prover.
+    laws_by_name();
+    match run_all(c, passes, events)? {
+        Some(world) => Ok(Some(world)),
+        None => Ok(None),
+    }
 }
 
 /// Of events that a run takes, and that leave WRITE_PROTECT open as it says, nothing else is asked but that the

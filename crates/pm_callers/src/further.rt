@@ -1,7 +1,7 @@
 //! After `World::run` one goes on with `World::step`, and has each of its promises for the longer list of
 //! events too, by the laws of worlds and with no proof by hand.
 
-ghost use Rattle.std.specs.Prelude.{◌≡◌, ◌∷◌, ◌<◌, ℕ, Some, IfOk, IfSome, OnSome, OnOk, reverse, true};
+ghost use Rattle.std.specs.Prelude.{◌≡◌, ◌∷◌, ◌<◌, ℕ, List, Some, IfOk, IfSome, OnSome, OnOk, reverse, true};
 ghost use Rattle.std.specs.Result.{result_err};
 ghost use Rattle.pm_table.specs.declared.cell.Cell.{Cell};
 ghost use Rattle.pm_table.specs.Cell.{cell_accepts, IsCell};
@@ -10,6 +10,7 @@ ghost use Rattle.pm_model.specs.Settings.{word_at};
 ghost use Rattle.pm_device.specs.Held.{value_for};
 ghost use Rattle.pm_limits.specs.declared.band.Band.{Band};
 ghost use Rattle.pm_limits.specs.Band.{InBand, band_at};
+ghost use Rattle.pm_world.specs.declared.event.Event.{Event as Happening};
 ghost use Rattle.pm_world.specs.Bands.{AreShort, BandStands};
 ghost use Rattle.pm_world.specs.Confirmed.{ConfirmedIsHeld};
 ghost use Rattle.pm_device.specs.Start.{IsSound};
@@ -33,6 +34,19 @@ use pm_world::{
     words_are_short,
 };
 
+/// Runs the events; `None` where one of them isn't taken.
+pub fn run_all(c: Config, passes: u8, events: &[Event]) -> Result<Option<World>, SetupFault>
+    ensures now { IfOk result (λ found. IfSome found (λ world. world ≡ now c passes (reverse events.now))) }
+    ensures all { IfOk result (λ found. OnSome found (AreTaken c passes (reverse events.now))) }
+    ensures config { IfOk result (λ found. IfSome found (λ world. world.device.config ≡ c)) }
+    ensures sound { OnOk result (IsSound c × IsSetup (setup_of c passes) × IsSpelled c) }
+{
+    match World::run(c, passes, events)? {
+        (world, None) => Ok(Some(world)),
+        (_, Some(_)) => Ok(None),
+    }
+}
+
 /// Runs the events, and lets one more happen; `None` where one of them isn't taken.
 pub fn run_and_step(
     c: Config,
@@ -55,6 +69,19 @@ pub fn run_and_step(
         Ok(()) => Ok(Some(world)),
         Err(_) => Ok(None),
     }
+}
+
+/// Lets one more event happen in a world that is what some events made of it, however these were chosen; whether it was
+/// taken.
+pub fn go_on(world: &mut World, c: Config, passes: u8, more: &Event) -> bool
+    ensures all { (before : List Happening) → IsSound c → IsSetup (setup_of c passes) → AreTaken c passes before →
+        world.old ≡ now c passes before → result ≡ true → AreTaken c passes (more.now ∷ before) }
+    ensures now { (before : List Happening) → IsSound c → IsSetup (setup_of c passes) → AreTaken c passes before →
+        world.old ≡ now c passes before → result ≡ true → world.new ≡ now c passes (more.now ∷ before) }
+{
+    // Hands the prover what a step makes of a life.
+    lives_are_followed();
+    world.step(more).is_ok()
 }
 
 /// So its settings and its store are those of the order machine, and move by the open job alone.

@@ -1,0 +1,130 @@
+-- What some laws say, each by a name that shows all that it is about, so that a caller has it without a proof: the
+-- arguments of such a law stand with the name, none of them is left to be guessed, and a proof opens it where it is used. This project's own choice. Lists are
+-- newest first.
+use Rattle.std.specs.Prelude.{◌≡◌, ◌+◌, ◌<◌, ◌≤◌, ℕ, Bool, true, false, List, ◌∷◌, Some, length}
+use Rattle.pm_table.specs.declared.cell.Cell.{Cell}
+use Rattle.pm_table.specs.declared.cell.Cell.TheVariants.{Protect}
+use Rattle.pm_table.specs.Cell.{cell_code}
+use Rattle.pm_table.specs.Protection.{is_allowed}
+use Rattle.pm_device.specs.declared.config.Config.{Config}
+use Rattle.pm_device.specs.Start.{IsSound, start_word}
+use Rattle.pm_host.specs.declared.command.Command.{Command}
+use Rattle.pm_host.specs.declared.job_end.JobEnd.TheVariants.{Done}
+use Rattle.pm_host.specs.declared.question.Question.TheVariants.{Word}
+use Rattle.pm_host.specs.declared.stage.Stage.TheVariants.{Asks, Reads, Sends, Writes}
+use Rattle.pm_host.specs.Marks.{marks}
+use Rattle.pm_host.specs.Messages.{cell_read, cell_write, command_message}
+use Rattle.pm_host.specs.Refusals.{IsSetup}
+use Rattle.pm_host.specs.Transcript.{Order}
+use Rattle.pm_limits.specs.declared.band.Band.{Band}
+use Rattle.pm_limits.specs.declared.side.Side.{Side}
+use Rattle.pm_limits.specs.Band.{band_at, side_end}
+use Rattle.pm_world.specs.declared.arrival.Arrival.{Arrival}
+use Rattle.pm_world.specs.declared.arrival.Arrival.TheVariants.{Whole}
+use Rattle.pm_world.specs.declared.back.Back.TheVariants as back
+use Rattle.pm_world.specs.declared.event.Event.{Event}
+use Rattle.pm_world.specs.declared.event.Event.TheVariants.{Exchange, Finish}
+use Rattle.pm_world.specs.declared.way.Way.TheVariants.{Sent}
+use Rattle.pm_world.specs.Bands.{end_choices}
+use Rattle.pm_world.specs.GoodBus.{GoodFrames, IsRead, IsWritten, ReadDone, WentInPass, held_after, stage_after}
+use Rattle.pm_world.specs.Honest.{IsSpelled, honest, sent_by}
+use Rattle.pm_world.specs.Legal.{frame_of}
+use Rattle.pm_world.specs.Life.{AreTaken, life, now}
+use Rattle.pm_world.specs.Limited.{commands}
+use Rattle.pm_world.specs.Possible.{restarted_since_host}
+use Rattle.pm_world.specs.Setup.{setup_of}
+use Rattle.pm_world.specs.State.{asked, event_limit}
+use Rattle.pm_world.specs.Way.{HasGone, way_of}
+use Rattle.pm_world.specs.Uncertainty.{AreOfBytes, AreOpen, AreWordsChosen, Choice, Leaves, due_before, since_restart, witness_events, witness_start}
+
+-- Of an order for this word of this cell, whose write was delivered so, the end of that write and an undisturbed read
+-- are taken.
+unfoldable pub IsAhead : Config → ℕ → Event → Cell → ℕ → List Arrival → Bool → List Event → Type 0
+IsAhead config passes order cell word arrivals acked before =
+    AreTaken config passes (honest order arrivals acked before)
+
+-- Of an order of this word on its way, whose write was heard whole, these two are taken, and it goes through by them.
+unfoldable pub GoesThrough : Config → ℕ → Cell → ℕ → Bool → List Event → Type 0
+GoesThrough config passes cell word acked events =
+    AreTaken config passes (Exchange Whole back.Whole ∷ Finish acked ∷ events)
+    × HasGone config passes cell word (Exchange Whole back.Whole ∷ Finish acked ∷ events)
+
+-- One life, which tells the host just what these events told it, leaves each output that has a band at its end on the
+-- chosen side.
+unfoldable pub IsReached : Config → ℕ → List Event → (ℕ → Side) → Type 0
+IsReached config passes events sides =
+    let host = (now config passes events).host in
+    let entries = since_restart (life config passes events).entries in
+    let chosen = end_choices config host sides in
+    let first = witness_start config (due_before chosen (marks (setup_of config passes) entries)) in
+    let retold = witness_events (setup_of config passes) chosen entries in
+    Leaves config passes entries chosen first retold
+    × ((output : ℕ) (band : Band) → output < config.count → band_at host output ≡ Some band →
+    commands first passes retold output ≡ side_end (sides output) band)
+
+-- What came back since the host last restarted were bytes; the chosen words have two bytes; and so have those with which
+-- the life begins that leaves them.
+unfoldable pub CameInBytes : Config → ℕ → List Event → Type 0
+CameInBytes config passes events = AreOfBytes (since_restart (life config passes events).entries)
+
+unfoldable pub IsShort : Config → Choice → Type 0
+IsShort config chosen = AreWordsChosen config chosen
+
+unfoldable pub BeginsShort : Config → ℕ → List Event → Choice → Type 0
+BeginsShort config passes events chosen = AreWordsChosen config (start_word (witness_start config (due_before chosen
+    (marks (setup_of config passes) (since_restart (life config passes events).entries)))))
+
+-- What undisturbed frames made of an open job, after so many tries, or in this pass: a check, an order that was written
+-- and read, one that was read back, and a command.
+unfoldable pub CheckEnds : Config → ℕ → Cell → ℕ → List Event → List Event → Type 0
+CheckEnds config passes cell tries before after = ReadDone config passes cell before after
+
+unfoldable pub PassEnds : Config → ℕ → Cell → ℕ → ℕ → Bool → List Event → List Event → List Event → Type 0
+PassEnds config passes cell word pass acked before middle after = WentInPass config passes cell word acked before after
+
+unfoldable pub ReadBackEnds : Config → ℕ → Cell → ℕ → ℕ → List Event → List Event → Type 0
+ReadBackEnds config passes cell word pass before after = ReadDone config passes cell before after
+
+unfoldable pub CommandEnds : Config → ℕ → Command → ℕ → List Event → List Event → Type 0
+CommandEnds config passes command tries before after = (now config passes after).end ≡ Some Done
+
+-- `ahead` is what `honest_orders_go_through` says by its `taken`, `through` what `ways_are_followed` says by its `ahead`,
+-- `reached` what `bands_are_exact` says, and `words` what `possible_words_are_exact` says by its `words`. The others are
+-- those of `newest_events_are_parts`.
+pub record LawsByName : Type 0 where
+  pub ahead : (config : Config) (passes : ℕ) (order : Event) (cell : Cell) (word : ℕ) (arrivals : List Arrival)
+      (acked : Bool) (before : List Event) →
+      IsSound config → IsSetup (setup_of config passes) →
+      AreTaken config passes (sent_by order arrivals before) →
+      asked (now config passes before) order ≡ Some (Order cell word) →
+      length (sent_by order arrivals before) + 2 ≤ event_limit →
+      IsAhead config passes order cell word arrivals acked before
+  pub through : (config : Config) (passes : ℕ) (cell : Cell) (word : ℕ) (acked : Bool) (events : List Event) →
+      IsSound config → IsSetup (setup_of config passes) → AreTaken config passes events →
+      way_of config passes events ≡ Sent cell word true → (now config passes events).taken + 2 ≤ event_limit →
+      GoesThrough config passes cell word acked events
+  pub reached : (config : Config) (passes : ℕ) (events : List Event) (sides : ℕ → Side) →
+      IsSound config → IsSpelled config → IsSetup (setup_of config passes) → AreTaken config passes events →
+      restarted_since_host events ≡ false →
+      AreOpen (marks (setup_of config passes) (since_restart (life config passes events).entries)) →
+      IsReached config passes events sides
+  pub words : (config : Config) (passes : ℕ) (events : List Event) (chosen : Choice) → IsSound config →
+      CameInBytes config passes events → IsShort config chosen → BeginsShort config passes events chosen
+  pub check : (config : Config) (passes : ℕ) (cell : Cell) (tries : ℕ) (before after : List Event) →
+      GoodFrames config passes after → stage_after config passes before ≡ Some (Asks (Word cell) tries) →
+      IsRead config passes (cell_read cell) before after → CheckEnds config passes cell tries before after
+  pub order : (config : Config) (passes : ℕ) (cell : Cell) (word pass : ℕ) (acked : Bool)
+      (before middle after : List Event) →
+      GoodFrames config passes after → stage_after config passes before ≡ Some (Writes cell word pass) →
+      is_allowed (held_after config passes before Protect) (cell_code cell) ≡ true →
+      IsWritten (frame_of config.addr (cell_write cell word)) acked before middle →
+      IsRead config passes (cell_read cell) middle after →
+      PassEnds config passes cell word pass acked before middle after
+  pub read_back : (config : Config) (passes : ℕ) (cell : Cell) (word pass : ℕ) (before after : List Event) →
+      GoodFrames config passes after → stage_after config passes before ≡ Some (Reads cell word pass) →
+      held_after config passes before cell ≡ word →
+      IsRead config passes (cell_read cell) before after → ReadBackEnds config passes cell word pass before after
+  pub send : (config : Config) (passes : ℕ) (command : Command) (tries : ℕ) (before after : List Event) →
+      GoodFrames config passes after → stage_after config passes before ≡ Some (Sends command tries) →
+      IsWritten (frame_of config.addr (command_message command)) true before after →
+      CommandEnds config passes command tries before after

@@ -1,0 +1,26 @@
+//! Some laws of both ends, each by a name that shows all that it is about, so that a caller has it without a proof.
+//!
+//! A caller's prover doesn't find a law that leaves some of its arguments to be guessed, as how often a check was tried,
+//! or that says something long. Here what such a law says has a name, which stays closed until a proof opens it, and
+//! beside which all arguments stand. It takes no memory, and does nothing when it runs.
+#![tactic(auto)]
+
+ghost use Rattle.pm_laws.specs.ByName.{LawsByName};
+
+use pm_world::{
+    bands_are_exact, honest_orders_go_through, newest_events_are_parts, possible_words_are_exact,
+    ways_are_followed,
+};
+
+/// What these laws say: [`honest_orders_go_through`] of the events that are taken (`ahead`), [`ways_are_followed`] of an
+/// order on its way (`through`), [`bands_are_exact`] (`reached`), [`possible_words_are_exact`] of the words that its life
+/// begins with (`words`), and [`newest_events_are_parts`] of undisturbed frames (`check`, `order`, `read_back`, `send`).
+pub fn laws_by_name()
+    ensures { LawsByName }
+{
+    honest_orders_go_through();
+    ways_are_followed();
+    bands_are_exact();
+    possible_words_are_exact();
+    newest_events_are_parts();
+}
