@@ -1,15 +1,15 @@
 //! What limits refuse beside a host, by what is held beside its open job.
 
-ghost use Rattle.std.specs.Prelude.{◌≡◌, ◌<◌, None, Some, IfOk, OnOk};
+ghost use Rattle.std.specs.Prelude.{◌≡◌, ◌<◌, None, Some, IfErr, IfOk, OnOk};
 ghost use Rattle.std.specs.Result.{result_err};
 ghost use Rattle.pm_table.specs.Cell.{IsCell};
 ghost use Rattle.pm_host.specs.Image.{held};
-ghost use Rattle.pm_host.specs.Jobs.{HasNearestWord};
+ghost use Rattle.pm_host.specs.Jobs.{HasNearestWord, begin_fault};
 ghost use Rattle.pm_host.specs.Refusals.{cell_fault, micro_word as spec_micro_word};
 ghost use Rattle.pm_host.specs.Sound.{IsSound};
 ghost use Rattle.pm_host.specs.Summary.{format_at};
 ghost use Rattle.pm_limits.specs.Band.{within_of};
-ghost use Rattle.pm_limits.specs.Guard.{IsJudged, judged, of_host, operation_limit, ordered_output as spec_ordered_output, voltage_limit, word_fault};
+ghost use Rattle.pm_limits.specs.Guard.{IsJudged, judged, limited_fault, of_host, operation_limit, ordered_output as spec_ordered_output, voltage_limit, word_fault};
 
 use crate::band::{Band, band_on};
 use crate::ends::format_in;
@@ -35,37 +35,55 @@ pub fn judge(
     requires { IsSound (held stage state.now) }
     ensures { IsJudged limits (held stage state.now) job result }
 {
-    match (limits, job) {
-        (None, Job::Order(_, _)) => Ok(job),
-        _ => judge_any(state, stage, limits, job),
+    match job {
+        Job::Order(cell, word) => {
+            if let Some(limits) = limits {
+                judge_order(state, stage, limits, cell, word)?;
+            }
+            Ok(job)
+        }
+        Job::OrderMicro(cell, x) => judge_micro(state, stage, limits, cell, x),
+        _ => Ok(job),
     }
 }
 
-// The same for every job. It isn't inlined: it would weigh on each order without limits.
+// Refuses an order of a word for what comes before the host's own refusals. It isn't inlined: it would weigh on each
+// order without limits.
 #[inline(never)]
-fn judge_any(
+fn judge_order(
+    state: &State,
+    stage: Option<Stage>,
+    limits: Limits,
+    cell: Cell,
+    word: u16,
+) -> Result<(), LimitFault>
+    requires { IsSound (held stage state.now) }
+    ensures refused { let s = held stage state.now in
+        IfErr result (λ fault. limited_fault (Some limits) s (Job.Order cell word) ≡ Some fault) }
+    ensures passed { let s = held stage state.now in
+        OnOk result (limited_fault (Some limits) s (Job.Order cell word) ≡ of_host (begin_fault s (Job.Order cell word))) }
+{
+    refuse_cell(state, stage, cell)?;
+    judge_word(state, Some(limits), cell, word)?;
+    Ok(())
+}
+
+// An order in microvolts, judged by the nearest word.
+#[inline(never)]
+fn judge_micro(
     state: &State,
     stage: Option<Stage>,
     limits: Option<Limits>,
-    job: Job,
+    cell: Cell,
+    x: i64,
 ) -> Result<Job, LimitFault>
     requires { IsSound (held stage state.now) }
-    ensures { IsJudged limits (held stage state.now) job result }
+    ensures { IsJudged limits (held stage state.now) (Job.OrderMicro cell x) result }
 {
-    match job {
-        Job::Order(cell, word) => {
-            refuse_cell(state, stage, cell)?;
-            judge_word(state, &limits, cell, word)?;
-            Ok(job)
-        }
-        Job::OrderMicro(cell, x) => {
-            refuse_cell(state, stage, cell)?;
-            let word = micro_word(state, stage, cell, x)?;
-            judge_word(state, &limits, cell, word)?;
-            Ok(Job::Order(cell, word))
-        }
-        _ => Ok(job),
-    }
+    refuse_cell(state, stage, cell)?;
+    let word = micro_word(state, stage, cell, x)?;
+    judge_word(state, limits, cell, word)?;
+    Ok(Job::Order(cell, word))
 }
 
 /// The output whose cell a job orders: its limits are those by which the job is judged.
@@ -136,15 +154,15 @@ fn micro_word(state: &State, stage: Option<Stage>, cell: Cell, x: i64) -> Result
 #[inline(always)]
 fn judge_word(
     state: &State,
-    limits: &Option<Limits>,
+    limits: Option<Limits>,
     cell: Cell,
     word: u16,
 ) -> Result<(), LimitFault>
     requires { IsCell 8 cell }
-    ensures { result_err result ≡ judged limits.now (held None state.now) cell word }
+    ensures { result_err result ≡ judged limits (held None state.now) cell word }
 {
     match cell {
-        Cell::Out(output, Reg::Operation) => judge_operation(state, *limits, output, word),
+        Cell::Out(output, Reg::Operation) => judge_operation(state, limits, output, word),
         Cell::Out(output, _) => judge_voltage(state, limits, output, word),
         Cell::Protect => Ok(()),
     }
@@ -154,12 +172,12 @@ fn judge_word(
 #[inline(always)]
 fn judge_voltage(
     state: &State,
-    limits: &Option<Limits>,
+    limits: Option<Limits>,
     output: u8,
     word: u16,
 ) -> Result<(), LimitFault>
     requires { output < 8 }
-    ensures { result_err result ≡ voltage_limit limits.now (format_at (held None state.now) output) word }
+    ensures { result_err result ≡ voltage_limit limits (format_at (held None state.now) output) word }
 {
     let limits = match limits {
         Some(limits) => limits,
