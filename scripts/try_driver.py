@@ -18,12 +18,14 @@ import tempfile
 
 sys.dont_write_bytecode = True
 
+from crate_copy import all_below, crates_below  # noqa: E402
 from plain.converter import COMMAND, MAX, PROTECT, Converter  # noqa: E402
 from plain.host import Host  # noqa: E402
 from plain.packets import answer_shape  # noqa: E402
 from program import ROOT, answer_help  # noqa: E402
 
-CRATES = ("pm_num", "pm_table", "pm_frame", "pm_model", "pm_device", "pm_host", "pm_limits", "pm_world", "pm_driver", "pm_buses", "pm_lines")
+# What the program uses of the crates, of which each stands on others.
+USED = ("pm_buses", "pm_lines")
 FIRST = (0, COMMAND)
 WORDS = {0x01: 0x80, 0x21: 0x1000, 0x24: 0x4000, 0x25: 0x1100, 0x26: 0x0F00, 0x2B: 0x0000}
 SETUP = {"address": 0x58, "count": 2, "outputs": [(0x14, WORDS)] * 2, "protect": 0x00, "coefficients": (1, 0, 0), "version": 2}
@@ -119,15 +121,18 @@ def plans(dice, pairs):
 
 def built(folder):
     """The command that runs the program, in a copy of the crates."""
-    lines = [line for line in open(os.path.join(ROOT, "crates.txt"), encoding="utf-8") if line.split(":")[0] in CRATES]
-    for crate in CRATES:
+    os.chdir(ROOT)
+    uses = crates_below()
+    crates = sorted({*USED, *(below for crate in USED for below in all_below(uses, crate))})
+    lines = [f"{crate}: {' '.join(uses[crate])}\n" for crate in crates]
+    for crate in crates:
         shutil.copytree(os.path.join(ROOT, "crates", crate), os.path.join(folder, "crates", crate),
                         ignore=shutil.ignore_patterns("out", "must-fail"))
     home = os.path.join(folder, "crates", "driver_faults")
     os.makedirs(os.path.join(home, "src"))
     shutil.copy(os.path.join(ROOT, "scripts/driver/faults.rattle"), os.path.join(home, "src/main.rt"))
     with open(os.path.join(folder, "crates.txt"), "w", encoding="utf-8") as file:
-        file.writelines([*lines, f"driver_faults: {' '.join(CRATES)} arrayvec\n"])
+        file.writelines([*lines, f"driver_faults: {' '.join(crates)} arrayvec\n"])
     return home
 
 

@@ -16,7 +16,7 @@ folder=$(mktemp -d)
 trap 'rm -rf "$folder"' EXIT
 
 mkdir -p "$folder/crates/decode_bench/src"
-for crate in pm_num pm_table pm_frame pm_model pm_device pm_host pm_world pm_lines pm_trace; do
+for crate in pm_num pm_table pm_frame pm_model pm_device pm_host pm_setup pm_lines pm_trace; do
     cp -a "crates/$crate" "$folder/crates/"
     grep "^$crate:" crates.txt >> "$folder/crates.txt"
 done
