@@ -2,7 +2,8 @@
 """Compares `pmb` with the plain slow program of scripts/plain, over random texts: `hear`, `replay`,
 `decode` and `told`, which is `decode` with random options, over TEXTS texts each, and `number` over a
 twentieth as many. What differs is printed, the shortest text of each kind of difference at the end, and the
-status is then 1. The counts at the end show that each kind of line came.
+status is then 1. The counts at the end show that each kind of line came. The command `sets`, which has to be named, is
+`decode` of each text with every set of its options, 48 of them.
 
     scripts/compare_with_plain.py [SEED [TEXTS [COMMAND ..]]]
 
@@ -23,8 +24,8 @@ TEXTS = {
     "hear": (draw_lines.hear_text, commands.hear), "replay": (draw_scenarios.scenario_text, report.replay),
     "decode": (draw_traces.trace_text, trace.decode),
 }
-# The command that reads options too, by its name here.
-TOLD = "told"
+# The commands that read options too, by their names here: one set of them, or every one.
+TOLD, SETS = "told", "sets"
 # Options that the program doesn't have.
 LEFT_OUT = []
 # What is left out of a line of an answer, so that lines of one kind count together: numbers, bytes, words.
@@ -46,7 +47,7 @@ def kinds_of_events(text):
 
 def kinds_of(command, text, wanted):
     for line in wanted[1].splitlines() + (wanted[2] or "").splitlines():
-        yield f"{command}: {kind_of_told(line) if command == TOLD else shortened(line)}"
+        yield f"{command}: {kind_of_told(line) if command in (TOLD, SETS) else shortened(line)}"
     if command == "replay" and wanted[1].startswith("ran"):
         for kind in kinds_of_events(text):
             yield f"replay event: {kind}"
@@ -81,25 +82,25 @@ def first_difference(found, wanted):
     return f"status {found[0]}, and not {wanted[0]}"
 
 
-def one_text(command, dice):
-    """A random text, what the program says of it, and what the plain one does; and the command line."""
-    if command != TOLD:
+def compared(command, dice):
+    """Of a random text, for each command line: the text, what the program says of it, what the plain one does, and the line."""
+    if command in TEXTS:
         draw, plain = TEXTS[command]
         text = draw(dice)
-        return text, ran([command], text), plain(text), command
-    options, text = draw_captures.capture(dice)
-    options = [option for option in options if option not in LEFT_OUT]
-    found, wanted = ran(["decode", *options], text), capture.decode(text, options)
-    # What the parser says of a faulty command line is its own.
-    if wanted[2] is None and found[2]:
-        found = *found[:2], None
-    return text, found, wanted, " ".join(["decode", *options])
+        yield text, ran([command], text), plain(text), command
+        return
+    for options, text in [draw_captures.capture(dice)] if command == TOLD else draw_captures.captures_of_one_trace(dice):
+        options = [option for option in options if option not in LEFT_OUT]
+        found, wanted = ran(["decode", *options], text), capture.decode(text, options)
+        # What the parser says of a faulty command line is its own.
+        if wanted[2] is None and found[2]:
+            found = *found[:2], None
+        yield text, found, wanted, " ".join(["decode", *options])
 
 
 def compare_texts(command, dice, count, seen, smallest):
     faults = 0
-    for _ in range(count):
-        text, found, wanted, line = one_text(command, dice)
+    for text, found, wanted, line in (it for _ in range(count) for it in compared(command, dice)):
         for kind in kinds_of(command, text, wanted):
             seen[kind] = seen.get(kind, 0) + 1
         if found != wanted:
@@ -108,7 +109,7 @@ def compare_texts(command, dice, count, seen, smallest):
             print(f"{line}: {said}: {text[:200]!r}")
             kind = command + ": " + re.sub(r"\d+|[0-9A-F]{4}", "N", said)
             if kind not in smallest or len(text) < len(smallest[kind][1]):
-                smallest[kind] = f"{line}: {said}" if command == TOLD else said, text
+                smallest[kind] = said if command in TEXTS else f"{line}: {said}", text
     return faults
 
 
@@ -133,10 +134,10 @@ def main():
     seed = int(sys.argv[1]) if len(sys.argv) > 1 else 1
     texts = int(sys.argv[2]) if len(sys.argv) > 2 else 10000
     chosen = sys.argv[3:] or [*TEXTS, TOLD, "number"]
-    if TOLD in chosen and not program.has_options():
+    if not program.has_options():
         print("this decode has no options: told isn't compared")
-        chosen.remove(TOLD)
-    elif TOLD in chosen and not program.has_options("--json"):
+        chosen = [command for command in chosen if command not in (TOLD, SETS)]
+    elif {TOLD, SETS} & {*chosen} and not program.has_options("--json"):
         print("this decode has no --json: told is compared without")
         LEFT_OUT.append("--json")
     faults, seen, smallest = 0, {}, {}

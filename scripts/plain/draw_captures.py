@@ -1,5 +1,7 @@
 """Random captures and options of `decode`: packets that teach formats and change them, values, unknown codes, packets
 without PEC, faults; with times good and bad."""
+import itertools
+
 from .converter import coefficient_bytes
 from .draw_lines import lengthened, request, skipped_lines, spelled, text_of_lines, write_frame
 from .draw_traces import frame_line, spoiled_answer, trace_line
@@ -144,14 +146,36 @@ def timed(dice, lines):
             yield dice.choice([b"", b"", b"", b"  "]) + time_word(dice, now) + gap + line
 
 
-def capture(dice):
-    """Options and a text."""
-    words = options(dice)
+def packets(dice):
+    """The lines of a trace without times."""
     lines, strange = skipped_lines(dice), dice.choice([0, 0, 0.05, 0.3])
     for _ in range(dice.choice([0, 1, 2, 5, 20, 60])):
         lines.insert(dice.randrange(len(lines) + 1), packet_line(dice, strange))
+    return lines
+
+
+def capture(dice):
+    """Options and a text."""
+    words, lines = options(dice), packets(dice)
     if ("--times" in words) != (dice.random() < 0.03):
         lines = [*timed(dice, lines)]
     text = text_of_lines(dice, lines)
     filler = dice.choice([b"# " + b"x" * 1000, b"0" + b" " * 300, b"12 B0 03 46" + b" " * 400]) + b"\n"
     return words, lengthened(dice, text, filler) if dice.random() < 0.001 else text
+
+
+def sets_of_options(dice):
+    """Each set of options that decode takes, with a format where one is given."""
+    for kept in itertools.product([False, True], repeat=len(SWITCHES) + 2):
+        has_vout, has_values, *switches = kept
+        if has_values or not has_vout:
+            words = [word for word, is_kept in zip(SWITCHES, switches) if is_kept] + ["--values"] * has_values
+            yield words + ["--vout=" + dice.choice(FORMATS)] * has_vout
+
+
+def captures_of_one_trace(dice):
+    """One trace with each set of options: its lines have times where these are asked for, and now and then where not."""
+    lines = packets(dice)
+    texts = [text_of_lines(dice, it) for it in (lines, [*timed(dice, lines)])]
+    for words in sets_of_options(dice):
+        yield words, texts[("--times" in words) != (dice.random() < 0.03)]
