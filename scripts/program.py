@@ -39,6 +39,15 @@ def answer_help(text):
         sys.exit(0)
 
 
+def seed_and_count(text, count):
+    """The two numbers that the arguments may name, 1 and this count where they don't; otherwise the script ends with its usage."""
+    answer_help(text)
+    words = sys.argv[1:]
+    if len(words) > 2 or not all(word.isdigit() for word in words):
+        sys.exit(text.strip())
+    return [int(word) for word in [*words, *["1", str(count)][len(words):]]]
+
+
 def one_file(text):
     """The bytes of the one file that the arguments name; otherwise the script ends with its usage."""
     answer_help(text)

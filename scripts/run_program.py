@@ -14,6 +14,7 @@ import sys
 sys.dont_write_bytecode = True
 
 import program  # noqa: E402
+from plain.restart_rows import RESTARTS  # noqa: E402
 from program import ROOT  # noqa: E402
 
 PROGRAM = program.PROGRAM
@@ -134,22 +135,6 @@ def faulty_lines():
         lines = scenario([OUTPUT] * 2, ORDER).decode().splitlines()
         lines[number - 1] = line
         yield faulty(f"{words} line {number}", "\n".join(lines).encode())
-
-
-# A restart of either end before an event of one order: the place, the first line, output 0's word and what
-# the host knows of it, the job.
-RESTARTS = [
-    ("device", 0, "ran 5", "34CD host confirmed 34CD", "done"),
-    ("device", 1, "ran 5", "34CD host confirmed 34CD", "done"),
-    ("device", 2, "ran 5", "1000 host unknown", "pending"),
-    ("device", 3, "ran 5", "1000 host unknown", "pending"),
-    ("device", 4, "ran 5", "1000 host confirmed 34CD", "done"),
-    ("host", 0, "ran 5", "34CD host confirmed 34CD", "done"),
-    ("host", 1, "stopped 2 S2 NothingSent", "1000 host unknown", "none"),
-    ("host", 2, "stopped 3 S2 NothingSent", "34CD host unknown", "none"),
-    ("host", 3, "stopped 4 S2 NothingSent", "34CD host unknown", "none"),
-    ("host", 4, "ran 5", "34CD host unknown", "none"),
-]
 
 
 def restarts():

@@ -22,7 +22,7 @@ from crate_copy import all_below, crates_below  # noqa: E402
 from plain.converter import COMMAND, MAX, PROTECT, Converter  # noqa: E402
 from plain.host import Host  # noqa: E402
 from plain.packets import answer_shape  # noqa: E402
-from program import ROOT, answer_help  # noqa: E402
+from program import ROOT, seed_and_count  # noqa: E402
 
 # What the program uses of the crates, of which each stands on others.
 USED = ("pm_buses", "pm_lines")
@@ -147,13 +147,9 @@ def told(home, runs):
 
 
 def main():
-    answer_help(__doc__)
-    words = sys.argv[1:]
-    if len(words) > 2 or not all(word.isdigit() for word in words):
-        sys.exit(__doc__.strip())
+    seed, pairs = seed_and_count(__doc__, 2000)
     if not shutil.which("rt"):
         sys.exit("no rt on the path: it builds the program that runs the plans")
-    seed, pairs = (int(word) for word in [*words, *["1", "2000"][len(words):]])
     runs = list(plans(random.Random(seed), pairs))
     found, failed = [], 0
     with tempfile.TemporaryDirectory(prefix="try-driver-") as folder:

@@ -22,7 +22,7 @@ from plain.commands import START  # noqa: E402
 from plain.converter import COMMAND, HIGH, LOW, MAX, MIN, OPERATION, REGISTERS  # noqa: E402
 from plain.packets import CODES, TABLE, length_of, name_of, pec  # noqa: E402
 from plain.part import PlainPart  # noqa: E402
-from program import answer_help  # noqa: E402
+from program import seed_and_count  # noqa: E402
 from spoken import setup_text  # noqa: E402
 
 WRITE, REQUEST = "B0 05 04 00 21 CD 34 5A", "B0 06 02 00 21 /"
@@ -210,11 +210,7 @@ def random_faults(dice, wanted, folder):
 
 
 def main():
-    answer_help(__doc__)
-    words = sys.argv[1:]
-    if len(words) > 2 or not all(word.isdigit() for word in words):
-        sys.exit(__doc__.strip())
-    seed, wanted = (int(word) for word in [*words, *["1", "10000"][len(words):]])
+    seed, wanted = seed_and_count(__doc__, 10000)
     session.PART.needed()
     try:
         with tempfile.TemporaryDirectory() as folder:

@@ -19,7 +19,7 @@ import session  # noqa: E402
 from plain.converter import Converter  # noqa: E402
 from plain.packets import name_of, pec  # noqa: E402
 from plain.session import PlainSession, in_hex  # noqa: E402
-from program import answer_help  # noqa: E402
+from program import seed_and_count  # noqa: E402
 
 WRITE, REQUEST = "send B0 05 04 00 21 CD 34 5A", "send B0 06 02 00 21 read 4"
 NEW, OLD = "got B1 02 CD 34 B9", "got B1 02 00 10 41"
@@ -229,11 +229,7 @@ def random_faults(dice, wanted):
 
 
 def main():
-    answer_help(__doc__)
-    words = sys.argv[1:]
-    if len(words) > 2 or not all(word.isdigit() for word in words):
-        sys.exit(__doc__.strip())
-    seed, wanted = (int(word) for word in [*words, *["1", "10000"][len(words):]])
+    seed, wanted = seed_and_count(__doc__, 10000)
     session.needed()
     try:
         faults = [*story_faults(), *end_faults(), *random_faults(random.Random(seed), wanted)]

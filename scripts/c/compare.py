@@ -12,17 +12,14 @@ Writes a line for the first difference, and the status is then 1. Without --arch
 """
 import ctypes
 import os
-import random
-import subprocess
 import sys
-import tempfile
-from collections import Counter
 from math import ceil, floor
 
 sys.dont_write_bytecode = True
 HOME = os.path.dirname(os.path.dirname(os.path.abspath(__file__)))
 sys.path.insert(0, HOME)
 
+import lives  # noqa: E402
 from plain import limits  # noqa: E402
 from plain.converter import PROTECT, REGISTERS, Converter  # noqa: E402
 from plain.host import ANY, Host  # noqa: E402
@@ -64,13 +61,8 @@ class Format(ctypes.Structure):
     _fields_ = [("kind", ctypes.c_uint8), ("exponent", ctypes.c_int8), ("m", ctypes.c_int16), ("b", ctypes.c_int16)]
 
 
-def library(archive, folder):
-    """The archive as a library that is loaded here."""
-    if not os.path.exists(archive):
-        sys.exit(f"no archive at {archive}: build it by (cd crates/pm_c && rt lib --backend rattle), or give --archive")
-    shared = os.path.join(folder, "pm_c.so")
-    subprocess.run(["cc", "-shared", "-Wl,--whole-archive", archive, "-Wl,--no-whole-archive", "-o", shared], check=True)
-    loaded = ctypes.CDLL(shared)
+def declare(loaded):
+    """What the calls answer."""
     for name in ("pm_host_new", "pm_host_order", "pm_host_order_micro", "pm_host_check", "pm_host_learn", "pm_host_clear",
                  "pm_host_store", "pm_host_restore", "pm_host_sending", "pm_host_restart", "pm_host_standing",
                  "pm_host_possible", "pm_host_format", "pm_host_restart_seen", "pm_host_narrow", "pm_host_limits",
@@ -78,7 +70,6 @@ def library(archive, folder):
         getattr(loaded, name).restype = ctypes.c_uint8
     loaded.pm_host_finished.restype = loaded.pm_host_got.restype = Step
     loaded.pm_host_size.restype = ctypes.c_size_t
-    return loaded
 
 
 def number_of(fault):
@@ -90,12 +81,10 @@ def code_of(cell):
     return (0, cell[1]) if cell[0] is None else cell
 
 
-class Different(Exception):
-    pass
-
-
 class Life:
     """One host of each kind, and a plain converter."""
+
+    same = staticmethod(lives.same)
 
     def __init__(self, loaded, draw, seen):
         self.loaded, self.draw, self.seen = loaded, draw, seen
@@ -110,10 +99,6 @@ class Life:
         self.image = (ctypes.c_uint64 * (loaded.pm_host_size() // 8))()
         self.same("new", loaded.pm_host_new(self.image, ADDRESS, self.count, self.passes), 0)
         self.limits = [None] * self.count
-
-    def same(self, what, found, wanted):
-        if found != wanted:
-            raise Different(f"{what}: the library says {found}, the plain host {wanted}")
 
     def cell(self):
         if self.draw.random() < 0.1:
@@ -281,30 +266,5 @@ class Life:
         self.same_known()
 
 
-def main(arguments):
-    if {"--help", "-h"} & set(arguments):
-        print(__doc__)
-        return 0
-    archive = os.path.join(os.path.dirname(HOME), "crates/pm_c/out/libpm_c.a")
-    if arguments[:1] == ["--archive"]:
-        archive, arguments = arguments[1], arguments[2:]
-    seed, events = [int(it) for it in arguments] + [1, 100000][len(arguments):]
-    draw, seen, lived = random.Random(seed), Counter(), 0
-    with tempfile.TemporaryDirectory() as folder:
-        loaded = library(archive, folder)
-        while lived < events:
-            length = draw.choice((40, 80, 160))
-            try:
-                Life(loaded, draw, seen).live(length)
-            except Different as it:
-                print(f"after {lived} events, seed {seed}: {it}")
-                return 1
-            lived += length
-    for name, count in sorted(seen.items()):
-        print(f"{count:8} {name}")
-    print(f"{lived} events, no difference")
-    return 0
-
-
 if __name__ == "__main__":
-    sys.exit(main(sys.argv[1:]))
+    sys.exit(lives.compare(__doc__, "pm_c", declare, Life, sys.argv[1:]))

@@ -12,17 +12,14 @@ that `rt lib` left in crates/pm_part/out. EVENTS is 100000 if left out.
 """
 import ctypes
 import os
-import random
-import subprocess
 import sys
-import tempfile
-from collections import Counter
 from fractions import Fraction
 
 sys.dont_write_bytecode = True
 HOME = os.path.dirname(os.path.dirname(os.path.abspath(__file__)))
 sys.path.insert(0, HOME)
 
+import lives  # noqa: E402
 from plain.converter import PROTECT, REGISTERS, Converter, setup_fault  # noqa: E402
 from plain.packets import CODES, pec  # noqa: E402
 
@@ -46,21 +43,11 @@ class Reply(ctypes.Structure):
     _fields_ = [("length", ctypes.c_uint8), ("unused", ctypes.c_uint8), ("bytes", ctypes.c_uint8 * 16)]
 
 
-class Different(Exception):
-    pass
-
-
-def library(archive, folder):
-    """The archive as a library that is loaded here."""
-    if not os.path.exists(archive):
-        sys.exit(f"no archive at {archive}: build it by (cd crates/pm_part && rt lib --backend rattle), or give --archive")
-    shared = os.path.join(folder, "pm_part.so")
-    subprocess.run(["cc", "-shared", "-Wl,--whole-archive", archive, "-Wl,--no-whole-archive", "-o", shared], check=True)
-    loaded = ctypes.CDLL(shared)
+def declare(loaded):
+    """What the calls answer."""
     for name in CALLS:
         getattr(loaded, "pm_part_" + name).restype = ctypes.c_uint8
     loaded.pm_part_size.restype = ctypes.c_uint64
-    return loaded
 
 
 def number_of(fault):
@@ -71,14 +58,12 @@ def number_of(fault):
 class Life:
     """A part of each kind."""
 
+    same = staticmethod(lives.same)
+
     def __init__(self, loaded, draw, seen):
         self.loaded, self.draw, self.seen = loaded, draw, seen
         self.memory = (ctypes.c_uint16 * (loaded.pm_part_size() // 2))(*(draw.randrange(1 << 16) for _ in range(186)))
         self.make()
-
-    def same(self, what, found, wanted):
-        if found != wanted:
-            raise Different(f"{what}: the library says {found}, the plain converter {wanted}")
 
     def start(self):
         """A configuration, faulty one time in four."""
@@ -243,30 +228,5 @@ class Life:
         self.damaged()
 
 
-def main(arguments):
-    if {"--help", "-h"} & set(arguments):
-        print(__doc__)
-        return 0
-    archive = os.path.join(os.path.dirname(HOME), "crates/pm_part/out/libpm_part.a")
-    if arguments[:1] == ["--archive"]:
-        archive, arguments = arguments[1], arguments[2:]
-    seed, events = [int(it) for it in arguments] + [1, 100000][len(arguments):]
-    draw, seen, lived = random.Random(seed), Counter(), 0
-    with tempfile.TemporaryDirectory() as folder:
-        loaded = library(archive, folder)
-        while lived < events:
-            length = draw.choice((40, 80, 160))
-            try:
-                Life(loaded, draw, seen).live(length)
-            except Different as it:
-                print(f"after {lived} events, seed {seed}: {it}")
-                return 1
-            lived += length
-    for name, count in sorted(seen.items()):
-        print(f"{count:8} {name}")
-    print(f"{lived} events, no difference")
-    return 0
-
-
 if __name__ == "__main__":
-    sys.exit(main(sys.argv[1:]))
+    sys.exit(lives.compare(__doc__, "pm_part", declare, Life, sys.argv[1:]))

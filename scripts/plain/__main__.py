@@ -9,6 +9,7 @@ from .host import ANY, Host
 from .packets import answer_fault, answer_of, fault_words, request_fault, request_message, write_fault
 from .promises import try_promises
 from .report import replay
+from .restart_rows import RESTARTS
 from .trace import decode
 
 HEAD = ["scenario 1", "address 58", "passes 2", "protect 00", "coefficients 1 0 0"]
@@ -40,18 +41,6 @@ RUNS = [
      "pending"),
     ([ORDER, *PASS, "volts 0 OPERATION 5"], "stopped 4 S4 Host H5 BadWord", "34CD host confirmed 34CD", "no",
      "done"),
-]
-RESTARTS = [
-    ("device", 0, "ran 5", "34CD host confirmed 34CD", "done"),
-    ("device", 1, "ran 5", "34CD host confirmed 34CD", "done"),
-    ("device", 2, "ran 5", "1000 host unknown", "pending"),
-    ("device", 3, "ran 5", "1000 host unknown", "pending"),
-    ("device", 4, "ran 5", "1000 host confirmed 34CD", "done"),
-    ("host", 0, "ran 5", "34CD host confirmed 34CD", "done"),
-    ("host", 1, "stopped 2 S2 NothingSent", "1000 host unknown", "none"),
-    ("host", 2, "stopped 3 S2 NothingSent", "34CD host unknown", "none"),
-    ("host", 3, "stopped 4 S2 NothingSent", "34CD host unknown", "none"),
-    ("host", 4, "ran 5", "34CD host unknown", "none"),
 ]
 for end, place, first, command, job in RESTARTS:
     events = [ORDER, *PASS]

@@ -3,19 +3,14 @@ import re
 
 from .commands import BASE, reply_words
 from .converter import PROTECT, Converter
-from .lines import TextFault, hex_word, words_of
+from .line_answers import LineAnswers, Refused
+from .lines import hex_word, words_of
 from .numbers import millionths
 from .packets import length_of
 from .scenario import Words, read_reading
 
-MOST_BYTES = 256
 
-
-class Refused(Exception):
-    """The words of a refusal."""
-
-
-class PlainPart:
+class PlainPart(LineAnswers):
     """Of a configuration, or of the one that `hear` has."""
 
     def __init__(self, setup=BASE):
@@ -23,17 +18,7 @@ class PlainPart:
         self.asks = {b"restart": self.restart, b"reading": self.reading, b"output": self.output, b"word": self.word,
                      b"status": self.status, b"page": self.page}
 
-    def answer(self, line):
-        """The answer to a line, of bytes without the line feed."""
-        try:
-            return self.answered(line)
-        except (Refused, TextFault) as fault:
-            return f"refused {fault}"
-
     def answered(self, line):
-        if len(line) > MOST_BYTES:
-            raise Refused("X3 TooLong")
-        line = line[:-1] if line.endswith(b"\r") else line
         if not words_of(line):
             raise Refused("X1 Syntax")
         words = Words(line)

@@ -4,39 +4,25 @@ from math import ceil, floor
 
 from .host import ANY, Host
 from .limits import band, narrow_refusal, refusal
-from .lines import TextFault, words_of
+from .line_answers import LineAnswers, Refused
+from .lines import words_of
 from .packets import answer_shape, length_of
 from .scenario import Words, read_event
 
-MOST_BYTES = 256
 MOST_BACK = 16
 JOBS = (b"order", b"volts", b"check", b"learn", b"clear", b"store", b"restore")
-
-
-class Refused(Exception):
-    """The words of a refusal."""
 
 
 def in_hex(frame):
     return " ".join(f"{byte:02X}" for byte in frame)
 
 
-class PlainSession:
+class PlainSession(LineAnswers):
     def __init__(self, address, outputs, passes):
         self.host = Host(address, outputs, passes)
         self.limits = [None] * outputs
 
-    def answer(self, line):
-        """The answer to a line, of bytes without the line feed."""
-        try:
-            return self.answered(line)
-        except (Refused, TextFault) as fault:
-            return f"refused {fault}"
-
     def answered(self, line):
-        if len(line) > MOST_BYTES:
-            raise Refused("X3 TooLong")
-        line = line[:-1] if line.endswith(b"\r") else line
         first, *rest = words_of(line) or [b""]
         if first in JOBS:
             words = Words(line)
