@@ -11,11 +11,11 @@ use Rattle.pm_trace.specs.OpenLines.{IsAtLineFeed}
 use Rattle.pm_trace.proofs.DecodeLemmas.{no_bytes}
 use Rattle.pm_trace.proofs.MarkLemmas.{ended-mark, ended-other, since-mark, since-other, split-ended}
 use Rattle.pm_trace.proofs.SaidLemmas.{enumerate_from-snoc, last_kept, length-map}
+use Rattle.pm_meaning.specs.Taught.{taught_from, untaught}
 use Rattle.pm_capture.specs.CaptureText.{capture_text, counts_text, line_text, lines_text}
 use Rattle.pm_capture.specs.Capturing.{Kept, entry_ended, heard_ended, kept_at_end, kept_of, kept_takes, line_ended, next, said, said_text, text_ended, told, told_at_end}
 use Rattle.pm_capture.specs.Hearing.{heard_of, heard_with}
 use Rattle.pm_capture.specs.Readings.{Entry, entries_of, entry_of, judged_in, reading_of}
-use Rattle.pm_capture.specs.Taught.{taught_from, untaught}
 use Rattle.pm_capture.specs.TimedLines.{PassesTimed, skips_timed, timed_of, timed_takes}
 use Rattle.pm_capture.specs.declared.options.TellOptions.{TellOptions}
 use Rattle.pm_capture.specs.declared.timed_line.TimedLine.{TimedLine}

@@ -8,4 +8,3 @@ pub mod HearingLemmas
 pub mod Joins
 pub mod PlainLemmas
 pub mod TimedLemmas
-pub mod ValueLemmas

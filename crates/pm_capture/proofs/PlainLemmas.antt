@@ -10,11 +10,11 @@ use Rattle.pm_trace.specs.Trace.{line_read, parts_judged, reading_judged, told_o
 use Rattle.pm_trace.specs.TraceText.{count_line, counts_text as trace_counts, judged_text, told_line, told_lines, told_text, totals_line as trace_totals, trace_text}
 use Rattle.pm_trace.specs.declared.line_fault.LineFault.{LineFault}
 use Rattle.pm_trace.specs.declared.trace_line.TraceLine.{TraceLine}
+use Rattle.pm_meaning.specs.Taught.{Taught, taught_by, untaught}
 use Rattle.pm_capture.specs.CaptureText.{capture_text, counts_text, line_text, lines_text, plain_counts, plain_line, totals_line}
 use Rattle.pm_capture.specs.Hearing.{Heard, heard_of, is_usual, other_code, told_in}
 use Rattle.pm_capture.specs.Laws.{plain_options}
 use Rattle.pm_capture.specs.Readings.{Entry, entries_of, entry_of, judged_in}
-use Rattle.pm_capture.specs.Taught.{Taught, taught_by, untaught}
 
 module _ (vout : Option AnyFormat) (long : Bool) where
   -- a line by what it reads as

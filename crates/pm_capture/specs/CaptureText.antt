@@ -9,13 +9,13 @@ use Rattle.pm_trace.specs.TraceText.{count_line, end_of, judged_text}
 use Rattle.pm_trace.specs.declared.decode_end.DecodeEnd.{DecodeEnd}
 use Rattle.pm_trace.specs.declared.line_fault.LineFault.{LineFault}
 use Rattle.pm_trace.specs.declared.trace_line.TraceLine.{TraceLine}
+use Rattle.pm_meaning.specs.Otherwise.{other_text, spaced}
+use Rattle.pm_meaning.specs.Taught.{Taught, taught_by, untaught}
+use Rattle.pm_meaning.specs.ValueText.{known_text}
+use Rattle.pm_meaning.specs.Values.{packet_value}
 use Rattle.pm_capture.specs.Hearing.{Heard, heard_of, heard_lines, other_address}
 use Rattle.pm_capture.specs.JsonText.{count_json, judged_fields, number_field_if, other_fields, other_jsons, text_field, totals_json}
-use Rattle.pm_capture.specs.Otherwise.{other_text, spaced}
 use Rattle.pm_capture.specs.Readings.{Entry, entries_of, judged_in}
-use Rattle.pm_capture.specs.Taught.{Taught, taught_by, untaught}
-use Rattle.pm_capture.specs.ValueText.{known_text}
-use Rattle.pm_capture.specs.Values.{packet_value}
 use Rattle.pm_capture.specs.declared.options.TellOptions.{TellOptions}
 
 -- ---- what stands behind a packet's text

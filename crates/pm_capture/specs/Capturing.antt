@@ -6,10 +6,10 @@ use Rattle.std.specs.List.{enumerate_from, fold}
 use Rattle.pm_lines.specs.Lines.{is_line_feed, is_unskipped, without_return}
 use Rattle.pm_lines.specs.Streams.{max_text}
 use Rattle.pm_trace.specs.Marks.{ended, since}
+use Rattle.pm_meaning.specs.Taught.{untaught}
 use Rattle.pm_capture.specs.CaptureText.{line_text, lines_text}
 use Rattle.pm_capture.specs.Hearing.{Heard, heard_lines, heard_of, heard_with}
 use Rattle.pm_capture.specs.Readings.{Entry, entry_of}
-use Rattle.pm_capture.specs.Taught.{untaught}
 use Rattle.pm_capture.specs.TimedLines.{skips_timed, timed_of, timed_read, timed_takes}
 use Rattle.pm_capture.specs.declared.options.TellOptions.{TellOptions}
 use Rattle.pm_capture.specs.declared.timed_line.TimedLine.{TimedLine}

@@ -6,9 +6,9 @@ use Rattle.pm_trace.specs.Counts.{Counts, counted, counts_of, lines_in, one_coun
 use Rattle.pm_trace.specs.Trace.{Judged, Told, parts_judged}
 use Rattle.pm_trace.specs.declared.line_fault.LineFault.{LineFault}
 use Rattle.pm_trace.specs.declared.trace_line.TraceLine.{TraceLine}
-use Rattle.pm_capture.specs.Otherwise.{address_otherwise}
+use Rattle.pm_meaning.specs.Otherwise.{address_otherwise}
+use Rattle.pm_meaning.specs.Taught.{Taught, taught_by, taught_from, untaught}
 use Rattle.pm_capture.specs.Readings.{Entry, judged_in}
-use Rattle.pm_capture.specs.Taught.{Taught, taught_by, taught_from, untaught}
 
 -- the address of a packet that is told otherwise, where that is wanted
 abbrev pub other_address : Bool → TraceLine → Option ℕ

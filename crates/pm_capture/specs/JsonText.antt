@@ -1,6 +1,6 @@
 -- What is written of a capture as objects of JSON, one a line, without spaces, and with keys in one order. Every text in
 -- them is made of letters, digits, spaces and a few signs of which none has to be escaped. This project's own choice.
-use Rattle.std.specs.Prelude.{ℕ, Bool, true, if◌then◌else◌, zero, suc, nat_eq, List, [], ◌∷◌, ◌++◌, drop, slice_index, decimal, codes, unwrap_or, Option, Some, None}
+use Rattle.std.specs.Prelude.{ℕ, Bool, true, if◌then◌else◌, zero, suc, nat_eq, List, [], ◌∷◌, ◌++◌, slice_index, decimal, codes, unwrap_or, Option, Some, None}
 use Rattle.std.specs.Fmt.{signed_decimal}
 use Rattle.std.specs.Map.{lookup}
 use Rattle.pm_frame.specs.FaultWords.{frame_fault_place, frame_fault_words}
@@ -15,14 +15,14 @@ use Rattle.pm_table.specs.Coefficients.{coefficients_of}
 use Rattle.pm_table.specs.declared.coefficients.Coefficients.{Coefficients}
 use Rattle.pm_trace.specs.Counts.{total_of}
 use Rattle.pm_trace.specs.Trace.{Judged, Accepted, Faulty, BadSyntax, BadHex}
+use Rattle.pm_meaning.specs.Otherwise.{answer_bytes, has_pec, spaced, written_bytes}
+use Rattle.pm_meaning.specs.Statuses.{names_from, rows_of}
+use Rattle.pm_meaning.specs.Taught.{Taught}
+use Rattle.pm_meaning.specs.ValueText.{fraction_text, mode_text, operation_text, protection_text, ratio_text, unit_text}
+use Rattle.pm_meaning.specs.Values.{carried, millionths, packet_value}
+use Rattle.pm_meaning.specs.declared.value.Value.{Value}
+use Rattle.pm_meaning.specs.declared.value.Value.TheVariants.{Reading, Volts, Operates, Protects, Scales, Flags}
 use Rattle.pm_capture.specs.Hearing.{Heard, heard_lines}
-use Rattle.pm_capture.specs.Otherwise.{has_pec, shown_of, spaced, written_bytes}
-use Rattle.pm_capture.specs.Statuses.{names_from, rows_of}
-use Rattle.pm_capture.specs.Taught.{Taught}
-use Rattle.pm_capture.specs.ValueText.{fraction_text, mode_text, operation_text, protection_text, ratio_text, unit_text}
-use Rattle.pm_capture.specs.Values.{carried, millionths, packet_value}
-use Rattle.pm_capture.specs.declared.value.Value.{Value}
-use Rattle.pm_capture.specs.declared.value.Value.TheVariants.{Reading, Volts, Operates, Protects, Scales, Flags}
 
 -- ---- fields
 
@@ -147,10 +147,13 @@ fault_fields values write read addr is_read fault = address_field addr
 abbrev pub name_field : ℕ → List ℕ
 name_field code = if is_known code then text_field (codes "name") (name_of code) else []
 
+abbrev pub other_payload_by : List ℕ → Option (List ℕ) → List ℕ
+other_payload_by written None = sent_fields written
+other_payload_by written (Some answer) = text_field (codes "direction") (codes "read")
+    ++ (bytes_field (codes "written") written ++ bytes_field (codes "bytes") answer)
+
 abbrev pub other_payload : List ℕ → Option (List ℕ) → List ℕ
-other_payload write None = sent_fields (written_bytes write None)
-other_payload write (Some read) = text_field (codes "direction") (codes "read")
-    ++ (bytes_field (codes "written") (drop 2 write) ++ bytes_field (codes "bytes") (shown_of 1 (has_pec write (Some read)) read))
+other_payload write read = other_payload_by (written_bytes write read) (answer_bytes write read)
 
 abbrev pub other_fields : ℕ → List ℕ → Option (List ℕ) → List ℕ
 other_fields addr write read = address_field (Some addr) ++ (text_field (codes "code") (hex_byte (slice_index write 1))

@@ -1,10 +1,8 @@
--- The laws of captures, of texts of any length and values of any size.
-use Rattle.std.specs.Prelude.{◌≡◌, ◌<◌, ℕ, Bool, false, List, Option}
-use Rattle.pm_num.specs.Ratio.{IsMicroFloor, Ratio}
+-- The law of captures, of texts of any length.
+use Rattle.std.specs.Prelude.{◌≡◌, ℕ, Bool, false, List, Option}
 use Rattle.pm_num.specs.declared.any_format.AnyFormat.{AnyFormat}
 use Rattle.pm_trace.specs.TraceText.{trace_text}
 use Rattle.pm_capture.specs.CaptureText.{capture_text}
-use Rattle.pm_capture.specs.Values.{millionths}
 use Rattle.pm_capture.specs.declared.options.TellOptions.{TellOptions}
 
 -- no option that changes what is told; a format of voltages is told of none, and a limit is none of the text's
@@ -16,7 +14,3 @@ plain_options vout long =
 abbrev pub PlainCapturesAreTraces : Type 0
 PlainCapturesAreTraces = (vout : Option AnyFormat) (long : Bool) (text : List ℕ) →
     capture_text (plain_options vout long) text ≡ trace_text text
-
--- the microvolts behind a voltage are the most that aren't above it
-abbrev pub MicrovoltsAreTheFloor : Type 0
-MicrovoltsAreTheFloor = (value : Ratio) → 0 < value.den → IsMicroFloor value (millionths value)

@@ -4,13 +4,8 @@ pub mod Hearing
 pub mod JsonText
 pub mod Laws
 pub mod LongEngine
-pub mod Otherwise
 pub mod Outcome
 pub mod Readings
-pub mod Statuses
-pub mod Taught
-pub mod Values
-pub mod ValueText
 -- How it is kept.
 pub mod Captures
 pub mod Capturing

@@ -3,9 +3,9 @@ use Rattle.std.specs.Prelude.{option_map, Result}
 use Rattle.std.specs.Result.{result_map_both}
 use Rattle.pm_trace.specs.declared.line_fault.LineFault.{LineFault}
 use Rattle.pm_trace.specs.declared.trace_line.TraceLine.{TraceLine}
+use Rattle.pm_meaning.specs.declared.packet.Packet.{Packet}
 use Rattle.pm_capture.specs.Readings.{Reading}
 use Rattle.pm_capture.specs.declared.timed_line.LineReading.{LineReading}
-use Rattle.pm_capture.specs.declared.timed_line.Packet.{Packet}
 
 abbrev pub packet_in : Packet → TraceLine
 packet_in packet = record { write = packet.write.now; read = option_map (λ bytes. bytes.now) packet.read }

@@ -3,12 +3,11 @@ ghost use Rattle.std.specs.Prelude.{◌≡◌, Err};
 ghost use Rattle.pm_trace.specs.ShownLines.{judged_in};
 ghost use Rattle.pm_trace.specs.Trace.{reading_judged};
 
-use crate::lessons::Lessons;
 use crate::line_text::{push_bad_line, push_packet_line};
 use crate::options::TellOptions;
 use crate::others::Others;
-use crate::otherwise::{address_otherwise, code_of};
-use crate::timed_line::{LineReading, Packet};
+use crate::timed_line::LineReading;
+use pm_meaning::{Lessons, Packet, address_otherwise};
 use pm_trace::{LineFault, Shown, Tally, packet_shown};
 use std::alloc::{AllocError, Global};
 use std::marker::Model;
@@ -109,7 +108,7 @@ impl Heard {
         self.lessons.learn(&shown)?;
         match other {
             None => self.tally.count(&shown),
-            Some(_) => self.others.count(code_of(packet)),
+            Some(_) => self.others.count(packet.code()),
         }
     }
 

@@ -3,8 +3,8 @@ ghost use Rattle.std.specs.Prelude.{◌≡◌, ◌++◌, OnOk, string_bytes};
 ghost use Rattle.pm_lines.specs.Numbers.{hex_byte};
 ghost use Rattle.pm_capture.specs.JsonText.{address_field, bytes_field, hex_words, key, number_field, number_field_if, text_field};
 
-use crate::otherwise::push_spaced;
 use pm_lines::{push_decimal, push_hex};
+use pm_meaning::push_spaced;
 use std::alloc::AllocError;
 
 /// Appends a key behind other fields to a text.

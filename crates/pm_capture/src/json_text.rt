@@ -5,20 +5,16 @@ ghost use Rattle.pm_frame.specs.FaultWords.{frame_fault_place};
 ghost use Rattle.pm_table.specs.Coefficients.{coefficients_of};
 ghost use Rattle.pm_trace.specs.ShownLines.{judged_in};
 ghost use Rattle.pm_capture.specs.JsonText.{code_fields, coefficients_fields, fault_fields, judged_fields, kind_fields, message_fields, name_field, numbers_json, other_fields, other_payload, payload_fields, plain_fields, sent_direction as spec_sent_direction, sent_fields, text_field, whole_field, whole_words};
-ghost use Rattle.pm_capture.specs.Otherwise.{has_code as spec_has_code};
 
 use crate::json_fields::{
     push_address_field, push_bytes_field, push_hex_field, push_key, push_number_field,
     push_number_field_if, push_text_field,
 };
 use crate::json_value::push_value_fields;
-use crate::lessons::Lessons;
-use crate::meaning::packet_value;
 use crate::options::TellOptions;
-use crate::otherwise::{code_of, has_pec, push_spaced, shown_of};
-use crate::timed_line::Packet;
 use pm_frame::{FrameFault, FrameView, Message};
 use pm_lines::{push_hex, push_signed};
+use pm_meaning::{Lessons, Packet, packet_value, push_spaced};
 use pm_table::{Code, Coefficients};
 use pm_trace::{Shown, answered, coefficients_in};
 use std::alloc::AllocError;
@@ -274,17 +270,16 @@ pub(crate) fn push_other_fields(
     addr: u8,
     packet: &Packet<'_>,
 ) -> Result<(), AllocError>
-    requires { spec_has_code packet.now.write.now (option_map (λ bytes. bytes.now) packet.now.read) ≡ true }
     ensures { OnOk result (string_bytes text.new ≡ string_bytes text.old
         ++ other_fields addr packet.now.write.now (option_map (λ bytes. bytes.now) packet.now.read)) }
 {
-    let code = code_of(packet);
+    let code = packet.code();
     push_address_field(text, Some(addr))?;
     push_hex_field(text, "code", code)?;
     push_name_field(text, code)?;
     push_other_payload(text, packet)?;
     push_key(text, "pec")?;
-    text.push_str(truth(has_pec(packet)))
+    text.push_str(truth(packet.has_pec()))
 }
 
 // A boolean value.
@@ -307,17 +302,15 @@ fn push_name_field(text: &mut String, code: u8) -> Result<(), AllocError>
 // What was written and read.
 #[tactic(auto, using(crate::proofs::Joins::joins))]
 fn push_other_payload(text: &mut String, packet: &Packet<'_>) -> Result<(), AllocError>
-    requires { spec_has_code packet.now.write.now (option_map (λ bytes. bytes.now) packet.now.read) ≡ true }
     ensures { OnOk result (string_bytes text.new ≡ string_bytes text.old
         ++ other_payload packet.now.write.now (option_map (λ bytes. bytes.now) packet.now.read)) }
 {
-    let is_right = has_pec(packet);
-    match packet.read {
-        None => push_sent_fields(text, shown_of(2, is_right, packet.write)),
-        Some(read) => {
+    match packet.answer() {
+        None => push_sent_fields(text, packet.written()),
+        Some(answer) => {
             push_text_field(text, "direction", "read")?;
-            push_bytes_field(text, "written", shown_of(2, false, packet.write))?;
-            push_bytes_field(text, "bytes", shown_of(1, is_right, read))
+            push_bytes_field(text, "written", packet.written())?;
+            push_bytes_field(text, "bytes", answer)
         }
     }
 }

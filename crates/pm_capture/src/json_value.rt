@@ -1,17 +1,15 @@
 //! Values as fields of objects of JSON.
 ghost use Rattle.std.specs.Prelude.{◌≡◌, ◌++◌, codes, OnOk, string_bytes};
 ghost use Rattle.std.specs.Fmt.{signed_decimal};
+ghost use Rattle.pm_meaning.specs.ValueText.{fraction_text, mode_text, ratio_text};
 ghost use Rattle.pm_capture.specs.JsonText.{key, text_field, value_fields, value_fields_if};
-ghost use Rattle.pm_capture.specs.ValueText.{fraction_text, mode_text, ratio_text};
 
-use crate::fraction::Fraction;
 use crate::json_fields::{push_key, push_text_field};
-use crate::status::Status;
-use crate::value::Value;
-use crate::value_text::{
-    millionths, operation_words, protection_words, push_fraction, push_mode, push_names, push_ratio,
-};
 use pm_lines::push_signed;
+use pm_meaning::{
+    Fraction, Status, Value, millionths, operation_words, protection_words, push_fraction,
+    push_mode, push_names, push_ratio,
+};
 use pm_num::Frac;
 use pm_table::VoutMode;
 use std::alloc::AllocError;

@@ -3,20 +3,16 @@ ghost use Rattle.std.specs.Prelude.{◌≡◌, ◌++◌, ℕ, Option, Err, Ok, O
 ghost use Rattle.pm_trace.specs.ShownLines.{judged_in};
 ghost use Rattle.pm_trace.specs.Trace.{parts_judged, reading_judged};
 ghost use Rattle.pm_trace.specs.TraceText.{judged_text};
+ghost use Rattle.pm_meaning.specs.Taught.{Taught};
 ghost use Rattle.pm_capture.specs.CaptureText.{bytes_text, extra_text, json_line, line_text, plain_line, meaning_text, packet_text_by, read_bytes_text, time_text};
 ghost use Rattle.pm_capture.specs.Hearing.{other_address};
 ghost use Rattle.pm_capture.specs.ShownReadings.{packet_in};
-ghost use Rattle.pm_capture.specs.Taught.{Taught};
 
 use crate::json_fields::{push_number_field_if, push_text_field};
 use crate::json_text::{push_judged_fields, push_other_fields};
-use crate::lessons::Lessons;
-use crate::meaning::packet_value;
 use crate::options::TellOptions;
-use crate::otherwise::{push_other, push_spaced};
-use crate::timed_line::Packet;
-use crate::value_text::push_known;
 use pm_lines::{TextFault, push_decimal};
+use pm_meaning::{Lessons, Packet, packet_value, push_known, push_otherwise, push_spaced};
 use pm_trace::{LineFault, Shown, push_shown};
 use std::alloc::AllocError;
 
@@ -159,7 +155,7 @@ fn push_packet_plain(
             push_shown(text, number, shown)?;
             push_extra(text, options, lessons, packet, shown)?;
         }
-        Some(addr) => push_other(text, addr, packet)?,
+        Some(addr) => push_otherwise(text, addr, packet)?,
     }
     text.push_str("\n")
 }

@@ -3,6 +3,7 @@ ghost use Rattle.std.specs.Prelude.{◌≡◌};
 ghost use Rattle.pm_capture.specs.Readings.{time_in as spec_time_in};
 
 use pm_lines::{read_i64, without_carriage_return};
+use pm_meaning::Packet;
 use pm_trace::{LineFault, OpenLine, Part};
 
 /// What is kept of a line while its bytes come one after another: the word that is the packet's time, where lines
@@ -28,13 +29,6 @@ pub(crate) struct TimedLine {
 pub(crate) struct LineReading<'a> {
     pub(crate) time: Option<u64>,
     pub(crate) packet: Result<Packet<'a>, LineFault>,
-}
-
-/// The bytes of a packet: the write part, and the read part where there is one.
-#[derive(Clone, Copy)]
-pub(crate) struct Packet<'a> {
-    pub(crate) write: &'a [u8],
-    pub(crate) read: Option<&'a [u8]>,
 }
 
 impl TimedLine {

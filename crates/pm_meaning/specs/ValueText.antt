@@ -6,14 +6,14 @@ use Rattle.pm_table.specs.declared.operation.Operation.{Operation}
 use Rattle.pm_table.specs.declared.operation.Operation.TheVariants.{Off, On, MarginLow, MarginHigh}
 use Rattle.pm_table.specs.declared.vout_mode.VoutMode.{VoutMode}
 use Rattle.pm_table.specs.declared.vout_mode.VoutMode.TheVariants.{Linear, Direct}
-use Rattle.pm_capture.specs.Statuses.{names_from, rows_of}
-use Rattle.pm_capture.specs.Values.{millionths}
-use Rattle.pm_capture.specs.declared.fraction.Fraction.{Fraction}
-use Rattle.pm_capture.specs.declared.status.Status.{Status}
-use Rattle.pm_capture.specs.declared.value.Unit.{Unit as MeasureUnit}
-use Rattle.pm_capture.specs.declared.value.Unit.TheVariants.{Volt, Ampere, Celsius}
-use Rattle.pm_capture.specs.declared.value.Value.{Value}
-use Rattle.pm_capture.specs.declared.value.Value.TheVariants.{Reading, Volts, Operates, Protects, Scales, Flags}
+use Rattle.pm_meaning.specs.Statuses.{names_from, rows_of}
+use Rattle.pm_meaning.specs.Values.{millionths}
+use Rattle.pm_meaning.specs.declared.fraction.Fraction.{Fraction}
+use Rattle.pm_meaning.specs.declared.status.Status.{Status}
+use Rattle.pm_meaning.specs.declared.value.Unit.{Unit as MeasureUnit}
+use Rattle.pm_meaning.specs.declared.value.Unit.TheVariants.{Volt, Ampere, Celsius}
+use Rattle.pm_meaning.specs.declared.value.Value.{Value}
+use Rattle.pm_meaning.specs.declared.value.Value.TheVariants.{Reading, Volts, Operates, Protects, Scales, Flags}
 
 abbrev pub unit_text : MeasureUnit → List ℕ
 unit_text Volt = codes "V"

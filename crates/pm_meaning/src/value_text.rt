@@ -1,9 +1,9 @@
 //! The texts of values.
 ghost use Rattle.std.specs.Prelude.{◌≡◌, ◌++◌, OnOk, map, string_bytes};
 ghost use Rattle.std.specs.Fmt.{signed_decimal};
-ghost use Rattle.pm_capture.specs.Statuses.{names_from};
-ghost use Rattle.pm_capture.specs.ValueText.{flags_text, fraction_text, known_text, mode_text, operation_text, protection_text, ratio_text, unit_text, value_text};
-ghost use Rattle.pm_capture.specs.Values.{millionths as spec_millionths};
+ghost use Rattle.pm_meaning.specs.Statuses.{names_from};
+ghost use Rattle.pm_meaning.specs.ValueText.{flags_text, fraction_text, known_text, mode_text, operation_text, protection_text, ratio_text, unit_text, value_text};
+ghost use Rattle.pm_meaning.specs.Values.{millionths as spec_millionths};
 
 use crate::fraction::Fraction;
 use crate::status::{Row, Status};
@@ -13,9 +13,9 @@ use pm_num::Frac;
 use pm_table::{Operation, VoutMode};
 use std::alloc::AllocError;
 
-/// Appends a space and a value to a text, where there is a value.
+/// Appends a space and a value to a text, where there is a value, as ` 13517/4096 3300048 uV`.
 #[tactic(auto, using(crate::proofs::Joins::joins))]
-pub(crate) fn push_known(text: &mut String, value: Option<Value>) -> Result<(), AllocError>
+pub fn push_known(text: &mut String, value: Option<Value>) -> Result<(), AllocError>
     ensures { OnOk result (string_bytes text.new ≡ string_bytes text.old ++ known_text value) }
 {
     let Some(value) = value else {
@@ -45,8 +45,8 @@ fn push_value(text: &mut String, value: Value) -> Result<(), AllocError>
 }
 
 impl Unit {
-    /// The unit as it is told.
-    pub(crate) fn text(self) -> &'static str
+    /// The unit as it is told: `V`, `A` or `C`.
+    pub fn text(self) -> &'static str
         ensures { result.now ≡ unit_text self }
     {
         match self {
@@ -57,8 +57,8 @@ impl Unit {
     }
 }
 
-// What a byte of OPERATION asks for.
-pub(crate) fn operation_words(operation: Operation) -> &'static str
+/// What a byte of OPERATION asks for.
+pub fn operation_words(operation: Operation) -> &'static str
     ensures { result.now ≡ operation_text operation }
 {
     match operation {
@@ -69,8 +69,8 @@ pub(crate) fn operation_words(operation: Operation) -> &'static str
     }
 }
 
-// Which writes a byte of WRITE_PROTECT lets through.
-pub(crate) fn protection_words(byte: u8) -> &'static str
+/// Which writes a byte of WRITE_PROTECT lets through: 00h, 20h or 40h, and for any other byte as 80h.
+pub fn protection_words(byte: u8) -> &'static str
     ensures { result.now ≡ protection_text byte }
 {
     match byte {
@@ -81,9 +81,9 @@ pub(crate) fn protection_words(byte: u8) -> &'static str
     }
 }
 
-// The mode of an output.
+/// Appends the mode of an output to a text, as `ULINEAR16 -12` or `DIRECT`.
 #[tactic(auto, using(crate::proofs::Joins::signed_joins))]
-pub(crate) fn push_mode(text: &mut String, mode: VoutMode) -> Result<(), AllocError>
+pub fn push_mode(text: &mut String, mode: VoutMode) -> Result<(), AllocError>
     ensures { OnOk result (string_bytes text.new ≡ string_bytes text.old ++ mode_text mode) }
 {
     match mode {
@@ -95,9 +95,9 @@ pub(crate) fn push_mode(text: &mut String, mode: VoutMode) -> Result<(), AllocEr
     }
 }
 
-// A fraction in lowest terms.
+/// Appends a fraction to a text, as `12/1`.
 #[tactic(auto, using(crate::proofs::Joins::joins))]
-pub(crate) fn push_fraction(text: &mut String, fraction: Fraction) -> Result<(), AllocError>
+pub fn push_fraction(text: &mut String, fraction: Fraction) -> Result<(), AllocError>
     ensures { OnOk result (string_bytes text.new ≡ string_bytes text.old ++ fraction_text fraction) }
 {
     push_signed(text, fraction.num)?;
@@ -105,9 +105,9 @@ pub(crate) fn push_fraction(text: &mut String, fraction: Fraction) -> Result<(),
     push_decimal(text, fraction.den)
 }
 
-// A fraction as it stands.
+/// Appends a fraction to a text as it stands, as `13517/4096`.
 #[tactic(auto, using(crate::proofs::Joins::joins))]
-pub(crate) fn push_ratio(text: &mut String, ratio: Frac) -> Result<(), AllocError>
+pub fn push_ratio(text: &mut String, ratio: Frac) -> Result<(), AllocError>
     ensures { OnOk result (string_bytes text.new ≡ string_bytes text.old ++ ratio_text ratio) }
 {
     push_signed(text, ratio.num())?;
@@ -127,7 +127,7 @@ fn push_volts(text: &mut String, ratio: Frac) -> Result<(), AllocError>
 }
 
 /// The whole millionths of a fraction, rounded down.
-pub(crate) fn millionths(ratio: Frac) -> i128
+pub fn millionths(ratio: Frac) -> i128
     ensures { result ≡ spec_millionths ratio }
 {
     (ratio.num() * 1_000_000).div_euclid(ratio.den())
@@ -145,7 +145,7 @@ fn push_flags(text: &mut String, status: Status, bits: u16) -> Result<(), AllocE
 
 /// Appends the names of the bits that are set to a text, with a text around each name, and one between two of them.
 #[tactic(auto, using(crate::proofs::Joins::joins))]
-pub(crate) fn push_names(
+pub fn push_names(
     text: &mut String,
     between: &str,
     around: &str,

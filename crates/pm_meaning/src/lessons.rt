@@ -1,6 +1,6 @@
 //! What a capture teaches of the formats of outputs' voltages.
 ghost use Rattle.std.specs.Prelude.{◌≡◌};
-ghost use Rattle.pm_capture.specs.Taught.{is_voltage as spec_is_voltage, output_key};
+ghost use Rattle.pm_meaning.specs.Taught.{is_voltage as spec_is_voltage, output_key};
 
 use indexmap::IndexMap;
 use pm_frame::Message;
@@ -13,13 +13,13 @@ use std::marker::Model;
 /// The VOUT_MODE byte of each output that answered with one, and the coefficients of each address: the last ones. It
 /// takes memory for an output, and for an address, that is new.
 #[derive(Debug, Drop)]
-pub(crate) struct Lessons {
+pub struct Lessons {
     modes: IndexMap<u16, u8>,
     coefficients: IndexMap<u8, Coefficients>,
 }
 
 impl Model for Lessons {
-    ghost use Rattle.pm_capture.specs.Taught.{Taught};
+    ghost use Rattle.pm_meaning.specs.Taught.{Taught};
 
     ghost Value = { Taught };
 
@@ -30,10 +30,10 @@ impl Lessons {
     ghost use Rattle.std.specs.Prelude.{OnOk, Some, option_map};
     ghost use Rattle.pm_num.specs.AnyFormat.{shape_of};
     ghost use Rattle.pm_trace.specs.ShownLines.{judged_in};
-    ghost use Rattle.pm_capture.specs.Taught.{answer_taught, coefficients_taught, mode_taught, shape_taught, taught_by, untaught, voltage_shape};
+    ghost use Rattle.pm_meaning.specs.Taught.{answer_taught, coefficients_taught, mode_taught, shape_taught, taught_by, untaught, voltage_shape};
 
     /// Nothing yet. Takes no memory.
-    pub(crate) fn new(alloc: Global) -> Lessons
+    pub fn new(alloc: Global) -> Lessons
         ensures { result ≡ untaught }
     {
         Lessons {
@@ -42,8 +42,9 @@ impl Lessons {
         }
     }
 
-    /// Learns what a line says.
-    pub(crate) fn learn(&mut self, shown: &Shown<'_>) -> Result<(), AllocError>
+    /// Learns what a packet says: a good answer to PAGE_PLUS_READ of VOUT_MODE, or to COEFFICIENTS of a code that has a
+    /// voltage; every other packet teaches nothing. Takes memory for an output, and for an address, that is new.
+    pub fn learn(&mut self, shown: &Shown<'_>) -> Result<(), AllocError>
         ensures { OnOk result (self.new ≡ taught_by self.old (judged_in shown.now)) }
     {
         match shown {

@@ -1,14 +1,16 @@
 //! Fractions in lowest terms.
 ghost use Rattle.std.specs.Prelude.{◌≡◌, ◌≤◌, ◌<◌, ◌^◌, unsigned_abs};
-ghost use Rattle.pm_capture.specs.Values.{lowest as spec_lowest, reading_of as spec_reading_of};
+ghost use Rattle.pm_meaning.specs.Values.{lowest as spec_lowest, reading_of as spec_reading_of};
 
 use pm_num::{Linear11, NumFormat};
 
-/// A fraction.
+/// A fraction whose value is a reading, in lowest terms.
 #[derive(Clone, Copy, Debug)]
-pub(crate) struct Fraction {
-    pub(crate) num: i128,
-    pub(crate) den: u64,
+pub struct Fraction {
+    /// The numerator.
+    pub num: i128,
+    /// The denominator, a power of 2.
+    pub den: u64,
 }
 
 /// The value of a word of LINEAR11, in lowest terms.

@@ -1,7 +1,7 @@
 //! What the payload of a packet means.
 ghost use Rattle.std.specs.Prelude.{◌≡◌, option_map};
 ghost use Rattle.pm_num.specs.AnyFormat.{shape_of};
-ghost use Rattle.pm_capture.specs.Values.{byte_in as spec_byte_in, code_value as spec_code_value, packet_value as spec_packet_value, protects, word_in as spec_word_in};
+ghost use Rattle.pm_meaning.specs.Values.{byte_in as spec_byte_in, code_value as spec_code_value, packet_value as spec_packet_value, protects, word_in as spec_word_in};
 
 use crate::fraction::reading_of;
 use crate::lessons::{Lessons, is_voltage};
@@ -11,8 +11,9 @@ use pm_frame::FrameView;
 use pm_num::{AnyFormat, NumFormat};
 use pm_table::{Code, Operation, VoutMode};
 
-/// The value of a packet at an address; `vout` is the format of voltages that has no other one.
-pub(crate) fn packet_value(
+/// What a packet at an address means, by its payload, or by what was answered; `None` where its code is told without a
+/// value, or where no format of its voltage is known. `vout` is the format of voltages whose own format wasn't taught.
+pub fn packet_value(
     vout: Option<AnyFormat>,
     lessons: &Lessons,
     addr: u8,

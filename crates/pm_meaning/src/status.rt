@@ -1,18 +1,22 @@
 //! The bits of the status registers.
 ghost use Rattle.std.specs.Prelude.{◌≡◌, map};
-ghost use Rattle.pm_capture.specs.Statuses.{rows_of};
+ghost use Rattle.pm_meaning.specs.Statuses.{rows_of};
 
 /// A status register of which the bits have names (PMBus 1.3 Part II).
 #[derive(Clone, Copy, Debug, PartialEq, Eq)]
-pub(crate) enum Status {
+pub enum Status {
+    /// STATUS_BYTE.
     Byte,
+    /// STATUS_WORD.
     Word,
+    /// STATUS_VOUT.
     Vout,
+    /// STATUS_CML.
     Cml,
 }
 
-/// A bit and its name.
-pub(crate) type Row = (u16, &'static str);
+/// A bit of a register, as the number that has this bit alone, and its name.
+pub type Row = (u16, &'static str);
 
 // STATUS_WORD; its lower byte is STATUS_BYTE.
 static WORD: [Row; 16] = [
@@ -59,7 +63,7 @@ static CML: [Row; 8] = [
 impl Status {
     /// The bits of the register, the highest first, each with its name.
     #[tactic(auto, unfolding(crate::specs::Statuses::rows_of))]
-    pub(crate) fn rows(self) -> &'static [Row]
+    pub fn rows(self) -> &'static [Row]
         ensures { map (λ row. (row.0, row.1.now)) result.now ≡ rows_of self }
     {
         match self {

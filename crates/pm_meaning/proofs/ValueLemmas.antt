@@ -3,7 +3,7 @@ use Rattle.std.proofs.Common.{◌<◌, ◌*ℤ◌, ◌<ℤ◌, pos, refl, arith}
 use Rattle.std.proofs.lemmas.Int.{ints}
 use Rattle.pm_num.specs.Ratio.{IsMicroFloor, Ratio}
 use Rattle.pm_num.proofs.Rounding.{floor_from, greatest_from_floor}
-use Rattle.pm_capture.specs.Values.{millionths}
+use Rattle.pm_meaning.specs.Values.{millionths}
 
 pub floor_of : (value : Ratio) → 0 < value.den → IsMicroFloor value (millionths value)
 floor_of value some =

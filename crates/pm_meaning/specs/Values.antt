@@ -12,12 +12,12 @@ use Rattle.pm_num.specs.declared.any_format.AnyFormat.{AnyFormat}
 use Rattle.pm_table.specs.Codes as command
 use Rattle.pm_table.specs.Operation.{operation_of}
 use Rattle.pm_table.specs.VoutMode.{mode_of}
-use Rattle.pm_capture.specs.Taught.{Taught, is_voltage, voltage_shape}
-use Rattle.pm_capture.specs.declared.status.Status.TheVariants as status
-use Rattle.pm_capture.specs.declared.fraction.Fraction.{Fraction}
-use Rattle.pm_capture.specs.declared.value.Value.{Value}
-use Rattle.pm_capture.specs.declared.value.Value.TheVariants.{Reading, Volts, Operates, Protects, Scales, Flags}
-use Rattle.pm_capture.specs.declared.value.Unit.TheVariants as unit
+use Rattle.pm_meaning.specs.Taught.{Taught, is_voltage, voltage_shape}
+use Rattle.pm_meaning.specs.declared.status.Status.TheVariants as status
+use Rattle.pm_meaning.specs.declared.fraction.Fraction.{Fraction}
+use Rattle.pm_meaning.specs.declared.value.Value.{Value}
+use Rattle.pm_meaning.specs.declared.value.Value.TheVariants.{Reading, Volts, Operates, Protects, Scales, Flags}
+use Rattle.pm_meaning.specs.declared.value.Unit.TheVariants as unit
 
 -- ---- fractions
 

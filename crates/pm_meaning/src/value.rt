@@ -7,15 +7,18 @@ use pm_table::{Operation, VoutMode};
 
 /// The unit of a reading.
 #[derive(Clone, Copy, Debug, PartialEq, Eq)]
-pub(crate) enum Unit {
+pub enum Unit {
+    /// Volts, of the input.
     Volt,
+    /// Amperes.
     Ampere,
+    /// Degrees Celsius.
     Celsius,
 }
 
 /// What the payload of a code means.
 #[derive(Clone, Copy, Debug)]
-pub(crate) enum Value {
+pub enum Value {
     /// A word of LINEAR11 in lowest terms.
     Reading(Fraction, Unit),
     /// A voltage of an output, in volts.

@@ -66,6 +66,11 @@ abbrev pub written_bytes : List ℕ → Option (List ℕ) → List ℕ
 written_bytes write None = shown_of 2 (has_pec write None) write
 written_bytes write (Some read) = drop 2 write
 
+-- what was answered behind the address, where something was read
+abbrev pub answer_bytes : List ℕ → Option (List ℕ) → Option (List ℕ)
+answer_bytes write None = None
+answer_bytes write (Some read) = Some (shown_of 1 (has_pec write (Some read)) read)
+
 -- bytes in hexadecimal, each with a space before it
 abbrev pub spaced_byte : ℕ → List ℕ
 spaced_byte byte = codes " " ++ hex_byte byte
@@ -87,11 +92,13 @@ abbrev pub sent_text : List ℕ → List ℕ
 sent_text [] = codes " send"
 sent_text (byte ∷ bytes) = codes " write" ++ spaced (byte ∷ bytes)
 
--- what was written and read
+-- what was written and answered
+abbrev pub carried_by : List ℕ → Option (List ℕ) → List ℕ
+carried_by written None = sent_text written
+carried_by written (Some answer) = written_text written ++ (codes " read" ++ spaced answer)
+
 abbrev pub carried_text : List ℕ → Option (List ℕ) → List ℕ
-carried_text write None = sent_text (written_bytes write None)
-carried_text write (Some read) = written_text (drop 2 write)
-    ++ (codes " read" ++ spaced (shown_of 1 (has_pec write (Some read)) read))
+carried_text write read = carried_by (written_bytes write read) (answer_bytes write read)
 
 abbrev pub verdict_text : Bool → List ℕ
 verdict_text is_right = if is_right then codes ", PEC right" else codes ", no PEC"

@@ -1,0 +1,7 @@
+-- What the crate promises.
+pub mod Laws
+pub mod Otherwise
+pub mod Statuses
+pub mod Taught
+pub mod Values
+pub mod ValueText
