@@ -1,7 +1,8 @@
 #!/usr/bin/env python3
-"""Counts by valgrind's callgrind, and judges by a bound of this project each: an order by pm_driver beside one by the same
-loop written out over a host; an order within limits beside one without, and, with no bound, beside that of the host; and a band for each
-word that the output's registers list. Limits and bands are counted over the C library as well.
+"""Counts by valgrind's callgrind, and judges each by a bound of this project: an order by pm_driver beside one by the same
+loop written out over a host; an order through a guard within limits beside one through its host, by that loop over either;
+by pm_driver, an order within limits beside one without; and a band for each word that the output's registers list. Limits
+and bands are counted over the C library as well.
 
     bench/costs.py [--driver FILE] [--bands FILE] [--archive FILE]
 
@@ -23,15 +24,10 @@ BY_DRIVER, WITHIN_LIMITS, A_WORD = 1.1, 1.2, 100
 FORMATS = ("linear", "direct")
 
 
-def told(name, taken, other, bound=""):
-    """A row of two counts: how many times the second the first is."""
-    print(f"| {name} | {taken:.0f} | {other:.0f} | {taken / other:.3f} | {bound} |", flush=True)
-    return taken / other
-
-
 def beside(name, taken, other, bound):
-    """The same. Whether that is at most the bound."""
-    return told(name, taken, other, bound) <= bound
+    """A row of two counts. Whether the first is at most so many times the second."""
+    print(f"| {name} | {taken:.0f} | {other:.0f} | {taken / other:.3f} | {bound} |", flush=True)
+    return taken / other <= bound
 
 
 def a_word(name, taken):
@@ -42,10 +38,11 @@ def a_word(name, taken):
 
 def over_driver(driver, bands, folder):
     for kind in FORMATS:
-        driven, guard, loop, bus = (measured.for_one([driver, way, kind], folder) for way in ("driver", "guard", "loop", "bus"))
-        yield beside(f"an order by pm_driver, {kind}", driven - bus, loop - bus, BY_DRIVER)
-        yield beside(f"an order within limits beside one without, {kind}", guard - bus, driven - bus, WITHIN_LIMITS)
-        told(f"an order within limits beside a host's, {kind}", guard - bus, loop - bus)
+        bus, *taken = (measured.for_one([driver, way, kind], folder) for way in ("bus", "driver", "guard", "loop", "guarded"))
+        driven, limited, loop, guarded = (one - bus for one in taken)
+        yield beside(f"an order by pm_driver, {kind}", driven, loop, BY_DRIVER)
+        yield beside(f"an order through a guard beside a host's, the same loop written out, {kind}", guarded, loop, WITHIN_LIMITS)
+        yield beside(f"an order within limits beside one without, {kind}", limited, driven, WITHIN_LIMITS)
         yield a_word(f"a band, a word, {kind}", measured.for_one([bands, kind], folder))
 
 

@@ -4,7 +4,9 @@ use Rattle.pm_num.specs.declared.fault.NumFault.TheVariants.{TooLarge}
 use Rattle.pm_num.specs.Ratio.{Ratio, IsBetween, is_above, micros}
 use Rattle.pm_host.specs.declared.fault.HostFault.TheVariants.{Num}
 use Rattle.pm_limits.specs.declared.fault.LimitFault.{LimitFault}
-use Rattle.pm_limits.specs.declared.fault.LimitFault.TheVariants.{Host, LimitsInverted, BelowLimit, AboveLimit}
+use Rattle.pm_limits.specs.declared.fault.LimitFault.TheVariants.{Host, LimitsInverted, FormatUnknown, BelowLimit, AboveLimit}
+use Rattle.std.specs.declared.cmp.Ordering.{Ordering}
+use Rattle.std.specs.declared.cmp.Ordering.TheVariants.{Less, Equal, Greater}
 
 pub record Bounds : Type 0 where
   pub least : ℤ
@@ -31,6 +33,13 @@ abbrev pub outside_fault : Bounds → Ratio → Option LimitFault
 outside_fault bounds value =
     if is_above (micros bounds.least) value then Some BelowLimit
     else (if is_above value (micros bounds.most) then Some AboveLimit else None)
+
+-- the same by where the value lies; L2 where that isn't known, since the format isn't
+abbrev pub place_fault : Option Ordering → Option LimitFault
+place_fault None = Some FormatUnknown
+place_fault (Some Less) = Some BelowLimit
+place_fault (Some Equal) = None
+place_fault (Some Greater) = Some AboveLimit
 
 -- limits let through what others don't; where there are none, none do
 abbrev pub is_wider : Option Bounds → Bounds → Bool

@@ -1,6 +1,6 @@
 mod calls;
 
-ghost use Rattle.std.specs.Prelude.{◌≡◌, ◌<◌, Some, None, IfOk, OnOk, OnErr, replicate, slice_set};
+ghost use Rattle.std.specs.Prelude.{◌≡◌, ◌<◌, Some, None, IfOk, OnOk, OnErr, option_map, replicate, slice_set};
 ghost use Rattle.std.specs.Result.{result_err};
 ghost use Rattle.pm_table.specs.Address.{IsAddress};
 ghost use Rattle.pm_host.specs.Refusals.{IsSetup, setup_fault};
@@ -11,10 +11,11 @@ ghost use Rattle.pm_limits.specs.Guard.{LetsBegin, limits_at, limits_for as spec
 
 use crate::band::{Band, band_of};
 use crate::fault::LimitFault;
-use crate::judgement::{judge, ordered_output, within_limits};
+use crate::judgement::{judge, judge_word, ordered_output, output_of, refuse_cell, within_limits};
 use crate::limits::Limits;
 use crate::within::Within;
 use pm_host::{Host, HostFault, Job};
+use pm_table::Cell;
 use std::marker::Model;
 
 // How many outputs a device has at most.
@@ -87,6 +88,32 @@ impl Guard {
     pub fn begin(&mut self, job: Job) -> Result<(), LimitFault>
         ensures { LetsBegin self.old job result self.new }
     {
+        match job {
+            Job::Order(cell, word) => self.begin_order(cell, word),
+            _ => self.begin_other(job),
+        }
+    }
+
+    // Begins an order of a word, which is asked for most: no job goes through memory, and no limits.
+    #[tactic(auto, using(crate::proofs::Unlimited::unlimited))]
+    fn begin_order(&mut self, cell: Cell, word: u16) -> Result<(), LimitFault>
+        ensures { LetsBegin self.old (Job.Order cell word) result self.new }
+    {
+        if let Some(limits) = self.limits_at(output_of(cell)) {
+            refuse_cell(self.host.state(), self.host.stage(), cell)?;
+            judge_word(self.host.state(), limits, cell, word)?;
+        }
+        match self.host.order(cell, word) {
+            Ok(()) => Ok(()),
+            Err(fault) => Err(LimitFault::Host(fault)),
+        }
+    }
+
+    // Begins any job, by what is to be asked for in its place. It isn't inlined: it would weigh on each order of a word.
+    #[inline(never)]
+    fn begin_other(&mut self, job: Job) -> Result<(), LimitFault>
+        ensures { LetsBegin self.old job result self.new }
+    {
         let limits = self.limits_for(job);
         let asked = judge(self.host.state(), self.host.stage(), limits, job)?;
         match self.host.begin(asked) {
@@ -109,8 +136,19 @@ impl Guard {
     pub fn limits(&self, output: u8) -> Option<Limits>
         ensures { result ≡ limits_at self.now output }
     {
+        match self.limits_at(output) {
+            Some(limits) => Some(*limits),
+            None => None,
+        }
+    }
+
+    // The same where they stand.
+    #[inline(always)]
+    fn limits_at(&self, output: u8) -> Option<&Limits>
+        ensures { option_map (λ limits. limits.now) result ≡ limits_at self.now output }
+    {
         match self.limits.get(usize::from(output)) {
-            Some(limits) => *limits,
+            Some(limits) => limits.as_ref(),
             None => None,
         }
     }

@@ -2,13 +2,16 @@
 
 ghost use Rattle.std.specs.Prelude.{◌≡◌, ◌<◌, None, Some, IfErr, IfOk, OnOk};
 ghost use Rattle.std.specs.Result.{result_err};
-ghost use Rattle.pm_table.specs.Cell.{IsCell};
+ghost use Rattle.pm_table.specs.Cell.{IsCell, output_of as spec_output_of};
+ghost use Rattle.pm_table.specs.Rules.{rule};
 ghost use Rattle.pm_host.specs.Image.{held};
 ghost use Rattle.pm_host.specs.Jobs.{HasNearestWord, begin_fault};
 ghost use Rattle.pm_host.specs.Refusals.{cell_fault, micro_word as spec_micro_word};
 ghost use Rattle.pm_host.specs.Sound.{IsSound};
 ghost use Rattle.pm_host.specs.Summary.{format_at};
 ghost use Rattle.pm_limits.specs.Band.{within_of};
+ghost use Rattle.pm_limits.specs.declared.fault.LimitFault.TheVariants.{NotKnownWithin};
+ghost use Rattle.pm_limits.specs.Bounds.{outside_fault, place_fault};
 ghost use Rattle.pm_limits.specs.Guard.{IsJudged, judged, limited_fault, of_host, operation_limit, ordered_output as spec_ordered_output, voltage_limit, word_fault};
 
 use crate::band::{Band, band_on};
@@ -17,8 +20,9 @@ use crate::fault::LimitFault;
 use crate::limits::Limits;
 use crate::within::Within;
 use pm_host::{HostFault, Job, Stage, State, nearest_word};
-use pm_num::NumFormat;
+use pm_num::{AnyFormat, Linear11, NumFormat};
 use pm_table::{Cell, Operation, Reg};
+use std::cmp::Ordering;
 
 /// What a host is to be asked for in place of this job, whose output has these limits: the same, and of an order in
 /// microvolts the order of the nearest word. Or why it isn't asked at all, as [`crate::Guard::begin`] says. A guard
@@ -64,7 +68,7 @@ fn judge_order(
         OnOk result (limited_fault (Some limits) s (Job.Order cell word) ≡ of_host (begin_fault s (Job.Order cell word))) }
 {
     refuse_cell(state, stage, cell)?;
-    judge_word(state, Some(limits), cell, word)?;
+    judge_word(state, &limits, cell, word)?;
     Ok(())
 }
 
@@ -82,7 +86,9 @@ fn judge_micro(
 {
     refuse_cell(state, stage, cell)?;
     let word = micro_word(state, stage, cell, x)?;
-    judge_word(state, limits, cell, word)?;
+    if let Some(limits) = limits {
+        judge_word(state, &limits, cell, word)?;
+    }
     Ok(Job::Order(cell, word))
 }
 
@@ -91,11 +97,19 @@ pub fn ordered_output(job: Job) -> Option<u8>
     ensures { result ≡ spec_ordered_output job }
 {
     match job {
-        Job::Order(Cell::Out(output, _), _) | Job::OrderMicro(Cell::Out(output, _), _) => {
-            Some(output)
-        }
-        Job::Order(Cell::Protect, _) | Job::OrderMicro(Cell::Protect, _) => Some(0),
+        Job::Order(cell, _) | Job::OrderMicro(cell, _) => Some(output_of(cell)),
         _ => None,
+    }
+}
+
+/// The output by whose limits an order of this cell is judged.
+#[inline(always)]
+pub(crate) fn output_of(cell: Cell) -> u8
+    ensures { result ≡ spec_output_of cell }
+{
+    match cell {
+        Cell::Out(output, _) => output,
+        Cell::Protect => 0,
     }
 }
 
@@ -110,8 +124,8 @@ pub fn within_limits(limits: Option<Limits>, band: Option<Band>) -> Within
     }
 }
 
-// Refuses where a job is open, or the cell isn't there.
-fn refuse_cell(state: &State, stage: Option<Stage>, cell: Cell) -> Result<(), LimitFault>
+/// Refuses where a job is open, or the cell isn't there.
+pub(crate) fn refuse_cell(state: &State, stage: Option<Stage>, cell: Cell) -> Result<(), LimitFault>
     requires { IsSound (held stage state.now) }
     ensures fault { result_err result ≡ of_host (cell_fault (held stage state.now) cell) }
     ensures there { OnOk result (IsCell state.now.outputs cell) }
@@ -149,17 +163,17 @@ fn micro_word(state: &State, stage: Option<Stage>, cell: Cell, x: i64) -> Result
     }
 }
 
-// Refuses what the limits of the cell's output don't let through. It is inlined, and so is the next: an answer that goes
-// through memory would weigh on each order.
+/// Refuses what the limits of the cell's output don't let through.
+// It is inlined, and so is the next: an answer that goes through memory would weigh on each order.
 #[inline(always)]
-fn judge_word(
+pub(crate) fn judge_word(
     state: &State,
-    limits: Option<Limits>,
+    limits: &Limits,
     cell: Cell,
     word: u16,
 ) -> Result<(), LimitFault>
     requires { IsCell 8 cell }
-    ensures { result_err result ≡ judged limits (held None state.now) cell word }
+    ensures { result_err result ≡ judged (Some limits.now) (held None state.now) cell word }
 {
     match cell {
         Cell::Out(output, Reg::Operation) => judge_operation(state, limits, output, word),
@@ -170,41 +184,60 @@ fn judge_word(
 
 // Refuses a voltage beyond limits.
 #[inline(always)]
-fn judge_voltage(
-    state: &State,
-    limits: Option<Limits>,
-    output: u8,
-    word: u16,
-) -> Result<(), LimitFault>
+fn judge_voltage(state: &State, limits: &Limits, output: u8, word: u16) -> Result<(), LimitFault>
     requires { output < 8 }
-    ensures { result_err result ≡ voltage_limit limits (format_at (held None state.now) output) word }
+    ensures { result_err result ≡ voltage_limit (Some limits.now) (format_at (held None state.now) output) word }
 {
-    let limits = match limits {
-        Some(limits) => limits,
-        None => return Ok(()),
-    };
-    match format_in(state, output) {
-        Some(format) => limits.refuse(&format.value_of(word)),
+    match place_of(state, limits, output, word) {
+        Some(Ordering::Less) => Err(LimitFault::BelowLimit),
+        Some(Ordering::Equal) => Ok(()),
+        Some(Ordering::Greater) => Err(LimitFault::AboveLimit),
         None => Err(LimitFault::FormatUnknown),
     }
 }
 
-// Refuses a byte that leaves the output on where that isn't known to be within its limits. It isn't inlined: it would
-// weigh on each order of a voltage.
+// Where the value of an output's word lies beside limits; `None` where the format isn't known. It isn't inlined: it would
+// weigh on each order without limits.
 #[inline(never)]
-fn judge_operation(
-    state: &State,
-    limits: Option<Limits>,
-    output: u8,
-    byte: u16,
-) -> Result<(), LimitFault>
+fn place_of(state: &State, limits: &Limits, output: u8, word: u16) -> Option<Ordering>
     requires { output < 8 }
-    ensures { result_err result ≡ operation_limit limits (held None state.now) output byte }
+    ensures { place_fault result ≡ voltage_limit (Some limits.now) (format_at (held None state.now) output) word }
 {
-    if Operation::has_on(byte)
-        && within_limits(limits, band_on(state, output, byte)) != Within::Yes
-    {
+    match format_in(state, output) {
+        Some(AnyFormat::Linear11) => Some(place_in(&Linear11, limits, word)),
+        Some(AnyFormat::Ulinear16(format)) => Some(place_in(&format, limits, word)),
+        Some(AnyFormat::Direct(format)) => Some(place_in(&format, limits, word)),
+        None => None,
+    }
+}
+
+// The same in one format, so that no value goes through memory.
+#[inline(always)]
+fn place_in<F: NumFormat>(format: &F, limits: &Limits, word: u16) -> Ordering
+    ensures { place_fault (Some result) ≡ outside_fault limits.now (F.value format.now word) }
+{
+    limits.place(&format.value_of(word))
+}
+
+// Refuses a byte that leaves the output on where that isn't known to be within its limits.
+#[inline(always)]
+fn judge_operation(state: &State, limits: &Limits, output: u8, byte: u16) -> Result<(), LimitFault>
+    requires { output < 8 }
+    ensures { result_err result ≡ operation_limit (Some limits.now) (held None state.now) output byte }
+{
+    if may_command_beyond(state, limits, output, byte) {
         return Err(LimitFault::NotKnownWithin);
     }
     Ok(())
+}
+
+// Whether a byte leaves the output on where that isn't known to be within its limits. It isn't inlined: it would weigh
+// on each order of a voltage.
+#[inline(never)]
+fn may_command_beyond(state: &State, limits: &Limits, output: u8, byte: u16) -> bool
+    requires { output < 8 }
+    ensures { rule result NotKnownWithin ≡ operation_limit (Some limits.now) (held None state.now) output byte }
+{
+    Operation::has_on(byte)
+        && within_limits(Some(*limits), band_on(state, output, byte)) != Within::Yes
 }

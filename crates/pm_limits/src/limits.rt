@@ -1,8 +1,8 @@
-ghost use Rattle.std.specs.Prelude.{◌≡◌, ◌≤◌, ◌^◌, ℤ, unsigned_abs, IfOk};
+ghost use Rattle.std.specs.Prelude.{◌≡◌, ◌≤◌, ◌^◌, ◌*ℤ◌, ℤ, pos, unsigned_abs, Some, IfOk};
 ghost use Rattle.std.specs.Result.{result_err};
 ghost use Rattle.pm_num.specs.Ratio.{is_above as spec_is_above, micros};
 ghost use Rattle.pm_limits.specs.Band.{band_within};
-ghost use Rattle.pm_limits.specs.Bounds.{bounds_fault, is_wider, outside_fault, AreBounds};
+ghost use Rattle.pm_limits.specs.Bounds.{bounds_fault, is_wider, outside_fault, place_fault, AreBounds};
 ghost use Rattle.pm_limits.specs.Guard.{narrower_fault};
 
 use crate::band::Band;
@@ -89,17 +89,18 @@ impl Limits {
         self.least < old.least || old.most < self.most
     }
 
-    /// Refuses a value below them (L3) or above them (L4).
-    pub(crate) fn refuse(&self, value: &Frac) -> Result<(), LimitFault>
-        ensures { result_err result ≡ outside_fault self.now value.now }
+    /// Where a value lies beside them: `Less` below, `Equal` within, `Greater` above.
+    #[inline(always)]
+    pub(crate) fn place(&self, value: &Frac) -> Ordering
+        ensures { place_fault (Some result) ≡ outside_fault self.now value.now }
     {
         if is_above(&self.least_value(), value) {
-            return Err(LimitFault::BelowLimit);
+            Ordering::Less
+        } else if is_above(value, &self.most_value()) {
+            Ordering::Greater
+        } else {
+            Ordering::Equal
         }
-        if is_above(value, &self.most_value()) {
-            return Err(LimitFault::AboveLimit);
-        }
-        Ok(())
     }
 
     /// Whether a band lies within them.
@@ -142,9 +143,26 @@ fn volts(x: i64) -> Frac
     }
 }
 
-// Whether the first value is the greater one.
+// Whether the first value is the greater one, by cross products.
+#[inline(always)]
 fn is_above(p: &Frac, q: &Frac) -> bool
     ensures { result ≡ spec_is_above p.now q.now }
 {
-    p.cmp_value(q) == Ordering::Greater
+    cross(q, p) < cross(p, q)
+}
+
+// The numerator of the first times the denominator of the other. Each has room in 64 bits.
+#[inline(always)]
+fn cross(p: &Frac, q: &Frac) -> i128
+    ensures { result ≡ p.now.num *ℤ pos q.now.den }
+{
+    product(p.num() as i64, q.den() as i64)
+}
+
+// The product of two numbers: one instruction, where that of two numbers of 128 bits takes many.
+#[inline(always)]
+fn product(a: i64, b: i64) -> i128
+    ensures { result ≡ a *ℤ b }
+{
+    i128::from(a) * i128::from(b)
 }

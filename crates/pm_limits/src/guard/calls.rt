@@ -22,7 +22,7 @@ impl Guard {
     pub fn order(&mut self, cell: Cell, word: u16) -> Result<(), LimitFault>
         ensures { LetsBegin self.old (Job.Order cell word) result self.new }
     {
-        self.begin(Job::Order(cell, word))
+        self.begin_order(cell, word)
     }
 
     /// Begins an order of a number of microvolts, as [`Guard::begin`].
