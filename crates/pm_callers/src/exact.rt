@@ -20,8 +20,8 @@ use pm_host::Possible;
 use pm_laws::laws_by_name;
 use pm_table::Cell;
 use pm_world::{
-    Event, SetupFault, World, lists_say_enough, lives_are_followed, open_lists_are_followed,
-    possible_words_are_exact, run_open,
+    Event, SetupFault, World, answers_come_in_bytes, lists_say_enough, lives_are_followed,
+    open_lists_are_followed, possible_words_are_exact, run_open,
 };
 
 /// Let the converter not restart in these events, and WRITE_PROTECT be ordered and read as 00h alone. Then words that
@@ -82,18 +82,33 @@ pub fn words_that_a_life_leaves(
     run_and_step(c, passes, events, more)
 }
 
-/// The words that such a world starts with are below 2^16, where the chosen words are and what came back were bytes.
+/// What came back since the host's last restart were bytes.
+pub fn answers_in_bytes(
+    c: Config,
+    passes: u8,
+    events: &[Event],
+    more: &Event,
+) -> Result<Option<World>, SetupFault>
+    ensures { IfOk result (λ found. OnSome found
+        (AreOfBytes (since_restart (life c passes (more.now ∷ reverse events.now)).entries))) }
+{
+    // Hands its law to the prover.
+    answers_come_in_bytes();
+    run_and_step(c, passes, events, more)
+}
+
+/// So the words that such a world starts with are below 2^16, where the chosen words are.
 pub fn words_that_a_life_starts_with(
     c: Config,
     passes: u8,
     events: &[Event],
     more: &Event,
 ) -> Result<Option<World>, SetupFault>
-    ensures { IfOk result (λ found. OnSome found ((chosen : Choice) →
-        CameInBytes c passes (more.now ∷ reverse events.now) → IsShort c chosen →
+    ensures came { IfOk result (λ found. OnSome found (CameInBytes c passes (more.now ∷ reverse events.now))) }
+    ensures words { IfOk result (λ found. OnSome found ((chosen : Choice) → IsShort c chosen →
         BeginsShort c passes (more.now ∷ reverse events.now) chosen)) }
 {
-    // Hands its law to the prover.
+    // Hands its laws to the prover.
     laws_by_name();
     match run_and_step(c, passes, events, more)? {
         Some(world) => Ok(Some(world)),
@@ -102,17 +117,16 @@ pub fn words_that_a_life_starts_with(
 }
 
 /// So each word of the start is below 2^16: what these names say, opened.
-#[tactic(auto, unfolding(pm_laws::specs::ByName::CameInBytes, pm_laws::specs::ByName::IsShort, pm_laws::specs::ByName::BeginsShort))]
+#[tactic(auto, unfolding(pm_laws::specs::ByName::IsShort, pm_laws::specs::ByName::BeginsShort))]
 pub fn words_that_have_two_bytes(
     c: Config,
     passes: u8,
     events: &[Event],
     more: &Event,
 ) -> Result<Option<World>, SetupFault>
-    ensures { IfOk result (λ found. OnSome found ((chosen : Choice) →
-        let entries = since_restart (life c passes (more.now ∷ reverse events.now)).entries in
-        AreOfBytes entries → AreWordsChosen c chosen →
-        AreWordsChosen c (start_word (witness_start c (due_before chosen (marks (setup_of c passes) entries)))))) }
+    ensures { IfOk result (λ found. OnSome found ((chosen : Choice) → AreWordsChosen c chosen →
+        let told = marks (setup_of c passes) (since_restart (life c passes (more.now ∷ reverse events.now)).entries) in
+        AreWordsChosen c (start_word (witness_start c (due_before chosen told))))) }
 {
     words_that_a_life_starts_with(c, passes, events, more)
 }
@@ -123,10 +137,11 @@ pub fn words_that_a_run_starts_with(
     passes: u8,
     events: &[Event],
 ) -> Result<Option<World>, SetupFault>
-    ensures { IfOk result (λ found. OnSome found ((chosen : Choice) →
-        CameInBytes c passes (reverse events.now) → IsShort c chosen → BeginsShort c passes (reverse events.now) chosen)) }
+    ensures came { IfOk result (λ found. OnSome found (CameInBytes c passes (reverse events.now))) }
+    ensures words { IfOk result (λ found. OnSome found ((chosen : Choice) → IsShort c chosen →
+        BeginsShort c passes (reverse events.now) chosen)) }
 {
-    // Hands its law to the prover.
+    // Hands its laws to the prover.
     laws_by_name();
     match run_all(c, passes, events)? {
         Some(world) => Ok(Some(world)),
@@ -135,21 +150,23 @@ pub fn words_that_a_run_starts_with(
 }
 
 /// Of events that a run takes, and that leave WRITE_PROTECT open as it says, nothing else is asked but that the
-/// converter doesn't restart.
+/// converter doesn't restart. What came back were bytes.
 pub fn words_of_an_open_list(
     c: Config,
     passes: u8,
     events: &[Event],
 ) -> Result<Option<World>, SetupFault>
-    ensures { IfOk result (λ found. IfSome found (λ world. (chosen : Choice) →
+    ensures left { IfOk result (λ found. IfSome found (λ world. (chosen : Choice) →
         list_any restarts_converter (reverse events.now) ≡ false → ArePossible c world.host chosen →
         let entries = since_restart (life c passes (reverse events.now)).entries in
         let told = marks (setup_of c passes) entries in
         Leaves c passes entries chosen (witness_start c (due_before chosen told)) (witness_events (setup_of c passes) chosen entries))) }
+    ensures came { IfOk result (λ found. OnSome found (AreOfBytes (since_restart (life c passes (reverse events.now)).entries))) }
 {
     // These hand their laws to the prover.
     lists_say_enough();
     possible_words_are_exact();
+    answers_come_in_bytes();
     match run_open(c, passes, events)? {
         (world, None, true) => Ok(Some(world)),
         _ => Ok(None),

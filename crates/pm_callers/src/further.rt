@@ -12,6 +12,7 @@ ghost use Rattle.pm_limits.specs.declared.band.Band.{Band};
 ghost use Rattle.pm_limits.specs.Band.{InBand, band_at};
 ghost use Rattle.pm_world.specs.declared.event.Event.{Event as Happening};
 ghost use Rattle.pm_world.specs.Bands.{AreShort, BandStands};
+ghost use Rattle.pm_world.specs.Bytes.{CarryBytes, StartsShort};
 ghost use Rattle.pm_world.specs.Confirmed.{ConfirmedIsHeld};
 ghost use Rattle.pm_device.specs.Start.{IsSound};
 ghost use Rattle.pm_host.specs.Refusals.{IsSetup};
@@ -40,6 +41,8 @@ pub fn run_all(c: Config, passes: u8, events: &[Event]) -> Result<Option<World>,
     ensures all { IfOk result (λ found. OnSome found (AreTaken c passes (reverse events.now))) }
     ensures config { IfOk result (λ found. IfSome found (λ world. world.device.config ≡ c)) }
     ensures sound { OnOk result (IsSound c × IsSetup (setup_of c passes) × IsSpelled c) }
+    ensures short { OnOk result (StartsShort c) }
+    ensures bytes { IfOk result (λ found. OnSome found (CarryBytes (reverse events.now))) }
 {
     match World::run(c, passes, events)? {
         (world, None) => Ok(Some(world)),
@@ -58,6 +61,8 @@ pub fn run_and_step(
     ensures all { IfOk result (λ found. OnSome found (AreTaken c passes (more.now ∷ reverse events.now))) }
     ensures config { IfOk result (λ found. IfSome found (λ world. world.device.config ≡ c)) }
     ensures sound { OnOk result (IsSound c × IsSetup (setup_of c passes) × IsSpelled c) }
+    ensures short { OnOk result (StartsShort c) }
+    ensures bytes { IfOk result (λ found. OnSome found (CarryBytes (more.now ∷ reverse events.now))) }
 {
     // Hands the prover what a step makes of a life.
     lives_are_followed();
@@ -78,6 +83,7 @@ pub fn go_on(world: &mut World, c: Config, passes: u8, more: &Event) -> bool
         world.old ≡ now c passes before → result ≡ true → AreTaken c passes (more.now ∷ before) }
     ensures now { (before : List Happening) → IsSound c → IsSetup (setup_of c passes) → AreTaken c passes before →
         world.old ≡ now c passes before → result ≡ true → world.new ≡ now c passes (more.now ∷ before) }
+    ensures bytes { (before : List Happening) → CarryBytes before → CarryBytes (more.now ∷ before) }
 {
     // Hands the prover what a step makes of a life.
     lives_are_followed();

@@ -2,10 +2,9 @@
 //! [`World::run`](pm_world::World::run) and after a step that follows, with no proof by hand. It calls the law, which
 //! does nothing, and the prover finds the rest by what `new`, `run` and `step` hand out; so this crate is also the
 //! check that each premise of a law is one that a caller gets. What `run` says by itself is shown after a step alone, and
-//! a law that speaks of no world, or of any events, is shown as it is. Five are taken by the names of
+//! a law that speaks of no world, or of any events, is shown as it is. Six are taken by the names of
 //! [`laws_by_name`](pm_laws::laws_by_name), which a function opens by `unfolding`. Premises that stay are of the caller's
-//! own events: that the converter didn't restart, say, that a frame was undisturbed or damaged so, or that what came back
-//! were bytes.
+//! own events: that the converter didn't restart, say, or that a frame was undisturbed or damaged so.
 //!
 //! - `further`: a world that goes on after a run has each promise of `run` for the longer list of events too.
 //! - `ends`: what the host says when a job begins and ends, and what an order that differs says of the converter.

@@ -1,6 +1,6 @@
 -- What some laws say, each by a name that shows all that it is about, so that a caller has it without a proof: the
--- arguments of such a law stand with the name, none of them is left to be guessed, and a proof opens it where it is used. This project's own choice. Lists are
--- newest first.
+-- arguments of such a law stand with the name, none of them is left to be guessed, and a proof opens it where it is used.
+-- This project's own choice. Lists are newest first.
 use Rattle.std.specs.Prelude.{◌≡◌, ◌+◌, ◌<◌, ◌≤◌, ℕ, Bool, true, false, List, ◌∷◌, Some, length}
 use Rattle.pm_table.specs.declared.cell.Cell.{Cell}
 use Rattle.pm_table.specs.declared.cell.Cell.TheVariants.{Protect}
@@ -26,6 +26,7 @@ use Rattle.pm_world.specs.declared.event.Event.{Event}
 use Rattle.pm_world.specs.declared.event.Event.TheVariants.{Exchange, Finish}
 use Rattle.pm_world.specs.declared.way.Way.TheVariants.{Sent}
 use Rattle.pm_world.specs.Bands.{end_choices}
+use Rattle.pm_world.specs.Bytes.{CarryBytes, StartsShort}
 use Rattle.pm_world.specs.GoodBus.{GoodFrames, IsRead, IsWritten, ReadDone, WentInPass, held_after, stage_after}
 use Rattle.pm_world.specs.Honest.{IsSpelled, honest, sent_by}
 use Rattle.pm_world.specs.Legal.{frame_of}
@@ -89,8 +90,8 @@ unfoldable pub CommandEnds : Config → ℕ → Command → ℕ → List Event �
 CommandEnds config passes command tries before after = (now config passes after).end ≡ Some Done
 
 -- `ahead` is what `honest_orders_go_through` says by its `taken`, `through` what `ways_are_followed` says by its `ahead`,
--- `reached` what `bands_are_exact` says, and `words` what `possible_words_are_exact` says by its `words`. The others are
--- those of `newest_events_are_parts`.
+-- `reached` what `bands_are_exact` says, `came` what `answers_come_in_bytes` says by its `taken`, and `words` what
+-- `possible_words_are_exact` says by its `words`. The others are those of `newest_events_are_parts`.
 pub record LawsByName : Type 0 where
   pub ahead : (config : Config) (passes : ℕ) (order : Event) (cell : Cell) (word : ℕ) (arrivals : List Arrival)
       (acked : Bool) (before : List Event) →
@@ -108,6 +109,9 @@ pub record LawsByName : Type 0 where
       restarted_since_host events ≡ false →
       AreOpen (marks (setup_of config passes) (since_restart (life config passes events).entries)) →
       IsReached config passes events sides
+  pub came : (config : Config) (passes : ℕ) (events : List Event) →
+      IsSound config → IsSpelled config → StartsShort config → IsSetup (setup_of config passes) →
+      AreTaken config passes events → CarryBytes events → CameInBytes config passes events
   pub words : (config : Config) (passes : ℕ) (events : List Event) (chosen : Choice) → IsSound config →
       CameInBytes config passes events → IsShort config chosen → BeginsShort config passes events chosen
   pub check : (config : Config) (passes : ℕ) (cell : Cell) (tries : ℕ) (before after : List Event) →

@@ -8,19 +8,21 @@
 ghost use Rattle.pm_laws.specs.ByName.{LawsByName};
 
 use pm_world::{
-    bands_are_exact, honest_orders_go_through, newest_events_are_parts, possible_words_are_exact,
+    answers_come_in_bytes, bands_are_exact, honest_orders_go_through, newest_events_are_parts, possible_words_are_exact,
     ways_are_followed,
 };
 
 /// What these laws say: [`honest_orders_go_through`] of the events that are taken (`ahead`), [`ways_are_followed`] of an
-/// order on its way (`through`), [`bands_are_exact`] (`reached`), [`possible_words_are_exact`] of the words that its life
-/// begins with (`words`), and [`newest_events_are_parts`] of undisturbed frames (`check`, `order`, `read_back`, `send`).
+/// order on its way (`through`), [`bands_are_exact`] (`reached`), [`answers_come_in_bytes`] of the events that are taken
+/// (`came`), [`possible_words_are_exact`] of the words that its life begins with (`words`), and
+/// [`newest_events_are_parts`] of undisturbed frames (`check`, `order`, `read_back`, `send`).
 pub fn laws_by_name()
     ensures { LawsByName }
 {
     honest_orders_go_through();
     ways_are_followed();
     bands_are_exact();
+    answers_come_in_bytes();
     possible_words_are_exact();
     newest_events_are_parts();
 }

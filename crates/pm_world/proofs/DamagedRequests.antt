@@ -30,7 +30,7 @@ behind : (bytes rest : List ℕ) (place : ℕ) → length bytes ≤ place →
 behind bytes rest place past = get_or-append_right bytes rest (length bytes) place 0 refl past
 
 -- bytes with bytes after them, and bytes without the last of them
-bytes-append : (bytes rest : List ℕ) → AreBytes bytes → AreBytes rest → AreBytes (bytes ++ rest)
+pub bytes-append : (bytes rest : List ℕ) → AreBytes bytes → AreBytes rest → AreBytes (bytes ++ rest)
 bytes-append bytes rest first later place = elim (cases_lt place (length bytes)) [
   | inl inside ↦ subst (λ n. n < 2 ^ 8) (sym (get_or_append_left bytes rest 0 place inside)) (first place)
   | inr past ↦ subst (λ n. n < 2 ^ 8) (sym (behind bytes rest place past)) (later (place - length bytes))

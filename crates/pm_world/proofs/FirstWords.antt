@@ -57,7 +57,7 @@ due-small (Good read word ∷ ms) due cell (small, rest) chosen all =
     go false = chosen
 
 -- the first bytes of bytes are bytes
-first-bytes : (n : ℕ) (xs : List ℕ) (place : ℕ) → ((p : ℕ) → get_or xs p 0 < 2 ^ 8) → get_or (take n xs) place 0 < 2 ^ 8
+pub first-bytes : (n : ℕ) (xs : List ℕ) (place : ℕ) → ((p : ℕ) → get_or xs p 0 < 2 ^ 8) → get_or (take n xs) place 0 < 2 ^ 8
 first-bytes zero xs place are = lit< tt
 first-bytes (suc n) [] place are = lit< tt
 first-bytes (suc n) (x ∷ xs) zero are = are 0

@@ -1,5 +1,7 @@
+mod AnswerBytes
 mod Answered
 mod BandLives
+mod ByteLives
 mod CameBack
 mod Causes
 mod CausesDecide
@@ -37,6 +39,7 @@ mod OrderEvents
 mod OwnRequests
 mod OwnWords
 mod ReadBack
+mod Registers
 mod Retellings
 mod Retold
 mod Runs

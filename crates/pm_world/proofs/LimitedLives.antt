@@ -213,7 +213,7 @@ accepts-order cell word (host.Send RestoreUserAll) h = cc
 accepts-order cell word job h = cc
 
 -- so an event that is told as an order asked for it
-told-asked : (config : Config) (passes : ℕ) (before : List Event) (event : Event) (cell : Cell) (word : ℕ) →
+pub told-asked : (config : Config) (passes : ℕ) (before : List Event) (event : Event) (cell : Cell) (word : ℕ) →
     told config passes before event ≡ Accept (pending.Order cell word) ∷ [] →
     asked (now config passes before) event ≡ Some (host.Order cell word)
 unfolding told

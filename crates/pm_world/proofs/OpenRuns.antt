@@ -8,6 +8,7 @@ use Rattle.pm_host.specs.Marks.{marks}
 use Rattle.pm_host.specs.Refusals.{IsSetup}
 use Rattle.pm_host.specs.Summary.{possible_at}
 use Rattle.pm_world.specs.declared.event.Event.{Event}
+use Rattle.pm_world.specs.Bytes.{CarriesBytes, CarryBytes}
 use Rattle.pm_world.specs.Laws.{LivesAreFollowed, OpenListsAreFollowed}
 use Rattle.pm_world.specs.Life.{AreTaken, life, now}
 use Rattle.pm_world.specs.OpenLists.{are_open, stays_open}
@@ -31,20 +32,22 @@ past-more events at event is below =
 pub record Runs (config : Config) (passes : ℕ) (events : List Event) (world : State) (found : Bool) : Type 0 where
   pub is_now : world ≡ now config passes events
   pub all : AreTaken config passes events
+  pub bytes : CarryBytes events
   pub left : found ≡ left_by config passes events
 
 -- and after one more event
 one-more : LivesAreFollowed → OpenListsAreFollowed → (config : Config) (passes : ℕ) (events : List Event) (event : Event) (world new : State)
     (left after : Bool) → IsSound config → IsSetup (setup_of config passes) → Runs config passes events world left →
-    IsTaken world event × (new ≡ next world event) → after ≡ stays_open left event (possible_at new.host Protect) →
+    IsTaken world event × (new ≡ next world event) → CarriesBytes event → after ≡ stays_open left event (possible_at new.host Protect) →
     Runs config passes (event ∷ events) new after
-one-more lives opens config passes events event world new left after sound made runs (taken, becomes) is =
+one-more lives opens config passes events event world new left after sound made runs (taken, becomes) carries is =
     let all : AreTaken config passes (event ∷ events) = (subst (λ (s : State). IsTaken s event) runs.is_now taken, runs.all) in
     let same : new ≡ now config passes (event ∷ events) =
     becomes ∙ (ap (λ (s : State). next s event) runs.is_now ∙ sym (lives.more config passes events event sound made all)) in
     record {
       is_now = same;
       all = all;
+      bytes = (carries, runs.bytes);
       left = is ∙ (ap (λ b. stays_open b event (possible_at new.host Protect)) runs.left
           ∙ (ap (λ (s : State). stays_open (left_by config passes events) event (possible_at s.host Protect)) same
           ∙ sym (opens.more config passes events event sound made all)));
@@ -54,8 +57,8 @@ one-more lives opens config passes events event world new left after sound made 
 pub runs-more : LivesAreFollowed → OpenListsAreFollowed → (config : Config) (passes : ℕ) (events : List Event) (at : ℕ) (event : Event)
     (world new : State) (left after : Bool) → IsSound config → IsSetup (setup_of config passes) → event ≡ get_or events at event →
     at < length events → Runs config passes (past at events) world left →
-    IsTaken world event × (new ≡ next world event) → after ≡ stays_open left event (possible_at new.host Protect) →
+    IsTaken world event × (new ≡ next world event) → CarriesBytes event → after ≡ stays_open left event (possible_at new.host Protect) →
     Runs config passes (past (at + 1) events) new after
-runs-more lives opens config passes events at event world new left after sound made is below runs taken stays =
+runs-more lives opens config passes events at event world new left after sound made is below runs taken carries stays =
     subst (λ es. Runs config passes es new after) (sym (past-more events at event is below))
-    (one-more lives opens config passes (past at events) event world new left after sound made runs taken stays)
+    (one-more lives opens config passes (past at events) event world new left after sound made runs taken carries stays)

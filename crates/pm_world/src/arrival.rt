@@ -1,3 +1,6 @@
+ghost use Rattle.pm_world.specs.Bytes.{ArrivesInBytes};
+
+use crate::legal::spelled;
 use pm_device::Ending;
 use pm_frame::Frame;
 
@@ -12,4 +15,15 @@ pub enum Arrival {
     Cut(u8),
     /// These bytes in its place, ended so.
     Bytes(Frame, Ending),
+}
+
+impl Arrival {
+    // The bytes that it brings are bytes, which it hands the prover.
+    pub(crate) fn spell(&self)
+        ensures { ArrivesInBytes self.now }
+    {
+        if let Arrival::Bytes(bytes, _) = self {
+            let _ = spelled(bytes.as_slice());
+        }
+    }
 }

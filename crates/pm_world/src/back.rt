@@ -1,3 +1,6 @@
+ghost use Rattle.pm_world.specs.Bytes.{ReturnsInBytes};
+
+use crate::legal::spelled;
 use pm_frame::Frame;
 
 /// What comes back to the host of the converter's answer to a request.
@@ -9,4 +12,15 @@ pub enum Back {
     Cut(u8),
     /// These bytes in its place.
     Bytes(Frame),
+}
+
+impl Back {
+    // The bytes that it brings are bytes, which it hands the prover.
+    pub(crate) fn spell(&self)
+        ensures { ReturnsInBytes self.now }
+    {
+        if let Back::Bytes(bytes) = self {
+            let _ = spelled(bytes.as_slice());
+        }
+    }
 }

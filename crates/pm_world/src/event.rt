@@ -1,8 +1,10 @@
 ghost use Rattle.std.specs.Prelude.{◌≡◌, Some};
+ghost use Rattle.pm_world.specs.Bytes.{CarriesBytes};
 ghost use Rattle.pm_world.specs.Job.{asked_by, event_of};
 
 use crate::arrival::Arrival;
 use crate::back::Back;
+use crate::laws::spell_word;
 use pm_host::{Command, Job};
 use pm_table::{Cell, Code};
 
@@ -69,5 +71,21 @@ impl Event {
             Event::Restore => Job::Send(Command::RestoreUserAll),
             _ => return None,
         })
+    }
+
+    // What it carries are bytes, and words of two, which it hands the prover.
+    pub(crate) fn spell(&self)
+        ensures { CarriesBytes self.now }
+    {
+        match self {
+            Event::Order(_, word) => spell_word(*word),
+            Event::Reading(_, _, word) => spell_word(*word),
+            Event::Deliver(arrival) => arrival.spell(),
+            Event::Exchange(arrival, back) => {
+                arrival.spell();
+                back.spell();
+            }
+            _ => {}
+        }
     }
 }

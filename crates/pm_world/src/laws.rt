@@ -1,7 +1,10 @@
 //! The laws of a world over its whole life: each is the contract of a function that does nothing when it
 //! runs, but calls the laws that its proof rests on. A list of events is newest first.
 
+ghost use Rattle.pm_device.specs.Start.{register_start};
+ghost use Rattle.pm_table.specs.declared.reg.Reg.{Reg as AnyReg};
 ghost use Rattle.pm_world.specs.Below.{Below};
+ghost use Rattle.pm_world.specs.Bytes.{AnswersComeInBytes, StartsShort};
 ghost use Rattle.pm_world.specs.Honest.{IsSpelled};
 ghost use Rattle.pm_world.specs.Laws.{BetrayedDamageIsLegal, BetrayedDamageIsTaken, CausesDecide, ConfirmedSettingsAreHeld, DifferingOrdersNeverTook, FramesAreFew, HonestOrdersGoThrough, LearnedFormatsAreTrue, LegalLivesAreFollowed, ListsSayEnough, LivesAreFollowed, LivesAreOrders, OpenListsAreFollowed, OwnRequestsAreAnswered, PossibleWordsAreExact, PossibleWordsAreHeld};
 ghost use Rattle.pm_world.specs.LimitLaws.{BandsAreExact, BandsAreHeld, LivesStayLimited};
@@ -13,8 +16,8 @@ ghost use Rattle.pm_world.specs.WholeFrames.{WholeFramesAreUndisturbed};
 ghost use Rattle.std.specs.Prelude.{◌<◌, ◌^◌};
 
 use pm_device::{
-    Config, pasts_are_followed, reads_are_answered, sound_configurations_have_no_fault,
-    words_have_an_origin, writes_reach_one_cell,
+    Config, OutputStart, pasts_are_followed, reads_are_answered, replies_follow_endings,
+    sound_configurations_have_no_fault, words_have_an_origin, writes_reach_one_cell,
 };
 use pm_frame::{
     answers_are_exact, betrayal_is_refused, bursts_are_betrayed, damage_is_betrayed,
@@ -116,17 +119,48 @@ pub fn learned_formats_are_true()
     lower_laws();
 }
 
-/// The numbers of a configuration are those that its bytes spell. It does nothing when it runs, and tells a caller
-/// that makes a converter by [`Converter::new`](pm_device::Converter::new) what a life asks of its configuration.
+/// What came back to the host since its last restart were bytes, where the numbers of the configuration and those that the
+/// events carry are bytes, and words of two, as they are in a program: [`spell`] says so of the one, and
+/// [`World::run`](crate::World::run) and [`World::step`](crate::World::step) of the others. This holds of legal events
+/// (`legal`), and so of those that a world took (`taken`).
+pub fn answers_come_in_bytes()
+    ensures { AnswersComeInBytes }
+{
+    lower_laws();
+    replies_follow_endings();
+}
+
+/// The numbers of a configuration are those that its bytes spell (`spelled`), and its start words have two (`short`). It
+/// does nothing when it runs, and tells a caller that makes a converter by
+/// [`Converter::new`](pm_device::Converter::new) what a life asks of its configuration.
 pub fn spell(c: Config)
-    ensures { IsSpelled c }
+    ensures spelled { IsSpelled c }
+    ensures short { StartsShort c }
 {
     // The clauses of these calls are what is wanted.
     let _ = c.coefficients.bytes();
     for start in &c.starts {
         spell_byte(start.mode);
+        spell_words(*start);
     }
 }
+
+// Start words are below 2^16.
+fn spell_words(start: OutputStart)
+    ensures { (register : AnyReg) → register_start register start < 2 ^ 16 }
+{
+    spell_word(start.operation);
+    spell_word(start.command);
+    spell_word(start.max);
+    spell_word(start.high);
+    spell_word(start.low);
+    spell_word(start.min);
+}
+
+// A word is below 2^16.
+pub(crate) fn spell_word(word: u16)
+    ensures { word < 2 ^ 16 }
+{}
 
 // A byte is below 256.
 fn spell_byte(byte: u8)

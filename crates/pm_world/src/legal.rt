@@ -47,7 +47,7 @@ pub fn answer_in(heard: &Heard) -> &[u8]
 }
 
 // Bytes are below 256.
-fn spelled(bytes: &[u8]) -> &[u8]
+pub(crate) fn spelled(bytes: &[u8]) -> &[u8]
     ensures same { result.now ≡ bytes.entry.now }
     ensures bytes { AreBytes bytes.entry.now }
 {

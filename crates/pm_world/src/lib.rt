@@ -43,11 +43,11 @@ pub use back::Back;
 pub use cause::Cause;
 pub use event::Event;
 pub use laws::{
-    bands_are_exact, bands_are_held, betrayed_damage_is_legal, betrayed_damage_is_taken,
-    causes_decide, confirmed_settings_are_held, differing_orders_never_took, frames_are_few,
-    good_frames_end_jobs, honest_orders_go_through, learned_formats_are_true,
-    legal_lives_are_followed, lists_say_enough, lives_are_followed, lives_are_orders,
-    lives_stay_limited, newest_events_are_parts, open_lists_are_followed,
+    answers_come_in_bytes, bands_are_exact, bands_are_held, betrayed_damage_is_legal,
+    betrayed_damage_is_taken, causes_decide, confirmed_settings_are_held,
+    differing_orders_never_took, frames_are_few, good_frames_end_jobs, honest_orders_go_through,
+    learned_formats_are_true, legal_lives_are_followed, lists_say_enough, lives_are_followed,
+    lives_are_orders, lives_stay_limited, newest_events_are_parts, open_lists_are_followed,
     own_requests_are_answered, possible_words_are_exact, possible_words_are_held,
     settings_move_by_the_open_job, spell, ways_are_followed, whole_frames_are_undisturbed,
 };

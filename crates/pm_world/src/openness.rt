@@ -8,6 +8,7 @@ ghost use Rattle.pm_device.specs.Start.{IsSound};
 ghost use Rattle.pm_host.specs.Marks.{marks};
 ghost use Rattle.pm_host.specs.Refusals.{IsSetup};
 ghost use Rattle.pm_host.specs.Summary.{possible_at};
+ghost use Rattle.pm_world.specs.Bytes.{CarryBytes, StartsShort};
 ghost use Rattle.pm_world.specs.Honest.{IsSpelled};
 ghost use Rattle.pm_world.specs.Life.{AreTaken, StopsAt, life, now, taken_events};
 ghost use Rattle.pm_world.specs.OpenLists.{is_other, closes as spec_closes, lists_other as spec_lists_other, stays_open as spec_stays_open};
@@ -37,6 +38,8 @@ pub fn run_open(
     ensures all { IfOk result (λ run. AreTaken c passes (taken_events events.now run.1)) }
     ensures stop { IfOk result (λ run. StopsAt c passes events.now run.1) }
     ensures sound { OnOk result (IsSound c × IsSetup (setup_of c passes) × IsSpelled c) }
+    ensures short { OnOk result (StartsShort c) }
+    ensures bytes { IfOk result (λ run. CarryBytes (taken_events events.now run.1)) }
     ensures decides { IfOk result (λ run. IsTrue run.2 ↔ AreOpen (marks (setup_of c passes)
         (since_restart (life c passes (taken_events events.now run.1)).entries))) }
 {

@@ -4,6 +4,7 @@ ghost use Rattle.std.specs.Prelude.{◌≡◌, ◌≤◌, length, IfOk, OnOk};
 ghost use Rattle.std.specs.Result.{result_err};
 ghost use Rattle.pm_device.specs.Start.{IsSound};
 ghost use Rattle.pm_host.specs.Refusals.{IsSetup};
+ghost use Rattle.pm_world.specs.Bytes.{CarryBytes, StartsShort};
 ghost use Rattle.pm_world.specs.Honest.{IsSpelled, is_whole as spec_is_whole};
 ghost use Rattle.pm_world.specs.Life.{AreTaken, StopsAt, now, taken_events};
 ghost use Rattle.pm_world.specs.Setup.{setup_fault, setup_of};
@@ -129,6 +130,8 @@ pub fn run_way(
     ensures all { IfOk result (λ run. AreTaken c passes (taken_events events.now run.1)) }
     ensures stop { IfOk result (λ run. StopsAt c passes events.now run.1) }
     ensures sound { OnOk result (IsSound c × IsSetup (setup_of c passes) × IsSpelled c) }
+    ensures short { OnOk result (StartsShort c) }
+    ensures bytes { IfOk result (λ run. CarryBytes (taken_events events.now run.1)) }
     ensures way { IfOk result (λ run. run.2 ≡ way_of c passes (taken_events events.now run.1)) }
     ensures room { IfOk result (λ run.
         (now c passes (taken_events events.now run.1)).taken ≤ length events.now) }

@@ -1,22 +1,20 @@
-ghost use Rattle.std.specs.Prelude.{◌≡◌, ◌<◌, ◌≤◌, ◌+◌, ℕ, true, length, None, IfOk, OnOk};
+ghost use Rattle.std.specs.Prelude.{◌≡◌, ◌<◌, ◌≤◌, ◌+◌, ℕ, length, None, IfOk, OnOk};
 ghost use Rattle.std.specs.Result.{result_err};
 ghost use Rattle.pm_device.specs.Start.{IsSound};
-ghost use Rattle.pm_host.specs.Refusals.{IsSetup, may_come};
+ghost use Rattle.pm_host.specs.Refusals.{IsSetup};
+ghost use Rattle.pm_world.specs.Bytes.{CarriesBytes, CarryBytes, StartsShort};
 ghost use Rattle.pm_world.specs.Confirmed.{ConfirmedIsHeld};
 ghost use Rattle.pm_world.specs.Ended.{DiffersNeverTook};
 ghost use Rattle.pm_world.specs.GoodBus.{GoodFrames};
 ghost use Rattle.pm_world.specs.Honest.{AreFewFrames, FormatsAgree, IsSpelled, MicrosAreNearest, OrdersGoThrough};
 ghost use Rattle.pm_world.specs.Possible.{PossibleIsHeld, SeenIsTrue};
 ghost use Rattle.pm_world.specs.Setup.{setup_of, start, setup_fault};
-ghost use Rattle.pm_world.specs.Life.{now, taken_events, after_all, AreTaken, AreTakenFrom, StopsAt, StopsFrom};
+ghost use Rattle.pm_world.specs.Life.{life, now, taken_events, after_all, AreTaken, AreTakenFrom, StopsAt, StopsFrom};
 ghost use Rattle.pm_world.specs.Job.{asked_by};
 ghost use Rattle.pm_world.specs.Limited.{StaysLimited};
 ghost use Rattle.pm_world.specs.Moves.{MovesByTheOpenJob};
-ghost use Rattle.pm_world.specs.State.{Steps, Acts, shared, tells, hears};
-ghost use Rattle.pm_host.specs.Told.{entry_told};
-ghost use Rattle.pm_host.specs.Transcript as told;
-ghost use Rattle.pm_device.specs.Effect as heard;
-ghost use Rattle.pm_world.specs.declared.event.Event.TheVariants as event;
+ghost use Rattle.pm_world.specs.State.{Steps, Acts};
+ghost use Rattle.pm_world.specs.Uncertainty.{AreOfBytes, since_restart};
 ghost use Rattle.pm_table.specs.declared.cell.Cell.{Cell as AnyCell};
 ghost use Rattle.pm_table.specs.Cell.{IsCell};
 ghost use Rattle.pm_model.specs.Commanded.{commanded};
@@ -24,25 +22,21 @@ ghost use Rattle.pm_model.specs.Settings.{word_at};
 ghost use Rattle.pm_device.specs.Held.{value_for};
 ghost use Rattle.pm_world.specs.Retelling.{IsOrderRun, IsOwnWord, CommandsOwn};
 
-use crate::arrival::Arrival;
-use crate::back::Back;
 use crate::cause::Cause;
 use crate::event::Event;
 use crate::laws::{
-    confirmed_settings_are_held, differing_orders_never_took, frames_are_few, good_frames_end_jobs,
-    honest_orders_go_through, learned_formats_are_true, lives_are_followed, lives_are_orders,
-    lives_stay_limited, possible_words_are_held, settings_move_by_the_open_job, spell,
-};
-use crate::legal::{
-    answer_in, back_bytes, hear_replied, heard_bytes, heard_ending, is_heard_whole,
-    is_legal_hearing, is_legal_return,
+    answers_come_in_bytes, confirmed_settings_are_held, differing_orders_never_took,
+    frames_are_few, good_frames_end_jobs, honest_orders_go_through, learned_formats_are_true,
+    lives_are_followed, lives_are_orders, lives_stay_limited, possible_words_are_held,
+    settings_move_by_the_open_job, spell,
 };
 use crate::stop::Stop;
-use pm_device::{Config, Converter, Ending};
-use pm_host::{Host, JobEnd, Step, Told, Turn, transcripts_are_followed};
+use pm_device::{Config, Converter};
+use pm_host::{Host, JobEnd, transcripts_are_followed};
 use pm_setup::SetupFault;
-use pm_table::Code;
 use std::marker::Model;
+
+mod shares;
 
 /// How many events a world takes.
 const EVENT_LIMIT: u64 = 1 << 48;
@@ -83,6 +77,7 @@ impl World {
         ensures config { IfOk result (λ world. world.device.config ≡ c) }
         ensures setup { IfOk result (λ world. world.host.setup ≡ setup_of c passes) }
         ensures sound { OnOk result (IsSound c × IsSetup (setup_of c passes) × IsSpelled c) }
+        ensures short { OnOk result (StartsShort c) }
         ensures fault { result_err result ≡ setup_fault c passes }
     {
         spell(c); // hands the prover that the configuration's numbers are those of bytes
@@ -132,6 +127,10 @@ impl World {
     /// - `now`, `all`, `stop`: the world is what its definition says of the taken events, each of them was
     ///   taken, and the first other one has a cause, which is the stop's.
     /// - `config`, `setup`: the converter has this configuration, the host its address, its outputs and these passes.
+    /// - `came`: what came back since the host's last restart were bytes, as `words` of
+    ///   [`possible_words_are_exact`](crate::possible_words_are_exact) asks. By
+    ///   [`answers_come_in_bytes`](crate::answers_come_in_bytes) this follows from `bytes`, that what the taken events
+    ///   carry are bytes, and words of two, and from `short`, that the start words have two.
     /// - `sound`: what the laws ask, by which all this is had of further calls of [`World::step`] too.
     pub fn run(c: Config, passes: u8, events: &[Event]) -> Result<(World, Option<Stop>), SetupFault>
         ensures fault { result_err result ≡ setup_fault c passes }
@@ -178,6 +177,10 @@ impl World {
         ensures room { IfOk result (λ run.
             (now c passes (taken_events events.now run.1)).taken ≤ length events.now) }
         ensures sound { OnOk result (IsSound c × IsSetup (setup_of c passes) × IsSpelled c) }
+        ensures short { OnOk result (StartsShort c) }
+        ensures bytes { IfOk result (λ run. CarryBytes (taken_events events.now run.1)) }
+        ensures came { IfOk result (λ run.
+            AreOfBytes (since_restart (life c passes (taken_events events.now run.1)).entries)) }
     {
         // These calls hand their laws to the prover, and do nothing else.
         lives_are_orders();
@@ -190,6 +193,7 @@ impl World {
         confirmed_settings_are_held();
         possible_words_are_held();
         differing_orders_never_took();
+        answers_come_in_bytes();
         World::lived(c, passes, events)
     }
 
@@ -199,9 +203,11 @@ impl World {
         ensures config { IfOk result (λ run. run.0.device.config ≡ c) }
         ensures setup { IfOk result (λ run. run.0.host.setup ≡ setup_of c passes) }
         ensures sound { OnOk result (IsSound c × IsSetup (setup_of c passes) × IsSpelled c) }
+        ensures short { OnOk result (StartsShort c) }
         ensures now { IfOk result (λ run.
             run.0 ≡ now c passes (taken_events events.now run.1)) }
         ensures all { IfOk result (λ run. AreTaken c passes (taken_events events.now run.1)) }
+        ensures bytes { IfOk result (λ run. CarryBytes (taken_events events.now run.1)) }
         ensures stop { IfOk result (λ run. StopsAt c passes events.now run.1) }
         ensures taken { IfOk result (λ run.
             run.0.taken ≡ length (taken_events events.now run.1)) }
@@ -215,16 +221,18 @@ impl World {
         Ok((world, stop))
     }
 
-    /// Lets an event happen. `Err` is the first cause against it, in the order of [`Cause`]; then
-    /// nothing has changed (`taken`). An event that is taken counts (`counted`). The host stays that of the same outputs (`kept`), and the converter
-    /// that of the same configuration (`config`).
+    /// Lets an event happen. `Err` is the first cause against it, in the order of [`Cause`]; then nothing has changed
+    /// (`taken`). An event that is taken counts (`counted`). The host stays that of the same outputs (`kept`), and the
+    /// converter that of the same configuration (`config`). What the event carries are bytes, and words of two (`bytes`).
     #[tactic(auto, unfolding(crate::specs::State::cause_of, crate::specs::State::next))]
     pub fn step(&mut self, e: &Event) -> Result<(), Cause>
         ensures taken { Steps self.old e.now result self.new }
         ensures counted { OnOk result (self.new.taken ≡ self.old.taken + 1) }
         ensures kept { self.new.host.setup ≡ self.old.host.setup }
         ensures config { self.new.device.config ≡ self.old.device.config }
+        ensures bytes { CarriesBytes e.now }
     {
+        e.spell(); // hands the prover that its numbers are those of bytes
         if self.taken >= EVENT_LIMIT {
             return Err(Cause::Full);
         }
@@ -262,6 +270,7 @@ impl World {
     fn run_up(&mut self, events: &[Event]) -> Option<Stop>
         ensures after { self.new ≡ after_all self.old (taken_events events.now result) }
         ensures all { AreTakenFrom self.old (taken_events events.now result) }
+        ensures bytes { CarryBytes (taken_events events.now result) }
         ensures stop { StopsFrom self.old events.now result }
         ensures setup { self.new.host.setup ≡ self.old.host.setup }
         ensures config { self.new.device.config ≡ self.old.device.config }
@@ -311,103 +320,5 @@ impl World {
             }
             _ => unreachable!(),
         }
-    }
-
-    // The converter hears the write that is being sent.
-    fn deliver(&mut self, arrival: &Arrival) -> Result<(), Cause>
-        ensures acts { Acts self.old (event.Deliver arrival.now) result self.new }
-        ensures config { self.new.device.config ≡ self.old.device.config }
-    {
-        let frame = match self.host.turn() {
-            Turn::Idle => return Err(Cause::NothingSent),
-            Turn::Request { .. } => return Err(Cause::WrongKind),
-            Turn::Write(frame) => frame.as_slice(),
-        };
-        let bytes = heard_bytes(frame, arrival);
-        let ending = heard_ending(Ending::Stop, arrival);
-        if !is_legal_hearing(frame, bytes, ending) {
-            return Err(Cause::NotBetrayed);
-        }
-        let _ = self.device.hear(bytes, ending);
-        Ok(())
-    }
-
-    // The write that is being sent is over.
-    fn finish(&mut self, acked: bool) -> Result<(), Cause>
-        ensures acts { Acts self.old (event.Finish acked) result self.new }
-        ensures config { self.new.device.config ≡ self.old.device.config }
-    {
-        match self.host.turn() {
-            Turn::Idle => return Err(Cause::NothingSent),
-            Turn::Request { .. } => return Err(Cause::WrongKind),
-            Turn::Write(_) => {}
-        }
-        self.tell(Told::Finished { acked });
-        Ok(())
-    }
-
-    // The converter hears the request that is being sent, and the host is given what came back.
-    fn exchange(&mut self, arrival: &Arrival, back: &Back) -> Result<(), Cause>
-        ensures acts { Acts self.old (event.Exchange arrival.now back.now) result self.new }
-        ensures config { self.new.device.config ≡ self.old.device.config }
-    {
-        let (frame, needed) = match self.host.turn() {
-            Turn::Idle => return Err(Cause::NothingSent),
-            Turn::Write(_) => return Err(Cause::WrongKind),
-            Turn::Request { frame, bytes } => (frame.as_slice(), bytes),
-        };
-        let bytes = heard_bytes(frame, arrival);
-        let ending = heard_ending(Ending::Restart, arrival);
-        if !is_legal_hearing(frame, bytes, ending) {
-            return Err(Cause::NotBetrayed);
-        }
-        let reply = self.device.reply(bytes, ending);
-        let answer = answer_in(&reply);
-        let came = back_bytes(answer, back);
-        let whole = is_heard_whole(frame, bytes, ending);
-        if !is_legal_return(frame, needed, whole, answer, came) {
-            return Err(Cause::NotBetrayed);
-        }
-        hear_replied(&mut self.device, &reply, bytes, ending);
-        self.tell(Told::Got(came));
-        Ok(())
-    }
-
-    // The host is told what came of its frame.
-    fn tell(&mut self, told: Told<'_>)
-        requires { may_come self.old.host (entry_told told) ≡ true }
-        ensures after { self.new ≡ shared self.old (tells (entry_told told.entry)) }
-        ensures config { self.new.device.config ≡ self.old.device.config }
-    {
-        let step = self.host.told(told);
-        self.end = match step {
-            Step::Next => None,
-            Step::Ended(end) => Some(end),
-        };
-    }
-
-    // The converter starts again.
-    fn restart_device(&mut self)
-        ensures after { self.new ≡ shared self.old (hears heard.Restarted) }
-        ensures config { self.new.device.config ≡ self.old.device.config }
-    {
-        self.device.restart();
-    }
-
-    // The host starts again.
-    fn restart_host(&mut self)
-        ensures after { self.new ≡ shared self.old (tells told.Restarted) }
-        ensures config { self.new.device.config ≡ self.old.device.config }
-    {
-        self.host.restart();
-        self.end = None;
-    }
-
-    // A reading changes.
-    fn read(&mut self, output: u8, code: Code, word: u16)
-        ensures after { self.new ≡ shared self.old (hears (heard.Reading output code.0 word)) }
-        ensures config { self.new.device.config ≡ self.old.device.config }
-    {
-        let _ = self.device.set_reading(output, code, word);
     }
 }

@@ -1,0 +1,312 @@
+-- What comes back to the host over a life are bytes, where its configuration and its events are those of a program.
+use Rattle.std.proofs.Common.{arith, lit<, ◌≡◌, inl, inr, ℕ, zero, suc, ◌^◌, ◌<◌, ℤ, Bool, true, false, cond, eqb, ◌||◌, List, [], ◌∷◌}
+use Rattle.std.proofs.Common.{◌++◌, get_or, replicate, Option, Some, None, option_map, option_and_then, refl, sym, subst}
+use Rattle.std.specs.Prelude.{option_to_list, slice_set}
+use Rattle.std.specs.Option.{option_map_or}
+use Rattle.std.proofs.lemmas.Bool.{eqb-true}
+use Rattle.std.proofs.lemmas.Option.{none-some, same_Some}
+use Rattle.pm_num.specs.AnyFormat.{Shape, shape_rank, shape_value}
+use Rattle.pm_num.specs.NearestWord.{found_below, is_nearest, nearest_word}
+use Rattle.pm_num.specs.Ratio.{micros}
+use Rattle.pm_table.specs.declared.cell.Cell.{Cell}
+use Rattle.pm_table.specs.declared.cell.Cell.TheVariants.{Out, Protect}
+use Rattle.pm_table.specs.Cell.{IsCell, is_protection, output_of}
+use Rattle.pm_table.specs.Codes as command
+use Rattle.pm_frame.specs.declared.message.Message.{Message}
+use Rattle.pm_frame.specs.Layout.{AreBytes}
+use Rattle.pm_model.specs.Settings.{word_at}
+use Rattle.pm_device.specs.declared.config.Config.{Config}
+use Rattle.pm_device.specs.Effect as device
+use Rattle.pm_device.specs.Held.{Measured, is_reading, no_readings, reading_at, with_reading}
+use Rattle.pm_device.specs.History.{now as device_now, readings_in}
+use Rattle.pm_device.specs.Laws.{RepliesFollowEndings}
+use Rattle.pm_host.specs.Refusals.{micro_word}
+use Rattle.pm_host.specs.Summary.{Summary, format_at, sending_in}
+use Rattle.pm_host.specs.Transcript as host
+use Rattle.pm_world.specs.Below.{Below}
+use Rattle.pm_world.specs.declared.arrival.Arrival.{Arrival}
+use Rattle.pm_world.specs.declared.back.Back.{Back}
+use Rattle.pm_world.specs.declared.back.Back.TheVariants as back
+use Rattle.pm_world.specs.declared.event.Event.{Event}
+use Rattle.pm_world.specs.declared.event.Event.TheVariants.{Order, OrderMicro, Deliver, Exchange, Reading}
+use Rattle.pm_world.specs.Bytes.{CarriesBytes, CarryBytes, ReturnsInBytes, StartsShort}
+use Rattle.pm_world.specs.Honest.{IsSpelled}
+use Rattle.pm_world.specs.Legal.{back_bytes, frame_of, heard_bytes, heard_ending}
+use Rattle.pm_world.specs.Life.{life, now, state_of}
+use Rattle.pm_world.specs.Retelling.{WasOrdered}
+use Rattle.pm_world.specs.State.{State, answer_to, asked, delivered, exchanged, share_beside, share_of, tells}
+use Rattle.pm_world.specs.Uncertainty.{AreOfBytes, since_restart}
+use Rattle.pm_world.proofs.AnswerBytes.{HoldsBytes, Replies, either, reply-bytes}
+use Rattle.pm_world.proofs.FirstWords.{first-bytes}
+use Rattle.pm_world.proofs.LimitedLives.{told-asked}
+use Rattle.pm_world.proofs.Lives.{IsLived, earlier, entries-more}
+use Rattle.pm_world.proofs.OwnWords.{life-own}
+
+-- ---- the words of the cells
+
+-- a number that is sought below a bound lies below it
+found-below : (test : ℕ → Bool) (n word : ℕ) → found_below test n ≡ Some word → word < n
+unfolding found_below
+found-below test zero word is = absurd (none-some word is)
+found-below test (suc n) word is = go (test n) (found-below test n word) is where
+  go : (b : Bool) → (found_below test n ≡ Some word → word < n) → cond b (Some n) (found_below test n) ≡ Some word → word < suc n
+  go true before h = let same = same_Some n word h in omega arith
+  go false before h = let below = before h in omega arith
+
+-- so the word of an order in microvolts has two bytes
+micro-short : (s : Summary) (cell : Cell) (x : ℤ) (word : ℕ) → micro_word s cell x ≡ Some word → word < 2 ^ 16
+unfolding nearest_word
+micro-short s cell x word is = go (format_at s (output_of cell)) is where
+  go : (format : Option Shape) →
+      option_and_then (λ shape. nearest_word (shape_value shape) (shape_rank shape) (micros x)) format ≡ Some word → word < 2 ^ 16
+  go None h = absurd (none-some word h)
+  go (Some shape) h = found-below (is_nearest (shape_value shape) (shape_rank shape) (micros x)) (2 ^ 16) word h
+
+-- and so has each word that is ordered
+ordered-word : {cell other : Cell} {word number : ℕ} → Some (host.Order cell word) ≡ Some (host.Order other number) → word ≡ number
+ordered-word is = cc
+
+ordered-short : (s : State) (event : Event) (cell : Cell) (word : ℕ) → asked s event ≡ Some (host.Order cell word) → CarriesBytes event →
+    word < 2 ^ 16
+ordered-short s (Order other number) cell word is carries = subst (λ n. n < 2 ^ 16) (ordered-word is) carries
+ordered-short s (OrderMicro other x) cell word is carries = go (micro_word s.host other x) refl is where
+  go : (found : Option ℕ) → micro_word s.host other x ≡ found → option_map (λ n. host.Order other n) found ≡ Some (host.Order cell word) →
+      word < 2 ^ 16
+  go None e h = cc
+  go (Some number) e h = subst (λ n. n < 2 ^ 16) (ordered-word h) (micro-short s.host other x number e)
+ordered-short s event cell word is carries = cc
+
+-- one of the events
+carries-among : (later before : List Event) (event : Event) → CarryBytes (later ++ event ∷ before) → CarriesBytes event
+carries-among [] before event (carries, rest) = carries
+carries-among (other ∷ later) before event (carries, rest) = carries-among later before event rest
+
+-- a word that was ordered among them
+own-short : (config : Config) (passes : ℕ) (events : List Event) (cell : Cell) (word : ℕ) → CarryBytes events →
+    WasOrdered config passes events cell word → word < 2 ^ 16
+own-short config passes events cell word carry was =
+    ordered-short (now config passes was.before) was.event cell word (told-asked config passes was.before was.event cell word was.orders)
+    (carries-among was.later was.before was.event (subst CarryBytes was.is carry))
+
+-- a byte that WRITE_PROTECT accepts
+protection-short : (word : ℕ) → is_protection word ≡ true → word < 2 ^ 16
+protection-short word is = go (eqb word 0x00) (eqb word 0x20) (eqb word 0x40) (eqb word 0x80) refl refl refl refl is where
+  small : (byte : ℕ) → eqb word byte ≡ true → byte < 2 ^ 16 → word < 2 ^ 16
+  small byte e below = subst (λ n. n < 2 ^ 16) (sym (eqb-true word byte e)) below
+
+  go : (a b c d : Bool) → eqb word 0x00 ≡ a → eqb word 0x20 ≡ b → eqb word 0x40 ≡ c → eqb word 0x80 ≡ d →
+      (a || b || c || d) ≡ true → word < 2 ^ 16
+  go true b c d one two three four h = small 0x00 one (lit< tt)
+  go false true c d one two three four h = small 0x20 two (lit< tt)
+  go false false true d one two three four h = small 0x40 three (lit< tt)
+  go false false false true one two three four h = small 0x80 four (lit< tt)
+  go false false false false one two three four h = cc
+
+-- ---- the readings
+
+-- each reading is a word of two bytes
+record AreShort (readings : Measured) : Type 0 where
+  vout : (output : ℕ) → get_or readings.vout output 0 < 2 ^ 16
+  iout : (output : ℕ) → get_or readings.iout output 0 < 2 ^ 16
+  vin : readings.vin < 2 ^ 16
+  temperature : readings.temperature < 2 ^ 16
+
+-- as they begin
+zeros-short : (n place : ℕ) → get_or (replicate n 0) place 0 < 2 ^ 16
+zeros-short zero place = lit< tt
+zeros-short (suc n) zero = lit< tt
+zeros-short (suc n) (suc place) = zeros-short n place
+
+none-short : AreShort no_readings
+none-short = record { vout = zeros-short 8; iout = zeros-short 8; vin = lit< tt; temperature = lit< tt }
+
+-- with another word for one of them
+set-short : (words : List ℕ) (place word : ℕ) → ((p : ℕ) → get_or words p 0 < 2 ^ 16) → word < 2 ^ 16 → (p : ℕ) →
+    get_or (slice_set words place word) p 0 < 2 ^ 16
+set-short [] place word are short p = are p
+set-short (x ∷ words) zero word are short zero = short
+set-short (x ∷ words) zero word are short (suc p) = are (suc p)
+set-short (x ∷ words) (suc place) word are short zero = are 0
+set-short (x ∷ words) (suc place) word are short (suc p) = set-short words place word (λ q. are (suc q)) short p
+
+with-short : (readings : Measured) (output code word : ℕ) → AreShort readings → word < 2 ^ 16 →
+    AreShort (with_reading readings output code word)
+with-short readings output code word are short =
+    go (eqb code command.read_vin) (eqb code command.read_vout) (eqb code command.read_iout) (eqb code command.read_temperature_1) where
+      go : (a b c d : Bool) → AreShort (cond a (record readings { vin = word })
+          (cond b (record readings { vout = slice_set readings.vout output word })
+          (cond c (record readings { iout = slice_set readings.iout output word })
+          (cond d (record readings { temperature = word }) readings))))
+      go true b c d = record { vout = are.vout; iout = are.iout; vin = short; temperature = are.temperature }
+      go false true c d = record
+          { vout = set-short readings.vout output word are.vout short; iout = are.iout; vin = are.vin; temperature = are.temperature }
+      go false false true d = record
+          { vout = are.vout; iout = set-short readings.iout output word are.iout short; vin = are.vin; temperature = are.temperature }
+      go false false false true = record { vout = are.vout; iout = are.iout; vin = are.vin; temperature = short }
+      go false false false false = are
+
+-- what was measured
+abbrev AreMeasured : List device.Event → Type 0
+AreMeasured [] = Unit {0}
+AreMeasured (device.Hearing bytes ending ∷ past) = AreMeasured past
+AreMeasured (device.Restarted ∷ past) = AreMeasured past
+AreMeasured (device.Reading output code word ∷ past) = (word < 2 ^ 16) × AreMeasured past
+
+-- so are the readings after it
+past-short : (config : Config) (past : List device.Event) → AreMeasured past → AreShort (readings_in config past)
+past-short config [] are = none-short
+past-short config (device.Hearing bytes ending ∷ past) are = past-short config past are
+past-short config (device.Restarted ∷ past) are = past-short config past are
+past-short config (device.Reading output code word ∷ past) (short, are) =
+    go (is_reading config.count output code) (past-short config past are) where
+      go : (b : Bool) → AreShort (readings_in config past) →
+          AreShort (cond b (with_reading (readings_in config past) output code word) (readings_in config past))
+      go true before = with-short (readings_in config past) output code word before short
+      go false before = before
+
+-- each of them
+reading-short : (readings : Measured) (output code : ℕ) → AreShort readings → reading_at readings output code < 2 ^ 16
+reading-short readings output code are =
+    either (eqb code command.read_vin) _ _ are.vin
+    (either (eqb code command.read_vout) _ _ (are.vout output)
+    (either (eqb code command.read_iout) _ _ (are.iout output)
+    (either (eqb code command.read_temperature_1) _ _ are.temperature (lit< tt))))
+
+-- what a converter hears by an event
+abbrev IsMeasured : Option device.Event → Type 0
+IsMeasured None = Unit {0}
+IsMeasured (Some (device.Hearing bytes ending)) = Unit {0}
+IsMeasured (Some device.Restarted) = Unit {0}
+IsMeasured (Some (device.Reading output code word)) = word < 2 ^ 16
+
+measured-more : (heard : Option device.Event) (past : List device.Event) → IsMeasured heard → AreMeasured past →
+    AreMeasured (option_to_list heard ++ past)
+measured-more None past is are = are
+measured-more (Some (device.Hearing bytes ending)) past is are = are
+measured-more (Some device.Restarted) past is are = are
+measured-more (Some (device.Reading output code word)) past is are = (is, are)
+
+event-measured : (s : State) (event : Event) → CarriesBytes event → IsMeasured (share_of s event).heard
+event-measured s event carries = by_asked (asked s event) where
+  delivery : (arrival : Arrival) (sending : Option Message) → IsMeasured (delivered s arrival sending).heard
+  delivery arrival None = tt
+  delivery arrival (Some message) = tt
+
+  exchange : (arrival : Arrival) (returned : Back) (sending : Option Message) → IsMeasured (exchanged s arrival returned sending).heard
+  exchange arrival returned None = tt
+  exchange arrival returned (Some message) = tt
+
+  beside : (event : Event) → CarriesBytes event → IsMeasured (share_beside s event).heard
+  beside (Deliver arrival) carries = delivery arrival (sending_in s.host)
+  beside (Exchange arrival returned) carries = exchange arrival returned (sending_in s.host)
+  beside (Reading output code word) carries = carries
+  beside event carries = tt
+
+  by_asked : (job : Option host.Job) → IsMeasured (option_map_or (λ j. tells (host.Accepted j)) job (share_beside s event)).heard
+  by_asked None = beside event carries
+  by_asked (Some job) = tt
+
+life-measured : (config : Config) (passes : ℕ) (events : List Event) → CarryBytes events → AreMeasured (life config passes events).past
+unfolding life now
+life-measured config passes [] carry = tt
+life-measured config passes (event ∷ before) (carries, carry) =
+    measured-more (share_of (now config passes before) event).heard (life config passes before).past
+    (event-measured (now config passes before) event carries) (life-measured config passes before carry)
+
+-- ---- what comes back
+
+-- the configuration of a program
+pub record IsOfBytes (config : Config) : Type 0 where
+  pub spelled : IsSpelled config
+  pub short : StartsShort config
+
+-- the converter holds numbers of a program
+holds : Below → (config : Config) (passes : ℕ) (events : List Event) → IsOfBytes config → IsLived config passes events → CarryBytes events →
+    HoldsBytes (now config passes events).device
+unfolding now state_of device_now
+holds laws config passes events numbers lived carry = record {
+  sound = lived.sound;
+  spelled = numbers.spelled;
+  page = laws.pasts_are_followed.page config (life config passes events).past lived.sound.some;
+  words = words;
+  readings = λ output code.
+      reading-short (readings_in config (life config passes events).past) output code
+      (past-short config (life config passes events).past (life-measured config passes events carry));
+}
+  where
+    words : (cell : Cell) → IsCell config.count cell → word_at (now config passes events).device.words cell < 2 ^ 16
+    words (Out output register) there = elim (life-own laws config passes events (Out output register) lived there) [
+      | inl start ↦ subst (λ n. n < 2 ^ 16) (sym start) (numbers.short output register there)
+      | inr was ↦ own-short config passes events (Out output register) _ carry was
+    ]
+    words Protect there =
+        protection-short _ (laws.words_have_an_origin.accepted config (life config passes events).past Protect lived.sound tt)
+
+-- what the host is told
+abbrev TellsBytes : Option host.Entry → Type 0
+TellsBytes None = Unit {0}
+TellsBytes (Some (host.Got bytes)) = AreBytes bytes
+TellsBytes (Some (host.Accepted job)) = Unit {0}
+TellsBytes (Some (host.Finished acked)) = Unit {0}
+TellsBytes (Some host.Restarted) = Unit {0}
+
+tells-more : (told : Option host.Entry) (entries : List host.Entry) → TellsBytes told → AreOfBytes entries →
+    AreOfBytes (option_to_list told ++ entries)
+tells-more None entries is are = are
+tells-more (Some (host.Got bytes)) entries is are = (is, are)
+tells-more (Some (host.Accepted job)) entries is are = are
+tells-more (Some (host.Finished acked)) entries is are = are
+tells-more (Some host.Restarted) entries is are = are
+
+-- of an answer that returns so
+returned-bytes : (answer : List ℕ) (returned : Back) → AreBytes answer → ReturnsInBytes returned → AreBytes (back_bytes answer returned)
+returned-bytes answer back.Whole are carries = are
+returned-bytes answer (back.Cut count) are carries = λ place. first-bytes count answer place are
+returned-bytes answer (back.Bytes bytes) are carries = carries
+
+event-tells : Replies → (s : State) (event : Event) → HoldsBytes s.device → CarriesBytes event → TellsBytes (share_of s event).told
+event-tells replies s event holds carries = by_asked (asked s event) where
+  delivery : (arrival : Arrival) (sending : Option Message) → TellsBytes (delivered s arrival sending).told
+  delivery arrival None = tt
+  delivery arrival (Some message) = tt
+
+  exchange : (arrival : Arrival) (returned : Back) (sending : Option Message) → ReturnsInBytes returned →
+      TellsBytes (exchanged s arrival returned sending).told
+  exchange arrival returned None carries = tt
+  exchange arrival returned (Some message) carries =
+      returned-bytes (answer_to s.device s.host.setup.addr message arrival) returned
+      (reply-bytes replies s.device (heard_bytes (frame_of s.host.setup.addr message) arrival) (heard_ending message arrival) holds) carries
+
+  beside : (event : Event) → CarriesBytes event → TellsBytes (share_beside s event).told
+  beside (Deliver arrival) carries = delivery arrival (sending_in s.host)
+  beside (Exchange arrival returned) carries = exchange arrival returned (sending_in s.host) carries.1
+  beside event carries = tt
+
+  by_asked : (job : Option host.Job) → TellsBytes (option_map_or (λ j. tells (host.Accepted j)) job (share_beside s event)).told
+  by_asked None = beside event carries
+  by_asked (Some job) = tt
+
+-- over a life
+life-bytes : Below → Replies → (config : Config) (passes : ℕ) (events : List Event) → IsOfBytes config → IsLived config passes events →
+    CarryBytes events → AreOfBytes (life config passes events).entries
+unfolding life
+life-bytes laws replies config passes [] numbers lived carry = tt
+life-bytes laws replies config passes (event ∷ before) numbers lived (carries, carry) =
+    subst AreOfBytes (sym (entries-more config passes before event))
+    (tells-more (share_of (now config passes before) event).told (life config passes before).entries
+    (event-tells replies (now config passes before) event (holds laws config passes before numbers (earlier lived) carry) carries)
+    (life-bytes laws replies config passes before numbers (earlier lived) carry))
+
+-- and so since the host's last restart
+since-bytes : (entries : List host.Entry) → AreOfBytes entries → AreOfBytes (since_restart entries)
+since-bytes [] are = tt
+since-bytes (host.Accepted job ∷ before) are = since-bytes before are
+since-bytes (host.Finished acked ∷ before) are = since-bytes before are
+since-bytes (host.Got bytes ∷ before) (is, are) = (is, since-bytes before are)
+since-bytes (host.Restarted ∷ before) are = tt
+
+pub came-in-bytes : Below → RepliesFollowEndings → (config : Config) (passes : ℕ) (events : List Event) → IsOfBytes config →
+    IsLived config passes events → CarryBytes events → AreOfBytes (since_restart (life config passes events).entries)
+came-in-bytes laws endings config passes events numbers lived carry =
+    let replies : Replies = record { requests = laws.requests_are_exact; reads = laws.reads_are_answered; endings = endings } in
+    since-bytes (life config passes events).entries (life-bytes laws replies config passes events numbers lived carry)
