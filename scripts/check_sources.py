@@ -56,7 +56,7 @@ NUMBERS = ("crates/pm_frame/src/packet_error_code.rt", "crates/pm_lines/src/hex_
            "crates/pm_trace/proofs/UsualLemmas.antt")
 # Where each register stands for itself: a field of its own, or a call whose promise is about it.
 EACH_REGISTER = ("crates/pm_limits/src/ends.rt", "crates/pm_world/src/short.rt",
-                 "crates/pm_world/proofs/short/words_are_short/Answers.antt")
+                 "crates/pm_world/proofs/Registers.antt")
 
 
 def sources(crates, folders):
