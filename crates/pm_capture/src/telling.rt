@@ -7,7 +7,7 @@ ghost use Rattle.pm_lines.specs.Streams.{AppendsFront};
 ghost use Rattle.pm_trace.specs.TraceText.{IsOfDecode};
 ghost use Rattle.pm_trace.specs.Written.{Puts};
 ghost use Rattle.pm_capture.specs.CaptureText.{capture_end, capture_text, counts_text, empty_by as spec_empty_by};
-ghost use Rattle.pm_capture.specs.Capturing.{kept_at_end, most_bytes, next, said_text, told as told_of, told_at_end};
+ghost use Rattle.pm_capture.specs.Capturing.{kept_at_end, kept_of, most_bytes, next, said_text, told as told_of, told_at_end};
 ghost use Rattle.pm_capture.specs.LongEngine.{LongEnds};
 ghost use Rattle.pm_capture.specs.Outcome.{telling};
 ghost use Rattle.pm_capture.specs.WrittenCaptures.{Hears, StopsBytes, StopsHearing, WrittenCapture};
@@ -61,61 +61,66 @@ pub fn tell<R: Read, W: Write>(
         (over R.remaining reader.old reader.new W.contents writer.old writer.new) result }
     ensures faults { IfErr result IsOfDecode }
 {
-    tell_all(alloc, reader, writer, options)
+    let mut capture = Capture::new(alloc, options);
+    let mut told = Told::new(alloc);
+    tell_all(reader, writer, options, &mut capture, &mut told)
 }
 
-// The same, whatever the limit.
+// The same, whatever the limit, with what is kept and gathered, of which there is nothing yet. It owns neither, so that
+// what drops them has one way out.
 fn tell_all<R: Read, W: Write>(
-    alloc: Global,
     reader: &mut Source<R>,
     writer: &mut Sink<W>,
     options: &TellOptions,
+    capture: &mut Capture,
+    told: &mut Told,
 ) -> Result<DecodeEnd, TextFault>
     requires reader { IsFalse reader.old.failed }
     requires writer { IsFalse writer.old.failed }
+    requires fresh { capture.old ≡ kept_of options.now [] }
+    requires empty { told.old ≡ [] }
     ensures ends { LongEnds (most_bytes options.now.long) (capture_text options.now) (said_text options.now)
         (capture_end options.now) (over R.remaining reader.old reader.new W.contents writer.old writer.new) result }
     ensures faults { IfErr result IsOfDecode }
 {
-    let mut told = Told::new(alloc);
-    let mut capture = hear_pieces(alloc, reader, writer, options, &mut told)?;
+    hear_pieces(reader, writer, options, capture, told)?;
     if capture.taken() == 0 {
         // the text of the counts takes memory, which is wanted only for what was read
         writer.put(empty_text(options).as_bytes())?;
         return Ok(DecodeEnd::Clean);
     }
-    tell_end(&mut capture, &mut told)?;
+    tell_end(capture, told)?;
     writer.put(told.bytes())?;
     Ok(capture.end())
 }
 
 // Reads all pieces, and writes what the lines say that a line feed ended.
 fn hear_pieces<R: Read, W: Write>(
-    alloc: Global,
     reader: &mut Source<R>,
     writer: &mut Sink<W>,
     options: &TellOptions,
+    capture: &mut Capture,
     told: &mut Told,
-) -> Result<Capture, TextFault>
+) -> Result<(), TextFault>
     requires reader { IsFalse reader.old.failed }
     requires writer { IsFalse writer.old.failed }
+    requires fresh { capture.old ≡ kept_of options.now [] }
     requires empty { told.old ≡ [] }
-    ensures ok { IfOk result (λ capture. IsFalse reader.new.failed × IsFalse writer.new.failed × (told.new ≡ [])
+    ensures ok { OnOk result (IsFalse reader.new.failed × IsFalse writer.new.failed × (told.new ≡ [])
         × (input : List ℕ)
         × WrittenCapture options.now (R.remaining reader.old.inner) (R.remaining reader.new.inner)
-        (W.contents writer.old.inner) (W.contents writer.new.inner) input capture
+        (W.contents writer.old.inner) (W.contents writer.new.inner) input capture.new
         × IsAtEnd (R.remaining reader.new.inner)) }
     ensures broken { IfErr result (λ fault. IsOfDecode fault × LongEnds (most_bytes options.now.long)
         (capture_text options.now) (said_text options.now) (capture_end options.now)
         (over R.remaining reader.old reader.new W.contents writer.old writer.new) (Err fault)) }
 {
-    let mut capture = Capture::new(alloc, options);
     let mut piece = [0u8; PIECE];
     'reads: loop {
-        let count = hear_piece(reader, &mut capture, told, &mut piece);
+        let count = hear_piece(reader, capture, told, &mut piece);
         put_due(writer, told, !is_full(&count))?;
         if count? == 0 {
-            return Ok(capture);
+            return Ok(());
         }
     }
 }

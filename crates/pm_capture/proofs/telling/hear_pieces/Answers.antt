@@ -10,7 +10,7 @@ use Rattle.pm_capture.proofs.telling.hear_pieces.Goals as goal
 
 pub reads-init : goal.reads-init
 reads-init g c = record {
-  gathered = ([], gathered_none c.args.options.now _ _ c.args.told.now c.new-capture.result c.requires.empty c.new-capture.ensures);
+  gathered = ([], gathered_none c.args.options.now _ _ c.args.told.now c.args.capture.now c.requires.empty c.requires.fresh);
   reads = search rules;
   writes = search rules;
 }

@@ -7,17 +7,17 @@ use Rattle.pm_capture.proofs.EndLemmas.{all_told, text_cut, unmade}
 use Rattle.pm_capture.proofs.GatheredLemmas.{whole_input, end_all, end_front, end_counts, end_memory, none_all, none_front, none_end}
 use Rattle.pm_capture.proofs.telling.tell_all.Goals as goal
 
-pub returns-in_err-capture-clause-ends : goal.returns-in_err-capture-clause-ends
-returns-in_err-capture-clause-ends g c =
+pub returns-in_err-hear_pieces-clause-ends : goal.returns-in_err-hear_pieces-clause-ends
+returns-in_err-hear_pieces-clause-ends g c =
     let p = err_from_is_err_and c.from_residual.result c.from_residual.ensures.1 in
-    rw (p.1, p.2) c.in_err-capture.ensures.broken.1
+    rw (p.1, p.2) c.in_err-hear_pieces.ensures.broken.1
 
 pub returns-in_err-put-clause-ends : goal.returns-in_err-put-clause-ends
 returns-in_err-put-clause-ends g c =
     let p = err_from_is_err_and c.from_residual-in_err-put.result c.from_residual-in_err-put.ensures.1 in
     let options = c.args.options.now in
-    let (read, sound, empty, input, written, at_end) = c.in_ok-capture.ensures.ok in
-    let old = c.in_ok-capture.capture in
+    let (read, sound, empty, input, written, at_end) = c.in_ok-hear_pieces.ensures.ok in
+    let old = c.hear_pieces.new.capture in
     let none = sym c.taken.ensures ∙ c.if-taken-eq0.true in
     let shown : c.as_bytes.result.now ≡ capture_text options [] = c.as_bytes.ensures.value ∙ c.empty_text.ensures in
     rw (p.1, p.2, c.in_err-put.ensures.fault) (text_cut options (over g.R.Read.remaining c.args.reader.now c.hear_pieces.new.reader
@@ -33,8 +33,8 @@ returns-in_err-put-clause-faults g c =
 pub returns-then-taken-eq0-clause-ends : goal.returns-then-taken-eq0-clause-ends
 returns-then-taken-eq0-clause-ends g c =
     let options = c.args.options.now in
-    let (read, sound, empty, input, written, at_end) = c.in_ok-capture.ensures.ok in
-    let old = c.in_ok-capture.capture in
+    let (read, sound, empty, input, written, at_end) = c.in_ok-hear_pieces.ensures.ok in
+    let old = c.hear_pieces.new.capture in
     let none = sym c.taken.ensures ∙ c.if-taken-eq0.true in
     let shown : c.as_bytes.result.now ≡ capture_text options [] = c.as_bytes.ensures.value ∙ c.empty_text.ensures in
     all_told options (over g.R.Read.remaining c.args.reader.now c.hear_pieces.new.reader
@@ -47,10 +47,10 @@ pub returns-in_err-tell_end-clause-ends : goal.returns-in_err-tell_end-clause-en
 returns-in_err-tell_end-clause-ends g c =
     let p = err_from_is_err_and c.from_residual-in_err-tell_end.result c.from_residual-in_err-tell_end.ensures.1 in
     let options = c.args.options.now in
-    let (read, sound, empty, input, written, at_end) = c.in_ok-capture.ensures.ok in
+    let (read, sound, empty, input, written, at_end) = c.in_ok-hear_pieces.ensures.ok in
     rw (p.1, p.2) (unmade options (over g.R.Read.remaining c.args.reader.now c.hear_pieces.new.reader
     g.W.Write.contents c.args.writer.now c.hear_pieces.new.writer) read sound
-    (end_memory options _ _ _ _ (g.W.Write.contents c.hear_pieces.new.writer.inner) input c.in_ok-capture.capture written
+    (end_memory options _ _ _ _ (g.W.Write.contents c.hear_pieces.new.writer.inner) input c.hear_pieces.new.capture written
     (λ e. c.if-taken-eq0.false (c.taken.ensures ∙ e))))
 
 pub returns-in_err-tell_end-clause-faults : goal.returns-in_err-tell_end-clause-faults
@@ -62,8 +62,8 @@ pub returns-in_err-put-2-clause-ends : goal.returns-in_err-put-2-clause-ends
 returns-in_err-put-2-clause-ends g c =
     let p = err_from_is_err_and c.from_residual-in_err-put-2.result c.from_residual-in_err-put-2.ensures.1 in
     let options = c.args.options.now in
-    let (read, sound, empty, input, written, at_end) = c.in_ok-capture.ensures.ok in
-    let old = c.in_ok-capture.capture in
+    let (read, sound, empty, input, written, at_end) = c.in_ok-hear_pieces.ensures.ok in
+    let old = c.hear_pieces.new.capture in
     let rest = told_at_end old ++ counts_text old.options (kept_at_end old).heard in
     let shown : c.bytes.result.now ≡ rest = c.bytes.ensures ∙ c.in_ok-tell_end.ensures.told ∙ ap (λ l. l ++ rest) empty in
     rw (p.1, p.2, c.in_err-put-2.ensures.fault) (text_cut options (over g.R.Read.remaining c.args.reader.now c.hear_pieces.new.reader
@@ -79,8 +79,8 @@ returns-in_err-put-2-clause-faults g c =
 pub returns-clause-ends : goal.returns-clause-ends
 returns-clause-ends g c =
     let options = c.args.options.now in
-    let (read, sound, empty, input, written, at_end) = c.in_ok-capture.ensures.ok in
-    let old = c.in_ok-capture.capture in
+    let (read, sound, empty, input, written, at_end) = c.in_ok-hear_pieces.ensures.ok in
+    let old = c.hear_pieces.new.capture in
     let rest = told_at_end old ++ counts_text old.options (kept_at_end old).heard in
     let shown : c.bytes.result.now ≡ rest = c.bytes.ensures ∙ c.in_ok-tell_end.ensures.told ∙ ap (λ l. l ++ rest) empty in
     all_told options (over g.R.Read.remaining c.args.reader.now c.hear_pieces.new.reader
