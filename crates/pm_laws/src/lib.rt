@@ -8,8 +8,8 @@
 ghost use Rattle.pm_laws.specs.ByName.{LawsByName};
 
 use pm_world::{
-    answers_come_in_bytes, bands_are_exact, honest_orders_go_through, newest_events_are_parts, possible_words_are_exact,
-    ways_are_followed,
+    answers_come_in_bytes, bands_are_exact, honest_orders_go_through, newest_events_are_parts,
+    possible_words_are_exact, ways_are_followed,
 };
 
 /// What these laws say: [`honest_orders_go_through`] of the events that are taken (`ahead`), [`ways_are_followed`] of an
