@@ -39,7 +39,7 @@ WORLD, HOST = ("S1", "S2", "S3"), ("H3", "H4", "H5", "H6", "H7", "N3", "N4", "N5
 def figures():
     """What lists have to meet: each is told at the end, also where no list met it."""
     yield from ("a restart that was seen", "16 possible words", "an order that went through in a later pass",
-                "a Differs", "an undisturbed order", "an order in microvolts", "a store",
+                "a Differs", "an answer of bytes", "an undisturbed order", "an order in microvolts", "a store",
                 "a restore that changed words", "a band that stands", "a band with VOUT_MIN above VOUT_MAX",
                 "a band of VOUT_COMMAND and a margin", "a store that took", "an undisturbed check", "an undisturbed learn",
                 "an undisturbed clear", "an undisturbed store", "an undisturbed restore", "an undisturbed later pass",

@@ -42,14 +42,21 @@ class Watch:
         self.past.marks += marks_of(event, self.cells, host.address, request, answer, host.sending())
         if event == ("restart", "host"):
             self.pending, self.learned = None, set()
-        return None, [*self.of_jobs(event, host.transcript[before:], protect), *self.of_settings(event),
-                      *self.of_voltages(), *self.of_knowledge(), *self.of_surprises(known)]
+        return None, [*self.of_answer(answer), *self.of_jobs(event, host.transcript[before:], protect),
+                      *self.of_settings(event), *self.of_voltages(), *self.of_knowledge(), *self.of_surprises(known)]
 
     def answer_to(self, event):
         """The bytes that an exchange gives the host."""
         if event[0] != "exchange" or not self.world.host.sending_reads():
             return None
         return self.world.came_back(*self.world.heard(event[1]), event[2])
+
+    def of_answer(self, answer):
+        """What came back, for words of two bytes, is bytes."""
+        if answer:
+            self.reached.add("an answer of bytes")
+        if any(byte not in range(256) for byte in answer or ()):
+            yield "what comes back is bytes"
 
     def of_jobs(self, event, added, protect):
         """A job's frames, formats and orders in microvolts, and undisturbed orders."""
