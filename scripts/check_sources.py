@@ -54,9 +54,8 @@ HELPS = ("crates/pm_tool/src/commandline/helps.rt", "crates/pm_session/src/optio
 NUMBERS = ("crates/pm_frame/src/packet_error_code.rt", "crates/pm_lines/src/hex_digit.rt", "crates/pm_c/src/numbers.rt",
            "crates/pm_c/src/names.rt", "crates/pm_c/specs/Numbers.antt", "crates/pm_trace/src/usual_packets.rt",
            "crates/pm_trace/proofs/UsualLemmas.antt")
-# Where each register stands for itself: a field of its own, or a call whose promise is about it.
-EACH_REGISTER = ("crates/pm_limits/src/ends.rt", "crates/pm_world/src/short.rt",
-                 "crates/pm_world/proofs/Registers.antt")
+# Where each register stands for itself, as a field of its own.
+EACH_REGISTER = ("crates/pm_limits/src/ends.rt",)
 
 
 def sources(crates, folders):

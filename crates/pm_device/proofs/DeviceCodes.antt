@@ -26,7 +26,7 @@ use Rattle.pm_device.specs.declared.ending.Ending.TheVariants.{Stop, Restart}
 use Rattle.pm_device.specs.declared.heard.Heard.TheVariants.{Answer}
 use Rattle.pm_device.specs.declared.verdict.Verdict.{Verdict}
 use Rattle.pm_device.specs.declared.verdict.Verdict.TheVariants.{Refuses, Takes, Answers}
-use Rattle.pm_device.specs.Held.{Held}
+use Rattle.pm_device.specs.Held.{Held, is_output_reading, output_readings, place_among}
 use Rattle.pm_device.specs.Effect.{Hearing, Outcome, Heard}
 use Rattle.pm_device.specs.History.{after, next}
 use Rattle.pm_device.specs.Laws.{is_device_code, AnswersWith, AreRequestsAlike, AreWritesAlike}
@@ -42,8 +42,7 @@ use Rattle.pm_device.proofs.WriteEffects.{heard-write}
 is_of_output : ℕ → Bool
 is_of_output code =
     eqb code command.clear_faults || eqb code command.status_vout || eqb code command.vout_mode
-    || eqb code command.status_byte || eqb code command.status_word || eqb code command.read_vout
-    || eqb code command.read_iout || is_some (register_of code)
+    || eqb code command.status_byte || eqb code command.status_word || is_output_reading code || is_some (register_of code)
 
 -- each row of the table says so
 is_told : ℕ → Line → Bool
@@ -56,14 +55,13 @@ record IsOfDevice (code : ℕ) : Type 0 where
   mode : eqb code command.vout_mode ≡ false
   byte : eqb code command.status_byte ≡ false
   word : eqb code command.status_word ≡ false
-  voltage : eqb code command.read_vout ≡ false
-  current : eqb code command.read_iout ≡ false
+  reading : is_output_reading code ≡ false
   register : register_of code ≡ None
 
 -- what isn't some is none
-no-register : (found : Option Reg) → is_some found ≡ false → found ≡ None
-no-register None e = refl
-no-register (Some register) e = cc
+none-found : {A : Type 0} (found : Option A) → is_some found ≡ false → found ≡ None
+none-found None e = refl
+none-found (Some x) e = cc
 
 -- so a code of the device is none of them
 of-device : (code : ℕ) → is_device_code code ≡ true → IsOfDevice code
@@ -84,8 +82,7 @@ of-device code e = parts (go (line_of code) refl e) where
   parts : is_of_output code ≡ false → IsOfDevice code
   parts none =
       let h = or_parts _ _ none in
-      let g = or_parts _ _ h.0 in
-      let f = or_parts _ _ g.0 in
+      let f = or_parts _ _ h.0 in
       let k = or_parts _ _ f.0 in
       let d = or_parts _ _ k.0 in
       let b = or_parts _ _ d.0 in
@@ -96,9 +93,8 @@ of-device code e = parts (go (line_of code) refl e) where
         mode = b.1;
         byte = d.1;
         word = k.1;
-        voltage = f.1;
-        current = g.1;
-        register = no-register (register_of code) h.1;
+        reading = f.1;
+        register = none-found (register_of code) h.1;
       }
 
 -- the act of such a code
@@ -173,10 +169,9 @@ read-alike held output other code device =
     let mode = h.mode in
     let byte = h.byte in
     let word = h.word in
-    let voltage = h.voltage in
-    let current = h.current in
+    let reading = none-found (place_among output_readings code) h.reading in
     let register = h.register in
-    simp (vout, mode, byte, word, voltage, current, register)
+    simp (vout, mode, byte, word, reading, register)
 
 -- two hearings that come to one are answered alike, and leave the same
 come-alike : (held : Held) (bytes others : List ℕ) (ending : Ending) →

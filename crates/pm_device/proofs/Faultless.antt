@@ -1,5 +1,5 @@
 -- A sound configuration has no fault: none of its rules applies.
-use Rattle.std.proofs.Common.{◌≡◌, ℕ, zero, suc, ◌+◌, ◌<◌, ◌≤◌, Bool, true, false, cond, eqb, ltb, not, ◌||◌, Option, Some, None}
+use Rattle.std.proofs.Common.{◌≡◌, ℕ, zero, suc, ◌+◌, ◌<◌, Bool, true, false, cond, eqb, ltb, not, ◌||◌, Option, Some, None}
 use Rattle.std.proofs.Common.{Result, Ok, Err, List, [], ◌∷◌, take, length, get_or, refl, sym, ◌∙◌, ap, subst, arith}
 use Rattle.std.proofs.lemmas.Bool.Decides.{nat_tests}
 use Rattle.std.specs.List.{list_any}
@@ -7,8 +7,7 @@ use Rattle.std.specs.Option.{option_map, option_or, option_and_then}
 use Rattle.std.specs.Result.{result_err, result_ok}
 use Rattle.pm_num.specs.AnyFormat.{Shape}
 use Rattle.pm_num.specs.declared.fault.NumFault.{NumFault}
-use Rattle.pm_table.specs.Address.{IsAddress}
-use Rattle.pm_table.specs.Cell.{is_operation, register_accepts, cell_accepts, IsCell}
+use Rattle.pm_table.specs.Cell.{is_operation, register_accepts, cell_accepts}
 use Rattle.pm_table.specs.Format.{shape_in}
 use Rattle.pm_table.specs.VoutMode.{mode_of}
 use Rattle.pm_table.specs.declared.reg.Reg.{Reg}
@@ -23,8 +22,8 @@ use Rattle.pm_device.specs.declared.config.Config.{Config}
 use Rattle.pm_device.specs.declared.output_start.OutputStart.{OutputStart}
 use Rattle.pm_device.specs.declared.config_fault.ConfigFault.{ConfigFault}
 use Rattle.pm_device.specs.declared.config_fault.ConfigFault.TheVariants.{OutputCount, BadStart, Address, BadMode, BadCoefficients}
-use Rattle.pm_device.specs.Held.{mode_for, shape_made}
-use Rattle.pm_device.specs.Start.{register_start, start_word, no_start, outputs, is_direct, has_direct}
+use Rattle.pm_device.specs.Held.{mode_for}
+use Rattle.pm_device.specs.Start.{register_start, no_start, outputs, is_direct, has_direct}
 use Rattle.pm_device.specs.Start.{bad_register, bad_registers, bad_start, bad_mode, bad_coefficients, config_fault, IsSound}
 use Rattle.pm_device.proofs.StartLemmas.{word-of_start, start-there, mode-of_start}
 

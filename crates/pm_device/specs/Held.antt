@@ -1,7 +1,7 @@
 -- What a converter was made with and what it holds: the words of its cells, its store, PAGE, the readings, and
 -- the status bits that are latched.
-use Rattle.std.specs.Prelude.{ℕ, Bool, false, ◌||◌, ◌&&◌, ◌==◌, nat_lt, if◌then◌else◌, List, Option, map, replicate, slice_index, slice_set, unwrap_or}
-use Rattle.std.specs.Option.{option_and_then}
+use Rattle.std.specs.Prelude.{ℕ, Bool, false, ◌||◌, ◌&&◌, ◌==◌, nat_lt, List, [], ◌∷◌, length, position, Option, is_some, map, replicate, slice_index, slice_index_or, slice_set, unwrap_or}
+use Rattle.std.specs.Option.{option_and_then, option_map_or}
 use Rattle.std.specs.Result.{result_ok}
 use Rattle.pm_num.specs.AnyFormat.{Shape, InLinear11, shape_value}
 use Rattle.pm_num.specs.Ratio.{Ratio}
@@ -11,47 +11,61 @@ use Rattle.pm_table.specs.Format.{shape_in}
 use Rattle.pm_model.specs.Settings.{Words}
 use Rattle.pm_device.specs.declared.config.Config.{Config}
 
--- what the READ codes answer: the voltage and the current of each output, the input voltage and one
--- temperature (PMBus 1.3 Part II, READ_VOUT, READ_IOUT, READ_VIN and READ_TEMPERATURE_1)
+-- the READ codes of the device, and those of each output (PMBus 1.3 Part II). These lists stand here alone, and
+-- every other question on readings asks them
+abbrev pub device_readings : List ℕ
+device_readings = command.read_vin ∷ command.read_temperature_1 ∷ []
+
+abbrev pub output_readings : List ℕ
+output_readings = command.read_vout ∷ command.read_iout ∷ []
+
+-- the words that they answer, in the order of these lists: one for a code of the device, and one for each of
+-- the eight places for an output for a code of an output
 pub record Measured : Type 0 where
-  pub vout : List ℕ
-  pub iout : List ℕ
-  pub vin : ℕ
-  pub temperature : ℕ
+  pub device : List ℕ
+  pub outputs : List (List ℕ)
 
 -- the readings as they begin
 abbrev pub no_readings : Measured
-no_readings = record { vout = replicate 8 0; iout = replicate 8 0; vin = 0; temperature = 0 }
+no_readings = record {
+  device = replicate (length device_readings) 0;
+  outputs = replicate (length output_readings) (replicate 8 0);
+}
+
+-- where a code stands in a list of them
+abbrev pub place_among : List ℕ → ℕ → Option ℕ
+place_among readings code = position (λ reading. reading == code) readings
 
 -- a READ code of the device, and one of an output
 abbrev pub is_device_reading : ℕ → Bool
-is_device_reading code = code == command.read_vin || code == command.read_temperature_1
+is_device_reading code = is_some (place_among device_readings code)
 
 abbrev pub is_output_reading : ℕ → Bool
-is_output_reading code = code == command.read_vout || code == command.read_iout
+is_output_reading code = is_some (place_among output_readings code)
 
 -- there is such a reading at a converter with this many outputs
 abbrev pub is_reading : ℕ → ℕ → ℕ → Bool
 is_reading count output code =
     is_device_reading code || is_output_reading code && nat_lt output count
 
+-- the words of a code of an output, by its place
+abbrev pub words_at : Measured → ℕ → List ℕ
+words_at readings place = slice_index_or readings.outputs place []
+
 -- the word that a READ code answers at an output, 0 for any other code
 abbrev pub reading_at : Measured → ℕ → ℕ → ℕ
 reading_at readings output code =
-    if code == command.read_vin then readings.vin
-    else (if code == command.read_vout then slice_index readings.vout output
-    else (if code == command.read_iout then slice_index readings.iout output
-    else (if code == command.read_temperature_1 then readings.temperature
-    else 0)))
+    option_map_or (λ place. slice_index readings.device place) (place_among device_readings code)
+    (option_map_or (λ place. slice_index (words_at readings place) output) (place_among output_readings code) 0)
 
 -- the readings with another word for one of them
 abbrev pub with_reading : Measured → ℕ → ℕ → ℕ → Measured
 with_reading readings output code word =
-    if code == command.read_vin then record readings { vin = word }
-    else (if code == command.read_vout then record readings { vout = slice_set readings.vout output word }
-    else (if code == command.read_iout then record readings { iout = slice_set readings.iout output word }
-    else (if code == command.read_temperature_1 then record readings { temperature = word }
-    else readings)))
+    option_map_or (λ place. record readings { device = slice_set readings.device place word })
+    (place_among device_readings code)
+    (option_map_or (λ place. record readings
+    { outputs = slice_set readings.outputs place (slice_set (words_at readings place) output word) })
+    (place_among output_readings code) readings)
 
 -- the bits of STATUS_CML (PMBus 1.3 Part II) that this converter can set: an unsupported command,
 -- unsupported data, a wrong packet error code, another communication fault

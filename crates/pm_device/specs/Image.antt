@@ -1,5 +1,5 @@
 -- The image of a converter: plain numbers in a caller's memory, and what they mean. This project's own choice.
-use Rattle.std.specs.Prelude.{ℕ, Bool, ◌&&◌, ◌==◌, nat_lt, is_none, is_some, if◌then◌else◌, List, map, slice_index, Option, Some, None}
+use Rattle.std.specs.Prelude.{ℕ, Bool, ◌&&◌, ◌==◌, nat_lt, is_none, is_some, if◌then◌else◌, map, slice_index, Option, Some, None}
 use Rattle.pm_table.specs.declared.cell.Cell.TheVariants.{Protect}
 use Rattle.pm_table.specs.Cell.{register_number}
 use Rattle.pm_model.specs.Settings.{settings_in, word_at}
@@ -32,12 +32,7 @@ config_held image = record {
 }
 
 abbrev pub readings_held : ReadingsImage → Measured
-readings_held image = record {
-  vout = image.vout;
-  iout = image.iout;
-  vin = image.vin;
-  temperature = image.temperature;
-}
+readings_held image = record { device = image.device; outputs = image.outputs }
 
 abbrev pub latches_held : LatchesImage → CmlFaults
 latches_held image = record {

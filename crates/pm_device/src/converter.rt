@@ -116,8 +116,8 @@ impl Converter {
         self.faults = CmlLatches::new();
     }
 
-    /// Gives a reading another word: READ_VOUT (8Bh) and READ_IOUT (8Ch) of an output, READ_VIN
-    /// (88h) and READ_TEMPERATURE_1 (8Dh) of the device, for which the output isn't looked at.
+    /// Gives a reading another word: one of [`OUTPUT_READINGS`](crate::OUTPUT_READINGS) of an output, or one of
+    /// [`DEVICE_READINGS`](crate::DEVICE_READINGS) of the device, for which the output isn't looked at.
     /// `false` where the output isn't there or the code is no READ code; then nothing changes.
     #[tactic(auto, unfolding(crate::specs::History::next, crate::specs::History::after))]
     pub fn set_reading(&mut self, output: u8, code: Code, word: u16) -> bool

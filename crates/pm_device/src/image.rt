@@ -5,6 +5,7 @@ ghost use Rattle.pm_device.specs.Image.{config_held, device_of, is_current, is_s
 
 use crate::config::Config;
 use crate::output_start::OutputStart;
+use crate::readings::{DEVICE_READINGS, OUTPUT_READINGS, Readings};
 use pm_table::{Cell, Coefficients, Reg};
 
 /// How an output starts, as plain numbers.
@@ -34,14 +35,7 @@ impl OutputImage {
         OutputImage {
             mode: start.mode,
             unused: 0,
-            words: [
-                start.operation,
-                start.command,
-                start.max,
-                start.high,
-                start.low,
-                start.min,
-            ],
+            words: start.words(),
         }
     }
 }
@@ -131,18 +125,14 @@ pub struct LatchesImage {
     pub communication: u8,
 }
 
-/// The words that READ codes answer.
+/// The words that READ codes answer, in the order of their lists.
 #[repr(C)]
 #[derive(Clone, Copy, Debug)]
 pub struct ReadingsImage {
-    /// READ_VIN.
-    pub vin: u16,
-    /// READ_TEMPERATURE_1.
-    pub temperature: u16,
-    /// READ_VOUT of each output.
-    pub vout: [u16; 8],
-    /// READ_IOUT of each output.
-    pub iout: [u16; 8],
+    /// The word of each reading of the device.
+    pub device: [u16; DEVICE_READINGS.len()],
+    /// The word of each output, for each reading of an output.
+    pub outputs: [[u16; 8]; OUTPUT_READINGS.len()],
 }
 
 /// A converter in memory that a caller keeps who isn't Rattle. It has no padding, holds no address of memory, and
@@ -239,12 +229,7 @@ impl Image {
                 communication: 0,
             },
             cut: [0; 8],
-            readings: ReadingsImage {
-                vin: 0,
-                temperature: 0,
-                vout: [0; 8],
-                iout: [0; 8],
-            },
+            readings: Readings::new().image(),
             words: [0; Cell::PLACES],
             store: [0; Cell::PLACES],
         }

@@ -23,7 +23,7 @@
 //!         max: 0x4000,
 //!         high: 0x1100,
 //!         low: 0x0F00,
-//!         min: 0x0000,
+//!         ..OutputStart::NONE
 //!     };
 //!     let mut converter = Converter::new(Config {
 //!         addr: 0x58,
@@ -72,4 +72,5 @@ pub use laws::{
     writes_reach_one_cell,
 };
 pub use output_start::OutputStart;
+pub use readings::{DEVICE_READINGS, OUTPUT_READINGS, is_reading};
 pub use status_bits::{StatusByte, StatusCml, StatusVout, StatusWord};

@@ -25,7 +25,7 @@ pub struct OutputStart {
 impl OutputStart {
     ghost use Rattle.std.specs.Prelude.{slice_index};
     ghost use Rattle.pm_table.specs.Cell.{register_number};
-    ghost use Rattle.pm_device.specs.Start.{register_start, start_of};
+    ghost use Rattle.pm_device.specs.Start.{register_start, start_of, start_row};
 
     /// What stands in a configuration for an output that isn't there.
     pub const NONE: OutputStart = OutputStart {
@@ -66,5 +66,12 @@ impl OutputStart {
             Reg::MarginLow => self.low,
             Reg::VoutMin => self.min,
         }
+    }
+
+    /// The start words of the registers, in the order of `Reg`.
+    pub(crate) fn words(&self) -> [u16; Reg::COUNT]
+        ensures { result ≡ start_row self.now }
+    {
+        std::array::from_fn(|place| self.word(Reg::ALL[place]))
     }
 }

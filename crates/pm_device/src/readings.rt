@@ -1,35 +1,38 @@
-ghost use Rattle.std.specs.Prelude.{◌≡◌, ◌<◌, ◌≤◌, if◌then◌else◌};
-ghost use Rattle.pm_device.specs.Held.{no_readings, is_reading, reading_at, with_reading};
+ghost use Rattle.std.specs.Prelude.{◌≡◌, ◌<◌, ◌≤◌, ◌||◌, ◌==◌, if◌then◌else◌, IfSome, length, position};
+ghost use Rattle.pm_device.specs.Held.{
+  is_device_reading,
+  is_output_reading,
+  is_reading,
+  no_readings,
+  reading_at,
+  with_reading,
+};
 ghost use Rattle.pm_device.specs.Image.{readings_held};
 
 use crate::image::ReadingsImage;
 use pm_table::Code;
 use std::marker::Model;
 
-/// What the READ codes answer: a word of each output's voltage and current, of the input voltage
-/// and of a temperature.
+/// The READ codes of the device, in the order in which their words are kept.
+pub const DEVICE_READINGS: [Code; 2] = [Code::READ_VIN, Code::READ_TEMPERATURE_1];
+
+/// The READ codes of each output, in the order in which their words are kept.
+pub const OUTPUT_READINGS: [Code; 2] = [Code::READ_VOUT, Code::READ_IOUT];
+
+/// What the READ codes answer: a word of each code of the device, and one of each output for each
+/// code of an output.
 #[derive(Clone, Debug, Drop)]
 pub(crate) struct Readings {
-    vout: [u16; 8],
-    iout: [u16; 8],
-    vin: u16,
-    temperature: u16,
+    device: [u16; DEVICE_READINGS.len()],
+    outputs: [[u16; 8]; OUTPUT_READINGS.len()],
 }
 
 impl Model for Readings {
-    ghost use Rattle.std.specs.Prelude.{◌≡◌, length};
     ghost use Rattle.pm_device.specs.Held.{Measured};
 
     ghost Value = { Measured };
 
-    ghost view = { λ r. record {
-      vout = r.vout;
-      iout = r.iout;
-      vin = r.vin;
-      temperature = r.temperature;
-    } };
-
-    ghost invariant = { λ r. (length r.vout ≡ 8) × (length r.iout ≡ 8) };
+    ghost view = { λ r. record { device = r.device; outputs = r.outputs } };
 }
 
 impl Readings {
@@ -38,10 +41,8 @@ impl Readings {
         ensures { result ≡ no_readings }
     {
         Readings {
-            vout: [0; 8],
-            iout: [0; 8],
-            vin: 0,
-            temperature: 0,
+            device: [0; DEVICE_READINGS.len()],
+            outputs: [[0; 8]; OUTPUT_READINGS.len()],
         }
     }
 
@@ -50,10 +51,8 @@ impl Readings {
         ensures { result ≡ readings_held image.now }
     {
         Readings {
-            vout: image.vout,
-            iout: image.iout,
-            vin: image.vin,
-            temperature: image.temperature,
+            device: image.device,
+            outputs: image.outputs,
         }
     }
 
@@ -62,10 +61,8 @@ impl Readings {
         ensures { readings_held result ≡ self.now }
     {
         ReadingsImage {
-            vin: self.vin,
-            temperature: self.temperature,
-            vout: self.vout,
-            iout: self.iout,
+            device: self.device,
+            outputs: self.outputs,
         }
     }
 
@@ -74,13 +71,12 @@ impl Readings {
         requires { output < 8 }
         ensures { result ≡ reading_at self.now output code.0 }
     {
-        let place = usize::from(output);
-        match code {
-            Code::READ_VIN => self.vin,
-            Code::READ_VOUT => self.vout[place],
-            Code::READ_IOUT => self.iout[place],
-            Code::READ_TEMPERATURE_1 => self.temperature,
-            _ => 0,
+        if let Some(place) = place_among(&DEVICE_READINGS, code) {
+            return self.device[place];
+        }
+        match place_among(&OUTPUT_READINGS, code) {
+            Some(place) => self.outputs[place][usize::from(output)],
+            None => 0,
         }
     }
 
@@ -93,14 +89,31 @@ impl Readings {
         ensures after { self.new ≡ (if is_reading count output code.0
             then with_reading self.old output code.0 word else self.old) }
     {
-        let place = usize::from(output);
-        match code {
-            Code::READ_VIN => self.vin = word,
-            Code::READ_TEMPERATURE_1 => self.temperature = word,
-            Code::READ_VOUT if output < count => self.vout[place] = word,
-            Code::READ_IOUT if output < count => self.iout[place] = word,
-            _ => return false,
+        if let Some(place) = place_among(&DEVICE_READINGS, code) {
+            self.device[place] = word;
+            return true;
         }
-        true
+        match place_among(&OUTPUT_READINGS, code) {
+            Some(place) if output < count => {
+                self.outputs[place][usize::from(output)] = word;
+                true
+            }
+            _ => false,
+        }
     }
+}
+
+/// Whether a code is a reading's, of the device or of an output.
+pub fn is_reading(code: Code) -> bool
+    ensures { result ≡ (is_device_reading code.0 || is_output_reading code.0) }
+{
+    place_among(&DEVICE_READINGS, code).is_some() || place_among(&OUTPUT_READINGS, code).is_some()
+}
+
+// Where a code stands among these.
+fn place_among(codes: &[Code], code: Code) -> Option<usize>
+    ensures place { result ≡ position (λ reading. reading.0 == code.0) codes.now }
+    ensures there { IfSome result (λ place. place < length codes.now) }
+{
+    codes.iter().position(|reading| *reading == code)
 }

@@ -29,20 +29,13 @@ fn rows(starts: &[OutputStart; 8]) -> [[u16; Reg::COUNT]; 8]
 {
     let [a, b, c, d, e, f, g, h] = starts;
     [
-        row(a),
-        row(b),
-        row(c),
-        row(d),
-        row(e),
-        row(f),
-        row(g),
-        row(h),
+        a.words(),
+        b.words(),
+        c.words(),
+        d.words(),
+        e.words(),
+        f.words(),
+        g.words(),
+        h.words(),
     ]
-}
-
-// The start words of an output, in the order of its registers.
-fn row(start: &OutputStart) -> [u16; Reg::COUNT]
-    ensures { result ≡ start_row start.now }
-{
-    std::array::from_fn(|place| start.word(Reg::ALL[place]))
 }

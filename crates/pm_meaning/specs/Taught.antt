@@ -9,6 +9,7 @@ use Rattle.std.specs.Result.{result_ok}
 use Rattle.indexmap.specs.IndexMap.{insert_entry}
 use Rattle.pm_num.specs.AnyFormat.{Shape, InUlinear16, shape_of}
 use Rattle.pm_num.specs.declared.any_format.AnyFormat.{AnyFormat}
+use Rattle.pm_table.specs.Cell.{is_voltage_code}
 use Rattle.pm_table.specs.Codes as command
 use Rattle.pm_table.specs.Coefficients.{coefficients_of}
 use Rattle.pm_table.specs.Format.{shape_in}
@@ -35,8 +36,7 @@ output_key addr page = addr * 256 + page
 
 -- the codes whose words are voltages of an output
 abbrev pub is_voltage : ℕ → Bool
-is_voltage code = code == command.vout_command || (code == command.vout_max || (code == command.vout_min
-    || (code == command.vout_margin_high || (code == command.vout_margin_low || code == command.read_vout))))
+is_voltage code = is_voltage_code code || code == command.read_vout
 
 -- ---- what a line teaches
 

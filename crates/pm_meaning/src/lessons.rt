@@ -5,7 +5,7 @@ ghost use Rattle.pm_meaning.specs.Taught.{is_voltage as spec_is_voltage, output_
 use indexmap::IndexMap;
 use pm_frame::Message;
 use pm_num::AnyFormat;
-use pm_table::{Code, Coefficients, VoutMode, format_of};
+use pm_table::{Code, Coefficients, VoutMode, cell_of, format_of};
 use pm_trace::{Shown, answered, coefficients_in};
 use std::alloc::{AllocError, Global};
 use std::marker::Model;
@@ -138,13 +138,9 @@ fn key_of(addr: u8, page: u8) -> u16
 pub(crate) fn is_voltage(code: u8) -> bool
     ensures { result ≡ spec_is_voltage code }
 {
-    matches!(
-        Code(code),
-        Code::VOUT_COMMAND
-            | Code::VOUT_MAX
-            | Code::VOUT_MIN
-            | Code::VOUT_MARGIN_HIGH
-            | Code::VOUT_MARGIN_LOW
-            | Code::READ_VOUT
-    )
+    let code = Code(code);
+    match cell_of(code, 0) {
+        Some(cell) => cell.is_voltage(),
+        None => code == Code::READ_VOUT,
+    }
 }

@@ -1,7 +1,8 @@
 -- How many bytes stand in a caller's memory, by the counts of outputs, registers and places. None is padding:
 -- a byte stands anywhere, a word of two bytes at an even place.
-use Rattle.std.specs.Prelude.{ℕ, ◌+◌, ◌*◌}
+use Rattle.std.specs.Prelude.{ℕ, ◌+◌, ◌*◌, length}
 use Rattle.pm_table.specs.Cell.{places, register_count}
+use Rattle.pm_device.specs.Held.{device_readings, output_readings}
 
 -- a word
 abbrev pub word_size : ℕ
@@ -15,9 +16,9 @@ output_size = 2 + register_count * word_size
 abbrev pub config_size : ℕ
 config_size = 4 + 3 * word_size + 8 * output_size
 
--- the readings: two words of the device, and two of each output
+-- the readings: a word for each of the device, and one of each output for each of an output
 abbrev pub readings_size : ℕ
-readings_size = 2 * word_size + 2 * 8 * word_size
+readings_size = length device_readings * word_size + length output_readings * 8 * word_size
 
 -- a part: the mark, the version, its configuration, PAGE and a byte, four latches of the device and one of each
 -- output, the readings, and the word of each cell and in the store

@@ -1,7 +1,6 @@
 //! What changes a part: it is made, hears a frame, restarts, and measures.
 
-ghost use Rattle.std.specs.Prelude.{◌≡◌, ◌≢◌, ◌||◌, None, Some, option_map};
-ghost use Rattle.pm_device.specs.Held.{is_device_reading, is_output_reading};
+ghost use Rattle.std.specs.Prelude.{◌≡◌, ◌≢◌, None, Some, option_map};
 ghost use Rattle.pm_device.specs.Effect.{Hearing, Reading, Restarted};
 ghost use Rattle.pm_device.specs.History.{next, start_of};
 ghost use Rattle.pm_device.specs.Image.{config_held, device_of};
@@ -13,7 +12,7 @@ ghost use Rattle.pm_part.specs.Sizes.{part_size};
 
 use crate::numbers::{ACCEPTED, NO_OUTPUT, NO_PART, NO_READING};
 use crate::reply_image::ReplyImage;
-use pm_device::{ConfigImage, Converter, Ending, Image};
+use pm_device::{ConfigImage, Converter, Ending, Image, is_reading};
 use pm_table::Code;
 use std::mem::size_of;
 
@@ -102,9 +101,8 @@ pub extern "C" fn pm_part_restart(part: &mut Image) -> u8
     }
 }
 
-/// Gives a reading another word: READ_VOUT (8Bh) and READ_IOUT (8Ch) of an output, READ_VIN (88h) and
-/// READ_TEMPERATURE_1 (8Dh) of the device, for which the output isn't looked at. E5h, E8h, 4 where the output isn't
-/// there.
+/// Gives a reading another word: a READ code of an output, or one of the device, for which the output isn't looked at.
+/// E5h, E8h, 4 where the output isn't there.
 #[unsafe(no_mangle)]
 pub extern "C" fn pm_part_set_reading(part: &mut Image, output: u8, code: u8, word: u16) -> u8
     ensures number { result ≡ reading_number (device_of part.old) output code }
@@ -114,7 +112,7 @@ pub extern "C" fn pm_part_set_reading(part: &mut Image, output: u8, code: u8, wo
 {
     match &mut Converter::read(part) {
         Some(converter) => {
-            if !is_reading(code) {
+            if !is_reading(Code(code)) {
                 return NO_READING;
             }
             if !converter.set_reading(output, Code(code), word) {
@@ -125,14 +123,4 @@ pub extern "C" fn pm_part_set_reading(part: &mut Image, output: u8, code: u8, wo
         }
         None => NO_PART,
     }
-}
-
-// Whether a code is a reading's.
-fn is_reading(code: u8) -> bool
-    ensures { result ≡ (is_device_reading code || is_output_reading code) }
-{
-    matches!(
-        Code(code),
-        Code::READ_VIN | Code::READ_VOUT | Code::READ_IOUT | Code::READ_TEMPERATURE_1
-    )
 }

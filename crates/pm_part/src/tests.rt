@@ -97,13 +97,13 @@ fn status_is_latched(rt: HostRuntime) {
 fn readings_are_set(rt: HostRuntime) {
     let mut part = part();
     equal(&rt, &set_reading(&mut part, 1, 0x8B, 0x34CD), &0, &1);
-    equal(&rt, &part.readings.vout[1], &0x34CD, &2);
+    equal(&rt, &part.readings.outputs[0][1], &0x34CD, &2);
     equal(&rt, &set_reading(&mut part, 9, 0x88, 0xD300), &0, &3);
-    equal(&rt, &part.readings.vin, &0xD300, &4);
+    equal(&rt, &part.readings.device[0], &0xD300, &4);
     equal(&rt, &set_reading(&mut part, 2, 0x8C, 1), &4, &5);
     equal(&rt, &set_reading(&mut part, 0, 0x21, 1), &0xE8, &6);
     equal(&rt, &restart(&mut part), &0, &7);
-    equal(&rt, &part.readings.vin, &0xD300, &8);
+    equal(&rt, &part.readings.device[0], &0xD300, &8);
 }
 
 // Why no part is made, by the first rule that applies.

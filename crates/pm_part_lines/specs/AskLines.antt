@@ -7,8 +7,8 @@ use Rattle.pm_lines.specs.Bytes.{bytes_of}
 use Rattle.pm_lines.specs.Digits.{small_of}
 use Rattle.pm_lines.specs.Lines.{is_space, without_return, words_of}
 use Rattle.pm_text.specs.EventLines.{cell, reading_rest}
+use Rattle.pm_text.specs.Kinds.{newest_form}
 use Rattle.pm_text.specs.Readers.{◌>>=◌, Field, field, gives, line_as, one_of}
-use Rattle.pm_text.specs.declared.form.Form.TheVariants.{Second}
 use Rattle.pm_text.specs.declared.scenario.fault.ScenarioFault.{ScenarioFault}
 use Rattle.pm_text.specs.declared.scenario.fault.ScenarioFault.TheVariants as fault
 use Rattle.pm_part_lines.specs.declared.ask.Ask.{Ask}
@@ -53,7 +53,7 @@ output_ask = do
 -- `O NAME`, or `- WRITE_PROTECT`
 unfoldable pub word_ask : Field Ask
 word_ask = do
-  named ← cell Second
+  named ← cell newest_form
   gives (Word named)
 
 unfoldable pub status_ask : Field Ask

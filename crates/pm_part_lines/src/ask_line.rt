@@ -121,7 +121,7 @@ fn output(fields: &mut Fields<'_>) -> Result<Ask, ScenarioFault>
 fn word(fields: &mut Fields<'_>) -> Result<Ask, ScenarioFault>
     ensures { Reads result fields.new (word_ask fields.old) }
 {
-    let cell = read_cell(Form::Second, fields)?;
+    let cell = read_cell(Form::NEWEST, fields)?;
     Ok(Ask::Word(cell))
 }
 

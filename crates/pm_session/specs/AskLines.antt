@@ -5,9 +5,8 @@ use Rattle.pm_lines.specs.Bytes.{bytes_before}
 use Rattle.pm_lines.specs.Digits.{signed_of, small_of}
 use Rattle.pm_lines.specs.Lines.{without_return}
 use Rattle.pm_text.specs.EventLines.{cell, finish_rest, job_lines}
-use Rattle.pm_text.specs.Kinds.{frame_bytes}
+use Rattle.pm_text.specs.Kinds.{frame_bytes, newest_form}
 use Rattle.pm_text.specs.Readers.{◌>>=◌, Field, field, gives, line_as, lines_into, made_into, one_of, or_fault}
-use Rattle.pm_text.specs.declared.form.Form.TheVariants.{Second}
 use Rattle.pm_text.specs.declared.scenario.fault.ScenarioFault.{ScenarioFault}
 use Rattle.pm_text.specs.declared.scenario.fault.ScenarioFault.TheVariants as fault
 use Rattle.pm_session.specs.declared.ask.Ask.{Ask}
@@ -17,7 +16,7 @@ use Rattle.pm_session.specs.declared.refusal.Refusal.TheVariants.{Syntax, BadHex
 
 -- the lines of a scenario that ask for a job
 abbrev pub jobs : List (List ℕ × Field Ask)
-jobs = lines_into Job (job_lines Second)
+jobs = lines_into Job (job_lines newest_form)
 
 -- `ack` or `nack`
 unfoldable pub finished_rest : Field Ask
@@ -43,7 +42,7 @@ got_rest left = or_fault (option_map (λ bytes. Got (record { items = bytes })) 
 -- `O NAME`, or `- WRITE_PROTECT`
 unfoldable pub state_rest : Field Ask
 state_rest = do
-  named ← cell Second
+  named ← cell newest_form
   gives (State named)
 
 -- `O`

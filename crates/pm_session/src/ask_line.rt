@@ -75,7 +75,7 @@ fn read_words(fields: &mut Fields<'_>) -> Result<Ask, ScenarioFault>
 fn job(fields: &mut Fields<'_>) -> Result<Ask, ScenarioFault>
     ensures { Reads result fields.new (one_of jobs fields.old) }
 {
-    let job = read_job(Form::Second, fields)?;
+    let job = read_job(Form::NEWEST, fields)?;
     Ok(Ask::Job(job))
 }
 
@@ -93,7 +93,7 @@ fn finished(fields: &mut Fields<'_>) -> Result<Ask, ScenarioFault>
 fn state(fields: &mut Fields<'_>) -> Result<Ask, ScenarioFault>
     ensures { Reads result fields.new (state_rest fields.old) }
 {
-    let cell = read_cell(Form::Second, fields)?;
+    let cell = read_cell(Form::NEWEST, fields)?;
     Ok(Ask::State(cell))
 }
 

@@ -20,7 +20,7 @@ use Rattle.pm_text.specs.Kinds.{output_or_device, register_named, device_cell_na
 use Rattle.pm_text.specs.Readers.{◌>>=◌, Field, field, gives, lines_into, made_into, named, one_of}
 use Rattle.pm_text.specs.declared.form.Form.{Form}
 use Rattle.pm_text.specs.declared.scenario.reading.Measured.{Measured}
-use Rattle.pm_text.specs.declared.form.Form.TheVariants.{First, Second}
+use Rattle.pm_text.specs.declared.form.Form.TheVariants.{First}
 use Rattle.pm_text.specs.declared.scenario.fault.ScenarioFault.TheVariants.{Syntax, BadHex}
 
 -- `O NAME`, or `- WRITE_PROTECT`
@@ -118,8 +118,8 @@ exchange_rest = do
 unfoldable pub restart_rest : Field Event
 restart_rest = field Syntax (named ((codes "device", RestartDevice) ∷ (codes "host", RestartHost) ∷ []))
 
--- `O NAME HHHH` for READ_VOUT and READ_IOUT, `- NAME HHHH` for READ_VIN and READ_TEMPERATURE_1, for
--- which output 0 is named and isn't looked at
+-- `O NAME HHHH` for a reading of an output, `- NAME HHHH` for one of the device, for which output 0 is named and
+-- isn't looked at
 abbrev pub reading_at : Option ℕ → Field Measured
 reading_at None = do
   code ← field Syntax device_reading_named
@@ -138,10 +138,10 @@ reading_rest = do
   output ← field Syntax output_or_device
   reading_at output
 
--- the lines of jobs that the second form alone has: `store` and `restore`, with no more words
+-- the lines of jobs that the first form lacks: `store` and `restore`, with no more words
 abbrev pub store_lines : Form → List (List ℕ × Field Job)
 store_lines First = []
-store_lines Second = (codes "store", gives (Send StoreUserAll)) ∷ (codes "restore", gives (Send RestoreUserAll)) ∷ []
+store_lines _ = (codes "store", gives (Send StoreUserAll)) ∷ (codes "restore", gives (Send RestoreUserAll)) ∷ []
 
 -- the lines that ask for a job: the first word of each, and the words that follow it
 abbrev pub job_lines : Form → List (List ℕ × Field Job)

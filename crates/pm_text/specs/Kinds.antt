@@ -5,8 +5,8 @@ use Rattle.pm_table.specs.declared.cell.Cell.{Cell}
 use Rattle.pm_table.specs.declared.cell.Cell.TheVariants.{Protect}
 use Rattle.pm_table.specs.declared.reg.Reg.{Reg}
 use Rattle.pm_table.specs.Cell.{cell_bytes, cell_name, register_code, registers}
-use Rattle.pm_table.specs.Codes as command
 use Rattle.pm_table.specs.Commands.{name_of}
+use Rattle.pm_device.specs.Held.{device_readings, output_readings}
 use Rattle.pm_lines.specs.Bytes.{word_bytes}
 use Rattle.pm_lines.specs.Digits.{hex_of, small_of}
 use Rattle.pm_text.specs.Readers.{named}
@@ -16,6 +16,10 @@ use Rattle.pm_text.specs.declared.form.Form.TheVariants.{First, Second}
 -- the form of a text that calls itself so
 abbrev pub form_named : List ℕ → Option Form
 form_named = named ((codes "1", First) ∷ (codes "2", Second) ∷ [])
+
+-- the newest form, which names every register
+abbrev pub newest_form : Form
+newest_form = Second
 
 -- the version that a form is, and the form of a version: every version but 1 has the second one
 abbrev pub version_of : Form → ℕ
@@ -55,11 +59,10 @@ abbrev pub code_with_name : ℕ → List ℕ × ℕ
 code_with_name code = (name_of code, code)
 
 abbrev pub output_reading_named : List ℕ → Option ℕ
-output_reading_named = named (map code_with_name (command.read_vout ∷ command.read_iout ∷ []))
+output_reading_named = named (map code_with_name output_readings)
 
 abbrev pub device_reading_named : List ℕ → Option ℕ
-device_reading_named =
-    named (map code_with_name (command.read_vin ∷ command.read_temperature_1 ∷ []))
+device_reading_named = named (map code_with_name device_readings)
 
 -- how many digits a cell's word has, two for each byte
 abbrev pub cell_digits : Cell → ℕ

@@ -26,7 +26,7 @@ use Rattle.pm_world.specs.declared.stop.Stop.{Stop}
 use Rattle.pm_lines.specs.Numbers.{hex_byte, hex_word}
 use Rattle.pm_text.specs.Kinds.{registers_of}
 use Rattle.pm_text.specs.declared.form.Form.{Form}
-use Rattle.pm_text.specs.declared.form.Form.TheVariants.{First, Second}
+use Rattle.pm_text.specs.declared.form.Form.TheVariants.{First}
 
 -- ---- words
 
@@ -48,11 +48,11 @@ abbrev pub possible_text : Cell → Possible → List ℕ
 possible_text cell Any = codes " any"
 possible_text cell (Words words) = spaced_words cell words.items
 
--- what texts of a form tell of a cell: the second one says of a cell that isn't confirmed what it may hold
+-- what texts of a form tell of a cell: each but the first says of a cell that isn't confirmed what it may hold
 abbrev pub said_text : Form → Cell → Standing → Possible → List ℕ
 said_text First cell standing possible = standing_text cell standing
-said_text Second cell (Confirmed word) possible = standing_text cell (Confirmed word)
-said_text Second cell Unknown possible =
+said_text _ cell (Confirmed word) possible = standing_text cell (Confirmed word)
+said_text _ cell Unknown possible =
     standing_text cell Unknown ++ (codes " possible" ++ possible_text cell possible)
 
 -- a setting: its name, the converter's word, and what the host says

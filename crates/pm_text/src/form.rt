@@ -1,5 +1,5 @@
 ghost use Rattle.std.specs.Prelude.{◌≡◌};
-ghost use Rattle.pm_text.specs.Kinds.{form_of, registers_of, version_of};
+ghost use Rattle.pm_text.specs.Kinds.{form_named, form_of, registers_of, version_of};
 
 use pm_table::Reg;
 
@@ -18,6 +18,22 @@ pub enum Form {
 }
 
 impl Form {
+    /// The newest form, which names every register. Sessions of lines speak it.
+    pub const NEWEST: Form = Form::Second;
+
+    /// The form of a text that calls itself so.
+    pub(crate) fn named(name: &[u8]) -> Option<Form>
+        ensures { result ≡ form_named name.now }
+    {
+        if name == b"1".as_slice() {
+            Some(Form::First)
+        } else if name == b"2".as_slice() {
+            Some(Form::Second)
+        } else {
+            None
+        }
+    }
+
     /// The version that it is.
     pub(crate) fn version(self) -> u8
         ensures { result ≡ version_of self }

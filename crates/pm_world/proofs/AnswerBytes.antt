@@ -93,7 +93,7 @@ pub record HoldsBytes (held : Held) : Type 0 where
   pub readings : (output code : ℕ) → reading_at held.readings output code < 2 ^ 16
 
 -- one of two words
-pub either : (b : Bool) (word other : ℕ) → word < 2 ^ 16 → other < 2 ^ 16 → cond b word other < 2 ^ 16
+either : (b : Bool) (word other : ℕ) → word < 2 ^ 16 → other < 2 ^ 16 → cond b word other < 2 ^ 16
 either true word other one two = one
 either false word other one two = two
 

@@ -1,7 +1,7 @@
 -- What comes back to the host over a life are bytes, where its configuration and its events are those of a program.
 use Rattle.std.proofs.Common.{arith, lit<, ◌≡◌, inl, inr, ℕ, zero, suc, ◌^◌, ◌<◌, ℤ, Bool, true, false, cond, eqb, ◌||◌, List, [], ◌∷◌}
 use Rattle.std.proofs.Common.{◌++◌, get_or, replicate, Option, Some, None, option_map, option_and_then, refl, sym, subst}
-use Rattle.std.specs.Prelude.{option_to_list, slice_set}
+use Rattle.std.specs.Prelude.{length, option_to_list, slice_index, slice_set}
 use Rattle.std.specs.Option.{option_map_or}
 use Rattle.std.proofs.lemmas.Bool.{eqb-true}
 use Rattle.std.proofs.lemmas.Option.{none-some, same_Some}
@@ -11,13 +11,12 @@ use Rattle.pm_num.specs.Ratio.{micros}
 use Rattle.pm_table.specs.declared.cell.Cell.{Cell}
 use Rattle.pm_table.specs.declared.cell.Cell.TheVariants.{Out, Protect}
 use Rattle.pm_table.specs.Cell.{IsCell, is_protection, output_of}
-use Rattle.pm_table.specs.Codes as command
 use Rattle.pm_frame.specs.declared.message.Message.{Message}
 use Rattle.pm_frame.specs.Layout.{AreBytes}
 use Rattle.pm_model.specs.Settings.{word_at}
 use Rattle.pm_device.specs.declared.config.Config.{Config}
 use Rattle.pm_device.specs.Effect as device
-use Rattle.pm_device.specs.Held.{Measured, is_reading, no_readings, reading_at, with_reading}
+use Rattle.pm_device.specs.Held.{Measured, device_readings, is_reading, no_readings, output_readings, place_among, reading_at, with_reading, words_at}
 use Rattle.pm_device.specs.History.{now as device_now, readings_in}
 use Rattle.pm_device.specs.Laws.{RepliesFollowEndings}
 use Rattle.pm_host.specs.Refusals.{micro_word}
@@ -36,7 +35,7 @@ use Rattle.pm_world.specs.Life.{life, now, state_of}
 use Rattle.pm_world.specs.Retelling.{WasOrdered}
 use Rattle.pm_world.specs.State.{State, answer_to, asked, delivered, exchanged, share_beside, share_of, tells}
 use Rattle.pm_world.specs.Uncertainty.{AreOfBytes, since_restart}
-use Rattle.pm_world.proofs.AnswerBytes.{HoldsBytes, Replies, either, reply-bytes}
+use Rattle.pm_world.proofs.AnswerBytes.{HoldsBytes, Replies, reply-bytes}
 use Rattle.pm_world.proofs.FirstWords.{first-bytes}
 use Rattle.pm_world.proofs.LimitedLives.{told-asked}
 use Rattle.pm_world.proofs.Lives.{IsLived, earlier, entries-more}
@@ -104,46 +103,61 @@ protection-short word is = go (eqb word 0x00) (eqb word 0x20) (eqb word 0x40) (e
 
 -- ---- the readings
 
+-- each number of a list has two bytes
+abbrev WordsShort : List ℕ → Type 0
+WordsShort words = (place : ℕ) → get_or words place 0 < 2 ^ 16
+
 -- each reading is a word of two bytes
 record AreShort (readings : Measured) : Type 0 where
-  vout : (output : ℕ) → get_or readings.vout output 0 < 2 ^ 16
-  iout : (output : ℕ) → get_or readings.iout output 0 < 2 ^ 16
-  vin : readings.vin < 2 ^ 16
-  temperature : readings.temperature < 2 ^ 16
+  device : WordsShort readings.device
+  outputs : (place : ℕ) → WordsShort (words_at readings place)
 
 -- as they begin
-zeros-short : (n place : ℕ) → get_or (replicate n 0) place 0 < 2 ^ 16
+zeros-short : (n : ℕ) → WordsShort (replicate n 0)
 zeros-short zero place = lit< tt
 zeros-short (suc n) zero = lit< tt
 zeros-short (suc n) (suc place) = zeros-short n place
 
+rows-short : (n place : ℕ) → WordsShort (get_or (replicate n (replicate 8 0)) place [])
+rows-short zero place = zeros-short 0
+rows-short (suc n) zero = zeros-short 8
+rows-short (suc n) (suc place) = rows-short n place
+
 none-short : AreShort no_readings
-none-short = record { vout = zeros-short 8; iout = zeros-short 8; vin = lit< tt; temperature = lit< tt }
+none-short = record { device = zeros-short (length device_readings); outputs = rows-short (length output_readings) }
 
 -- with another word for one of them
-set-short : (words : List ℕ) (place word : ℕ) → ((p : ℕ) → get_or words p 0 < 2 ^ 16) → word < 2 ^ 16 → (p : ℕ) →
-    get_or (slice_set words place word) p 0 < 2 ^ 16
+set-short : (words : List ℕ) (place word : ℕ) → WordsShort words → word < 2 ^ 16 → WordsShort (slice_set words place word)
 set-short [] place word are short p = are p
 set-short (x ∷ words) zero word are short zero = short
 set-short (x ∷ words) zero word are short (suc p) = are (suc p)
 set-short (x ∷ words) (suc place) word are short zero = are 0
 set-short (x ∷ words) (suc place) word are short (suc p) = set-short words place word (λ q. are (suc q)) short p
 
+-- with another row of words
+row-short : (rows : List (List ℕ)) (place : ℕ) (row : List ℕ) → ((p : ℕ) → WordsShort (get_or rows p [])) → WordsShort row →
+    (p : ℕ) → WordsShort (get_or (slice_set rows place row) p [])
+row-short [] place row are short p = are p
+row-short (x ∷ rows) zero row are short zero = short
+row-short (x ∷ rows) zero row are short (suc p) = are (suc p)
+row-short (x ∷ rows) (suc place) row are short zero = are 0
+row-short (x ∷ rows) (suc place) row are short (suc p) = row-short rows place row (λ q. are (suc q)) short p
+
 with-short : (readings : Measured) (output code word : ℕ) → AreShort readings → word < 2 ^ 16 →
     AreShort (with_reading readings output code word)
 with-short readings output code word are short =
-    go (eqb code command.read_vin) (eqb code command.read_vout) (eqb code command.read_iout) (eqb code command.read_temperature_1) where
-      go : (a b c d : Bool) → AreShort (cond a (record readings { vin = word })
-          (cond b (record readings { vout = slice_set readings.vout output word })
-          (cond c (record readings { iout = slice_set readings.iout output word })
-          (cond d (record readings { temperature = word }) readings))))
-      go true b c d = record { vout = are.vout; iout = are.iout; vin = short; temperature = are.temperature }
-      go false true c d = record
-          { vout = set-short readings.vout output word are.vout short; iout = are.iout; vin = are.vin; temperature = are.temperature }
-      go false false true d = record
-          { vout = are.vout; iout = set-short readings.iout output word are.iout short; vin = are.vin; temperature = are.temperature }
-      go false false false true = record { vout = are.vout; iout = are.iout; vin = are.vin; temperature = short }
-      go false false false false = are
+    go (place_among device_readings code) (place_among output_readings code) where
+      go : (a b : Option ℕ) →
+          AreShort (option_map_or (λ place. record readings { device = slice_set readings.device place word }) a
+          (option_map_or (λ place. record readings
+          { outputs = slice_set readings.outputs place (slice_set (words_at readings place) output word) }) b readings))
+      go (Some place) b = record { device = set-short readings.device place word are.device short; outputs = are.outputs }
+      go None (Some place) = record {
+        device = are.device;
+        outputs = row-short readings.outputs place _ are.outputs
+            (set-short (words_at readings place) output word (are.outputs place) short);
+      }
+      go None None = are
 
 -- what was measured
 abbrev AreMeasured : List device.Event → Type 0
@@ -166,11 +180,13 @@ past-short config (device.Reading output code word ∷ past) (short, are) =
 
 -- each of them
 reading-short : (readings : Measured) (output code : ℕ) → AreShort readings → reading_at readings output code < 2 ^ 16
-reading-short readings output code are =
-    either (eqb code command.read_vin) _ _ are.vin
-    (either (eqb code command.read_vout) _ _ (are.vout output)
-    (either (eqb code command.read_iout) _ _ (are.iout output)
-    (either (eqb code command.read_temperature_1) _ _ are.temperature (lit< tt))))
+reading-short readings output code are = go (place_among device_readings code) (place_among output_readings code) where
+  go : (a b : Option ℕ) →
+      option_map_or (λ place. slice_index readings.device place) a
+      (option_map_or (λ place. slice_index (words_at readings place) output) b 0) < 2 ^ 16
+  go (Some place) b = are.device place
+  go None (Some place) = are.outputs place output
+  go None None = lit< tt
 
 -- what a converter hears by an event
 abbrev IsMeasured : Option device.Event → Type 0

@@ -1,7 +1,7 @@
 -- An order that differs never took: while it is open its cell has the word of before, or the ordered one, which it
 -- then keeps; and the word that was read is the cell's.
 use Rattle.std.proofs.Common.{◌≡◌, ◌≢◌, ◌⊎◌, inl, inr, ℕ, Bool, true, false, cond, not, List, [], ◌∷◌, ◌++◌, Option, Some, None}
-use Rattle.std.proofs.Common.{IsSome, is_some, option_map, option_and_then, refl, sym, ◌∙◌, ap, subst}
+use Rattle.std.proofs.Common.{is_some, option_map, option_and_then, refl, sym, ◌∙◌, ap, subst}
 use Rattle.std.specs.Prelude.{IsSomeAnd}
 use Rattle.std.specs.List.{list_any}
 use Rattle.std.proofs.lemmas.Bool.{false≢true}
@@ -15,7 +15,6 @@ use Rattle.pm_model.specs.declared.pending_job.PendingJob.TheVariants as pending
 use Rattle.pm_model.specs.OrderMachine.{words_taken}
 use Rattle.pm_model.specs.Settings.{Words, word_at}
 use Rattle.pm_device.specs.declared.config.Config.{Config}
-use Rattle.pm_device.specs.Effect as device
 use Rattle.pm_host.specs.declared.job_end.JobEnd.{JobEnd}
 use Rattle.pm_host.specs.declared.job_end.JobEnd.TheVariants.{Differs}
 use Rattle.pm_host.specs.declared.question.Question.TheVariants.{Word, Mode, Coefficients}
@@ -38,7 +37,7 @@ use Rattle.pm_world.specs.Ended.{begins_other, DiffersNeverTook}
 use Rattle.pm_world.specs.Life.{life, now, state_of}
 use Rattle.pm_world.specs.Retelling.{open_pending, pending_of, taken_at}
 use Rattle.pm_world.specs.Setup.{setup_of}
-use Rattle.pm_world.specs.State.{State, share_of, exchanged, exchange_cause, event_cause, next, rule}
+use Rattle.pm_world.specs.State.{State, share_of, exchanged, exchange_cause, next, rule}
 use Rattle.pm_world.proofs.Causes.{or-none, rule-none, not-false}
 use Rattle.pm_world.proofs.HeldWords.{knows, reads-true}
 use Rattle.pm_world.proofs.JobSpans.{IsOrOver, TellsFrame, any-parts, beside-tells, by-acceptance, by-frame, by-silence, open-end, or-parts}

@@ -1,12 +1,13 @@
--- What holds of each register holds of any.
+-- What holds of the register of each number holds of any.
+use Rattle.std.proofs.Common.{arith, ◌≡◌, ℕ, ◌<◌, subst}
 use Rattle.pm_table.specs.declared.reg.Reg.{Reg}
-use Rattle.pm_table.specs.declared.reg.Reg.TheVariants.{Operation, VoutCommand, VoutMax, MarginHigh, MarginLow, VoutMin}
+use Rattle.pm_table.specs.Cell.{register_at, register_count, register_number}
+use Rattle.pm_table.specs.Lemmas.{register_number-below}
 
-pub each : (P : Reg → Type 0) → P Operation → P VoutCommand → P VoutMax → P MarginHigh → P MarginLow → P VoutMin →
-    (register : Reg) → P register
-each P a b c d e f Operation = a
-each P a b c d e f VoutCommand = b
-each P a b c d e f VoutMax = c
-each P a b c d e f MarginHigh = d
-each P a b c d e f MarginLow = e
-each P a b c d e f VoutMin = f
+-- the register of a register's number is that register
+register_at-number : (register : Reg) → register_at (register_number register) ≡ register
+register_at-number register = grind arith
+
+pub each : (P : Reg → Type 0) → ((number : ℕ) → number < register_count → P (register_at number)) → (register : Reg) → P register
+each P holds register =
+    subst P (register_at-number register) (holds (register_number register) (register_number-below register))

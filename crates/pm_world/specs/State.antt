@@ -1,5 +1,5 @@
 -- What a world holds, and what an event makes of it: this project's own choice.
-use Rattle.std.specs.Prelude.{ℕ, ◌+◌, ◌^◌, Bool, not, nat_le, if◌then◌else◌, List, Option, Some, None, IsSome, option_map, Result, Ok, Err, ◌≡◌}
+use Rattle.std.specs.Prelude.{ℕ, ◌+◌, ◌^◌, not, nat_le, List, Option, Some, None, IsSome, option_map, Result, Ok, Err, ◌≡◌}
 use Rattle.std.specs.Option.{option_or, option_map_or}
 use Rattle.pm_frame.specs.declared.message.Message.{Message}
 use Rattle.pm_frame.specs.Layout.{is_read_message}

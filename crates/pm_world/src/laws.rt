@@ -28,7 +28,7 @@ use pm_host::{
     possible_words_are_followed, transcripts_are_followed,
 };
 use pm_model::{orders_stay_in_their_cells, settings_are_a_map};
-use pm_table::{cells_are_told_apart, cells_have_places, registers_are_in_the_table};
+use pm_table::{Reg, cells_are_told_apart, cells_have_places, registers_are_in_the_table};
 
 /// Whether an event is taken, its cause alone decides. An order in microvolts that isn't refused has a word, since a
 /// format has a nearest word for each number (`word`). So an event is taken exactly where the world isn't full and
@@ -149,12 +149,9 @@ pub fn spell(c: Config)
 fn spell_words(start: OutputStart)
     ensures { (register : AnyReg) → register_start register start < 2 ^ 16 }
 {
-    spell_word(start.operation);
-    spell_word(start.command);
-    spell_word(start.max);
-    spell_word(start.high);
-    spell_word(start.low);
-    spell_word(start.min);
+    for register in &Reg::ALL {
+        spell_word(start.word(*register));
+    }
 }
 
 // A word is below 2^16.

@@ -14,12 +14,9 @@ pub fn words_are_short(device: &Converter, output: u8)
     requires { output < device.now.config.count }
     ensures { AreShort device.now.words output }
 {
-    word_is_short(device, output, Reg::Operation);
-    word_is_short(device, output, Reg::VoutCommand);
-    word_is_short(device, output, Reg::VoutMax);
-    word_is_short(device, output, Reg::MarginHigh);
-    word_is_short(device, output, Reg::MarginLow);
-    word_is_short(device, output, Reg::VoutMin);
+    for register in &Reg::ALL {
+        word_is_short(device, output, *register);
+    }
 }
 
 // So has that of one of them.

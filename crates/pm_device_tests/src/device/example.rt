@@ -11,7 +11,7 @@ fn heard() -> Result<u16, ConfigFault> {
         max: 0x4000,
         high: 0x1100,
         low: 0x0F00,
-        min: 0x0000,
+        ..OutputStart::NONE
     };
     let mut converter = Converter::new(Config {
         addr: 0x58,

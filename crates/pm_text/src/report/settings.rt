@@ -58,8 +58,8 @@ fn push_said(text: &mut String, form: Form, world: &World, cell: Cell) -> Result
     let standing = world.host().standing(cell);
     push_standing(text, cell, standing)?;
     match (form, standing) {
-        (Form::Second, Standing::Unknown) => push_possible(text, cell, world.host().possible(cell)),
-        _ => Ok(()),
+        (Form::First, _) | (_, Standing::Confirmed(_)) => Ok(()),
+        (_, Standing::Unknown) => push_possible(text, cell, world.host().possible(cell)),
     }
 }
 

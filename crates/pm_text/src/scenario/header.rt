@@ -67,12 +67,9 @@ fn form(fields: &mut Fields<'_>) -> Result<Form, ScenarioFault>
 {
     fields.keyword("scenario")?;
     let name = fields.word()?;
-    if name == b"1".as_slice() {
-        Ok(Form::First)
-    } else if name == b"2".as_slice() {
-        Ok(Form::Second)
-    } else {
-        Err(fields.syntax())
+    match Form::named(name) {
+        Some(form) => Ok(form),
+        None => Err(fields.syntax()),
     }
 }
 

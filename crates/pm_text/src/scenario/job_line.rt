@@ -37,15 +37,15 @@ pub fn job_line(form: Form, fields: &mut Fields<'_>) -> Result<Job, ScenarioFaul
     }
 }
 
-// What the one word of `store` or `restore` says, which texts of the second form alone may have.
+// What the one word of `store` or `restore` says, which texts of the first form don't have.
 fn store_job(form: Form, name: &[u8]) -> Option<Job>
     ensures { option_map gives result ≡ named (spec.store_lines form) name.now }
 {
     match form {
         Form::First => None,
-        Form::Second if name == b"store".as_slice() => Some(Job::Send(Command::StoreUserAll)),
-        Form::Second if name == b"restore".as_slice() => Some(Job::Send(Command::RestoreUserAll)),
-        Form::Second => None,
+        _ if name == b"store".as_slice() => Some(Job::Send(Command::StoreUserAll)),
+        _ if name == b"restore".as_slice() => Some(Job::Send(Command::RestoreUserAll)),
+        _ => None,
     }
 }
 

@@ -1,5 +1,6 @@
 //! What a reading of the converter answers from now on.
-ghost use Rattle.std.specs.Prelude.{◌≡◌, Ok, Err, MatchResult};
+ghost use Rattle.std.specs.Prelude.{◌≡◌, Ok, Err, MatchResult, bytes_eq, find};
+ghost use Rattle.pm_table.specs.Commands.{name_of};
 ghost use Rattle.pm_text.specs.EventLines.{reading_rest};
 ghost use Rattle.pm_text.specs.Kinds.{device_reading_named, output_reading_named};
 ghost use Rattle.pm_text.specs.Readers.{Reads, field};
@@ -7,6 +8,7 @@ ghost use Rattle.pm_text.specs.declared.scenario.fault.ScenarioFault.TheVariants
 
 use crate::scenario::fault::ScenarioFault;
 use crate::scenario::fields::Fields;
+use pm_device::{DEVICE_READINGS, OUTPUT_READINGS};
 use pm_table::Code;
 
 /// What was measured: the word that a READ code answers from now on.
@@ -14,7 +16,7 @@ use pm_table::Code;
 pub struct Measured {
     /// The output; 0 for a reading of the device, for which it isn't looked at.
     pub output: u8,
-    /// READ_VOUT or READ_IOUT of an output, READ_VIN or READ_TEMPERATURE_1 of the device.
+    /// One of `OUTPUT_READINGS` for an output, one of `DEVICE_READINGS` for the device.
     pub code: Code,
     /// The word, in the code's own format.
     pub word: u16,
@@ -47,12 +49,9 @@ fn output_reading(fields: &mut Fields<'_>) -> Result<Code, ScenarioFault>
         (λ fault. field Syntax output_reading_named fields.old ≡ Err fault) }
 {
     let name = fields.word()?;
-    if name == Code::READ_VOUT.name().as_bytes() {
-        Ok(Code::READ_VOUT)
-    } else if name == Code::READ_IOUT.name().as_bytes() {
-        Ok(Code::READ_IOUT)
-    } else {
-        Err(fields.syntax())
+    match named_among(&OUTPUT_READINGS, name) {
+        Some(code) => Ok(code),
+        None => Err(fields.syntax()),
     }
 }
 
@@ -63,11 +62,18 @@ fn device_reading(fields: &mut Fields<'_>) -> Result<Code, ScenarioFault>
         (λ fault. field Syntax device_reading_named fields.old ≡ Err fault) }
 {
     let name = fields.word()?;
-    if name == Code::READ_VIN.name().as_bytes() {
-        Ok(Code::READ_VIN)
-    } else if name == Code::READ_TEMPERATURE_1.name().as_bytes() {
-        Ok(Code::READ_TEMPERATURE_1)
-    } else {
-        Err(fields.syntax())
+    match named_among(&DEVICE_READINGS, name) {
+        Some(code) => Ok(code),
+        None => Err(fields.syntax()),
     }
+}
+
+// The first of the codes that has this name.
+fn named_among(codes: &[Code], name: &[u8]) -> Option<Code>
+    ensures { result ≡ find (λ code. bytes_eq name.now (name_of code.0)) codes.now }
+{
+    codes
+        .iter()
+        .copied()
+        .find(|code| name == code.name().as_bytes())
 }

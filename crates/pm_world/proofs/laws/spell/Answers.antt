@@ -1,16 +1,15 @@
-use Rattle.std.proofs.Common.{arith, lit<, ◌≡◌, inl, inr, ℕ, ◌<◌, ◌^◌, List, get_or, length, map, refl, sym, subst, below_more}
+use Rattle.std.proofs.Common.{arith, lit<, ◌≡◌, inl, inr, ℕ, ◌<◌, ◌^◌, List, get_or, length, map, sym, subst, below_more}
 use Rattle.std.proofs.Math.ListN.{get_or-map}
 use Rattle.std.proofs.lemmas.Bool.{cases_lt}
 use Rattle.std.proofs.lemmas.List.{get_or_past, length-map}
 use Rattle.pm_table.specs.declared.reg.Reg.{Reg}
 use Rattle.pm_device.specs.declared.output_start.OutputStart.{OutputStart}
 use Rattle.pm_device.specs.Start.{no_start, register_start}
-use Rattle.pm_world.proofs.Registers.{each}
 use Rattle.pm_world.proofs.laws.spell.Goals as goal
 
 -- the word of a place, where that of its start has two bytes
 none : (register : Reg) → register_start register no_start ≡ 0
-none register = each (λ r. register_start r no_start ≡ 0) refl refl refl refl refl refl register
+none register = grind arith
 
 word-short : (register : Reg) (starts : List OutputStart) (place : ℕ) → register_start register (get_or starts place no_start) < 2 ^ 16 →
     get_or (map (register_start register) starts) place 0 < 2 ^ 16

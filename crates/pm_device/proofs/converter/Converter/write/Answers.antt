@@ -1,6 +1,6 @@
 use Rattle.std.proofs.Common.{refl, rules}
 use Rattle.pm_device.specs.declared.image.Image.{Image}
-use Rattle.pm_device.proofs.ImageLemmas.{MayHold, read-back, same-held}
+use Rattle.pm_device.proofs.ImageLemmas.{read-back, same-held}
 use Rattle.pm_device.proofs.converter.Converter.write.Goals as goal
 
 pub returns : goal.returns
