@@ -1,5 +1,5 @@
 //! Packets as objects of JSON.
-ghost use Rattle.std.specs.Prelude.{◌≡◌, ◌++◌, true, option_map, if◌then◌else◌, codes, OnOk, string_bytes};
+ghost use Rattle.std.specs.Prelude.{◌≡◌, ◌++◌, option_map, if◌then◌else◌, codes, OnOk, string_bytes};
 ghost use Rattle.std.specs.Fmt.{signed_decimal};
 ghost use Rattle.pm_frame.specs.FaultWords.{frame_fault_place};
 ghost use Rattle.pm_table.specs.Coefficients.{coefficients_of};
