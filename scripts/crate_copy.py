@@ -57,13 +57,14 @@ def all_below(uses, crate):
 
 
 class CrateCopy:
-    """The copy, its crate's folder, and the crates whose tests are its: its own, and each test crate that stands
-    on it, also by others: the name of a frame's fault is seen in texts alone."""
+    """The copy, its crate's folder, and the crates whose tests are its: its own, the one of its name, and each test
+    crate that stands on it, also by others: the name of a frame's fault is seen in texts alone."""
 
     def __init__(self, crate, jobs):
         uses = crates_below()
         self.crate, self.jobs = crate, jobs
-        self.tests = [crate] + [name for name in uses if name.endswith("_tests") and crate in all_below(uses, name)]
+        above = [name for name in uses if name.endswith("_tests") and crate in all_below(uses, name)]
+        self.tests = [crate, *sorted(above, key=lambda name: name != crate + "_tests")]
         self.top = tempfile.mkdtemp(prefix="copy-")
         self.home = os.path.join(self.top, "crates", crate)
         checked = {crate} | all_below(uses, crate)
