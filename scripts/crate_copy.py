@@ -71,7 +71,11 @@ class CrateCopy:
         for name in uses:
             out = None if name in checked else shutil.ignore_patterns("out")
             folder = os.path.join("crates", name)
-            shutil.copytree(folder, os.path.join(self.top, folder), symlinks=True, ignore=out)
+            try:
+                shutil.copytree(folder, os.path.join(self.top, folder), symlinks=True, ignore=out)
+            except shutil.Error:
+                self.drop()
+                sys.exit("files of %s went away while they were copied: where `rt ci` runs, try it in a clone" % folder)
         shutil.rmtree(os.path.join(self.home, "must-fail"), ignore_errors=True)
         for name in ("crates.txt", "HANDLES"):
             if os.path.exists(name):
